@@ -230,6 +230,11 @@ class Controller:
     def fault(self, link, unit, status):
         self.send(link, write_unit(fault_of(unit["call"], unit["context"], status)))
 
+    def reply(self, link, number, context, limit, opnum, fields):
+        stub = write("reply", opnum, fields).stub
+        unit = whole(RESPONSE, call=number, hint=len(stub), context=context, stub=stub)
+        self.send(link, b"".join(frames_of(unit, limit)))
+
     def whole_call(self, link, unit):
         accepted, limit = self.links[link]["bound"]
         if unit["context"] not in accepted:
@@ -241,9 +246,7 @@ class Controller:
             call = read("call", unit["opnum"], unit["stub"])[0]
         except (NdrRefused, BadArm):
             return self.fault(link, unit, BAD_STUB)
-        stub = write("reply", unit["opnum"], answer(call)).stub
-        reply = whole(RESPONSE, call=unit["call"], hint=len(stub), context=unit["context"], stub=stub)
-        return self.send(link, b"".join(frames_of(reply, limit)))
+        return self.reply(link, unit["call"], unit["context"], limit, unit["opnum"], answer(call))
 
     def fresh(self, link, unit):
         if unit["kind"] == REQUEST:

@@ -53,6 +53,8 @@ PROGRAMS = {
         "end_links",
         "end_loop",
         "channel_client",
+        "channel_turns",
+        "controller_calls",
         "domain_controller",
         "logon_client",
         "member_server",

@@ -1,9 +1,9 @@
 pub mod ChannelSeedLaws
 pub mod ListLaws
-mod RequestLaws
-mod RequestStepLaws
+pub mod RequestLaws
+pub mod RequestStepLaws
 pub mod SameLaws
-mod SoundExampleLaws
-mod SoundLaws
-mod SoundParts
-mod SoundSteps
+pub mod SoundExampleLaws
+pub mod SoundLaws
+pub mod SoundParts
+pub mod SoundSteps

@@ -1,6 +1,6 @@
 -- Small runs that meet a claim, and some that don't.
 -- It serves `claims_tell_apart`.
-use Rattle.std.proofs.Common.{◌≡◌, ◌≢◌, ℕ, ◌≤◌, ◌+◌, Bool, true, false, List, [], ◌∷◌, ◌++◌, length, inl, inr, Option, Some, None, refl, sym, ap, ◌∙◌, arith}
+use Rattle.std.proofs.Common.{◌≡◌, ◌≢◌, ℕ, ◌≤◌, ◌+◌, Bool, true, false, List, [], ◌∷◌, ◌++◌, length, inl, inr, Option, Some, None, refl, sym, ap, subst, ◌∙◌, arith}
 use Rattle.std.specs.Prelude.{◌%◌, ◌^◌, codes, ◌⊎◌}
 use Rattle.std.proofs.lemmas.List.Elements.{All-nil}
 use Rattle.wire_base.specs.Maps.{lookup}
@@ -13,26 +13,24 @@ use Rattle.authenticators.specs.Channels.{ChannelIdentity}
 use Rattle.authenticators.specs.Sequences.{authenticator_of}
 use Rattle.authenticators.specs.SecureChannels.{SecureChannelState, key_of_channel, channel_of}
 use Rattle.authenticators.proofs.ChannelLaws.{same_channel-Decides}
+use Rattle.outside.specs.declared.action.Judged.{Judged}
 use Rattle.outside.specs.declared.action.Judged.TheVariants as judged
-use Rattle.member_server.specs.declared.state.AtTurn.{AtTurn}
-use Rattle.member_server.specs.declared.state.TurnTalk.{TurnTalk}
-use Rattle.domain_controller.specs.Laws.{IsNext}
-use Rattle.domain_controller.specs.declared.state.Computers.{Computers}
+use Rattle.member_server.specs.Turns.{AtTurn}
+use Rattle.channel_turns.specs.declared.state.TurnTalk.{TurnTalk}
 use Rattle.channel_events.specs.Marks.{Calling, ReplyTo}
 use Rattle.step_notes.specs.ControllerNotes.{identity_by, channel_in, has_passed}
-use Rattle.step_notes.specs.Judged.{channel_if}
+use Rattle.step_notes.specs.Judged.{IsJudgedRight, IsNextOn, IsOfName, IsRightOf, channel_if}
 use Rattle.step_notes.specs.Marking.{clashes, is_channel}
 use Rattle.step_notes.specs.Records.{Judging, computer_named, given_in, timestamp_in}
 use Rattle.world_moves.specs.declared.links.Route.TheVariants.{ToMember}
-use Rattle.world_moves.specs.declared.moves.Move.{Move}
 use Rattle.world_moves.specs.declared.plan.Plan.{Plan}
 use Rattle.world_moves.specs.declared.bag.BagUnit.{BagUnit}
 use Rattle.world_moves.specs.Bag.{AreShortUnits, HaveBytes}
 use Rattle.world_moves.specs.World.{first_world}
 use Rattle.domain_world.specs.Claims.{IsAccepted, PassesTheNextCredential, Wraps, moved_if, moved_on, passed_on, judged_timestamp}
-use Rattle.domain_world.specs.Headline.{IsClaimed, Proved}
-use Rattle.domain_world.specs.Past.{past}
-use Rattle.claim_examples.specs.ClaimExamples.{OfAll, OfClashes, OfCredentials, OfReplays, OfTakenAnswers, OfWraps, elsewhere, judged_as, judged_once, last_timestamp, message, next_call, no_computers, on_channel, passed_in, second_timestamp, seed_after_one, small_challenge, small_channel, small_computers, small_name, small_seed, taken_in, third_timestamp, told_as, whole_book, whole_call, whole_run}
+use Rattle.domain_world.specs.Headline.{IsClaimed}
+use Rattle.domain_world.proofs.HeadlineLaws.{all_proved}
+use Rattle.claim_examples.specs.ClaimExamples.{OfAll, OfClashes, OfCredentials, OfReplays, OfTakenAnswers, OfWraps, elsewhere, judged_as, judged_once, last_timestamp, message, next_call, on_channel, passed_in, second_timestamp, seed_after_one, small_challenge, small_channel, small_computers, small_name, small_seed, taken_in, third_timestamp, told_as, whole_book, whole_call, whole_run}
 use Rattle.claim_examples.specs.TellApart.{ClaimsTellApart}
 use Rattle.step_notes.proofs.Controllers.JudgedStepLaws.{next_unbarred, right_passed}
 use Rattle.claim_examples.proofs.CompletenessLaws.{of_completeness, of_success}
@@ -109,7 +107,7 @@ passed_small : (timestamp : ℕ) → passed_on small_name (on_channel timestamp)
 unfolding same_name names.upper_of
 passed_small timestamp = refl
 
-comes_small : is_channel (channel_in 0 (Some (codes "FILE1")) (small_computers [])) small_name ≡ true
+comes_small : is_channel (channel_in 0 (Some (codes "FILE1")) (Some (small_channel []))) small_name ≡ true
 unfolding same_name names.upper_of
 comes_small = refl
 
@@ -141,13 +139,13 @@ of_state : (controller : ℕ) (computer : List ℕ) (found : Option SecureChanne
 of_state controller computer None channel is = absurd cc
 of_state controller computer (Some c) channel is = ((same_channel-Decides (channel_of controller computer c) channel).0 is).controller
 
-of_computer : (controller : ℕ) (computer : Option (List ℕ)) (computers : Computers) (channel : ChannelIdentity) → is_channel (channel_in controller computer computers) channel ≡ true → controller ≡ channel.controller
-of_computer controller None computers channel is = absurd cc
-of_computer controller (Some computer) computers channel is = of_state controller computer (lookup same_name computer computers.channels) channel is
+of_computer : (controller : ℕ) (computer : Option (List ℕ)) (checks : Option SecureChannelState) (channel : ChannelIdentity) → is_channel (channel_in controller computer checks) channel ≡ true → controller ≡ channel.controller
+of_computer controller None checks channel is = absurd cc
+of_computer controller (Some computer) checks channel is = of_state controller computer checks channel is
 
 of_call : (passes : Bool) (j : Judging) (channel : ChannelIdentity) → is_channel (channel_if passes j) channel ≡ true → j.controller ≡ channel.controller
 of_call false j channel is = absurd cc
-of_call true j channel is = of_computer j.controller (computer_named j.asked) j.computers channel is
+of_call true j channel is = of_computer j.controller (computer_named j.asked) j.checks channel is
 
 pub its_controller : (channel : ChannelIdentity) (j : Judging) → passed_on channel j ≡ true → j.controller ≡ channel.controller
 its_controller channel j is = of_call (has_passed j.how) j channel is
@@ -251,33 +249,23 @@ of_replays = record {
 
 -- ---- credentials
 
-pub no_channel : (computer : List ℕ) (channel : SecureChannelState) → lookup same_name computer no_computers.channels ≡ Some channel → ⊥
-no_channel computer channel is = absurd cc
+pub no_channel : (channel : SecureChannelState) → None ≡ Some channel → ⊥
+no_channel channel is = absurd cc
 
-pub next_at : (seed : List ℕ) → IsNext (small_computers seed) (Some (codes "FILE1")) (Some (authenticator_of (key_of_channel (small_channel seed)) seed 0))
-next_at seed = record {
-  computer = codes "FILE1";
-  given = authenticator_of (key_of_channel (small_channel seed)) seed 0;
-  channel = small_channel seed;
-  named = refl;
-  there = refl;
-  stands = kept_small seed;
-  passes = refl;
+pub next_at : (seed : List ℕ) → IsNextOn (Some (small_channel seed)) (Some (authenticator_of (key_of_channel (small_channel seed)) seed 0))
+next_at seed =
+    record { channel = small_channel seed; given = authenticator_of (key_of_channel (small_channel seed)) seed 0; stands = refl; there = refl; passes = refl }
+
+-- a call that has it, and names its computer, passes
+pub passes_right : (j : Judging) → IsNextOn j.checks (given_in j.asked) → IsOfName (computer_named j.asked) j.checks → j.how ≡ Some (judged.Passed 0) → IsJudgedRight j
+passes_right j next named how = record {
+  right = subst (λ (told : Option Judged). IsRightOf told j.checks (given_in j.asked)) (sym how)
+      (right_passed 0 j.checks (given_in j.asked) next (next_unbarred j.checks (given_in j.asked) next));
+  named = named;
 }
 
-next_small : IsNext (small_computers []) (computer_named next_call.asked) (given_in next_call.asked)
-next_small = next_at []
-
 passed_next : PassesTheNextCredential (judged_once next_call (told_as (judged.Passed 0) ∷ []))
-passed_next = (
-  record {
-    at = refl;
-    controller = refl;
-    how = refl;
-    right = right_passed 0 (small_computers []) (computer_named next_call.asked) (given_in next_call.asked) next_small (next_unbarred (small_computers []) (computer_named next_call.asked) (given_in next_call.asked) next_small);
-  },
-  tt,
-)
+passed_next = (record { at = refl; controller = refl; how = refl; right = passes_right next_call (next_at []) tt refl }, tt)
 
 of_credentials : OfCredentials
 of_credentials = record {
@@ -288,15 +276,18 @@ of_credentials = record {
       controller = refl;
       how = refl;
       right = record {
-        passed = (λ is. absurd cc, λ next. absurd (no_channel next.computer next.channel next.stands));
-        barred = (λ is. absurd cc, λ barred. absurd (no_channel barred.computer barred.channel barred.stands));
-        other = (λ is. (λ next. no_channel next.computer next.channel next.stands, λ barred. no_channel barred.computer barred.channel barred.stands), λ both. refl);
+        right = record {
+          passed = (λ is. absurd cc, λ next. absurd (no_channel next.channel next.stands));
+          barred = (λ is. absurd cc, λ barred. absurd (no_channel barred.channel barred.stands));
+          other = (λ is. (λ next. no_channel next.channel next.stands, λ barred. no_channel barred.channel barred.stands), λ both. refl);
+        };
+        named = tt;
       };
     },
     tt,
   );
-  fails_barred = λ claim. absurd (let passed : false ≡ true = claim.0.right.passed.1 next_small in cc);
-  fails = λ claim. let next = claim.0.right.passed.0 refl in no_channel next.computer next.channel next.stands;
+  fails_barred = λ claim. absurd (let passed : false ≡ true = claim.0.right.right.passed.1 (next_at []) in cc);
+  fails = λ claim. let next = claim.0.right.right.passed.0 refl in no_channel next.channel next.stands;
   fails_silent = λ claim. claim;
   answered = passed_next;
   fails_answered = λ claim. claim;
@@ -321,9 +312,6 @@ accepted_whole = record {
   unused = inl (record { link = refl; challenge = refl; drawn = refl; only = only_draw small_challenge; first = refl });
 }
 
-next_whole : IsNext (small_computers small_seed) (computer_named whole_call.asked) (given_in whole_call.asked)
-next_whole = next_at small_seed
-
 of_all : OfAll
 of_all = record {
   call = call_alike;
@@ -332,15 +320,7 @@ of_all = record {
   accepted = accepted_whole;
   meets = record {
     challenges = record { draws = one_apart (λ one other. one ≢ other) small_challenge; messages = one_apart (λ one other. one ≢ other) 3 };
-    credentials = (
-      record {
-        at = refl;
-        controller = refl;
-        how = refl;
-        right = right_passed 0 (small_computers small_seed) (computer_named whole_call.asked) (given_in whole_call.asked) next_whole (next_unbarred (small_computers small_seed) (computer_named whole_call.asked) (given_in whole_call.asked) next_whole);
-      },
-      tt,
-    );
+    credentials = (record { at = refl; controller = refl; how = refl; right = passes_right whole_call (next_at small_seed) tt refl }, tt);
     replays = λ channel later between earlier second first all. absurd (not_one _ later second between first earlier all);
     only = λ clear. (λ told. inl (refl, refl, accepted_whole), tt);
     all = λ clear. (λ j answer granted. inl (refl, refl, refl), tt);
@@ -352,16 +332,12 @@ of_all = record {
 
 -- ---- all of them
 
--- what is proved of runs holds of each
-abbrev Holds : Type 0
-Holds =
-    (plan : Plan) (moves : List Move) → AreShortUnits (past plan moves).world.state.bag → HaveBytes (past plan moves).world.state.bag → Proved plan moves
+-- all that is proved of runs
+at_first : (plan : Plan) → IsClaimed plan []
+at_first plan schedule = all_proved plan [] (none_short plan) (no_bytes plan)
 
-at_first : Holds → (plan : Plan) → IsClaimed plan []
-at_first holds plan schedule = holds plan [] (none_short plan) (no_bytes plan)
-
-pub claims_tell_apart : Holds → ClaimsTellApart
-claims_tell_apart holds = record {
+pub claims_tell_apart : ClaimsTellApart
+claims_tell_apart = record {
   wraps = of_wraps;
   clashes = of_clashes;
   answers = of_answers;
@@ -378,5 +354,5 @@ claims_tell_apart holds = record {
   together = of_all;
   success = of_success;
   completeness = of_completeness;
-  at_first = at_first holds;
+  at_first = at_first;
 }

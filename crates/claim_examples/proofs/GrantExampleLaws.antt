@@ -40,16 +40,17 @@ use Rattle.account_table.specs.Changes.{with_count}
 use Rattle.account_table.proofs.ChangeLaws.{differs-none}
 use Rattle.account_table.specs.LookUps.{account_in, place_in, route_in}
 use Rattle.sam_logon.specs.MayLogOn.{MayLogOn, ResponseVerifies}
-use Rattle.domain_controller.specs.Laws.{IsNext}
 use Rattle.domain_controller.specs.Machine.{Desk, answer_logon, judge_info}
-use Rattle.domain_controller.specs.declared.line.Line.{Line}
+use Rattle.controller_calls.specs.declared.line.Line.{Line}
 use Rattle.step_notes.specs.ControllerNotes.{Where, judging_of}
 use Rattle.step_notes.specs.GrantSends.{IsSentAsGranted, actions_granting, reply_granted}
-use Rattle.step_notes.specs.Records.{Judging, computer_named, given_in, network_in}
+use Rattle.step_notes.specs.Judged.{IsNextOn}
+use Rattle.step_notes.specs.Records.{Judging, Network, given_in}
 use Rattle.domain_world.specs.Claims.{info_asked}
 use Rattle.domain_world.specs.Claims.Counts.{RaisesCount}
 use Rattle.domain_world.specs.Claims.Grants.{IsToBeGranted}
-use Rattle.claim_examples.specs.ClaimExamples.{judged_as, message, next_call, small_account, small_channel, small_computers, small_table}
+use Rattle.domain_world.specs.Claims.Tables.{left_by}
+use Rattle.claim_examples.specs.ClaimExamples.{judged_as, message, next_call, next_logon, small_account, small_channel, small_computers, small_table}
 use Rattle.claim_examples.specs.GrantExamples.{GrantsTellApart, OfCounts, OfGrants, OfSending, at_level, counted_table, disabled_table, empty_table, locked_call, reply_with_key, small_call, small_desk, small_line, wrong_call}
 use Rattle.channel_events.proofs.ListLaws.{got_nothing}
 use Rattle.step_notes.proofs.Controllers.GrantSendLaws.{grants_carry_their_key}
@@ -90,7 +91,7 @@ unfolding place_in same_name names.upper_of units_of
 not_enabled now may = absurd (let never : true ≡ false = may.there.account.enabled in cc)
 
 -- her call is to be granted, however it was judged
-met_small : (how : Judged) → IsToBeGranted (record (judged_as how next_call) { table = small_table })
+met_small : (how : Judged) → IsToBeGranted (record (judged_as how next_call) { table = small_table }) next_logon
 met_small how = record { next = next_at []; level = inr refl; may = may_small 0; verifies = granted_small.verifies }
 
 same_item : {T : Type 0} (one other : T) → Some one ≡ Some other → one ≡ other
@@ -101,7 +102,7 @@ unfolding place_in same_name names.upper_of units_of
 verifies_counted count = granted_small.verifies
 
 -- at level 2 it is the next one too
-next_two : IsNext next_call.computers (computer_named (at_level 2).asked) (given_in (at_level 2).asked)
+next_two : IsNextOn next_call.checks (given_in (at_level 2).asked)
 next_two = next_at []
 
 of_grants : OfGrants
@@ -147,7 +148,7 @@ of_grants = record {
     | inl two ↦ absurd (let never : 4 ≡ 2 = two in cc)
     | inr three ↦ absurd (let never : 4 ≡ 3 = three in cc)
   ];
-  fails_next = λ claim. let met = claim.0.granted.0 refl in no_channel met.next.computer met.next.channel met.next.stands;
+  fails_next = λ claim. let met = claim.0.granted.0 refl in no_channel met.next.channel met.next.stands;
   fails_table = λ claim.
       let of : empty_table ≡ claim.0.table.planned = same_item empty_table claim.0.table.planned claim.0.table.is in
       absurd (let accounts = claim.0.table.counts.accounts ∙ ap (λ (t : AccountTable). map (with_count 0) t.accounts) (sym of) in cc);
@@ -160,14 +161,19 @@ of_grants = record {
 
 granted_step : (w : Where) (line : Line) (after : Desk) →
     after ≡ answer_logon small_call.computer small_call.authenticator w.name w.moment line small_call.info small_call.validation small_desk →
-    (judging_of w line small_call small_desk (Some after)).how ≡ Some (judged.Passed 0)
+    (judging_of w line (Network small_call) small_desk (Some after)).how ≡ Some (judged.Passed 0)
 granted_step w line after is =
     let done : Desk = answer_logon small_call.computer small_call.authenticator w.name w.moment line small_call.info small_call.validation small_desk in
-    subst (λ (one : Desk). (judging_of w line small_call small_desk (Some one)).how ≡ Some (judged.Passed 0)) (sym is)
-    (is_granted_so (judging_of w line small_call small_desk (Some done))
-    (call_status w.name w.moment line small_call.info small_call.validation small_call.computer small_call.authenticator small_desk)
+    subst (λ (one : Desk). (judging_of w line (Network small_call) small_desk (Some one)).how ≡ Some (judged.Passed 0)) (sym is)
+    (is_granted_so (judging_of w line (Network small_call) small_desk (Some done)) small_call refl
+    (λ channel stands. call_status w.name w.moment line small_call.info small_call.validation small_call.computer small_call.authenticator small_desk)
     (calls_right w small_desk line small_call)
-    (record { next = next_at []; level = inr refl; may = may_small w.moment; verifies = granted_small.verifies }))
+    (record {
+      next = subst (λ (checks : Option SecureChannelState). IsNextOn checks small_call.authenticator) (sym (kept_small [])) (next_at []);
+      level = inr refl;
+      may = may_small w.moment;
+      verifies = granted_small.verifies;
+    }))
 
 -- two calls that are sent in the same bytes are the same
 
@@ -255,22 +261,21 @@ abbrev key_in_reply : Result Reply StubRefused → List ℕ
 key_in_reply (Ok (reply.Logon value)) = key_if value.info
 key_in_reply _ = []
 
-account_small : account_in small_table.accounts (network_in next_call.asked).info.user ≡ Some small_account
+account_small : account_in small_table.accounts small_call.info.user ≡ Some small_account
 unfolding place_in same_name names.upper_of units_of
 account_small = refl
 
 -- what is sent where it is sent as granted
-right_sent : (new : List Action) → IsSentAsGranted next_call small_line new →
-    new ≡ actions_granting small_line (reply_granted next_call small_account (small_channel []) (authenticator_of (key_of_channel (small_channel [])) [] 0))
+right_sent : (new : List Action) → IsSentAsGranted next_call small_call small_line new →
+    new ≡ actions_granting small_line (reply_granted next_call small_call small_account (small_channel []) (authenticator_of (key_of_channel (small_channel [])) [] 0))
 right_sent new sent =
-    let computer : codes "FILE1" ≡ sent.next.computer = same_item _ _ sent.next.named in
-    let channel : small_channel [] ≡ sent.next.channel = same_item _ _ (sym (kept_small []) ∙ ap (λ (c : List ℕ). lookup same_name c (small_computers []).channels) computer ∙ sent.next.stands) in
+    let channel : small_channel [] ≡ sent.next.channel = same_item _ _ sent.next.stands in
     let given : authenticator_of (key_of_channel (small_channel [])) [] 0 ≡ sent.next.given = same_item _ _ sent.next.there in
     let account : small_account ≡ sent.account = same_item _ _ (sym account_small ∙ sent.stored) in
     sent.actions
-    ∙ ap (λ (a : Account). actions_granting small_line (reply_granted next_call a sent.next.channel sent.next.given)) (sym account)
-    ∙ ap (λ (c : SecureChannelState). actions_granting small_line (reply_granted next_call small_account c sent.next.given)) (sym channel)
-    ∙ ap (λ (g : Authenticator). actions_granting small_line (reply_granted next_call small_account (small_channel []) g)) (sym given)
+    ∙ ap (λ (a : Account). actions_granting small_line (reply_granted next_call small_call a sent.next.channel sent.next.given)) (sym account)
+    ∙ ap (λ (c : SecureChannelState). actions_granting small_line (reply_granted next_call small_call small_account c sent.next.given)) (sym channel)
+    ∙ ap (λ (g : Authenticator). actions_granting small_line (reply_granted next_call small_call small_account (small_channel []) g)) (sym given)
 
 same_bytes : (link : ℕ) (one other : List ℕ) →
     action.Judged (judged.Passed 0) ∷ action.Send link one ∷ [] ≡ action.Judged (judged.Passed 0) ∷ action.Send link other ∷ [] → one ≡ other
@@ -316,7 +321,7 @@ raised = record {
 }
 
 locked_at : (place : ℕ) (before after : Account) → slice_get locked_call.table.accounts place ≡ Some before →
-    slice_get (judge_info locked_call.table locked_call.name locked_call.moment (network_in locked_call.asked).info (network_in locked_call.asked).validation).table.accounts place ≡ Some after →
+    slice_get (left_by locked_call).accounts place ≡ Some after →
     before.bad_count < after.bad_count → ⊥
 unfolding judgement_of table_after route_in place_in same_name names.upper_of units_of
 locked_at zero before after was is grew =

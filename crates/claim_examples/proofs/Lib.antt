@@ -1,12 +1,12 @@
-mod ClaimLaws
-mod CompletenessLaws
-mod GrantExampleLaws
-mod LetInExampleLaws
-mod LogonLaws
-mod NearMissLaws
-mod OwnChallengeExampleLaws
-mod ReplyExampleLaws
-mod Runs
-mod SequenceLaws
-mod SequenceMissLaws
-mod SuccessMissLaws
+pub mod ClaimLaws
+pub mod CompletenessLaws
+pub mod GrantExampleLaws
+pub mod LetInExampleLaws
+pub mod LogonLaws
+pub mod NearMissLaws
+pub mod OwnChallengeExampleLaws
+pub mod ReplyExampleLaws
+pub mod Runs
+pub mod SequenceLaws
+pub mod SequenceMissLaws
+pub mod SuccessMissLaws

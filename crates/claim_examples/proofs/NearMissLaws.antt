@@ -15,7 +15,7 @@ use Rattle.domain_controller.specs.State.{State as ControllerState}
 use Rattle.domain_controller.specs.Step.{first_state}
 use Rattle.member_server.specs.Machine.{caller_of}
 use Rattle.member_server.specs.State.{State as MemberState}
-use Rattle.member_server.specs.declared.state.Dialling.TheVariants as dialling
+use Rattle.channel_turns.specs.declared.state.Dialling.TheVariants as dialling
 use Rattle.member_server.specs.declared.state.Bound.{Bound}
 use Rattle.member_server.specs.declared.state.Logon.{Logon}
 use Rattle.member_server.specs.declared.state.Phase.TheVariants as phase
@@ -37,8 +37,8 @@ use Rattle.ntlm_responses.proofs.ResponseLaws.{length-response_v1_of, Verifies-c
 use Rattle.sam_logon.specs.Verdict.{judgement_of, table_after}
 use Rattle.account_table.specs.LookUps.{place_in, route_in}
 use Rattle.std.specs.List.{AllByRecursion}
-use Rattle.member_server.specs.declared.state.AtTurn.{AtTurn}
-use Rattle.member_server.specs.declared.state.TurnTalk.{TurnTalk}
+use Rattle.member_server.specs.Turns.{AtTurn}
+use Rattle.channel_turns.specs.declared.state.TurnTalk.{TurnTalk}
 use Rattle.step_notes.specs.CallLogons.{IfCalling}
 use Rattle.step_notes.specs.MemberNotes.{turn_note}
 use Rattle.step_notes.specs.Served.{work_after}

@@ -12,16 +12,16 @@ use Rattle.rpc_units.specs.Joining.{cut_of, fragment, fragments_of, stub_of, stu
 use Rattle.rpc_units.specs.Writing.{written, written_start}
 use Rattle.authenticators.specs.Sequences.{authenticator_of}
 use Rattle.authenticators.specs.SecureChannels.{key_of_channel, channel_of}
-use Rattle.domain_controller.specs.Laws.{IsNext}
 use Rattle.domain_controller.specs.Machine.{status_of}
 use Rattle.channel_events.specs.Marks.{Mark, Plain, ReplyTo}
 use Rattle.step_notes.specs.ControllerNotes.{identity_by}
-use Rattle.step_notes.specs.Records.{Judging, Sent, computer_named, given_in, network_in}
+use Rattle.step_notes.specs.Judged.{IsNextOn}
+use Rattle.step_notes.specs.Records.{Judging, Sent, given_in}
 use Rattle.step_notes.specs.ReplySends.{IsReplyOfCall, verdict_passed}
 use Rattle.world_moves.specs.declared.bag.BagUnit.{BagUnit}
 use Rattle.domain_world.specs.Claims.Replies.{IsReplyOfOne, RepliesCarryTheirJudgement}
 use Rattle.domain_world.specs.Past.{sent_at}
-use Rattle.claim_examples.specs.ClaimExamples.{judged_as, next_call, small_channel, small_computers, small_name, small_table}
+use Rattle.claim_examples.specs.ClaimExamples.{judged_as, next_call, next_logon, small_channel, small_computers, small_name, small_table}
 use Rattle.claim_examples.specs.ReplyExamples.{OfReplies, replied, replied_call, reply_mark, small_reply}
 use Rattle.channel_events.proofs.ListLaws.{got_nothing, some_is}
 use Rattle.step_notes.proofs.Controllers.GrantVerdictLaws.{granted_status}
@@ -61,23 +61,13 @@ the_reply : (bytes : List ℕ) (channel : ChannelIdentity) (call request : ℕ) 
     (j.reply ≡ Some 0) × IsReplyOfCall channel call request j bytes
 the_reply bytes channel call request j claim = elim (claim 0 _ (sent_at 6 (ReplyTo channel call request)) refl refl) [ inl here ↦ here | inr never ↦ absurd never ]
 
-passed_small : identity_by 0 (codes "FILE1") (lookup same_name (codes "FILE1") (small_computers []).channels) ≡ Some small_name
-passed_small = ap (identity_by 0 (codes "FILE1")) (kept_small [])
+next_small : IsNextOn (Some (small_channel [])) (given_in next_call.asked)
+next_small =
+    record { channel = small_channel []; given = authenticator_of (key_of_channel (small_channel [])) [] 0; stands = refl; there = refl; passes = refl }
 
-next_small : IsNext (small_computers []) (computer_named next_call.asked) (given_in next_call.asked)
-next_small = record {
-  computer = codes "FILE1";
-  given = authenticator_of (key_of_channel (small_channel [])) [] 0;
-  channel = small_channel [];
-  named = refl;
-  there = refl;
-  stands = kept_small [];
-  passes = refl;
-}
-
-status_small : status_of (verdict_passed next_call) ≡ 0
+status_small : status_of (verdict_passed next_call next_logon) ≡ 0
 status_small =
-    granted_status small_table next_call.name next_call.moment (network_in next_call.asked).info (network_in next_call.asked).validation (inr refl) (may_small next_call.moment) granted_small.verifies
+    granted_status small_table next_call.name next_call.moment next_logon.info next_logon.validation (inr refl) (may_small next_call.moment) granted_small.verifies
 
 other_controller : (one other : ChannelIdentity) → one.controller ≡ 0 → other.controller ≡ 1 → one ≡ other → ⊥
 other_controller one other is also same = absurd (let never : 0 ≡ 1 = sym is ∙ ap ChannelIdentity.controller same ∙ also in cc)
@@ -89,7 +79,7 @@ of_replies = record {
     refl,
     record {
       came = refl;
-      passed = passed_small;
+      passed = refl;
       call = refl;
       carries = record {
         next = next_small;
@@ -109,6 +99,6 @@ of_replies = record {
   fails_channel = λ claim.
       let other : ChannelIdentity = channel_of 1 (codes "FILE1") (small_channel []) in
       other_controller small_name other refl refl
-      (some_is small_name other (sym passed_small ∙ (the_reply small_reply other 3 7 replied_call claim).1.passed));
+      (some_is small_name other ((the_reply small_reply other 3 7 replied_call claim).1.passed));
   fails_reply = λ claim. let never : Some 8 ≡ Some 0 = (the_reply small_reply small_name 3 7 next_call claim).0 in absurd cc;
 }

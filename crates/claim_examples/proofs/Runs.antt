@@ -1,14 +1,15 @@
 -- Runs that a world made itself: logons of its clients, move by move.
+pub mod AnnAcceptedLaws
 pub mod AnnBagLaws
 pub mod ClearRunLaws
 pub mod ClearSuccessLaws
-mod ExampleKeyLaws
-mod JudgedOnLaws
-mod LogonTrailLaws
-mod NotedLaws
-mod NotedOnLaws
-mod SharedChannelLaws
-mod TakenOnceLaws
-mod ToldLaws
-mod TurnTrailLaws
-mod UnitComesLaws
+pub mod ExampleKeyLaws
+pub mod JudgedOnLaws
+pub mod LogonTrailLaws
+pub mod NotedLaws
+pub mod NotedOnLaws
+pub mod SharedChannelLaws
+pub mod TakenOnceLaws
+pub mod ToldLaws
+pub mod TurnTrailLaws
+pub mod UnitComesLaws

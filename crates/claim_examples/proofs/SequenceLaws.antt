@@ -39,10 +39,6 @@ pub kept_small : (seed : List ℕ) → lookup same_name (codes "FILE1") (small_c
 unfolding same_name names.upper_of
 kept_small seed = refl
 
-abbrev pub standing_in : Option MemberRunning → Standing
-standing_in None = standing.Nothing
-standing_in (Some running) = running.logons.channel.standing
-
 one_member : (turn : Option Pending) (seed other : List ℕ) (member : ℕ) (state : MemberState) → slice_get (world_open turn seed other).state.ends.members member ≡ Some state → (member ≡ 0) × (open_member turn seed ≡ state)
 one_member turn seed other zero state at = (refl, cc)
 one_member turn seed other (suc member) state at = absurd cc
@@ -188,9 +184,6 @@ of_sequences = record {
 }
 
 -- ---- channels, as they are seen from outside
-
-no_view : (view : View) → None ≡ Some view → ⊥
-no_view view is = absurd cc
 
 -- which unit was made for what
 opening_whole : (unit number : ℕ) (c : ChannelIdentity) → slice_get whole_history.marks unit ≡ Some (Opening c number) → (unit ≡ 0) × (1 ≡ number) × (small_name ≡ c)

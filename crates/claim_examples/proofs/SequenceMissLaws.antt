@@ -17,7 +17,7 @@ use Rattle.member_server.specs.declared.state.Running.{Running as MemberRunning}
 use Rattle.channel_events.specs.Marks.{Calling, OneOf, Plain, ReplyTo}
 use Rattle.channel_events.proofs.ListLaws.{got_nothing, one_weaker, some_is}
 use Rattle.step_notes.specs.ControllerNotes.{has_passed}
-use Rattle.step_notes.specs.Records.{Book, Judging, LogonTurn, Sent, blank, OfMember}
+use Rattle.step_notes.specs.Records.{Book, Judging, ChannelTurn, Sent, blank, OfMember}
 use Rattle.world_moves.specs.declared.links.EndId.TheVariants.{Member, Client}
 use Rattle.world_moves.specs.declared.state.State.{State}
 use Rattle.domain_world.specs.Accepting.Sequences.{AnswersCall, AreSoFar, CallsOfTurns, HavePassed, IsMadeOn, IsPassedIn, TurnsAreCalled, stamps_of}
@@ -314,7 +314,7 @@ once judged turn far = record {
 one_passed : (book : Book) → book.turns ≡ small_turn ∷ [] → TurnsAreCalled (run_small book None) → OneOf (λ (j : Judging). has_passed j.how ≡ true) book.judged
 one_passed book turns claim =
     let calls : CallsOfTurns (run_small book None) small_name None (timestamps_on (OfMember 0) small_name book.turns) = claim (OfMember 0) small_name o_small (stands_small book None) in
-    let stamps : timestamps_on (OfMember 0) small_name book.turns ≡ 0 ∷ [] = ap (λ (all : List LogonTurn). timestamps_on (OfMember 0) small_name all) turns ∙ one_stamp in
+    let stamps : timestamps_on (OfMember 0) small_name book.turns ≡ 0 ∷ [] = ap (λ (all : List ChannelTurn). timestamps_on (OfMember 0) small_name all) turns ∙ one_stamp in
     elim calls.far [
       | inl quiet ↦ its_call calls.made (sym stamps ∙ quiet.0) quiet.1
       | inr rest ↦ elim rest [
@@ -338,7 +338,7 @@ record TheCall (book : Book) : Type 0 where
 the_call : (book : Book) → book.turns ≡ small_turn ∷ [] → TurnsAreCalled (run_small book None) → TheCall book
 the_call book turns claim =
     let calls : CallsOfTurns (run_small book None) small_name None (timestamps_on (OfMember 0) small_name book.turns) = claim (OfMember 0) small_name o_small (stands_small book None) in
-    let stamps : timestamps_on (OfMember 0) small_name book.turns ≡ 0 ∷ [] = ap (λ (all : List LogonTurn). timestamps_on (OfMember 0) small_name all) turns ∙ one_stamp in
+    let stamps : timestamps_on (OfMember 0) small_name book.turns ≡ 0 ∷ [] = ap (λ (all : List ChannelTurn). timestamps_on (OfMember 0) small_name all) turns ∙ one_stamp in
     elim calls.far [
       | inl quiet ↦ only calls.made (sym stamps ∙ quiet.0) calls.each (λ n number stamp sent there mark. calls.every n number stamp sent small_name there mark refl)
       | inr rest ↦ elim rest [

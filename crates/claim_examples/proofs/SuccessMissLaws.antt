@@ -15,7 +15,9 @@ use Rattle.logon_client.specs.declared.plan.AuthKind.TheVariants.{V2}
 use Rattle.member_server.specs.declared.plan.MemberPlan.{MemberPlan}
 use Rattle.channel_events.proofs.ListLaws.{one_found}
 use Rattle.channel_events.specs.Marks.{OneOf}
-use Rattle.step_notes.specs.Records.{Judging, network_in}
+use Rattle.logon_stubs.specs.declared.calls.LogonCall.{LogonCall}
+use Rattle.step_notes.specs.Records.{Judging}
+use Rattle.step_notes.proofs.Controllers.JudgedCallLaws.{of_network}
 use Rattle.world_moves.specs.declared.moves.Move.{Move}
 use Rattle.world_moves.specs.declared.moves.Move.TheVariants as move
 use Rattle.world_moves.specs.Forms.{HasMoveForm, IsClientPlan, IsSchedule}
@@ -25,11 +27,11 @@ use Rattle.logon_runs.specs.Seen.WaitingUnits.{waiting}
 use Rattle.logon_runs.proofs.First.ExampleLogonLaws.{an_example_logs_on}
 use Rattle.logon_runs.proofs.Seen.WaitingLaws.{waiting_comes}
 use Rattle.domain_world.specs.Claims.{TravelsAsZeros}
-use Rattle.domain_world.specs.Claims.Completeness.{CanSucceed, ComesOneAtATime, Succeeds, info_planned}
+use Rattle.domain_world.specs.Claims.Completeness.{CanSucceed, ComesOneAtATime, NoKeyIsLost, Succeeds, info_planned}
 use Rattle.domain_world.specs.Past.{Past, past}
 use Rattle.claim_examples.specs.ClaimExamples.{small_account, small_hash}
 use Rattle.claim_examples.specs.CompletenessExamples.{able_client, able_member, able_table, ann_accounts, machine_account, machine_secret}
-use Rattle.claim_examples.specs.SuccessMisses.{OfEachClient, OfMoves, OfSucceeding, SuccessTellsApart, asking_plan, beside_plan, bind_moves, strict_plan, strict_table, two_lost, two_moves}
+use Rattle.claim_examples.specs.SuccessMisses.{LosesKey, OfEachClient, OfMoves, OfSucceeding, SuccessTellsApart, asking_plan, beside_plan, bind_moves, strict_plan, strict_table, two_lost, two_moves}
 use Rattle.claim_examples.proofs.CompletenessLaws.{ann_can, ann_found, ann_may, client_follows, client_form, lost_schedule, machine_found}
 use Rattle.claim_examples.proofs.SequenceLaws.{one_apart}
 
@@ -193,16 +195,15 @@ bind_waits come =
     let some = an_example_logs_on.comes.seen.bind.units in
     absurd cc
 
-zeros_travel : (run : Past) (moves : List Move) → OneOf (λ (j : Judging). (j.how ≡ Some (judged.Passed 0)) × TravelsAsZeros j (network_in j.asked).info) run.book.judged → ComesOneAtATime run moves → ⊥
+zeros_travel : (run : Past) (moves : List Move) → OneOf LosesKey run.book.judged → ComesOneAtATime run moves → ⊥
 zeros_travel run moves one come =
-    let found = one_found (λ (j : Judging). (j.how ≡ Some (judged.Passed 0)) × TravelsAsZeros j (network_in j.asked).info)
-    (λ (j : Judging). j.how ≡ Some (judged.Passed 0) → TravelsAsZeros j (network_in j.asked).info → ⊥) run.book.judged come.keys one in
-    found.2 found.1.0 found.1.1
+    let found = one_found LosesKey NoKeyIsLost run.book.judged come.keys one in
+    let j : Judging = found.0 in
+    of_network (λ (c : LogonCall). TravelsAsZeros j c.info → ⊥) j.asked found.1.call found.1.asks (found.2 found.1.how) found.1.zeros
 
-none_granted : (calls : List Judging) → AllByRecursion (λ (j : Judging). j.how ≡ Some (judged.Passed 0) → ⊥) calls →
-    AllByRecursion (λ (j : Judging). j.how ≡ Some (judged.Passed 0) → TravelsAsZeros j (network_in j.asked).info → ⊥) calls
+none_granted : (calls : List Judging) → AllByRecursion (λ (j : Judging). j.how ≡ Some (judged.Passed 0) → ⊥) calls → AllByRecursion NoKeyIsLost calls
 none_granted [] none = tt
-none_granted (j ∷ js) none = ((λ how zeros. none.0 how), none_granted js none.1)
+none_granted (j ∷ js) none = ((λ how. absurd (none.0 how)), none_granted js none.1)
 
 of_moves : OfMoves
 of_moves = record {

@@ -31,23 +31,23 @@ use Rattle.channel_client.specs.declared.state.Question.TheVariants as question
 use Rattle.channel_client.specs.declared.state.Standing.TheVariants as standing
 use Rattle.channel_client.specs.declared.state.Step.TheVariants as step
 use Rattle.domain_controller.specs.State.{State as ControllerState}
-use Rattle.domain_controller.specs.declared.state.Computers.{Computers}
+use Rattle.controller_calls.specs.declared.state.Computers.{Computers}
 use Rattle.domain_controller.specs.declared.state.Running.{Running as ControllerRunning}
 use Rattle.member_server.specs.Machine.{caller_of}
 use Rattle.member_server.specs.State.{State as MemberState}
 use Rattle.member_server.specs.declared.plan.MemberPlan.{MemberPlan}
-use Rattle.member_server.specs.declared.state.AtTurn.{AtTurn}
-use Rattle.member_server.specs.declared.state.Dialling.TheVariants as dialling
+use Rattle.member_server.specs.Turns.{AtTurn}
+use Rattle.channel_turns.specs.declared.state.Dialling.TheVariants as dialling
 use Rattle.member_server.specs.declared.state.Running.{Running as MemberRunning}
 use Rattle.member_server.specs.declared.state.Logon.{Logon}
-use Rattle.member_server.specs.declared.state.TurnTalk.{TurnTalk}
+use Rattle.channel_turns.specs.declared.state.TurnTalk.{TurnTalk}
 use Rattle.channel_events.specs.Marks.{Calling, Mark, Opened, Opening, Plain, ReplyTo}
 use Rattle.channel_events.specs.Seeds.{channel_seed}
 use Rattle.channel_events.specs.Sound.{AreInStep, History, Sound}
 use Rattle.step_notes.specs.ControllerNotes.{passing}
 use Rattle.step_notes.specs.Marking.{clashes}
 use Rattle.step_notes.specs.MemberNotes.{no_note}
-use Rattle.step_notes.specs.Records.{Book, ChallengeSent, Judging, JudgementTold, LogonTurn, MessageMade, MessageTaken, Network, OfMember, OutcomeTold, blank}
+use Rattle.step_notes.specs.Records.{Book, ChallengeSent, Judging, JudgementTold, ChannelTurn, MessageMade, MessageTaken, Network, OfMember, OutcomeTold, blank}
 use Rattle.world_moves.specs.declared.links.Route.{Route}
 use Rattle.world_moves.specs.declared.links.Route.TheVariants.{ToController, ToMember}
 use Rattle.world_moves.specs.declared.plan.Plan.{Plan}
@@ -162,9 +162,6 @@ message_of_link link = record {
 abbrev pub message : MessageTaken
 message = message_of_link 3
 
-abbrev pub no_computers : Computers
-no_computers = record { pending = []; channels = [] }
-
 abbrev pub call_with : Authenticator → LogonCall
 call_with given = record {
   server = None;
@@ -175,7 +172,7 @@ call_with given = record {
   validation = 3;
 }
 
--- it passed, and nothing is kept of the channel
+-- it passed, and is checked on no channel
 abbrev pub judging : Judging
 judging = record {
   at = 6;
@@ -184,8 +181,8 @@ judging = record {
   unit = Some 7;
   number = 3;
   asked = Network (call_with (record { credential = []; timestamp = 0 }));
+  checks = None;
   table = small_table;
-  computers = no_computers;
   moment = 0;
   how = Some (judged.Passed 0);
   reply = Some 8;
@@ -239,7 +236,7 @@ small_computers seed = record { pending = []; channels = (codes "FILE1", small_c
 abbrev pub on_channel : ℕ → Judging
 on_channel timestamp = record judging {
   asked = Network (call_with (record { credential = []; timestamp = timestamp }));
-  computers = small_computers [];
+  checks = Some (small_channel []);
 }
 
 abbrev pub judged_as : Judged → Judging → Judging
@@ -425,7 +422,7 @@ abbrev pub seed_after_two : List ℕ
 seed_after_two = channel_seed small_name (0 ∷ 0 ∷ [])
 
 -- a turn of the member
-abbrev pub small_turn : LogonTurn
+abbrev pub small_turn : ChannelTurn
 small_turn = record { requester = OfMember 0; channel = small_name; timestamp = 0 }
 
 abbrev pub one_turn : Book
@@ -653,7 +650,7 @@ pub record OfCredentials : Type 0 where
 abbrev pub whole_call : Judging
 whole_call = record judging {
   asked = Network (call_with (authenticator_of (key_of_channel (small_channel small_seed)) small_seed 0));
-  computers = small_computers small_seed;
+  checks = Some (small_channel small_seed);
 }
 
 abbrev pub whole_book : Book

@@ -14,7 +14,7 @@ use Rattle.logon_stubs.specs.Status.{account_disabled, wrong_password}
 use Rattle.account_table.specs.AccountTable.{AccountTable}
 use Rattle.sam_logon.specs.Granting.{granting_reply}
 use Rattle.domain_controller.specs.Machine.{Desk, answer_logon}
-use Rattle.domain_controller.specs.declared.line.Line.{Line}
+use Rattle.controller_calls.specs.declared.line.Line.{Line}
 use Rattle.step_notes.specs.ControllerNotes.{Where, judging_of, new_actions}
 use Rattle.step_notes.specs.GrantSends.{IsSentAsGranted, actions_granting, info_granted}
 use Rattle.step_notes.specs.Records.{Judging, MessageTaken, Network, blank}
@@ -90,7 +90,7 @@ small_line = record { link = 2; call = 3; context = 0; limit = 5840 }
 abbrev pub reply_with_key : List ℕ → Reply
 reply_with_key key =
     granting_reply (Some (record { credential = return_of (key_of_channel (small_channel [])) [] 0; timestamp = 0 }))
-    small_call.validation (info_granted next_call small_account) key 1 0
+    small_call.validation (info_granted next_call small_call small_account) key 1 0
 
 -- What is sent: that call is granted there, whenever it comes, so it is sent what her account is granted; where nothing
 -- was done, nothing was sent so, nor where something was sent twice. Of two replies whose fields are in range, and that
@@ -98,15 +98,15 @@ reply_with_key key =
 pub record OfSending : Type 0 where
   pub meets : (w : Where) (line : Line) (after : Desk) →
       after ≡ answer_logon small_call.computer small_call.authenticator w.name w.moment line small_call.info small_call.validation small_desk →
-      IsSentAsGranted (judging_of w line small_call small_desk (Some after)) line (new_actions (Some after) small_desk)
-  pub fails : (line : Line) → IsSentAsGranted next_call line [] → ⊥
+      IsSentAsGranted (judging_of w line (Network small_call) small_desk (Some after)) small_call line (new_actions (Some after) small_desk)
+  pub fails : (line : Line) → IsSentAsGranted next_call small_call line [] → ⊥
   pub fails_twice : (line : Line) (bytes : List ℕ) →
-      IsSentAsGranted next_call line
+      IsSentAsGranted next_call small_call line
       (action.Judged (judged.Passed 0) ∷ action.Send line.link bytes ∷ action.Send line.link bytes ∷ [])
       → ⊥
   pub fails_key : (one other : List ℕ) → InRangeReply (reply_with_key one) → InRangeReply (reply_with_key other) → one ≢ other →
-      IsSentAsGranted next_call small_line (actions_granting small_line (reply_with_key one)) →
-      IsSentAsGranted next_call small_line (actions_granting small_line (reply_with_key other)) → ⊥
+      IsSentAsGranted next_call small_call small_line (actions_granting small_line (reply_with_key one)) →
+      IsSentAsGranted next_call small_call small_line (actions_granting small_line (reply_with_key other)) → ⊥
 
 -- one unit carried ann's call with a response of 25 bytes, which is refused and counts, and it was judged so often
 abbrev pub wrong_call : Judging

@@ -14,14 +14,14 @@ use Rattle.step_notes.specs.ReplySends.{reply_passed}
 use Rattle.world_moves.specs.declared.links.LinkKind.TheVariants as kind
 use Rattle.domain_world.specs.Claims.Replies.{RepliesCarryTheirJudgement}
 use Rattle.domain_world.specs.Past.{Past, sent_at}
-use Rattle.claim_examples.specs.ClaimExamples.{judged_as, next_call, run_in, small_channel, small_name, small_world}
+use Rattle.claim_examples.specs.ClaimExamples.{judged_as, next_call, next_logon, run_in, small_channel, small_name, small_world}
 
 -- what is sent for ann's call, with frames of at most 5,840 bytes
 abbrev pub small_reply : List ℕ
 small_reply =
     bytes_of_call
     (response_of 3 0 (written_reply
-    (reply_passed next_call (small_channel []) (authenticator_of (key_of_channel (small_channel [])) [] 0))))
+    (reply_passed next_call next_logon (small_channel []) (authenticator_of (key_of_channel (small_channel [])) [] 0))))
     5840
 
 -- the bag has one unit, of these bytes and with this mark, and one call was judged

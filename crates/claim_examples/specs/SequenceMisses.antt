@@ -15,7 +15,7 @@ use Rattle.member_server.specs.State.{State as MemberState}
 use Rattle.member_server.specs.declared.plan.MemberPlan.{MemberPlan}
 use Rattle.member_server.specs.declared.state.Running.{Running as MemberRunning}
 use Rattle.channel_events.specs.Marks.{Calling, Mark, Plain, ReplyTo}
-use Rattle.step_notes.specs.Records.{Book, Judging, LogonTurn, OfMember, blank}
+use Rattle.step_notes.specs.Records.{Book, Judging, ChannelTurn, OfMember, blank}
 use Rattle.world_moves.specs.declared.bag.BagUnit.{BagUnit}
 use Rattle.world_moves.specs.declared.links.EndId.{EndId}
 use Rattle.world_moves.specs.declared.links.EndId.TheVariants.{Member, Client}
@@ -85,7 +85,7 @@ run_by book turn o name c =
 abbrev pub run_whole : Book → Option Pending → List ℕ → List ℕ → Past
 run_whole book turn seed other = run_by book turn (kept_whole seed) (codes "FILE1") (kept_whole other)
 
-abbrev pub turn_at : ℕ → ChannelIdentity → ℕ → LogonTurn
+abbrev pub turn_at : ℕ → ChannelIdentity → ℕ → ChannelTurn
 turn_at member channel timestamp = record { requester = OfMember member; channel = channel; timestamp = timestamp }
 
 -- the member had turns on the channel with the timestamps 5 and 7; between them are one of another member, and one on

@@ -12,7 +12,8 @@ use Rattle.logon_client.specs.declared.outcome.RefusedCause.TheVariants as refus
 use Rattle.logon_client.specs.declared.plan.AuthKind.{AuthKind}
 use Rattle.logon_client.specs.declared.plan.AuthKind.TheVariants.{V2}
 use Rattle.channel_events.specs.Marks.{OneOf}
-use Rattle.step_notes.specs.Records.{Judging, OutcomeTold, network_in}
+use Rattle.logon_stubs.specs.declared.calls.LogonCall.{LogonCall}
+use Rattle.step_notes.specs.Records.{Judging, Network, OutcomeTold}
 use Rattle.world_moves.specs.declared.links.Route.TheVariants.{ToMember}
 use Rattle.world_moves.specs.declared.moves.Move.{Move}
 use Rattle.world_moves.specs.declared.moves.Move.TheVariants as move
@@ -132,6 +133,13 @@ others =
 abbrev pub judging_as : Past → List Judging → Past
 judging_as run calls = record run { book = record run.book { judged = calls } }
 
+-- a Logon call passed with status 0, and its key travels as zeros
+pub record LosesKey (j : Judging) : Type 0 where
+  pub how : j.how ≡ Some (judged.Passed 0)
+  pub call : LogonCall
+  pub asks : j.asked ≡ Network call
+  pub zeros : TravelsAsZeros j call.info
+
 -- Logons come one at a time where a second client starts once the first has its outcome, and time passes between. They
 -- don't where it starts before, where the first starts again by another number, where a unit waits at the end, where a
 -- move is of another kind, or where a granted call's key travels as zeros. Of calls that weren't granted nothing is
@@ -143,8 +151,7 @@ pub record OfMoves : Type 0 where
   pub fails_again : ComesOneAtATime (past two_lost again_moves) again_moves → ⊥
   pub fails_unit : ComesOneAtATime (past example.ann_plan bind_moves) bind_moves → ⊥
   pub fails_others : AllByRecursion (λ (what : Move). (run : Past) → ComesOneAtATime run (what ∷ []) → ⊥) others
-  pub fails_zeros : (run : Past) (moves : List Move) → OneOf (λ (j : Judging). (j.how ≡ Some (judged.Passed 0)) × TravelsAsZeros j (network_in j.asked).info) run.book.judged →
-      ComesOneAtATime run moves → ⊥
+  pub fails_zeros : (run : Past) (moves : List Move) → OneOf LosesKey run.book.judged → ComesOneAtATime run moves → ⊥
   pub others_judged : (run : Past) (moves : List Move) (calls : List Judging) → AllByRecursion (λ (j : Judging). j.how ≡ Some (judged.Passed 0) → ⊥) calls →
       ComesOneAtATime run moves → ComesOneAtATime (judging_as run calls) moves
 

@@ -12,16 +12,12 @@ ghost use Rattle.claim_examples.specs.ReplyExamples.{OfReplies};
 ghost use Rattle.claim_examples.specs.SequenceMisses.{SequencesTellApart};
 ghost use Rattle.claim_examples.specs.SuccessMisses.{SuccessTellsApart};
 
-use domain_world::{claims_hold_of_runs, members_let_in_who_asked};
-
 /// No claim is true, or false, of everything that could be written down of a run: each is met by some small run and not
 /// by another. So it is of a seed that comes round, of a clash and of the answer that a member took.
+#[tactic(auto, using(crate::proofs::ClaimLaws::claims_tell_apart))]
 pub fn claims_tell_apart()
     ensures { ClaimsTellApart }
-{
-    // Of the world before its first move what is proved of every run is so.
-    claims_hold_of_runs();
-}
+{}
 
 /// Nor is the claim on who is let in: it is met by a run in which somebody is, and not by others, each of which lacks
 /// one thing.
@@ -68,12 +64,10 @@ pub fn sequences_tell_apart()
 /// Of runs that a world made itself: the first logon in a world, of whatever plan, where it is granted, is clear, and
 /// its member lets in who asked. So is the example's, whose moves are a schedule in which one client logs on. So the
 /// claims on clear runs speak of runs that there are.
+#[tactic(auto, using(crate::proofs::Runs::ClearRunLaws::first_logons_are_clear))]
 pub fn a_run_is_clear()
     ensures { FirstLogonsAreClear }
-{
-    // That who is let in asked is a law of every run.
-    members_let_in_who_asked();
-}
+{}
 
 /// The client of that example can succeed, as completeness asks it of a client: her account may log on in each state of
 /// the run. The run meets all premises of completeness, and she is in, as completeness says it.
@@ -91,9 +85,7 @@ pub fn success_tells_apart()
 
 /// All that is proved of runs is so of the run of that example, which is a clear schedule. So a message of it is
 /// accepted, on its controller's answer and by the link's unused challenge.
+#[tactic(auto, using(crate::proofs::Runs::AnnAcceptedLaws::ann_is_accepted))]
 pub fn ann_is_accepted()
     ensures { AnnIsAccepted }
-{
-    a_run_is_clear();
-    claims_hold_of_runs();
-}
+{}

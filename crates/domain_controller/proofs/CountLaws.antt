@@ -21,11 +21,14 @@ use Rattle.end_links.specs.Links.{LinkState}
 use Rattle.end_links.specs.Serving.{ServedPart, served_cut}
 use Rattle.end_links.proofs.KeepLaws.{StaysServing, served_stays}
 use Rattle.domain_controller.specs.Hearing.{hear}
-use Rattle.domain_controller.specs.Laws.{IsNext, CountsByVerdict}
-use Rattle.domain_controller.specs.Machine.{Desk, desk, put_channel, take_channel, serves_level, judge_level, judge_info, judge_return, judge_channel, answer_logon, draw_challenge, by_call, by_heard, controller_server}
+use Rattle.controller_calls.specs.Passing.{IsNext}
+use Rattle.domain_controller.specs.Laws.{CountsByVerdict}
+use Rattle.controller_calls.specs.Desk.{Desk, desk, put_channel, take_channel}
+use Rattle.controller_calls.specs.Logons.{serves_level, judge_level, judge_info, judge_return, judge_channel, answer_logon}
+use Rattle.domain_controller.specs.Machine.{draw_challenge, by_call, by_heard, controller_server}
 use Rattle.domain_controller.specs.State.{State}
 use Rattle.domain_controller.specs.Step.{LinkMap, StepPart, after_units, serve_on, by_event, start_turn, halted, state_after, first_desk, step_on}
-use Rattle.domain_controller.specs.declared.line.Line.{Line}
+use Rattle.controller_calls.specs.declared.line.Line.{Line}
 use Rattle.domain_controller.specs.declared.state.Running.{Running}
 use Rattle.domain_controller.specs.declared.state.Talk.{Talk}
 use Rattle.domain_controller.specs.declared.hearing.Heard.{Heard}

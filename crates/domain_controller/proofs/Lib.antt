@@ -1,16 +1,12 @@
-pub mod AlikeLaws
 pub mod AloneLaws
 pub mod ChangeLaws
 pub mod CountLaws
-pub mod LevelLaws
 pub mod NumberedLaws
 pub mod OtherLaws
-pub mod PassLaws
 pub mod QuietLaws
 pub mod ReadBackLaws
 pub mod RestLaws
 pub mod SendLaws
 pub mod StepLaws
-pub mod StubLaws
 pub mod WholeLaws
 pub mod WholeParts

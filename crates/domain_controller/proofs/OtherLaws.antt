@@ -27,15 +27,18 @@ use Rattle.end_links.specs.Links.{LinkState}
 use Rattle.end_links.specs.Serving.{ServedPart, Service, then_open, served_by, served_cut}
 use Rattle.domain_controller.specs.Hearing.{hear}
 use Rattle.domain_controller.specs.Laws.{call_in, talk_after, calls_then, calls_heard, calls_on, calls_of, names_by, names, KeepsComputer, KeepsUnlessStopped, KeepsOthers}
-use Rattle.domain_controller.specs.Machine.{Desk, desk, put_pair, put_pair_if, take_pair, put_channel, take_channel, channel_for, open_channel, judge_pair, judge_offer, judge_account, account_for, judge_return, judge_channel, answer_logon, draw_challenge, by_call, by_heard, controller_server}
+use Rattle.controller_calls.specs.Desk.{Desk, desk, put_pair, take_pair, put_channel, take_channel}
+use Rattle.controller_calls.specs.Opening.{put_pair_if, channel_for, open_channel, judge_pair, judge_offer, judge_account, account_for}
+use Rattle.controller_calls.specs.Logons.{judge_return, judge_channel, answer_logon}
+use Rattle.domain_controller.specs.Machine.{draw_challenge, by_call, by_heard, controller_server}
 use Rattle.domain_controller.specs.State.{State}
 use Rattle.domain_controller.specs.Step.{LinkMap, StepPart, open_by, with_open, after_units, serve_on, by_event, start_turn, halted, state_after, first_desk, step_on}
-use Rattle.domain_controller.specs.declared.line.Line.{Line}
-use Rattle.domain_controller.specs.declared.state.Computers.{Computers}
-use Rattle.domain_controller.specs.declared.state.ChallengePair.{ChallengePair}
+use Rattle.controller_calls.specs.declared.line.Line.{Line}
+use Rattle.controller_calls.specs.declared.state.Computers.{Computers}
+use Rattle.controller_calls.specs.declared.state.ChallengePair.{ChallengePair}
 use Rattle.domain_controller.specs.declared.state.Running.{Running}
 use Rattle.domain_controller.specs.declared.state.Talk.{Talk}
-use Rattle.domain_controller.specs.declared.state.Work.{Work}
+use Rattle.controller_calls.specs.declared.state.Work.{Work}
 use Rattle.domain_controller.specs.declared.hearing.Heard.{Heard}
 use Rattle.domain_controller.specs.declared.hearing.Heard.TheVariants as heard
 

@@ -30,7 +30,7 @@ use Rattle.sam_logon.specs.Rules.{Rule, Shown, first_refusal, refusal_by, rules_
 use Rattle.sam_logon.specs.Verdict.{IfGranted, judgement_of, verdict_by, verdict_of, verdict_routed, verdict_shown}
 use Rattle.sam_logon.proofs.GrantedLaws.{granting-CanWrite, granting-InRange}
 use Rattle.end_links.specs.Sending.{response_of}
-use Rattle.domain_controller.specs.Machine.{IsServedLevel, judge_info, judge_level, serves_level, status_of}
+use Rattle.controller_calls.specs.Logons.{IsServedLevel, judge_info, judge_level, serves_level, status_of}
 use Rattle.domain_controller.specs.ReadBack.{IsReadBack, RepliesAreReadBack, opened_reply, passed_reply}
 use Rattle.domain_controller.proofs.AloneLaws.{number_fits, reply_alone}
 use Rattle.domain_controller.proofs.WholeParts.{Fits, crypt_block, judged_fits, judged_served, opened_few, passed_few, reply_can, reply_heard}

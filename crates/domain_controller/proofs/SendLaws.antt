@@ -49,14 +49,17 @@ use Rattle.end_links.proofs.KeepLaws.{StaysAmong, served_among}
 use Rattle.end_loop.specs.Runs.{actions_of}
 use Rattle.domain_controller.specs.Hearing.{bound_talk, hear_fresh, is_served, hear_stub, hear_opnum, hear_context, hear_whole, hear_joined, hear_bound, hear_on, hear_read, hear}
 use Rattle.domain_controller.specs.Laws.{done_by_open, IsAnswerTo, IsActionOn, AnswersUnits}
-use Rattle.domain_controller.specs.Machine.{Desk, desk, put_pair_if, take_pair, put_channel, take_channel, channel_for, open_channel, judge_pair, judge_offer, judge_account, account_for, judge_return, judge_channel, answer_logon, draw_challenge, by_call, by_heard, controller_server}
+use Rattle.controller_calls.specs.Desk.{Desk, desk, take_pair, put_channel, take_channel}
+use Rattle.controller_calls.specs.Opening.{put_pair_if, channel_for, open_channel, judge_pair, judge_offer, judge_account, account_for}
+use Rattle.controller_calls.specs.Logons.{judge_return, judge_channel, answer_logon}
+use Rattle.domain_controller.specs.Machine.{draw_challenge, by_call, by_heard, controller_server}
 use Rattle.domain_controller.specs.State.{State}
 use Rattle.domain_controller.specs.Step.{open_by, with_open, LinkMap, StepPart, after_units, serve_on, by_event, start_turn, halted, state_after, first_desk, step_on}
-use Rattle.domain_controller.specs.declared.line.Line.{Line}
-use Rattle.domain_controller.specs.declared.state.ChallengePair.{ChallengePair}
+use Rattle.controller_calls.specs.declared.line.Line.{Line}
+use Rattle.controller_calls.specs.declared.state.ChallengePair.{ChallengePair}
 use Rattle.domain_controller.specs.declared.state.Running.{Running}
 use Rattle.domain_controller.specs.declared.state.Talk.{Talk}
-use Rattle.domain_controller.specs.declared.state.Work.{Work}
+use Rattle.controller_calls.specs.declared.state.Work.{Work}
 use Rattle.domain_controller.specs.declared.hearing.Heard.{Heard}
 use Rattle.domain_controller.specs.declared.hearing.Heard.TheVariants as heard
 

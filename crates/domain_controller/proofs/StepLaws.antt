@@ -7,7 +7,7 @@ use Rattle.outside.specs.Machine.{AnswersBy, StepsBy, Takes, step_by, then_part}
 use Rattle.outside.proofs.DrawLaws.{IsRest-refl, DrawsSome-between}
 use Rattle.outside.proofs.MachineLaws.{AnswersBy-refused, StepsBy-refused}
 use Rattle.end_links.specs.Serving.{ServedPart}
-use Rattle.domain_controller.specs.Machine.{Desk}
+use Rattle.controller_calls.specs.Desk.{Desk}
 use Rattle.domain_controller.specs.State.{State}
 use Rattle.domain_controller.specs.Step.{LinkMap, StepPart, whole_part, keep_link, after_units, by_event, start_turn, halted, state_after, first_desk, step_part, step_on, step_of}
 use Rattle.domain_controller.specs.declared.state.Running.{Running}

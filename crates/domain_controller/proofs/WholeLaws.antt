@@ -48,15 +48,18 @@ use Rattle.end_links.specs.Links.{LinkState}
 use Rattle.end_links.specs.Serving.{ServedPart, served_cut}
 use Rattle.end_links.proofs.KeepLaws.{StaysServing, served_stays}
 use Rattle.end_loop.specs.Runs.{actions_of}
-use Rattle.domain_controller.specs.Hearing.{IsLine, bound_talk, hear_fresh, is_served, hear_stub, hear_opnum, hear_context, hear_whole, hear_joined, hear_bound, hear_on, hear_read, hear}
-use Rattle.domain_controller.specs.Machine.{Desk, desk, tell, send_reply, put_pair_if, take_pair, put_channel, take_channel, channel_for, open_channel, judge_pair, judge_offer, judge_account, account_for, judge_info, judge_return, judge_channel, answer_logon, refuse_logon, draw_challenge, by_call, by_heard, controller_server}
+use Rattle.controller_calls.specs.Desk.{IsLine, Desk, desk, tell, send_reply, take_pair, put_channel, take_channel}
+use Rattle.domain_controller.specs.Hearing.{bound_talk, hear_fresh, is_served, hear_stub, hear_opnum, hear_context, hear_whole, hear_joined, hear_bound, hear_on, hear_read, hear}
+use Rattle.controller_calls.specs.Opening.{put_pair_if, channel_for, open_channel, judge_pair, judge_offer, judge_account, account_for}
+use Rattle.controller_calls.specs.Logons.{judge_info, judge_return, judge_channel, answer_logon, refuse_logon}
+use Rattle.domain_controller.specs.Machine.{draw_challenge, by_call, by_heard, controller_server}
 use Rattle.domain_controller.specs.State.{State}
 use Rattle.domain_controller.specs.Step.{open_by, with_open, LinkMap, StepPart, keep_link, after_units, serve_on, by_event, start_turn, halted, state_after, first_desk, step_on}
-use Rattle.domain_controller.specs.declared.line.Line.{Line}
-use Rattle.domain_controller.specs.declared.state.ChallengePair.{ChallengePair}
+use Rattle.controller_calls.specs.declared.line.Line.{Line}
+use Rattle.controller_calls.specs.declared.state.ChallengePair.{ChallengePair}
 use Rattle.domain_controller.specs.declared.state.Running.{Running}
 use Rattle.domain_controller.specs.declared.state.Talk.{Talk}
-use Rattle.domain_controller.specs.declared.state.Work.{Work}
+use Rattle.controller_calls.specs.declared.state.Work.{Work}
 use Rattle.domain_controller.specs.declared.hearing.Heard.{Heard}
 use Rattle.domain_controller.specs.declared.hearing.Heard.TheVariants as heard
 use Rattle.end_links.specs.Whole.{IsWholeIfSent, IsWholeSend}

@@ -49,8 +49,8 @@ use Rattle.end_links.specs.Whole.{IsWholeSend}
 use Rattle.end_links.proofs.WholeLaws as whole
 use Rattle.end_links.specs.Binding.{ack_of, nak_of}
 use Rattle.end_links.specs.Sending.{fault_of, response_of}
-use Rattle.domain_controller.specs.Machine.{IsServedLevel, judge_info, judge_level, serves_level}
-use Rattle.domain_controller.proofs.LevelLaws.{short_at}
+use Rattle.controller_calls.specs.Logons.{IsServedLevel, judge_info, judge_level, serves_level}
+use Rattle.controller_calls.proofs.LevelLaws.{short_at}
 use Rattle.domain_controller.proofs.NumberedLaws.{ack_alike, fault_alike, nak_alike, reply_alike}
 use Rattle.domain_controller.specs.ReadBack.{heard_reply, passed_reply}
 use Rattle.domain_controller.specs.Whole.{InRangeTable}

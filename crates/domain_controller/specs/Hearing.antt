@@ -24,10 +24,11 @@ use Rattle.end_links.specs.Agreed.{Agreed, accepts}
 use Rattle.end_links.specs.Binding.{ack_of, nak_of, binding_of}
 use Rattle.end_links.specs.Sending.{fault_of}
 use Rattle.logon_stubs.specs.Interface.{netlogon_syntax}
-use Rattle.domain_controller.specs.declared.line.Line.{Line}
+use Rattle.controller_calls.specs.declared.line.Line.{Line}
 use Rattle.domain_controller.specs.declared.state.Talk.{Talk}
 use Rattle.domain_controller.specs.declared.hearing.Heard.{Heard}
 use Rattle.domain_controller.specs.declared.hearing.Heard.TheVariants as heard
+pub use Rattle.controller_calls.specs.Desk.{IsLine}
 
 -- what is said on a link at first: nothing is open, and nothing was bound
 abbrev pub first_talk : Talk
@@ -125,11 +126,6 @@ abbrev pub hear : ℕ → List ℕ → Talk → Heard
 hear link bytes talk = hear_read (unit_of bytes) link talk
 
 -- ---- what is heard can be answered
-
--- fragments of at least 1,432 bytes, and at most 5,840
-pub record IsLine (line : Line) : Type 0 where
-  pub least : 1432 ≤ line.limit
-  pub most : line.limit ≤ 5840
 
 -- the call that is heard is answered on such a line, and the bytes that are sent are one unit of at most 5,840
 abbrev pub CanAnswer : Heard → Type 0

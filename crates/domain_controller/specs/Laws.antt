@@ -1,14 +1,9 @@
--- What holds of a controller's steps, whatever comes, from whomever (this project's own choice, but for when an
--- authenticator passes: MS-NRPC 3.1.4.5).
-use Rattle.std.specs.Prelude.{ℕ, ◌≡◌, ◌⊎◌, ◌↔◌, Bool, true, false, List, [], ◌∷◌, ◌++◌, length, nat_le, Option, Some, None, Ok, Err}
+-- What holds of a controller's steps, whatever comes, from whomever (this project's own choice).
+use Rattle.std.specs.Prelude.{ℕ, ◌≡◌, ◌⊎◌, Bool, true, false, List, [], ◌∷◌, ◌++◌, length, nat_le, Option, Some, None, Ok, Err}
 use Rattle.std.specs.List.{AllByRecursion, Any}
 use Rattle.wire_base.specs.Maps.{lookup, take_out, same_number}
 use Rattle.wire_base.specs.Names.{same_name}
-use Rattle.wire_base.specs.declared.authenticator.Authenticator.{Authenticator}
-use Rattle.authenticators.specs.Sequences.{Passes}
-use Rattle.authenticators.specs.SecureChannels.{SecureChannelState, key_of_channel}
 use Rattle.outside.specs.declared.action.Action.{Action}
-use Rattle.outside.specs.declared.action.Judged.{Judged}
 use Rattle.outside.specs.declared.action.StepRefused.{StepRefused}
 use Rattle.outside.specs.declared.event.Event.{Event}
 use Rattle.rpc_units.specs.declared.unit.Unit.{Unit as RpcUnit}
@@ -30,20 +25,21 @@ use Rattle.logon_stubs.specs.Interface.{netlogon_syntax}
 use Rattle.end_loop.specs.Acts.{is_made}
 use Rattle.end_loop.specs.Runs.{actions_of}
 use Rattle.domain_controller.specs.Hearing.{hear}
-use Rattle.domain_controller.specs.Machine.{Desk, answer_logon, judge_info}
+use Rattle.controller_calls.specs.Desk.{Desk}
+use Rattle.controller_calls.specs.Logons.{answer_logon, judge_info}
 use Rattle.domain_controller.specs.State.{State}
 use Rattle.domain_controller.specs.Step.{LinkMap, step_of}
-use Rattle.domain_controller.specs.declared.line.Line.{Line}
-use Rattle.domain_controller.specs.declared.state.Computers.{Computers}
+use Rattle.controller_calls.specs.declared.line.Line.{Line}
+use Rattle.controller_calls.specs.declared.state.Computers.{Computers}
 use Rattle.domain_controller.specs.declared.state.Running.{Running}
 use Rattle.domain_controller.specs.declared.state.Talk.{Talk}
 use Rattle.domain_controller.specs.declared.hearing.Heard.{Heard}
 use Rattle.outside.specs.declared.action.Action.TheVariants as action
 use Rattle.outside.specs.declared.action.CloseCause.TheVariants as close
-use Rattle.outside.specs.declared.action.Judged.TheVariants as judged
 use Rattle.outside.specs.declared.event.Event.TheVariants as event
 use Rattle.logon_stubs.specs.declared.calls.Call.TheVariants as call
 use Rattle.domain_controller.specs.declared.hearing.Heard.TheVariants as heard
+pub use Rattle.controller_calls.specs.Passing.{IsNext, judges_call, is_passed, PassesTheNext}
 
 -- ---- what follows a link that was closed
 
@@ -170,44 +166,6 @@ pub record KeepsOthers : Type 0 where
   pub keeps : (s : State) (running : Running) (what : Event) (now : ℕ) (left : List (List ℕ)) (computer : List ℕ) → s.running ≡ Some running →
       AllByRecursion (λ (c : Call). names c computer ≡ false) (calls_of what running.links) →
       KeepsUnlessStopped computer running.computers (step_of s what now left).state.running
-
--- ---- which authenticator passes
-
--- a call names a computer and has an authenticator, as these are in it; the computer has a channel, and the
--- authenticator is the next one of its sequence
-pub record IsNext (computers : Computers) (name : Option (List ℕ)) (shown : Option Authenticator) : Type 0 where
-  pub computer : List ℕ
-  pub given : Authenticator
-  pub channel : SecureChannelState
-  pub named : name ≡ Some computer
-  pub there : shown ≡ Some given
-  pub stands : lookup same_name computer computers.channels ≡ Some channel
-  pub passes : Passes (key_of_channel channel) channel.seed given
-
--- whether it judges a call that was heard: what a logon that was asked of another controller came to later doesn't
-abbrev pub judges_call : Judged → Bool
-judges_call (judged.Passed status) = true
-judges_call judged.Forwarded = true
-judges_call (judged.Answered status) = false
-judges_call judged.Barred = true
-judges_call judged.NoChannel = true
-
--- whether an authenticator passed, also where the logon is then asked of another controller
-abbrev pub is_passed : Judged → Bool
-is_passed (judged.Passed status) = true
-is_passed judged.Forwarded = true
-is_passed (judged.Answered status) = false
-is_passed judged.Barred = false
-is_passed judged.NoChannel = false
-
--- A logon call is judged once, and answered once. It passes exactly where its authenticator is the next one of the
--- channel of the computer that it names.
-pub record PassesTheNext : Type 0 where
-  pub logon : (c : LogonCall) (name : List ℕ) (now : ℕ) (line : Line) (d : Desk) →
-      (how : Judged) × (answer : List ℕ)
-      × ((answer_logon c.computer c.authenticator name now line c.info c.validation d).work.actions
-      ≡ d.work.actions ++ action.Judged how ∷ action.Send line.link answer ∷ [])
-      × ((is_passed how ≡ true) ↔ IsNext d.work.computers c.computer c.authenticator)
 
 -- ---- which counts of bad passwords change
 

@@ -16,7 +16,8 @@ use Rattle.logon_stubs.specs.Calls.{opnum_of_reply, reply_of}
 use Rattle.logon_stubs.specs.Writing.{written_reply}
 use Rattle.account_table.specs.AccountTable.{AccountTable}
 use Rattle.end_links.specs.Sending.{response_of}
-use Rattle.domain_controller.specs.Machine.{grant_flags, info_of, judge_info, status_of}
+use Rattle.controller_calls.specs.Opening.{grant_flags}
+use Rattle.controller_calls.specs.Logons.{info_of, judge_info, status_of}
 use Rattle.domain_controller.specs.Whole.{InRangeTable}
 
 -- the reply to a call that passed, by the session key of its channel, the credential that is returned, the level that

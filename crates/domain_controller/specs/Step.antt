@@ -14,11 +14,12 @@ use Rattle.end_links.specs.Links.{LinkState, held_by}
 use Rattle.end_links.specs.Serving.{ServedPart, served_cut}
 use Rattle.domain_controller.specs.Hearing.{first_talk}
 use Rattle.domain_controller.specs.Lines.{line_of}
-use Rattle.domain_controller.specs.Machine.{Desk, desk, tell, controller_server}
+use Rattle.controller_calls.specs.Desk.{Desk, desk, tell}
+use Rattle.domain_controller.specs.Machine.{controller_server}
 use Rattle.domain_controller.specs.State.{State}
 use Rattle.domain_controller.specs.declared.state.Running.{Running}
 use Rattle.domain_controller.specs.declared.state.Talk.{Talk}
-use Rattle.domain_controller.specs.declared.state.Work.{Work}
+use Rattle.controller_calls.specs.declared.state.Work.{Work}
 
 -- ---- the parts of a step
 

@@ -15,12 +15,13 @@ use Rattle.end_links.specs.Links.{LinkState}
 use Rattle.end_links.specs.Serving.{ServedPart}
 use Rattle.end_links.specs.Whole.{IsWholeIfSent}
 use Rattle.end_loop.specs.Runs.{actions_of}
-use Rattle.domain_controller.specs.Hearing.{IsLine, hear}
-use Rattle.domain_controller.specs.Machine.{Desk, controller_server}
+use Rattle.controller_calls.specs.Desk.{IsLine, Desk}
+use Rattle.domain_controller.specs.Hearing.{hear}
+use Rattle.domain_controller.specs.Machine.{controller_server}
 use Rattle.domain_controller.specs.State.{State}
 use Rattle.domain_controller.specs.Step.{LinkMap, first_state, step_of}
 use Rattle.domain_controller.specs.declared.hearing.Heard.TheVariants as heard
-use Rattle.domain_controller.specs.declared.line.Line.{Line}
+use Rattle.controller_calls.specs.declared.line.Line.{Line}
 use Rattle.domain_controller.specs.declared.state.Running.{Running}
 use Rattle.domain_controller.specs.declared.state.Talk.{Talk}
 

@@ -3,18 +3,17 @@
 ghost use Rattle.std.specs.Prelude.{◌≡◌};
 ghost use Rattle.outside.specs.Drawing.{DrawsSome};
 ghost use Rattle.outside.specs.Machine.{AnswersBy};
-ghost use Rattle.domain_controller.specs.Hearing.{IsLine, CanAnswer};
+ghost use Rattle.controller_calls.specs.Desk.{IsLine, desk, at_desk};
+ghost use Rattle.domain_controller.specs.Hearing.{CanAnswer};
 ghost use Rattle.account_table.specs.Changes.{with_changes};
-ghost use Rattle.domain_controller.specs.Machine.{desk, at_desk, by_call, by_heard};
+ghost use Rattle.domain_controller.specs.Machine.{by_call, by_heard};
 
-use crate::authenticating::answer_authenticate;
-use crate::challenging::answer_challenge;
 use crate::hearing::Heard;
-use crate::line::Line;
-use crate::logon::answer_logon;
-use crate::replying::{send_fault, tell};
-use crate::state::{Talk, Work};
+use crate::state::Talk;
 use account_table::{Table, TableChanges};
+use controller_calls::{
+    Line, Work, answer_authenticate, answer_challenge, answer_logon, send_fault, tell,
+};
 use logon_stubs::Call;
 use outside::{Action, Chances, StepRefused};
 use rpc_units::OPERATION_OUT_OF_RANGE;
@@ -54,7 +53,7 @@ pub(crate) fn answer_heard<Q: Chances>(
 }
 
 /// Answers a call.
-#[tactic(auto, using(crate::proofs::AlikeLaws::answering_alike))]
+#[tactic(auto, using(controller_calls::proofs::AlikeLaws::answering_alike))]
 fn answer_call<Q: Chances>(
     alloc: Global,
     table: &Table,

@@ -9,8 +9,9 @@ ghost use Rattle.domain_controller.specs.Step.{first_state, halted, is_stopped, 
 
 use crate::lines::line_of;
 use crate::links::answer_event;
-use crate::state::{Computers, Running, Work};
+use crate::state::Running;
 use account_table::{Table, TableChanges};
+use controller_calls::{Computers, Work};
 use end_links::{Links, ShortActions};
 use end_loop::End;
 use outside::{Action, Actions, Chances, Event, StepRefused};

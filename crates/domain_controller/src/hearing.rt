@@ -4,15 +4,15 @@ ghost use Rattle.std.specs.Prelude.{◌≡◌, ◌≤◌, IfOk, None, Some, leng
 ghost use Rattle.rpc_units.specs.Joining.{HasStub, answer_of, open_after};
 ghost use Rattle.rpc_units.specs.Reading.{unit_of};
 ghost use Rattle.rpc_units.specs.Views.{body_shown, trailer_shown, unit_shown};
-ghost use Rattle.rpc_units.specs.Writing.{ContextsFit, written};
+ghost use Rattle.rpc_units.specs.Writing.{ContextsFit};
 ghost use Rattle.rpc_units.specs.Numbers.{context_limit};
-ghost use Rattle.end_links.specs.Sending.{fault_of};
 ghost use Rattle.logon_stubs.specs.Interface.{netlogon_syntax};
-ghost use Rattle.domain_controller.specs.Hearing.{IsLine, CanAnswer, bound_talk, hear, hear_bind, hear_sealed_bind, hear_unbound, hear_fresh, is_served, hear_fault, hear_opnum, hear_context, hear_whole, hear_joined, hear_bound};
+ghost use Rattle.controller_calls.specs.Desk.{IsLine};
+ghost use Rattle.domain_controller.specs.Hearing.{CanAnswer, bound_talk, hear, hear_bind, hear_sealed_bind, hear_unbound, hear_fresh, is_served, hear_fault, hear_opnum, hear_context, hear_whole, hear_joined, hear_bound};
 
-use crate::line::Line;
 use crate::state::Talk;
-use end_links::{Binding, bind_ack, bind_nak, fault, short_unit_bytes};
+use controller_calls::{Line, fault_bytes};
+use end_links::{Binding, bind_ack, bind_nak, short_unit_bytes};
 use logon_stubs::{
     AUTHENTICATE_OPNUM, CHALLENGE_OPNUM, Call, LOGON_OPNUM, NETLOGON, StubRefused, read_call,
 };
@@ -132,19 +132,6 @@ fn fresh_talk(joiner: Joiner) -> Talk
         joiner,
         binding: None,
     }
-}
-
-/// The bytes of a fault.
-pub(crate) fn fault_bytes(
-    alloc: Global,
-    call: u32,
-    context: u16,
-    status: u32,
-) -> Result<Blob, NoMemory>
-    ensures value { IfOk result (λ bytes. bytes ≡ written (fault_of call context status)) }
-    ensures most { IfOk result (λ bytes. length bytes ≤ 5840) }
-{
-    short_unit_bytes(alloc, &fault(call, context, status))
 }
 
 /// What a unit comes to on a bound link.

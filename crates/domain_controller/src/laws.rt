@@ -1,6 +1,6 @@
 //! Laws of the steps of a controller, over their definitions. Each function does nothing, and its clauses are the laws.
 
-ghost use Rattle.domain_controller.specs.Laws.{ClosesNothing, AnswersUnits, KeepsOthers, PassesTheNext, CountsByVerdict};
+ghost use Rattle.domain_controller.specs.Laws.{ClosesNothing, AnswersUnits, KeepsOthers, CountsByVerdict};
 ghost use Rattle.domain_controller.specs.ReadBack.{RepliesAreReadBack};
 ghost use Rattle.domain_controller.specs.Whole.{SendsAreWhole};
 
@@ -35,13 +35,6 @@ pub fn replies_are_read_as_made()
 #[tactic(auto, using(crate::proofs::OtherLaws::keeps_others))]
 pub fn other_channels_stay()
     ensures { KeepsOthers }
-{}
-
-/// A logon's authenticator passes exactly where it is the next one of the channel of the computer that the call names,
-/// whoever sent it.
-#[tactic(auto, using(crate::proofs::PassLaws::passes_the_next))]
-pub fn the_next_authenticator_passes()
-    ensures { PassesTheNext }
 {}
 
 /// Of the accounts a step changes counts of bad passwords alone, and nothing where it isn't taken. A logon whose

@@ -3,17 +3,11 @@
 #![tactic(auto)]
 
 mod answering;
-mod authenticating;
-mod challenging;
-mod computers;
 mod controller;
 mod hearing;
 pub mod laws;
-mod line;
 mod lines;
 mod links;
-mod logon;
-mod replying;
 mod serving;
 mod state;
 

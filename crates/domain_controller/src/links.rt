@@ -7,13 +7,13 @@ ghost use Rattle.outside.specs.Drawing.{DrawsSome};
 ghost use Rattle.outside.specs.Machine.{AnswersBy};
 ghost use Rattle.end_links.specs.Bounds.{units_at, units_in_piece};
 ghost use Rattle.domain_controller.specs.Hearing.{first_talk};
-ghost use Rattle.domain_controller.specs.Machine.{desk, at_desk};
+ghost use Rattle.controller_calls.specs.Desk.{desk, at_desk};
 ghost use Rattle.domain_controller.specs.Step.{open_link, serve_bytes, by_event};
 
-use crate::replying::tell;
 use crate::serving::serve_piece;
-use crate::state::{Talk, Work};
+use crate::state::Talk;
 use account_table::{Table, TableChanges};
+use controller_calls::{Work, tell};
 use end_links::{Link, Links};
 use outside::{Action, Chances, CloseCause, Event, StepRefused};
 use rpc_units::Joiner;

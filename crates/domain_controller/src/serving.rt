@@ -8,13 +8,14 @@ ghost use Rattle.rpc_units.specs.Stream.{cut_stream};
 ghost use Rattle.end_links.specs.Bounds.{units_in_piece};
 ghost use Rattle.end_links.specs.Serving.{StreamsBy, served_cut};
 ghost use Rattle.domain_controller.specs.Hearing.{hear};
-ghost use Rattle.domain_controller.specs.Machine.{desk, at_desk, by_heard, controller_server};
+ghost use Rattle.controller_calls.specs.Desk.{desk, at_desk};
+ghost use Rattle.domain_controller.specs.Machine.{by_heard, controller_server};
 
 use crate::answering::answer_heard;
 use crate::hearing::hear;
-use crate::replying::tell;
-use crate::state::{Talk, Work};
+use crate::state::Talk;
 use account_table::{Table, TableChanges};
+use controller_calls::{Work, tell};
 use end_links::Link;
 use outside::{Action, Chances, CloseCause, StepRefused};
 use rpc_units::{Came, Incoming};

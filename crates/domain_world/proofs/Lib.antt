@@ -1,9 +1,9 @@
-mod Accepting
-mod Challenges
+pub mod Accepting
+pub mod Challenges
 pub mod Completeness
-mod DrivingLaws
+pub mod DrivingLaws
 pub mod Frames
-mod HeadlineLaws
+pub mod HeadlineLaws
 pub mod Judgements
-mod Requests
-mod Sequences
+pub mod Requests
+pub mod Sequences

@@ -260,7 +260,7 @@ ReplaysBySum past =
     (channel : ChannelIdentity) (later between earlier : List Judging) (second first : Judging) →
     past.book.judged ≡ later ++ second ∷ (between ++ first ∷ earlier) →
     passed_on channel first ≡ true →
-    is_channel (channel_in second.controller (computer_named second.asked) second.computers) channel ≡ true →
+    is_channel (channel_in second.controller (computer_named second.asked) second.checks) channel ≡ true →
     given_in second.asked ≡ given_in first.asked →
     (has_passed second.how ≡ true) ↔ (moved_on channel (between ++ first ∷ []) % 2 ^ 32 ≡ 0)
 

@@ -10,15 +10,15 @@ use Rattle.domain_controller.specs.State.{State as ControllerState}
 use Rattle.logon_client.specs.State.{State as ClientState}
 use Rattle.member_server.specs.State.{State as MemberState}
 use Rattle.member_server.specs.declared.plan.MemberPlan.{MemberPlan}
-use Rattle.member_server.specs.declared.state.AtTurn.{AtTurn}
+use Rattle.member_server.specs.Turns.{AtTurn}
 use Rattle.member_server.specs.declared.state.Running.{Running as MemberRunning}
-use Rattle.member_server.specs.declared.state.TurnTalk.{TurnTalk}
+use Rattle.channel_turns.specs.declared.state.TurnTalk.{TurnTalk}
 use Rattle.channel_events.specs.Marks.{Mark, Plain}
 use Rattle.step_notes.specs.ClientNotes.{made_note, units_of_client}
 use Rattle.step_notes.specs.ControllerNotes.{Answered, Where, answer_on, units_of_controller}
 use Rattle.step_notes.specs.Marking.{answered_marks, clashes, turn_marks}
 use Rattle.step_notes.specs.MemberNotes.{LinkAt, TurnNote, challenge_note, link_of_place, link_units, message_note, taken_link, turn_in, turn_note, turn_units}
-use Rattle.step_notes.specs.Records.{Book, Judging, JudgementTold, LogonTurn, MessageTaken, OfMember, OutcomeTold, RequesterId, Sent, blank}
+use Rattle.step_notes.specs.Records.{Book, Judging, JudgementTold, ChannelTurn, MessageTaken, OfMember, OutcomeTold, RequesterId, Sent, blank}
 use Rattle.world_moves.specs.declared.bag.BagUnit.{BagUnit}
 use Rattle.world_moves.specs.declared.links.EndId.{EndId}
 use Rattle.world_moves.specs.declared.links.EndId.TheVariants.{Controller, Member, Client}
@@ -290,12 +290,12 @@ abbrev pub requester_at : State → RequesterId → Option Requester
 requester_at s (OfMember member) = requester_in (running_in (slice_get s.ends.members member))
 
 -- a member dials exactly where a turn starts, which is out after the move
-abbrev pub turns_by : EndId → Action → State → List LogonTurn
+abbrev pub turns_by : EndId → Action → State → List ChannelTurn
 turns_by (Member member) (action.Dial peer) after =
     turn_in (controller_of member after) member (running_in (slice_get after.ends.members member))
 turns_by _ what after = []
 
-abbrev pub turns_in : Given → State → List LogonTurn
+abbrev pub turns_in : Given → State → List ChannelTurn
 turns_in given after = flat_map (λ (one : EndId × Action). turns_by one.0 one.1 after) given
 
 -- the other units that came into the bag were made for no channel

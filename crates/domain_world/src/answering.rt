@@ -3,7 +3,6 @@
 ghost use Rattle.std.specs.Prelude.{◌≡◌, false, List};
 ghost use Rattle.world_moves.specs.declared.moves.Move.{Move};
 ghost use Rattle.world_moves.specs.declared.plan.Plan.{Plan};
-ghost use Rattle.world_moves.specs.Bag.{AreShortUnits, HaveBytes};
 ghost use Rattle.world_moves.specs.Draws.{DrawsAreBlocks, DrawsDiffer};
 ghost use Rattle.world_moves.specs.Forms.{IsSchedule};
 ghost use Rattle.domain_world.specs.Accepting.Answered.{AnswersAreHeard, IsProved, MarksHaveTheirWay, MessagesAreApart, PassesAreUnclashed};
@@ -16,11 +15,7 @@ ghost use Rattle.domain_world.specs.Accepting.Units.{RunsAreHeard, UnitsAreHeard
 ghost use Rattle.domain_world.specs.Claims.{AcceptsAllGranted, AcceptsOnlyGranted, IsClear, KeysAgree, ShortResponsesServeOnce};
 ghost use Rattle.domain_world.specs.Claims.SharedSequences.{OneTurnIsOut, SequencesAreOwn, SequencesAreShared};
 ghost use Rattle.domain_world.specs.Past.{Past, past};
-
-use channel_events::{calls_stay_apart, requesters_keep_calls_apart};
-use member_server::{
-    channel_steps_are_known, in_is_told_of_a_granted_logon, turns_are_dialled, what_is_kept_waits,
-};
+ghost use Rattle.domain_world.specs.Schedules.{OfSchedules};
 
 /// Where the challenges that were drawn are blocks of 8 bytes of which no two are alike, a response of 24 bytes is
 /// accepted on one link alone.
@@ -121,10 +116,7 @@ pub fn messages_are_taken_as_sent()
 /// between them.
 #[tactic(auto, using(crate::proofs::Accepting::Quiet::QuietRunLaws::stands_quiet))]
 pub fn schedules_stand_quiet()
-    ensures { (plan : Plan) (moves : List Move) → IsSchedule plan moves →
-        AreShortUnits (past plan moves).world.state.bag →
-        HaveBytes (past plan moves).world.state.bag →
-        IsQuiet (past plan moves).world.state }
+    ensures { OfSchedules (λ plan moves. IsQuiet (past plan moves).world.state) }
 {}
 
 /// After every schedule the unit of the bag that the call of a message names is one whole NetrLogonSamLogon (MS-NRPC
@@ -132,12 +124,11 @@ pub fn schedules_stand_quiet()
 /// logon, and its stub is read back as it was written.
 #[tactic(auto, using(crate::proofs::Requests::CalledRunLaws::schedules_call))]
 pub fn messages_are_called()
-    ensures { (plan : Plan) (moves : List Move) → IsSchedule plan moves →
-        AreShortUnits (past plan moves).world.state.bag →
-        HaveBytes (past plan moves).world.state.bag → MessagesAreCalled (past plan moves) }
+    ensures { OfSchedules (λ plan moves. MessagesAreCalled (past plan moves)) }
 {}
 
 /// In every run no two challenges that were drawn are alike, and each has 8 bytes.
+#[tactic(auto, using(crate::proofs::Frames::DrawnRunLaws::draws_differ, crate::proofs::Frames::DrawnRunLaws::draws_are_blocks))]
 pub fn draws_of_runs_differ()
     ensures differ { (plan : Plan) (moves : List Move) → DrawsDiffer (past plan moves).world }
     ensures blocks { (plan : Plan) (moves : List Move) → DrawsAreBlocks (past plan moves).world }
@@ -148,114 +139,70 @@ pub fn draws_of_runs_differ()
 /// that of the message for which its turn is.
 #[tactic(auto, using(crate::proofs::Requests::CallFrameLaws::schedules_stand))]
 pub fn runs_stand_so()
-    ensures { (plan : Plan) (moves : List Move) → IsSchedule plan moves →
-        AreShortUnits (past plan moves).world.state.bag →
-        HaveBytes (past plan moves).world.state.bag →
-        DrawsDiffer (past plan moves).world → RunsStandSo plan moves }
-{
-    // What a requester's step does to calls, and a member's to its requester, are laws of their own.
-    requesters_keep_calls_apart();
-    calls_stay_apart();
-    channel_steps_are_known();
-}
+    ensures { OfSchedules (λ plan moves. DrawsDiffer (past plan moves).world →
+        RunsStandSo plan moves) }
+{}
 
 /// In every schedule each Logon call that a controller judged, and that came in a unit of the bag, is the call which
 /// that unit carries, with its number.
 #[tactic(auto, using(crate::proofs::Accepting::Heard::JudgedRunLaws::judged_as_carried))]
 pub fn calls_are_judged_as_carried()
-    ensures { (plan : Plan) (moves : List Move) → IsSchedule plan moves →
-        AreShortUnits (past plan moves).world.state.bag →
-        HaveBytes (past plan moves).world.state.bag →
-        JudgedAsCarried (past plan moves) }
+    ensures { OfSchedules (λ plan moves. JudgedAsCarried (past plan moves)) }
 {}
 
 /// In every schedule a reply to a call that passed is read as its controller made it.
-#[tactic(auto, using(crate::proofs::Accepting::Heard::JudgedRunLaws::replies_back))]
 pub fn replies_are_read_back()
-    ensures { (plan : Plan) (moves : List Move) → IsSchedule plan moves →
-        AreShortUnits (past plan moves).world.state.bag →
-        HaveBytes (past plan moves).world.state.bag →
-        RepliesAreReadBack (past plan moves) }
+    ensures { OfSchedules (λ plan moves. RepliesAreReadBack (past plan moves)) }
 {}
 
 /// In every schedule each unit that was made for a secure channel is one whole unit, and what its mark says: no Logon
 /// call and no answer to one, or a request or a reply of the number that is written down.
 #[tactic(auto, using(crate::proofs::Accepting::Heard::MarkWholeLaws::marked_whole))]
 pub fn marked_units_are_whole()
-    ensures { (plan : Plan) (moves : List Move) → IsSchedule plan moves →
-        AreShortUnits (past plan moves).world.state.bag →
-        HaveBytes (past plan moves).world.state.bag →
-        MarkedUnitsAreWhole (past plan moves) }
+    ensures { OfSchedules (λ plan moves. MarkedUnitsAreWhole (past plan moves)) }
 {}
 
 /// In every schedule the answer of a message was taken in its turn, its outcome is told, and who is let in is so by an
 /// answer that was taken.
 #[tactic(auto, using(crate::proofs::Accepting::Turns::TurnRunLaws::turns_run))]
 pub fn answers_are_taken_in_turn()
-    ensures { (plan : Plan) (moves : List Move) → IsSchedule plan moves →
-        AreShortUnits (past plan moves).world.state.bag →
-        HaveBytes (past plan moves).world.state.bag → TurnsAreHeard (past plan moves) }
-{
-    // What a member tells of a granted logon, what a requester's step does to calls, and a member's to its requester,
-    // are laws of their own.
-    in_is_told_of_a_granted_logon();
-    requesters_keep_calls_apart();
-    calls_stay_apart();
-    channel_steps_are_known();
-}
+    ensures { OfSchedules (λ plan moves. TurnsAreHeard (past plan moves)) }
+{}
 
 /// In every schedule all holds on which the claims on answers rest: units are heard whole, calls have different
 /// numbers, answers are taken in their turns and told, and keys are found as they were made.
+#[tactic(auto, using(crate::proofs::Accepting::ScheduleLaws::units_heard))]
 pub fn schedules_are_heard()
-    ensures { (plan : Plan) (moves : List Move) → IsSchedule plan moves →
-        AreShortUnits (past plan moves).world.state.bag →
-        HaveBytes (past plan moves).world.state.bag → UnitsAreHeard (past plan moves) }
-{
-    runs_stand_so();
-    answers_are_taken_in_turn();
-    marked_units_are_whole();
-}
+    ensures { OfSchedules (λ plan moves. UnitsAreHeard (past plan moves)) }
+{}
 
-/// After every run the seed of a member's open channel is the client's credential moved by the timestamps of its Logon
-/// turns on that channel (MS-NRPC 3.1.4.5), clear or not.
+/// After every run the seed of a member's open channel is the client's credential moved by the timestamps of its turns
+/// on that channel (MS-NRPC 3.1.4.5), clear or not.
 pub fn sequences_are_own()
     ensures { (plan : Plan) (moves : List Move) → SequencesAreOwn (past plan moves) }
-{
-    // How a member's turns start, and that what it keeps is what waits, are laws of its own.
-    what_is_kept_waits();
-    turns_are_dialled();
-}
+{}
 
 /// That both ends of a channel share its sequence (MS-NRPC 3.1.4.5) follows in a clear run where each unit is heard
 /// whole, each call that was made and carries a Logon call has the timestamp of its turn, and the calls on the channel
 /// are those of the member's turns, each passed but for one that is out.
 pub fn sequences_follow()
     ensures { SequencesFollow }
-{
-    // How a member's turns start, and that what it keeps is what waits, are laws of its own.
-    what_is_kept_waits();
-    turns_are_dialled();
-}
+{}
 
 /// In every schedule the Logon call that a unit carries which was made as a call on a secure channel, if it carries
 /// one, has the timestamp that is written down.
 #[tactic(auto, using(crate::proofs::Sequences::StampLaws::calls_stamped))]
 pub fn calls_are_stamped()
-    ensures { (plan : Plan) (moves : List Move) → IsSchedule plan moves →
-        AreShortUnits (past plan moves).world.state.bag →
-        HaveBytes (past plan moves).world.state.bag → CallsAreStamped (past plan moves) }
+    ensures { OfSchedules (λ plan moves. CallsAreStamped (past plan moves)) }
 {}
 
 /// In every schedule without a clash each unit that was made as the reply to a call answers one that was made on its
 /// channel, in the unit of the mark and with its number, which passed at the step that sent the reply.
+#[tactic(auto, using(crate::proofs::Sequences::ReplyCallLaws::replies_answer))]
 pub fn replies_answer_calls()
-    ensures { (plan : Plan) (moves : List Move) → IsSchedule plan moves →
-        AreShortUnits (past plan moves).world.state.bag →
-        HaveBytes (past plan moves).world.state.bag → (past plan moves).book.clash ≡ false →
-        RepliesAnswerCalls (past plan moves) }
-{
-    schedules_are_heard();
-}
+    ensures { OfSchedules (λ plan moves. (past plan moves).book.clash ≡ false →
+        RepliesAnswerCalls (past plan moves)) }
+{}
 
 /// In a run without a clash a call whose answer a member took passed, where each unit is heard whole.
 #[tactic(auto, using(crate::proofs::Sequences::SharedLaws::taken_pass))]
@@ -267,42 +214,19 @@ pub fn taken_calls_pass()
 /// which is that of the turn, and then no link of a turn is open.
 pub fn members_have_one_turn_out()
     ensures { (plan : Plan) (moves : List Move) → OneTurnIsOut (past plan moves) }
-{
-    // As of `sequences_are_own`.
-    what_is_kept_waits();
-    turns_are_dialled();
-}
+{}
 
-/// In every schedule that is clear the calls that were made on a member's open channel are those of its Logon turns
-/// there, in their order and with their timestamps, each in a unit of its own. Each passed but for one that is out.
+/// In every schedule that is clear the calls that were made on a member's open channel are those of its turns there, in
+/// their order and with their timestamps, each in a unit of its own. Each passed but for one that is out.
 pub fn turns_are_called()
-    ensures { (plan : Plan) (moves : List Move) → IsSchedule plan moves →
-        AreShortUnits (past plan moves).world.state.bag →
-        HaveBytes (past plan moves).world.state.bag → IsClear (past plan moves).book →
-        TurnsAreCalled (past plan moves) }
-{
-    // As of `answers_are_taken_in_turn`, and how a member's turns start.
-    in_is_told_of_a_granted_logon();
-    requesters_keep_calls_apart();
-    calls_stay_apart();
-    channel_steps_are_known();
-    what_is_kept_waits();
-    turns_are_dialled();
-    schedules_are_heard();
-}
+    ensures { OfSchedules (λ plan moves. IsClear (past plan moves).book →
+        TurnsAreCalled (past plan moves)) }
+{}
 
 /// In every schedule that is clear, where the controller of a member's plan keeps the member's open channel and no call
 /// from outside passed on it, the controller's seed is the member's, or with a turn out the one before that turn
 /// (MS-NRPC 3.1.4.5).
 pub fn sequences_are_shared()
-    ensures { (plan : Plan) (moves : List Move) → IsSchedule plan moves →
-        AreShortUnits (past plan moves).world.state.bag →
-        HaveBytes (past plan moves).world.state.bag → IsClear (past plan moves).book →
-        SequencesAreShared (past plan moves) }
-{
-    // As of `sequences_follow`.
-    what_is_kept_waits();
-    turns_are_dialled();
-    schedules_are_heard();
-    turns_are_called();
-}
+    ensures { OfSchedules (λ plan moves. IsClear (past plan moves).book →
+        SequencesAreShared (past plan moves)) }
+{}

@@ -20,13 +20,6 @@ ghost use Rattle.domain_world.specs.Claims.WrittenDown.{ClientsAreWrittenDown, M
 ghost use Rattle.domain_world.specs.Headline.{Proved};
 ghost use Rattle.domain_world.specs.Past.{past};
 
-use crate::answering::{
-    members_have_one_turn_out, replies_answer_calls, schedules_are_heard, sequences_are_own,
-    sequences_are_shared, turns_are_called,
-};
-use member_server::in_is_told_of_a_granted_logon;
-use step_notes::clients_write_down_what_they_send;
-
 /// In every run, over all moves from a plan on, whatever a controller tells of a Logon call is told of one that it
 /// heard, and of each that it hears; and it tells that it passed exactly where its authenticator is the next one of its
 /// channel (MS-NRPC 3.1.4.5), whoever sent it.
@@ -79,22 +72,18 @@ pub fn links_take_one_message()
 /// In every run, over all moves from a plan on, a member lets somebody in on a link only where it took an AUTHENTICATE
 /// on that link (MS-NLMP 3.2.5.1.2) at an earlier move, and a unit of the bag as the answer in the turn of its logon,
 /// whoever sent them; and what it tells is what that logon comes to by some validation.
+#[tactic(auto, using(crate::proofs::Accepting::LetInLaws::lets_in_who_asked))]
 pub fn members_let_in_who_asked()
     ensures { (plan : Plan) (moves : List Move) → LetsInWhoAsked (past plan moves) }
-{
-    // What a member tells at a step is a law of its own; the proof carries it through all moves.
-    in_is_told_of_a_granted_logon();
-}
+{}
 
 /// After every run, over all moves from a plan on, each logon that a member keeps is that of an AUTHENTICATE which is
 /// written down as taken (MS-NLMP 3.2.5.1.2). Each link on which a member waits for one has its CHALLENGE written down
 /// as sent by it (MS-NLMP 3.2.5.1.1).
+#[tactic(auto, using(crate::proofs::Challenges::WrittenDownLaws::members_written_down))]
 pub fn members_are_written_down()
     ensures { (plan : Plan) (moves : List Move) → MembersAreWrittenDown (past plan moves) }
-{
-    // As of `members_let_in_who_asked`.
-    in_is_told_of_a_granted_logon();
-}
+{}
 
 /// What is written down of a member's step for bytes leaves out no CHALLENGE that answers a bind (MS-NLMP 3.2.5.1.1),
 /// and no AUTHENTICATE for which a logon then waits (MS-NLMP 3.2.5.1.2). Where nothing is bound on an accepted link,
@@ -129,12 +118,10 @@ pub fn messages_are_of_their_clients()
 /// In every run, over all moves from a plan on, the exported session key that a client keeps on its link is that of an
 /// AUTHENTICATE (MS-NLMP 3.1.5.1.2) which is written down as made by it on that link. So is the key that it is in with,
 /// of one that it made on any link.
+#[tactic(auto, using(crate::proofs::Accepting::Messages::ClientKeptLaws::clients_written))]
 pub fn clients_are_written_down()
     ensures { (plan : Plan) (moves : List Move) → ClientsAreWrittenDown (past plan moves) }
-{
-    // It rests on what is written down of each step.
-    clients_write_down_what_they_send();
-}
+{}
 
 /// In every run, over all moves from a plan on, an authenticator that passed on a channel and comes again on it,
 /// whoever sends it, passes again exactly where the timestamps that passed on the channel since, its own first pass
@@ -163,22 +150,16 @@ pub fn members_ask_for_what_they_keep()
 /// (MS-NLMP 3.2.5.1.2, MS-NRPC 3.5.4.5.3), with the message's place as the identity of the logon.
 pub fn members_ask_for_messages()
     ensures { (plan : Plan) (moves : List Move) → MembersAskForMessages (past plan moves) }
-{
-    // That the logons which a member keeps are those of messages is proved with what it tells at a step, which is a law
-    // of its own.
-    in_is_told_of_a_granted_logon();
-}
+{}
 
 /// So in every run, over all moves from a plan on, of what a member's next step sends, whatever bytes come, and of the
 /// marks that are written down of it, those in one place go together: the bytes for the mark of a NetrLogonSamLogon are
 /// the request of its number that asks what a message does which the member took in the run, with the computer's name
 /// of the member's plan and an authenticator of its timestamp on the channel, at the seed from which the turn moved it.
+#[tactic(auto, using(crate::proofs::Requests::CallMessageLaws::sends_ask_for_messages))]
 pub fn sends_ask_for_messages()
     ensures { (plan : Plan) (moves : List Move) → SendsAskForMessages (past plan moves) }
-{
-    // As of `members_ask_for_messages`.
-    in_is_told_of_a_granted_logon();
-}
+{}
 
 /// In a world a link that a member dials to the address of its plan is accepted by the controller with whose number the
 /// member's channels are named, so that what `channels_are_named_alike` says of one step holds of the two ends of such
@@ -201,17 +182,4 @@ pub fn logons_succeed()
 pub fn claims_hold_of_runs()
     ensures { (plan : Plan) (moves : List Move) → AreShortUnits (past plan moves).world.state.bag →
         HaveBytes (past plan moves).world.state.bag → Proved plan moves }
-{
-    // These rest on laws of the ends and of channels.
-    members_let_in_who_asked();
-    members_are_written_down();
-    clients_are_written_down();
-    members_ask_for_messages();
-    sends_ask_for_messages();
-    schedules_are_heard();
-    replies_answer_calls();
-    members_have_one_turn_out();
-    sequences_are_own();
-    sequences_are_shared();
-    turns_are_called();
-}
+{}

@@ -9,7 +9,6 @@ ghost use Rattle.world_moves.specs.World.{IsMove, IsPlan, actions_of_run, first_
 ghost use Rattle.domain_world.specs.Driving.{IsCutShort};
 ghost use Rattle.domain_world.specs.Headline.{OfItsRun, Proved};
 
-use crate::claims::claims_hold_of_runs;
 use std::alloc::Global;
 use wire_base::NoMemory;
 use world_moves::{Moves, Plan, Report, World, WorldRefused, moves_have_forms};
@@ -85,9 +84,8 @@ pub fn drive(alloc: Global, world: &mut World, moves: &Moves) -> Result<Report, 
             Err(why) => return Err(why),
         }
     }
-    // so that it is known what holds of units and of every run: these calls do nothing at run time
+    // so that it is known what holds of the units of the bag: these calls do nothing at run time
     world.units_are_short();
     world.units_have_bytes();
-    claims_hold_of_runs();
     Ok(world.report())
 }

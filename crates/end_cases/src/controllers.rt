@@ -93,7 +93,7 @@ fn judged(name: &str) -> anyhow::Result<Action> {
 }
 
 /// The action of a name: another name than these is one that `judged` has.
-fn action(alloc: Global, name: &str) -> anyhow::Result<Action> {
+pub(crate) fn action(alloc: Global, name: &str) -> anyhow::Result<Action> {
     match name {
         "keep" => keep(alloc),
         "send" => send(alloc),

@@ -1,9 +1,11 @@
-//! Cases of ends, of what their links have in common, of the loop that serves ends, and of worlds of ends.
+//! Cases of ends, of what their links have in common, of calls at a controller, of the loop that serves ends, and of
+//! worlds of ends.
 //!
 //! Each line of the input is an operation, as `loop.serve`, and its values, as `case_words` has them; each line of the
 //! output is what the operation gives.
 #![tactic(auto)]
 
+mod calls;
 mod clients;
 mod controllers;
 mod hearing;
@@ -12,6 +14,7 @@ mod members;
 mod scenes;
 mod serves;
 mod small;
+mod turning;
 mod turns;
 mod worlds;
 
@@ -22,11 +25,13 @@ use std::alloc::Global;
 fn answer(alloc: Global, words: &[&str]) -> anyhow::Result<String> {
     let (part, operation) = word(words, 0).split_once('.').unwrap_or(("", ""));
     match part {
+        "calls" => calls::answer(alloc, operation, words),
         "client" => clients::run(alloc, words),
         "controller" => controllers::answer(alloc, operation, words),
         "links" => links::answer(alloc, operation, words),
         "member" => members::run(alloc, words),
         "loop" => serves::answer(alloc, operation, words),
+        "turning" => turning::answer(alloc, operation, words),
         "turns" => turns::answer(alloc, operation, words),
         "world" => worlds::answer(alloc, operation, words),
         _ => no_case(alloc),

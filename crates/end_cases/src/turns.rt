@@ -69,7 +69,7 @@ fn responses(alloc: Global, parts: &[&str]) -> anyhow::Result<(Blob, Blob)> {
 }
 
 /// A logon of a step `ask/DOMAIN/USER/WORKSTATION/CHALLENGE/NT/LM`.
-fn info(alloc: Global, parts: &[&str]) -> anyhow::Result<NetworkInfo> {
+pub(crate) fn info(alloc: Global, parts: &[&str]) -> anyhow::Result<NetworkInfo> {
     let challenge = eight(word(parts, 4))?;
     let (nt, lm) = responses(alloc, parts)?;
     let (domain, user, workstation) = names(alloc, parts)?;
@@ -105,18 +105,22 @@ fn empty_info(alloc: Global) -> NetworkInfo {
 }
 
 /// Lets a logon wait.
-fn ask(alloc: Global, scene: &mut Scene, logon: NetworkInfo) -> anyhow::Result<String> {
+pub(crate) fn ask(
+    alloc: Global,
+    channel: &mut Channel,
+    logon: NetworkInfo,
+) -> anyhow::Result<String> {
     if !can_write(&logon) {
         return no_case(alloc);
     }
-    debug_text(alloc, scene.channel.ask(logon))
+    debug_text(alloc, channel.ask(logon))
 }
 
 /// Lets so many logons wait, and answers for the last.
 fn fill(alloc: Global, scene: &mut Scene, count: u32) -> anyhow::Result<String> {
     let mut answer = no_case(alloc)?;
     for _ in 0..count {
-        answer = ask(alloc, scene, empty_info(alloc))?;
+        answer = ask(alloc, &mut scene.channel, empty_info(alloc))?;
     }
     Ok(answer)
 }
@@ -135,7 +139,7 @@ fn put_frame(alloc: Global, all: &mut String, frame: &[u8]) -> anyhow::Result<()
 }
 
 /// Frames in hex, between commas.
-fn frames_text(alloc: Global, frames: &Frames) -> anyhow::Result<String> {
+pub(crate) fn frames_text(alloc: Global, frames: &Frames) -> anyhow::Result<String> {
     let mut all = String::new(alloc);
     for frame in frames.items() {
         put_frame(alloc, &mut all, frame.bytes())?;
@@ -210,7 +214,7 @@ fn lose(alloc: Global, scene: &mut Scene) -> anyhow::Result<String> {
 /// The answer to a step of these parts.
 fn answer_step(alloc: Global, scene: &mut Scene, parts: &[&str]) -> anyhow::Result<String> {
     match word(parts, 0) {
-        "ask" => ask(alloc, scene, info(alloc, parts)?),
+        "ask" => ask(alloc, &mut scene.channel, info(alloc, parts)?),
         "fill" => fill(alloc, scene, number(word(parts, 1))?),
         "can" => can(alloc, scene),
         "start" => start(alloc, scene, parts),
@@ -227,7 +231,7 @@ fn step(alloc: Global, scene: &mut Scene, step: &str) -> anyhow::Result<String> 
 }
 
 /// The channel of a line: `SECRET COMPUTER ACCOUNT KIND`. None where it may not have the account.
-fn channel(alloc: Global, words: &[&str]) -> anyhow::Result<Option<Channel>> {
+pub(crate) fn channel(alloc: Global, words: &[&str]) -> anyhow::Result<Option<Channel>> {
     let secret = sixteen(word(words, 1))?;
     let kind = number16(word(words, 4))?;
     let account = text_units(alloc, word(words, 3))?;

@@ -20,13 +20,10 @@ use Rattle.outside.specs.declared.action.StepRefused.TheVariants as refused
 use Rattle.outside.specs.declared.event.Event.{Event}
 use Rattle.outside.specs.declared.event.Event.TheVariants as event
 use Rattle.outside.specs.Machine.{Machine, Part, Stepped, stopped_step, whole_step, step_by, then_part}
-use Rattle.rpc_units.specs.declared.refused.JoinRefused.{JoinRefused}
-use Rattle.rpc_units.specs.declared.refused.JoinRefused.TheVariants as join
 use Rattle.rpc_units.specs.declared.refused.UnitRefused.{UnitRefused}
 use Rattle.rpc_units.specs.declared.unit.Body.{Body}
 use Rattle.rpc_units.specs.declared.unit.Body.TheVariants.{Bind, BindAck, BindNak, Auth3, Request, Response, Fault}
 use Rattle.rpc_units.specs.declared.unit.Unit.{Unit as RpcUnit}
-use Rattle.rpc_units.specs.Joining.{answer_of, open_after}
 use Rattle.rpc_units.specs.Reading.{unit_of}
 use Rattle.rpc_units.specs.Stream.{cut_stream}
 use Rattle.rpc_units.specs.Writing.{written}
@@ -48,6 +45,9 @@ use Rattle.channel_client.specs.declared.judging.Judgement.TheVariants as judgem
 use Rattle.channel_client.specs.declared.state.Standing.{Standing}
 use Rattle.channel_client.specs.declared.state.Standing.TheVariants as standing
 use Rattle.channel_client.specs.Machine.{after, auth_call, challenge_call, is_accepting, judge, question_of}
+use Rattle.channel_turns.specs.declared.hearing.Heard.{Heard}
+use Rattle.channel_turns.specs.declared.hearing.Heard.TheVariants as heard
+use Rattle.channel_turns.specs.Hearing.{heard_of}
 use Rattle.interactive_logon.specs.declared.calls.InteractiveCall.{InteractiveCall}
 use Rattle.interactive_station.specs.declared.station.NoStation.TheVariants as no_station
 use Rattle.interactive_station.specs.declared.station.StationOutcome.{StationOutcome}
@@ -269,16 +269,13 @@ hear_number true unit joiner now talk work = hear_body unit.body talk.step now t
 abbrev pub breaks : CloseCause → ℕ → StationWork → StationWork × Option StationTalk
 breaks cause link work = ends_by cause (BadPeer drop_cause.BadReply) link work
 
-abbrev pub hear_joined : Result (Option RpcUnit) JoinRefused → Option RpcUnit → ℕ → StationTalk → StationWork → StationWork × Option StationTalk
-hear_joined (Err join.OutOfPlace) joiner now talk work = breaks close.OutOfPlace talk.link work
-hear_joined (Err join.CallTooLong) joiner now talk work = breaks close.TooMuchHeld talk.link work
-hear_joined (Err join.Memory) joiner now talk work = breaks close.OutOfPlace talk.link work
-hear_joined (Ok None) joiner now talk work = (work, Some (record talk { joiner = joiner }))
-hear_joined (Ok (Some unit)) joiner now talk work = hear_number (unit.call == talk.number) unit joiner now talk work
+abbrev pub hear_heard : Heard → ℕ → StationTalk → StationWork → StationWork × Option StationTalk
+hear_heard (heard.Waits joiner) now talk work = (work, Some (record talk { joiner = joiner }))
+hear_heard (heard.Whole unit joiner) now talk work = hear_number (unit.call == talk.number) unit joiner now talk work
+hear_heard (heard.Broken cause) now talk work = breaks cause talk.link work
 
 abbrev pub hear_unit : Result RpcUnit UnitRefused → ℕ → StationTalk → StationWork → StationWork × Option StationTalk
-hear_unit (Err why) now talk work = breaks close.BadUnit talk.link work
-hear_unit (Ok unit) now talk work = hear_joined (answer_of talk.joiner unit) (open_after talk.joiner unit) now talk work
+hear_unit unit now talk work = hear_heard (heard_of unit talk.joiner) now talk work
 
 abbrev pub station_server : ℕ → Server StationWork StationTalk
 station_server now = record {

@@ -3,11 +3,10 @@ pub mod First
 pub mod Phases
 pub mod RunLaws
 pub mod GrantLaws
-pub mod LogonRunLaws
 pub mod RestLaws
-pub mod ComeInLaws
+pub mod AmongLaws
 pub mod Seen
-pub mod PassingLaws
+pub mod EnoughLaws
 pub mod Any
 pub mod GrantsToldLaws
 pub mod RestStayLaws

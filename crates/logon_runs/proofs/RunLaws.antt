@@ -26,7 +26,7 @@ use Rattle.channel_client.specs.declared.state.Standing.TheVariants as standing
 use Rattle.channel_client.specs.declared.state.Step.TheVariants as step
 use Rattle.channel_client.specs.Machine.{after, logon_call}
 use Rattle.domain_controller.specs.Step.{step_of as controller_step_of}
-use Rattle.domain_controller.specs.declared.state.Computers.{Computers}
+use Rattle.controller_calls.specs.declared.state.Computers.{Computers}
 use Rattle.domain_controller.specs.Machine.{status_of}
 use Rattle.logon_client.specs.Plans.{CanLogOn}
 use Rattle.member_server.specs.Messages.{info_of}
@@ -47,12 +47,12 @@ use Rattle.logon_steps.proofs.CallingLaws.{calls_can_go}
 use Rattle.logon_steps.proofs.ControllerTurnLaws.{controllers_step}
 use Rattle.logon_steps.proofs.GrantingLaws.{logons_are_granted}
 use Rattle.logon_runs.specs.Seen.LinkScenes.{Meeting, its_link}
-use Rattle.logon_runs.specs.Runs.{Asked, TurnsRun, connects, goes, hidden, info_asked, message_for, sam_for, with_moved}
+use Rattle.logon_runs.specs.Runs.{Asked, TurnsRun, connects, goes, hidden, info_asked, meets, message_for, sam_for, starts, with_moved}
 use Rattle.logon_runs.specs.Seen.AskScenes.{turn_of, with_talk}
 use Rattle.logon_runs.specs.Seen.TurnScenes.{IsBetween, Turn, next_turn, with_accounts}
 use Rattle.logon_runs.specs.Seen.Staying.{HasSameEnds}
 use Rattle.logon_runs.proofs.Seen.AskSceneLaws.{logons_are_seen}
-use Rattle.logon_runs.proofs.Seen.StayingLaws.{both_same, goes_same, reach_still}
+use Rattle.logon_runs.proofs.Seen.StayingLaws.{both_same, connects_same, goes_same, reach_still, starts_same}
 use Rattle.logon_runs.proofs.Seen.LinkSceneLaws.{found_here}
 use Rattle.logon_runs.proofs.Seen.TurnSceneLaws.{turns_are_seen}
 use Rattle.logon_runs.proofs.Seen.TwoLinkLaws.{turns_have_links}
@@ -95,6 +95,12 @@ between_still t accounts between = record { route = between.route; opened = betw
 
 pub twice_same : (s : State) → HasSameEnds s (goes (goes s))
 twice_same s = both_same s (goes s) (goes (goes s)) (goes_same s) (goes_same (goes s))
+
+pub meets_same : (number : ℕ) (s : State) → HasSameEnds s (meets number s)
+meets_same number s =
+    let s1 : State = starts number s in
+    let s2 : State = connects s1 in
+    both_same s s2 (meets number s) (both_same s s1 s2 (starts_same number s) (connects_same s1)) (twice_same s2)
 
 pub turns_run : TurnsRun
 turns_run = record {

@@ -15,8 +15,7 @@ use Rattle.world_moves.specs.Moving.{act, start}
 use Rattle.world_moves.specs.World.{IsPlan, first_world}
 use Rattle.logon_steps.specs.ClientSteps.{client_ended}
 use Rattle.logon_runs.specs.Seen.Others.{IsStepOn}
-use Rattle.logon_runs.specs.Passing.{HasEnough}
-use Rattle.logon_runs.specs.Rests.{AtRest, moved_by}
+use Rattle.logon_runs.specs.Rests.{AtRest, HasEnough, moved_by}
 use Rattle.logon_runs.specs.Seen.Staying.{HasSameEnds}
 use Rattle.logon_runs.specs.Seen.WaitingUnits.{waiting}
 

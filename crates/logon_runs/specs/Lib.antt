@@ -3,11 +3,9 @@ pub mod First
 pub mod Scenes
 pub mod Runs
 pub mod Grants
-pub mod LogonRuns
 pub mod Phases
 pub mod Rests
 pub mod Seen
-pub mod Passing
 pub mod Any
 pub mod AnyLogons
 pub mod GrantsTold

@@ -28,7 +28,7 @@ use Rattle.domain_controller.specs.Hearing.{first_talk}
 use Rattle.domain_controller.specs.Machine.{account_for}
 use Rattle.domain_controller.specs.State.{State as ControllerState}
 use Rattle.domain_controller.specs.Whole.{InRangeTable}
-use Rattle.domain_controller.specs.declared.state.Computers.{Computers}
+use Rattle.controller_calls.specs.declared.state.Computers.{Computers}
 use Rattle.logon_client.specs.declared.outcome.ClientOutcome.TheVariants.{In}
 use Rattle.logon_client.specs.declared.state.Phase.{Phase as ClientPhase}
 use Rattle.logon_client.specs.declared.state.Phase.TheVariants as client_phase

@@ -1,10 +1,11 @@
 -- A world between two logons that come one at a time, and that a logon which is granted leads from one such state to
 -- another (this project's own choice).
 use Rattle.std.specs.List.{AllByRecursion}
-use Rattle.std.specs.Prelude.{ℕ, ◌≡◌, ◌≢◌, ◌<◌, ◌^◌, ◌⊎◌, ◌++◌, false, List, [], ◌∷◌, length, Some, slice_get}
+use Rattle.std.specs.Prelude.{ℕ, ◌≡◌, ◌≢◌, ◌*◌, ◌≤◌, ◌<◌, ◌^◌, ◌⊎◌, false, List, [], ◌∷◌, length, Some, slice_get}
 use Rattle.wire_base.specs.Maps.{lookup}
 use Rattle.wire_base.specs.Names.{same_name}
 use Rattle.authenticators.specs.SecureChannels.{SecureChannelState}
+use Rattle.logon_stubs.specs.Ranges.{IsBlock}
 use Rattle.account_table.specs.AccountTable.{AccountTable}
 use Rattle.account_table.specs.Changes.{DifferInCounts}
 use Rattle.account_table.specs.LookUps.{account_in, machine_name}
@@ -14,14 +15,13 @@ use Rattle.account_table.specs.declared.account.Kind.TheVariants.{Workstation}
 use Rattle.channel_client.specs.declared.state.Standing.{Standing}
 use Rattle.channel_client.specs.declared.state.Standing.TheVariants as standing
 use Rattle.domain_controller.specs.Whole.{InRangeTable}
-use Rattle.domain_controller.specs.declared.state.Computers.{Computers}
+use Rattle.controller_calls.specs.declared.state.Computers.{Computers}
 use Rattle.logon_client.specs.State.{State as ClientState}
 use Rattle.logon_client.specs.Machine.{fresh_client}
 use Rattle.logon_client.specs.declared.outcome.ClientOutcome.{ClientOutcome}
-use Rattle.logon_client.specs.declared.outcome.ClientOutcome.TheVariants.{In}
 use Rattle.logon_client.specs.declared.plan.ClientPlan.{ClientPlan}
 use Rattle.member_server.specs.declared.plan.MemberPlan.{MemberPlan}
-use Rattle.member_server.specs.declared.state.Dialling.TheVariants as dialling
+use Rattle.channel_turns.specs.declared.state.Dialling.TheVariants as dialling
 use Rattle.member_server.specs.Machine.{caller_of}
 use Rattle.world_moves.specs.declared.links.EndId.TheVariants.{Controller, Member}
 use Rattle.world_moves.specs.declared.plan.Plan.{Plan}
@@ -36,9 +36,8 @@ use Rattle.logon_steps.specs.ClientSteps.{client_ended}
 use Rattle.logon_steps.specs.ControllerTurns.{controller_at}
 use Rattle.logon_steps.specs.MemberLinks.{logons_at_rest}
 use Rattle.logon_steps.specs.MemberTurns.{member_at}
-use Rattle.logon_runs.specs.Seen.Others.{AreAmong, IsDialAmong, IsStepOn, OthersStay, Three}
-use Rattle.logon_runs.specs.Seen.Staying.{HasSameEnds}
-use Rattle.logon_runs.specs.Phases.{ArrivesAt, HasThree, IsReached, MayLogOnAt, Coming, HasUser, IsUnderWay, IsKnown}
+use Rattle.logon_runs.specs.Seen.Others.{IsStepOn, OthersStay, Three}
+use Rattle.logon_runs.specs.Phases.{Coming, HasUser, IsUnderWay, IsKnown}
 use Rattle.logon_runs.specs.Failing.TurnedAway.{HasEnded}
 use Rattle.logon_runs.specs.Seen.WaitingUnits.{waiting}
 
@@ -200,40 +199,15 @@ pub record RestsStay : Type 0 where
 abbrev pub three_in : Coming → Three
 three_in p = three_of p.meeting.at_client p.meeting.at_member p.meeting.at_controller
 
--- challenges are left, the user may log on, and the moment is one of 64 bits
-pub record IsFine (p : Coming) (s : State) : Type 0 where
-  pub draws : HasThree s.chances.left
-  pub may : MayLogOnAt p s
-  pub below : s.moment < 2 ^ 64
-
--- it is so before each move, and where the logon is judged its key arrives
-abbrev pub AreFine : Coming → List Move → State → Type 0
-AreFine p [] s = Unit {0}
-AreFine p (what ∷ moves) s = IsFine p s × ((at : IsUnderWay p s) → ArrivesAt p at.phase what) × AreFine p moves (act s what).state
-
 abbrev pub moved_by : List Move → State → State
 moved_by [] s = s
 moved_by (what ∷ moves) s = moved_by moves (act s what).state
 
+-- challenges of 8 bytes are left for so many moves
+pub record HasEnough (moves : ℕ) (left : List (List ℕ)) : Type 0 where
+  pub many : 3 * moves ≤ length left
+  pub blocks : AllByRecursion (λ (challenge : List ℕ). IsBlock 8 challenge) left
+
 abbrev pub coming_of : (plan : Plan) (s : State) (rest : AtRest plan s) (client member controller : ℕ) (can : CanBeGranted plan client member controller) (number : ℕ) →
     HasBegun plan s rest client member controller can number → Coming
 coming_of plan s rest client member controller can number begun = coming_at plan s rest client member controller can.come begun.account begun.come.machine
-
--- the client is in, with a key, the domain and the account's name, and its whole echo; the others are as they were, and
--- the world rests
-pub record IsLoggedOnSince (plan : Plan) (s : State) (client member controller : ℕ) (can : CanBeGranted plan client member controller) (after : State) : Type 0 where
-  pub key : List ℕ
-  pub is_in : slice_get after.ends.clients client ≡ Some (client_ended can.come.task (In (can.come.computer.table.domain ++ 0x5C ∷ can.account.name) key can.come.task.echo))
-  pub rest : AtRest plan after
-  pub others : OthersStay (three_of client member controller) s after
-
-pub record LogonsComeIn : Type 0 where
-  -- the links that are open in a phase are between the three, and so is the dial that waits
-  pub alone : (p : Coming) (s : State) → IsReached p s → IsUnderWay p s → AreAmong (three_in p) s.open_links × IsDialAmong (three_in p) s (slice_get s.dials 0)
-  -- from rest, once nothing waits again
-  pub comes_in : (plan : Plan) (s : State) (rest : AtRest plan s) (client member controller : ℕ) (can : CanBeGranted plan client member controller) (number : ℕ) →
-      HasSameEnds (first_world plan).state s → chosen_place number (length s.ends.clients) ≡ Some client →
-      (begun : HasBegun plan s rest client member controller can number) (moves : List Move) → AllByRecursion IsStepOn moves →
-      AreFine (coming_of plan s rest client member controller can number begun) moves (start number s).state →
-      let after : State = moved_by moves (start number s).state in
-      after.dials ≡ [] → waiting after.bag ≡ [] → IsLoggedOnSince plan s client member controller can after

@@ -18,7 +18,7 @@ use Rattle.sam_logon.specs.MayLogOn.{MayLogOn}
 use Rattle.channel_client.specs.declared.state.Question.TheVariants as question
 use Rattle.channel_client.specs.declared.state.Standing.TheVariants as standing
 use Rattle.channel_client.specs.Machine.{after}
-use Rattle.domain_controller.specs.declared.state.Computers.{Computers}
+use Rattle.controller_calls.specs.declared.state.Computers.{Computers}
 use Rattle.logon_client.specs.Plans.{CanLogOn}
 use Rattle.logon_client.specs.declared.state.Phase.{Phase as ClientPhase}
 use Rattle.member_server.specs.declared.state.LoggedOn.{LoggedOn}
@@ -29,7 +29,7 @@ use Rattle.member_server.specs.Turns.{timestamp_of}
 use Rattle.world_moves.specs.declared.links.EndId.TheVariants.{Controller}
 use Rattle.world_moves.specs.declared.links.Route.TheVariants.{ToController}
 use Rattle.world_moves.specs.declared.state.State.{State}
-use Rattle.world_moves.specs.Moving.{connect, end_of_peer, onward}
+use Rattle.world_moves.specs.Moving.{connect, end_of_peer, onward, start}
 use Rattle.logon_steps.specs.Answering.{IsInStep, moved}
 use Rattle.logon_steps.specs.Answers.{AreDraws, HasUnits, answer_for, auth3_for, drawn_of, logon_for, terms_for}
 use Rattle.logon_steps.specs.Asking.{info_at}
@@ -50,6 +50,10 @@ pub record Asked : Type 0 where
   pub two : List ℕ
   pub three : List ℕ
   pub then_now : ℕ
+
+-- what it answers where these are drawn
+abbrev pub asked_at : List ℕ → List ℕ → List ℕ → List ℕ → ℕ → Asked
+asked_at challenge one two three now = record { challenge = challenge; one = one; two = two; three = three; then_now = now }
 
 -- the AUTHENTICATE
 abbrev pub message_for : Meeting → Asked → Authenticate
@@ -98,6 +102,14 @@ goes s = (onward s).state
 -- the state after the oldest dial was answered
 abbrev pub connects : State → State
 connects s = (connect s).state
+
+-- after the client's start
+abbrev pub starts : ℕ → State → State
+starts number s = (start number s).state
+
+-- after the client's dial is answered, and the CHALLENGE is
+abbrev pub meets : ℕ → State → State
+meets number s = goes (goes (connects (starts number s)))
 
 -- the controller's channel has moved
 abbrev pub with_moved : Meeting → SecureChannelState → ℕ → Computers → Computers

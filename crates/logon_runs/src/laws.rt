@@ -19,11 +19,9 @@ ghost use Rattle.logon_runs.specs.GrantsTold.{GrantsTell};
 ghost use Rattle.logon_runs.specs.Keys.Differing.{KeysMayDiffer};
 ghost use Rattle.logon_runs.specs.Keys.LetIn.{GrantsGoOn};
 ghost use Rattle.logon_runs.specs.Seen.LinkScenes.{MeetingsAreSeen};
-ghost use Rattle.logon_runs.specs.LogonRuns.{LogonsRun};
 ghost use Rattle.logon_runs.specs.Seen.Others.{OthersAreLeft};
-ghost use Rattle.logon_runs.specs.Passing.{LogonsPass};
 ghost use Rattle.logon_runs.specs.Phases.{PhasesGoOn};
-ghost use Rattle.logon_runs.specs.Rests.{LogonsComeIn, LogonsComeToRest, RestsStay};
+ghost use Rattle.logon_runs.specs.Rests.{LogonsComeToRest, RestsStay};
 ghost use Rattle.logon_runs.specs.Runs.{TurnsRun};
 ghost use Rattle.logon_runs.specs.Scenes.{ScenesGoOn};
 ghost use Rattle.logon_runs.specs.Seen.Starts.{StartsAreSeen};
@@ -123,13 +121,6 @@ pub fn first_turns_run()
     ensures { FirstTurnsRun }
 {}
 
-/// A whole logon by a channel that stands, from the client's start to its end: the client is in,
-/// with its own key and the name that the member found.
-#[tactic(auto, using(crate::proofs::LogonRunLaws::logons_run))]
-pub fn logons_run()
-    ensures { LogonsRun }
-{}
-
 /// What is seen at each move of a first logon, from the client's start to the answer of WhoAmI.
 #[tactic(auto, using(crate::proofs::First::FirstLogonTraceLaws::first_logons_are_seen))]
 pub fn first_logons_are_seen()
@@ -179,13 +170,6 @@ pub fn logons_come_to_rest()
     ensures { LogonsComeToRest }
 {}
 
-/// A client whose logon is granted comes in, whichever of its moves come first and whenever time
-/// passes: once nothing waits it is in, the world rests, and all other ends are as they were.
-#[tactic(auto, using(crate::proofs::ComeInLaws::logons_come_in))]
-pub fn logons_come_in()
-    ensures { LogonsComeIn }
-{}
-
 /// The steps of a member and a client where a logon fails: its dial or its turn fails, or the
 /// controller refuses it. WhoAmI is answered with a fault, and the client then has its outcome.
 #[tactic(auto, using(crate::proofs::Failing::FailingStepLaws::failings_step))]
@@ -205,13 +189,6 @@ pub fn failings_are_seen()
 #[tactic(auto, using(crate::proofs::Failing::TurnedAwayLaws::logons_are_turned_away))]
 pub fn logons_are_turned_away()
     ensures { LogonsAreTurnedAway }
-{}
-
-/// A logon at a member that has its own computer leads from rest to rest, in whichever order its
-/// moves come: it is granted by the user's own hash, or refused.
-#[tactic(auto, using(crate::proofs::PassingLaws::logons_pass))]
-pub fn logons_pass()
-    ensures { LogonsPass }
 {}
 
 /// Where a logon is granted, the member tells of the client's own link that he is in, with the

@@ -9,7 +9,7 @@ pub use laws::{
     failings_are_seen, failings_step, first_logons_are_seen, first_logons_run,
     first_turns_are_seen, first_turns_run, first_worlds_run, grants_are_told, grants_go_on,
     grants_rest, grants_tell, keys_may_differ, logons_are_seen, logons_are_turned_away,
-    logons_come_in, logons_come_to_rest, logons_pass, logons_rest, logons_run, meetings_are_seen,
-    others_are_left, phases_go_on, rests_stay, scenes_go_on, scenes_turn, starts_are_seen,
-    turns_are_seen, turns_have_links, turns_run, what_waits_comes,
+    logons_come_to_rest, logons_rest, meetings_are_seen, others_are_left, phases_go_on, rests_stay,
+    scenes_go_on, scenes_turn, starts_are_seen, turns_are_seen, turns_have_links, turns_run,
+    what_waits_comes,
 };

@@ -13,7 +13,7 @@ use Rattle.logon_stubs.specs.declared.calls.Reply.TheVariants as reply
 use Rattle.channel_client.specs.declared.caller.Caller.{Caller}
 use Rattle.channel_client.specs.Machine.{level_asked, offered_flags}
 use Rattle.domain_controller.specs.Machine.{Desk, channel_for, desk, goes_on, judge_account, judge_channel, judge_info, judge_return, open_channel, put_channel, put_pair_if, send_reply, take_channel, take_pair, with_judgement}
-use Rattle.domain_controller.specs.declared.state.ChallengePair.{ChallengePair}
+use Rattle.controller_calls.specs.declared.state.ChallengePair.{ChallengePair}
 use Rattle.logon_steps.specs.Answering.{CallsAreAnswered, IsInStep, auth_value, moved, pair_of}
 
 same_bytes : (bytes : List ℕ) → bytes_eq bytes bytes ≡ true

@@ -22,11 +22,11 @@ use Rattle.domain_controller.specs.Hearing.{bound_talk, first_talk}
 use Rattle.domain_controller.specs.Machine.{Desk, by_call, controller_server, judge_info, put_channel, take_channel, with_judgement}
 use Rattle.domain_controller.specs.State.{State}
 use Rattle.domain_controller.specs.Step.{LinkMap, StepPart, after_units, first_desk, halted, serve_on, start_turn, state_after, step_of}
-use Rattle.domain_controller.specs.declared.state.Computers.{Computers}
+use Rattle.controller_calls.specs.declared.state.Computers.{Computers}
 use Rattle.domain_controller.specs.declared.state.Running.{Running}
 use Rattle.domain_controller.specs.declared.state.Talk.{Talk}
-use Rattle.domain_controller.specs.declared.state.Work.{Work}
-use Rattle.domain_controller.specs.declared.line.Line.{Line}
+use Rattle.controller_calls.specs.declared.state.Work.{Work}
+use Rattle.controller_calls.specs.declared.line.Line.{Line}
 use Rattle.logon_steps.specs.Answering.{moved}
 use Rattle.logon_steps.specs.ControllerTurns.{ControllersStep, controller_at, one_link, turn_link}
 use Rattle.logon_steps.specs.Turning.{IsTurnCall, turn_agreed, turn_request}

@@ -207,9 +207,6 @@ answered_below V1 = omega arith
 answered_below V1Ess = omega arith
 answered_below V2 = omega arith
 
-message_for : MemberPlan → ClientPlan → List ℕ → Challenge
-message_for plan task challenge = binds.challenge_message (flags_answered task) plan challenge
-
 challenge_read : (plan : MemberPlan) (task : ClientPlan) (challenge : List ℕ) → HasShortNames plan → length challenge ≡ 8 →
     challenge_of (written_challenge (binds.challenge_message (flags_answered task) plan challenge)) ≡ Ok (binds.challenge_message (flags_answered task) plan challenge)
 challenge_read plan task challenge short eight =

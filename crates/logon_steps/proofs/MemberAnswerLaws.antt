@@ -25,9 +25,8 @@ use Rattle.logon_client.specs.declared.plan.ClientPlan.{ClientPlan}
 use Rattle.member_server.specs.declared.plan.MemberPlan.{MemberPlan}
 use Rattle.member_server.specs.declared.outcomes.Ending.TheVariants as ending
 use Rattle.member_server.specs.declared.state.AtLink.{AtLink}
-use Rattle.member_server.specs.declared.state.AtTurn.{AtTurn}
 use Rattle.member_server.specs.declared.state.Bound.{Bound}
-use Rattle.member_server.specs.declared.state.Dialling.TheVariants as dialling
+use Rattle.channel_turns.specs.declared.state.Dialling.TheVariants as dialling
 use Rattle.member_server.specs.declared.state.LoggedOn.{LoggedOn}
 use Rattle.member_server.specs.declared.state.Logon.{Logon}
 use Rattle.member_server.specs.declared.state.Logons.{Logons}
@@ -38,7 +37,7 @@ use Rattle.unit_security.specs.Levels.{is_plain}
 use Rattle.member_server.specs.Memo.{call_answer, echo_answer, who_answer}
 use Rattle.member_server.specs.Outcomes.{after_served, at_link, end_found, end_logon, reach_in_map, key_in, name_in, reach_link, reach_waiting, waiting_if}
 use Rattle.member_server.specs.Requests.{reply, send_reply, talk_in, unit_in}
-use Rattle.member_server.specs.Turns.{next_turn, take_by}
+use Rattle.member_server.specs.Turns.{AtTurn, next_turn, take_by}
 use Rattle.member_server.specs.Units.{serve_held, then_held}
 use Rattle.member_server.specs.Work.{Served, drawless, send, stay}
 use Rattle.logon_steps.specs.Asking.{at_rest}

@@ -24,13 +24,12 @@ use Rattle.channel_client.specs.declared.state.Standing.TheVariants as standing
 use Rattle.channel_client.specs.declared.state.Step.TheVariants as step
 use Rattle.channel_client.specs.Machine.{Taking, after, judge, question_of, server_credential, settle, take_of}
 use Rattle.member_server.specs.declared.plan.MemberPlan.{MemberPlan}
-use Rattle.member_server.specs.declared.state.AtTurn.{AtTurn}
 use Rattle.member_server.specs.declared.state.Logon.{Logon}
 use Rattle.member_server.specs.declared.state.Logons.{Logons}
 use Rattle.member_server.specs.declared.state.Talk.{Talk}
-use Rattle.member_server.specs.declared.state.TurnTalk.{TurnTalk}
+use Rattle.channel_turns.specs.declared.state.TurnTalk.{TurnTalk}
 use Rattle.member_server.specs.Machine.{actions_in, after_turn, at_turn, bytes_by, halted_state, keep_turn, state_in, step_of}
-use Rattle.member_server.specs.Turns.{next_turn, take_by, turn_server, turn_talk}
+use Rattle.member_server.specs.Turns.{AtTurn, next_turn, take_by, turn_server, turn_talk}
 use Rattle.logon_steps.specs.MemberTurns.{TurnsStep, logons_in_turn, member_at, on_turn}
 use Rattle.logon_steps.specs.Turning.{IsTurnReply, turn_ack, turn_request, turn_response}
 use Rattle.logon_steps.proofs.AskingLaws.{logons_are_asked}

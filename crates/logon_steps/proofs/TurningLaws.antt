@@ -37,11 +37,10 @@ use Rattle.channel_client.specs.Machine.{act, judge, hear_by, hear_reply, questi
 use Rattle.channel_client.specs.State.{Requester}
 use Rattle.domain_controller.specs.declared.state.Talk.{Talk}
 use Rattle.domain_controller.specs.declared.hearing.Heard.{Heard}
-use Rattle.domain_controller.specs.declared.line.Line.{Line}
+use Rattle.controller_calls.specs.declared.line.Line.{Line}
 use Rattle.domain_controller.specs.Hearing.{bound_talk, first_talk, hear_joined, hear_opnum, hear_read, hear_stub, hear_whole}
 use Rattle.domain_controller.specs.Machine.{Desk, by_call, by_heard, controller_server, desk, goes_on, tell}
-use Rattle.member_server.specs.declared.state.AtTurn.{AtTurn}
-use Rattle.member_server.specs.Turns.{take_by, turn_by_join, turn_server, turn_talk, turn_unit}
+use Rattle.member_server.specs.Turns.{AtTurn, take_by, turn_by_join, turn_server, turn_talk, turn_unit}
 use Rattle.logon_steps.specs.Turning.{IsTurnCall, IsTurnReply, TurnsGoThrough, turn_ack, turn_agreed, turn_at, turn_request, turn_response}
 use Rattle.logon_steps.proofs.StreamLaws.{none_open, read_again, same, served_one}
 
@@ -127,9 +126,6 @@ pub unit_comes : (unit : RpcUnit) → IsSendable unit → ComesAtOnce (written u
 unit_comes unit sends = record { some = omega (arith, length_written unit); short = omega (arith, sends.short) }
 
 -- ---- a controller
-
-heard_by : List ℕ → ℕ → ℕ → Heard → Desk → List (List ℕ) → ServedPart Desk Talk
-heard_by name now link what d left = by_heard what link name now d left
 
 bind_heard : (name : List ℕ) (now link number : ℕ) (d : Desk) (left : List (List ℕ)) → number < 2 ^ 32 →
     served_cut (controller_server name now link) (cut_stream (written (bind_of netlogon_syntax number))) d first_talk left

@@ -13,8 +13,8 @@ use Rattle.account_table.specs.declared.account.Account.{Account}
 use Rattle.channel_client.specs.declared.caller.Caller.{Caller}
 use Rattle.channel_client.specs.Machine.{auth_call, challenge_call, level_asked, logon_call, offered_flags, server_credential}
 use Rattle.domain_controller.specs.Machine.{Desk, account_for, by_call, channel_for, desk, goes_on, judge_info, put_channel, put_pair, send_reply, take_channel, take_pair, with_judgement}
-use Rattle.domain_controller.specs.declared.line.Line.{Line}
-use Rattle.domain_controller.specs.declared.state.ChallengePair.{ChallengePair}
+use Rattle.controller_calls.specs.declared.line.Line.{Line}
+use Rattle.controller_calls.specs.declared.state.ChallengePair.{ChallengePair}
 use Rattle.domain_controller.specs.declared.state.Talk.{Talk}
 
 -- ---- both ends of a channel

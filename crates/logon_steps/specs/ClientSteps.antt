@@ -43,10 +43,6 @@ on_link link how = client_standing.On (record { rest = []; talk = client.talk_on
 abbrev pub client_ended : ClientPlan → ClientOutcome → State
 client_ended task outcome = record { running = Some (record { task = task; standing = client_standing.Idle }); outcome = Some outcome }
 
--- what the client still asks for, once it has the name: nothing, or Echo
-abbrev pub echo_terms : Terms → Option SessionState → Terms
-echo_terms terms session = with_session terms session
-
 pub record ClientsStep : Type 0 where
   pub begins : (task : ClientPlan) →
       client.begin_of (client.fresh_client task)

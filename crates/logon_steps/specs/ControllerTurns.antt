@@ -27,7 +27,7 @@ use Rattle.domain_controller.specs.Hearing.{bound_talk, first_talk}
 use Rattle.domain_controller.specs.Machine.{account_for, channel_for, info_of, status_of}
 use Rattle.domain_controller.specs.State.{State}
 use Rattle.domain_controller.specs.Step.{LinkMap, step_of}
-use Rattle.domain_controller.specs.declared.state.Computers.{Computers}
+use Rattle.controller_calls.specs.declared.state.Computers.{Computers}
 use Rattle.domain_controller.specs.declared.state.Talk.{Talk}
 use Rattle.logon_steps.specs.Answering.{IsInStep, auth_value, moved, pair_of}
 use Rattle.logon_steps.specs.Turning.{IsTurnCall, turn_ack, turn_agreed, turn_request, turn_response}

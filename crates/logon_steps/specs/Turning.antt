@@ -26,8 +26,7 @@ use Rattle.channel_client.specs.Machine.{judge, opnum_asked, question_of, settle
 use Rattle.channel_client.specs.State.{Requester}
 use Rattle.domain_controller.specs.Hearing.{bound_talk, first_talk, is_served}
 use Rattle.domain_controller.specs.Machine.{Desk, by_call, controller_server, desk, goes_on, tell}
-use Rattle.member_server.specs.declared.state.AtTurn.{AtTurn}
-use Rattle.member_server.specs.Turns.{take_by, turn_server, turn_talk}
+use Rattle.member_server.specs.Turns.{AtTurn, take_by, turn_server, turn_talk}
 
 -- ---- the units
 

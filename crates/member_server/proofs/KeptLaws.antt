@@ -1,4 +1,4 @@
--- What a step does to the shared channel, that what is held are requests, and that In is told of what was granted.
+-- That what is held are requests, and that In is told of what was granted.
 use Rattle.std.proofs.Common.{◌≡◌, ℕ, Bool, List, [], ◌∷◌, ◌++◌, append_assoc, map, Option, Some, None, Result, Ok, Err, refl, sym, ap, subst, ◌∙◌}
 use Rattle.std.specs.List.{AllByRecursion}
 use Rattle.outside.specs.declared.action.Action.{Action}
@@ -15,118 +15,19 @@ use Rattle.logon_stubs.specs.declared.info.Verdict.TheVariants as verdict
 use Rattle.end_loop.specs.Runs.{actions_of}
 use Rattle.channel_client.specs.declared.answers.Taken.{Taken}
 use Rattle.channel_client.specs.declared.answers.Taken.TheVariants as taken
-use Rattle.channel_client.specs.Machine.{ask_of, lose_of, start_of, take_of}
+use Rattle.channel_client.specs.Machine.{start_of, take_of}
 use Rattle.channel_client.specs.State.{Requester}
 use Rattle.member_server.specs.declared.outcomes.Ending.TheVariants as ending
 use Rattle.member_server.specs.declared.state.Logon.{Logon}
 use Rattle.member_server.specs.declared.state.Logons.{Logons}
 use Rattle.member_server.specs.declared.state.Running.{Running}
-use Rattle.member_server.specs.Laws.{Asks, Comes, ComesUnlessStopped, Doing, HoldRequests, HoldUnlessStopped, IsTold, KeepsRequests, LetsInTheGranted, Loses, Starts, StepsTheChannel, Takes, heard_in, state_after}
+use Rattle.member_server.specs.Laws.{HoldRequests, HoldUnlessStopped, IsTold, KeepsRequests, LetsInTheGranted, Takes, heard_in, state_after}
 use Rattle.member_server.specs.Machine.{actions_in, event_part, halted_state, state_in, step_on}
 use Rattle.member_server.specs.Messages.{with_channel}
 use Rattle.member_server.specs.Outcomes.{outcome_of}
 use Rattle.member_server.specs.Turns.{DialWork, ending_of}
 use Rattle.member_server.proofs.StepRules.{AfterStart, AfterTaken, Ends, Holds, IsPlainAction, LinkRules, StepRules, TurnRules}
 use Rattle.member_server.proofs.EventSteps.{DialWorkPart, step_fine}
-
--- ---- what is done to the channel, one after the other
-
-done_append : (doings more : List Doing) (c : Requester) → state_after (doings ++ more) c ≡ state_after more (state_after doings c)
-done_append [] more c = refl
-done_append (doing ∷ doings) more c = done_append doings more _
-
-comes_not : (c : Requester) → Comes c c
-comes_not c = record { doings = []; is = refl }
-
-comes_then : (a b c : Requester) → Comes a b → Comes b c → Comes a c
-comes_then a b c one other = record {
-  doings = one.doings ++ other.doings;
-  is = other.is ∙ ap (state_after other.doings) one.is ∙ sym (done_append one.doings other.doings a);
-}
-
--- the channel comes from an older one
-abbrev pub Since : Requester → Logons → List Action → Type 0
-Since old l a = Comes old l.channel
-
-module _ (old : Requester) where
-  taken_since : (t : Taken) (l : Logons) (a : List Action) → Since old l a → AfterTaken (Since old) (Since old) t l a
-  taken_since (taken.Skip turn) l a since = since
-  taken_since (taken.Next turn frames) l a since = since
-  taken_since taken.Half l a since = since
-  taken_since taken.Opened l a since = since
-  taken_since (taken.Answer place verdict) l a since = record { silent = since; told = λ logon kept. since }
-  taken_since (taken.Dropped place cause) l a since = record { silent = since; told = λ logon kept. since }
-
-  started_since : (start : Option (Unit {0} × List (List ℕ))) (dialled : Bool) (l : Logons) (a : List Action) → Since old l a →
-      AfterStart (λ b. Since old) dialled start l a
-  started_since None dialled l a since = since
-  started_since (Some start) dialled l a since = since
-
-  since_link : LinkRules (Since old)
-  since_link = record {
-    tells = λ l a what nobody since. since;
-    waits = λ l a info place logon answers since.
-        comes_then old l.channel (ask_of l.channel info).state since (record { doings = Asks info ∷ []; is = refl });
-    full = λ l a info answers since.
-        comes_then old l.channel (ask_of l.channel info).state since (record { doings = Asks info ∷ []; is = refl });
-  }
-
-  since_turn : TurnRules (λ units. Since old) (Since old)
-  since_turn = record {
-    tells = λ units l a what nobody since. since;
-    takes = λ unit units l a since.
-        let taking = take_of l.channel unit in
-        taken_since taking.taken (with_channel l taking.state) a
-        (comes_then old l.channel taking.state since (record { doings = Takes unit ∷ []; is = refl }));
-    loses = λ units l a cause since.
-        let lost : Comes old (lose_of l.channel).state = comes_then old l.channel (lose_of l.channel).state since (record { doings = Loses ∷ []; is = refl }) in
-        record { silent = lost; told = λ logon kept. lost };
-  }
-
-  since_step : StepRules (λ units. Since old) (λ b. Since old)
-  since_step = record {
-    link = λ b. since_link;
-    turn = since_turn;
-    returns = λ units l a since. since;
-    starts = λ dialled l a timestamp challenge since.
-        let starting = start_of l.channel timestamp challenge in
-        started_since starting.answer dialled (with_channel l starting.state) a
-        (comes_then old l.channel starting.state since (record { doings = Starts timestamp challenge ∷ []; is = refl }));
-    dials = λ l a peer since. since;
-  }
-
--- ---- a step
-
-step_holds : (P : Type 0) (G : Bool → Holds) (part : Result (Part DialWork) StepRefused) (left : List (List ℕ)) → DialWorkPart P G part → P →
-    HoldUnlessStopped (step_by actions_in state_in halted_state left part).state.running
-step_holds P G (Err why) left fine p = tt
-step_holds P G (Ok part) left fine p = fine.holds p
-
-step_comes : (P : Type 0) (old : Requester) (part : Result (Part DialWork) StepRefused) (left : List (List ℕ)) → DialWorkPart P (λ b. Since old) part →
-    ComesUnlessStopped old (step_by actions_in state_in halted_state left part).state.running
-step_comes P old (Err why) left fine = tt
-step_comes P old (Ok part) left fine = fine.good
-
-pub keeps_requests : KeepsRequests
-keeps_requests = record {
-  fresh = λ plan. tt;
-  keeps = λ s running what now left runs all.
-      let P : Type 0 = HoldRequests running.links in
-      let old : Requester = running.logons.channel in
-      subst (λ (r : Option Running). HoldUnlessStopped (step_on r s what now left).state.running) (sym runs)
-      (step_holds P (λ b. Since old) (event_part running what now left) left
-      (step_fine P (λ units. Since old) (λ b. Since old) (since_step old) running what now left (comes_not old) (λ is. comes_not old) (λ p. p)) all);
-}
-
-pub steps_the_channel : StepsTheChannel
-steps_the_channel = record {
-  step = λ s running what now left runs.
-      let P : Type 0 = HoldRequests running.links in
-      let old : Requester = running.logons.channel in
-      subst (λ (r : Option Running). ComesUnlessStopped old (step_on r s what now left).state.running) (sym runs)
-      (step_comes P old (event_part running what now left) left
-      (step_fine P (λ units. Since old) (λ b. Since old) (since_step old) running what now left (comes_not old) (λ is. comes_not old) (λ p. p)));
-}
 
 -- ---- who is told that he is in
 
@@ -250,17 +151,36 @@ module _ (running : Running) (what : Event) where
     dials = λ l a peer told. one_told running what a (action.Dial peer) told tt;
   }
 
+-- ---- a step
+
+step_holds : (P : Type 0) (G : Bool → Holds) (part : Result (Part DialWork) StepRefused) (left : List (List ℕ)) → DialWorkPart P G part → P →
+    HoldUnlessStopped (step_by actions_in state_in halted_state left part).state.running
+step_holds P G (Err why) left fine p = tt
+step_holds P G (Ok part) left fine p = fine.holds p
+
 step_told : (P : Type 0) (running : Running) (what : Event) (part : Result (Part DialWork) StepRefused) (left : List (List ℕ)) → DialWorkPart P (λ b. AreTold running what) part →
     AllByRecursion (IsTold running what) (actions_of (step_by actions_in state_in halted_state left part))
 step_told P running what (Err why) left fine = tt
 step_told P running what (Ok part) left fine = fine.good
 
+event_told : (running : Running) (what : Event) (now : ℕ) (left : List (List ℕ)) →
+    DialWorkPart (HoldRequests running.links) (λ b. AreTold running what) (event_part running what now left)
+event_told running what now left =
+    step_fine (HoldRequests running.links) (SoFar running what) (λ b. AreTold running what) (told_step running what) running what now left tt
+    (λ is. record { told = tt; earlier = []; hears = refl; takes = refl; asked = refl }) (λ p. p)
+
+pub keeps_requests : KeepsRequests
+keeps_requests = record {
+  fresh = λ plan. tt;
+  keeps = λ s running what now left runs all.
+      subst (λ (r : Option Running). HoldUnlessStopped (step_on r s what now left).state.running) (sym runs)
+      (step_holds (HoldRequests running.links) (λ b. AreTold running what) (event_part running what now left) left
+      (event_told running what now left) all);
+}
+
 pub lets_in_the_granted : LetsInTheGranted
 lets_in_the_granted = record {
   told = λ s running what now left runs.
-      let P : Type 0 = HoldRequests running.links in
       subst (λ (r : Option Running). AllByRecursion (IsTold running what) (actions_of (step_on r s what now left))) (sym runs)
-      (step_told P running what (event_part running what now left) left
-      (step_fine P (SoFar running what) (λ b. AreTold running what) (told_step running what) running what now left tt
-      (λ is. record { told = tt; earlier = []; hears = refl; takes = refl; asked = refl }) (λ p. p)));
+      (step_told (HoldRequests running.links) running what (event_part running what now left) left (event_told running what now left));
 }

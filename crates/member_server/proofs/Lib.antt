@@ -1,20 +1,21 @@
-mod AskedLaws
-mod BindLaws
-mod ChannelStepLaws
-mod DialLaws
-mod EventSteps
-mod KeptLaws
+pub mod AskedLaws
+pub mod BindLaws
+pub mod ChannelStepLaws
+pub mod DialLaws
+pub mod EventSteps
+pub mod KeptLaws
 pub mod LinkLaws
-mod MemoLaws
-mod MessageLaws
-mod OtherLinkLaws
-mod OutcomeLaws
-mod PendingLaws
-mod QuietLaws
-mod StepLaws
-mod StepRules
-mod TurnLaws
-mod UnitSteps
+pub mod MemoLaws
+pub mod MessageLaws
+pub mod OtherLinkLaws
+pub mod OutcomeLaws
+pub mod PendingLaws
+pub mod QuietLaws
+pub mod SharingLaws
+pub mod StepLaws
+pub mod StepRules
+pub mod TurnLaws
+pub mod UnitSteps
 pub mod WholeLaws
-mod WholeParts
-mod WholeUnits
+pub mod WholeParts
+pub mod WholeUnits

@@ -11,14 +11,11 @@ use Rattle.outside.proofs.MachineLaws.{AnswersBy-refused, StepsBy-refused}
 use Rattle.end_links.specs.Links.{LinkState}
 use Rattle.end_links.specs.Serving.{ServedPart, HasRest, talk_in}
 use Rattle.member_server.specs.declared.state.AtLink.{AtLink}
-use Rattle.member_server.specs.declared.state.AtTurn.{AtTurn}
-use Rattle.member_server.specs.declared.state.Dialling.{Dialling}
-use Rattle.member_server.specs.declared.state.Dialling.TheVariants as dialling
+use Rattle.channel_turns.specs.declared.state.Dialling.{Dialling}
 use Rattle.member_server.specs.declared.state.Running.{Running}
 use Rattle.member_server.specs.declared.state.Talk.{Talk}
-use Rattle.member_server.specs.declared.state.TurnTalk.{TurnTalk}
 use Rattle.member_server.specs.declared.state.Work.{Work}
-use Rattle.member_server.specs.Machine.{actions_in, after_turn, after_units, by_event, event_part, halted_state, put_open, state_in, step_of, step_on, work_of}
+use Rattle.member_server.specs.Machine.{actions_in, after_units, by_event, event_part, halted_state, put_open, state_in, step_of, step_on, work_of}
 use Rattle.member_server.specs.State.{State}
 use Rattle.member_server.specs.Outcomes.{after_link, keep_link}
 use Rattle.member_server.specs.Pending.{pending_by, pending_in, pending_of, Within}
@@ -59,30 +56,7 @@ pub units_memory : (part : ServedPart AtLink Talk) (at : AtLink) (talk : Option 
 units_memory part at talk rest left number how work is =
     subst (λ p. IsRest (left_by (after_units p rest number how work)) left) (sym is) (all_left left)
 
--- ---- units of the link of a turn
-
-pub turn_closed : (part : ServedPart AtTurn TurnTalk) (at : AtTurn) (rest : List ℕ) (left : List (List ℕ)) (number : ℕ) →
-    part ≡ Ok (record { value = (at, None); left = left }) → after_turn part rest number ≡ Ok (record { value = (at.work, dialling.Nothing); left = left })
-turn_closed part at rest left number is = ap (λ p. after_turn p rest number) is
-
-pub turn_stays : (part : ServedPart AtTurn TurnTalk) (at : AtTurn) (link : LinkState TurnTalk) (rest : List ℕ) (left : List (List ℕ)) (number : ℕ) →
-    part ≡ Ok (record { value = (at, Some link.talk); left = left }) → link.rest ≡ rest →
-    after_turn part rest number ≡ Ok (record { value = (at.work, dialling.On number link); left = left })
-turn_stays part at link rest left number is has =
-    ap (λ p. after_turn p rest number) is
-    ∙ ap (λ (r : List ℕ). Ok (record { value = (at.work, dialling.On number (record { rest = r; talk = link.talk })); left = left })) (sym has)
-
-turn_rest : (part : ServedPart AtTurn TurnTalk) (rest : List ℕ) (left : List (List ℕ)) (number : ℕ) → IsRest (left_by part) left → IsRest (left_by (after_turn part rest number)) left
-turn_rest (Err why) rest left number is = is
-turn_rest (Ok part) rest left number is = is
-
-pub turn_refused : (why : StepRefused) (part : ServedPart AtTurn TurnTalk) (rest : List ℕ) (left : List (List ℕ)) (number : ℕ) → AnswersBy (Err why) part left →
-    AnswersBy (Err why) (after_turn part rest number) left
-turn_refused Spent part rest left number answer = (ap (λ p. after_turn p rest number) answer.0, answer.1)
-turn_refused Memory part rest left number answer = turn_rest part rest left number answer
-turn_refused Stopped part rest left number answer = answer
-
-pub ruleset serving = (units_served, units_refused, units_memory, turn_closed, turn_stays, turn_refused, all_left, DrawsSome-none)
+pub ruleset serving = (units_served, units_refused, units_memory, all_left, DrawsSome-none)
 
 -- ---- the event, and then the next turn
 

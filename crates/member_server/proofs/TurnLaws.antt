@@ -3,7 +3,7 @@ use Rattle.std.proofs.Common.{ℕ, Bool, true, false, List, [], ◌∷◌}
 use Rattle.outside.specs.Drawing.{IsRest}
 use Rattle.outside.specs.Machine.{left_by}
 use Rattle.outside.proofs.DrawLaws.{DrawsSome-none, DrawsSome-one, IsRest-refl, IsRest-later, IsRest-nothing}
-use Rattle.member_server.specs.declared.state.Dialling.{Dialling}
+use Rattle.channel_turns.specs.declared.state.Dialling.{Dialling}
 use Rattle.member_server.specs.declared.state.Work.{Work}
 use Rattle.member_server.specs.Turns.{DialWork, turn_by, next_turn}
 

@@ -14,9 +14,9 @@ use Rattle.channel_client.specs.State.{Requester}
 use Rattle.member_server.specs.Laws.{Asks, Doing, Loses, Starts, Takes, heard_in, state_after}
 use Rattle.member_server.specs.Machine.{by_event, event_part, work_of}
 use Rattle.member_server.specs.Turns.{DialWork, timestamp_of}
-use Rattle.member_server.specs.declared.state.Dialling.TheVariants as dialling
+use Rattle.channel_turns.specs.declared.state.Dialling.TheVariants as dialling
 use Rattle.member_server.specs.declared.state.Running.{Running}
-use Rattle.member_server.specs.declared.state.TurnTalk.{TurnTalk}
+use Rattle.channel_turns.specs.declared.state.TurnTalk.{TurnTalk}
 
 -- a logon is asked, or the turn is lost
 abbrev pub IsCalm : Doing → Type 0

@@ -14,8 +14,8 @@ use Rattle.member_server.specs.ChannelSteps.{IsNextTurn}
 use Rattle.member_server.specs.Laws.{Asks, Doing, IsInOrder, Loses, Starts, Takes, state_after}
 use Rattle.member_server.specs.Machine.{by_event, event_part, work_of}
 use Rattle.member_server.specs.Turns.{DialWork}
-use Rattle.member_server.specs.declared.state.Dialling.{Dialling}
-use Rattle.member_server.specs.declared.state.Dialling.TheVariants as dialling
+use Rattle.channel_turns.specs.declared.state.Dialling.{Dialling}
+use Rattle.channel_turns.specs.declared.state.Dialling.TheVariants as dialling
 use Rattle.member_server.specs.declared.state.Running.{Running}
 
 -- how many of the actions dial

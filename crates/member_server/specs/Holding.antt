@@ -1,10 +1,9 @@
 -- The bytes that a member holds, between its steps (this project's own choice): the rests of the streams of its links,
 -- the stub bytes of open calls, and the requests that wait.
-use Rattle.std.specs.Prelude.{ℕ, ◌+◌, length, Option, Some, None}
+use Rattle.std.specs.Prelude.{ℕ, ◌+◌, Option, Some, None}
 use Rattle.rpc_units.specs.Joining.{open_len}
 use Rattle.end_links.specs.Links.{held_by}
-use Rattle.member_server.specs.declared.state.Dialling.{Dialling}
-use Rattle.member_server.specs.declared.state.Dialling.TheVariants as dialling
+use Rattle.channel_turns.specs.Turning.{bytes_of}
 use Rattle.member_server.specs.declared.state.Phase.{Phase}
 use Rattle.member_server.specs.declared.state.Phase.TheVariants as phase
 use Rattle.member_server.specs.declared.state.Running.{Running}
@@ -22,14 +21,9 @@ bytes_in (phase.Out bound status) = 0
 abbrev pub talk_bytes : Talk → ℕ
 talk_bytes talk = open_len talk.joiner + bytes_in talk.phase
 
-abbrev pub turn_bytes : Dialling → ℕ
-turn_bytes dialling.Nothing = 0
-turn_bytes (dialling.Waits turn frames) = 0
-turn_bytes (dialling.On number said) = length said.rest + open_len said.talk.joiner
-
 abbrev pub held_by_running : Option Running → ℕ
 held_by_running None = 0
-held_by_running (Some running) = held_by talk_bytes running.links + turn_bytes running.dialling
+held_by_running (Some running) = held_by talk_bytes running.links + bytes_of running.dialling
 
 abbrev pub held_of : State → ℕ
 held_of s = held_by_running s.running

@@ -34,15 +34,15 @@ use Rattle.member_server.specs.declared.outcomes.Ending.TheVariants as ending
 use Rattle.member_server.specs.declared.plan.MemberPlan.{MemberPlan}
 use Rattle.member_server.specs.declared.state.AtLink.{AtLink}
 use Rattle.member_server.specs.declared.state.Bound.{Bound}
-use Rattle.member_server.specs.declared.state.Dialling.{Dialling}
-use Rattle.member_server.specs.declared.state.Dialling.TheVariants as dialling
+use Rattle.channel_turns.specs.declared.state.Dialling.{Dialling}
+use Rattle.channel_turns.specs.declared.state.Dialling.TheVariants as dialling
 use Rattle.member_server.specs.declared.state.Logon.{Logon}
 use Rattle.member_server.specs.declared.state.Logons.{Logons}
 use Rattle.member_server.specs.declared.state.Phase.{Phase}
 use Rattle.member_server.specs.declared.state.Phase.TheVariants as phase
 use Rattle.member_server.specs.declared.state.Running.{Running}
 use Rattle.member_server.specs.declared.state.Talk.{Talk}
-use Rattle.member_server.specs.declared.state.TurnTalk.{TurnTalk}
+use Rattle.channel_turns.specs.declared.state.TurnTalk.{TurnTalk}
 use Rattle.member_server.specs.declared.state.Work.{Work}
 use Rattle.member_server.specs.Machine.{fresh_member, step_of}
 use Rattle.member_server.specs.Outcomes.{end_logon, outcome_of, tell_outcome, reach_waiting, waiting_at, waiting_on, without_link, without_logon}
@@ -163,19 +163,6 @@ state_done Loses c = (lose_of c).state
 abbrev pub state_after : List Doing → Requester → Requester
 state_after [] c = c
 state_after (doing ∷ doings) c = state_after doings (state_done doing c)
-
-pub record Comes (old new : Requester) : Type 0 where
-  pub doings : List Doing
-  pub is : new ≡ state_after doings old
-
-abbrev pub ComesUnlessStopped : Requester → Option Running → Type 0
-ComesUnlessStopped old None = Unit {0}
-ComesUnlessStopped old (Some running) = Comes old running.logons.channel
-
--- A step does to the shared channel what channel_client's own steps do, in some order, and nothing else.
-pub record StepsTheChannel : Type 0 where
-  pub step : (s : State) (running : Running) (what : Event) (now : ℕ) (left : List (List ℕ)) → s.running ≡ Some running →
-      ComesUnlessStopped running.logons.channel (step_of s what now left).state.running
 
 -- ---- what bytes on an accepted link change
 

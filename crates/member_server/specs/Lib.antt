@@ -12,6 +12,7 @@ pub mod Outcomes
 pub mod Pending
 pub mod Requests
 pub mod Rests
+pub mod Sharing
 pub mod State
 pub mod Turns
 pub mod Units

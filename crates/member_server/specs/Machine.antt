@@ -13,22 +13,23 @@ use Rattle.channel_client.specs.declared.caller.Caller.{Caller}
 use Rattle.channel_client.specs.Machine.{fresh_requester}
 use Rattle.rpc_units.specs.Stream.{Cut, cut_stream}
 use Rattle.end_links.specs.Links.{LinkState}
-use Rattle.end_links.specs.Sending.{joined_frames}
 use Rattle.end_links.specs.Serving.{ServedPart, served_cut}
+use Rattle.channel_turns.specs.declared.state.Dialling.{Dialling}
+use Rattle.channel_turns.specs.declared.state.Dialling.TheVariants as dialling
+use Rattle.channel_turns.specs.declared.state.TurnTalk.{TurnTalk}
+use Rattle.channel_turns.specs.Turning as turning
+use Rattle.channel_turns.specs.Turning.{is_on, is_waiting, link_answers, no_dial}
+use Rattle.channel_turns.specs.Turns as turns
 use Rattle.member_server.specs.declared.plan.MemberPlan.{MemberPlan}
 use Rattle.member_server.specs.declared.state.AtLink.{AtLink}
-use Rattle.member_server.specs.declared.state.AtTurn.{AtTurn}
-use Rattle.member_server.specs.declared.state.Dialling.{Dialling}
-use Rattle.member_server.specs.declared.state.Dialling.TheVariants as dialling
 use Rattle.member_server.specs.declared.state.Phase.TheVariants as phase
 use Rattle.member_server.specs.declared.state.Running.{Running}
 use Rattle.member_server.specs.declared.state.Talk.{Talk}
-use Rattle.member_server.specs.declared.state.TurnTalk.{TurnTalk}
 use Rattle.member_server.specs.declared.state.Work.{Work}
 use Rattle.member_server.specs.Lines.{line_of}
 use Rattle.member_server.specs.Outcomes.{tell_at, without_link, with_link, at_link, after_served}
 use Rattle.member_server.specs.State.{State}
-use Rattle.member_server.specs.Turns.{DialWork, dial_work_part, lose_turn, next_turn, turn_server, turn_talk}
+use Rattle.member_server.specs.Turns.{AtTurn, DialWork, after_turned, dial_work_part, lose_turn, next_turn, turn_server, turning_of}
 use Rattle.member_server.specs.Units.{link_server}
 
 -- ---- at first
@@ -59,9 +60,7 @@ close_turn false link how work = (without_link link work, how)
 close_turn true link how work = (lose_turn drop_cause.LinkClosed work, dialling.Nothing)
 
 abbrev pub close_link : Dialling → ℕ → Work → DialWork
-close_link dialling.Nothing link work = (without_link link work, dialling.Nothing)
-close_link (dialling.Waits turn frames) link work = (without_link link work, dialling.Waits turn frames)
-close_link (dialling.On number said) link work = close_turn (number == link) link (dialling.On number said) work
+close_link how link work = close_turn (is_on link how) link how work
 
 -- ---- links that open
 
@@ -79,19 +78,17 @@ open_after_close dial_work link = (open_by (nat_le 256 (length dial_work.0.links
 
 -- ---- dials
 
--- the bind goes out; an older link of that number is closed first
+-- the bind goes out; an older link of that number is closed first. The argument: whether a dial waits
+abbrev pub answer_if : Bool → Dialling → ℕ → Work → DialWork
+answer_if false how link work = (work, how)
+answer_if true how link work =
+    after_turned (link_answers link (turning_of (without_link link work) how), None) (without_link link work)
+
 abbrev pub answer_dial : Dialling → ℕ → Work → DialWork
-answer_dial dialling.Nothing link work = (work, dialling.Nothing)
-answer_dial (dialling.On number said) link work = (work, dialling.On number said)
-answer_dial (dialling.Waits turn frames) link work = (
-  tell_at (without_link link work) (action.Send link (joined_frames frames)),
-  dialling.On link (record { rest = []; talk = turn_talk None }),
-)
+answer_dial how link work = answer_if (is_waiting how) how link work
 
 abbrev pub fail_dial : Dialling → Work → DialWork
-fail_dial dialling.Nothing work = (work, dialling.Nothing)
-fail_dial (dialling.On number said) work = (work, dialling.On number said)
-fail_dial (dialling.Waits turn frames) work = (lose_turn drop_cause.DialFailed work, dialling.Nothing)
+fail_dial how work = after_turned (no_dial (turning_of work how)) work
 
 -- ---- bytes
 
@@ -115,8 +112,7 @@ put_open None number work = work
 put_open (Some link) number work = with_link number link work
 
 abbrev pub keep_turn : Option TurnTalk → List ℕ → ℕ → Dialling
-keep_turn None rest number = dialling.Nothing
-keep_turn (Some talk) rest number = dialling.On number (record { rest = rest; talk = talk })
+keep_turn said rest number = turning.keep_link number (turns.keep_turn said rest)
 
 abbrev pub after_turn : ServedPart AtTurn TurnTalk → List ℕ → ℕ → Result (Part DialWork) StepRefused
 after_turn (Err why) rest number = Err why
@@ -183,14 +179,9 @@ step_of s what now left = step_on s.running s what now left
 -- ---- the machine
 
 -- the link that is waited for: the one of the turn
-abbrev pub want_in : Dialling → Option ℕ
-want_in dialling.Nothing = None
-want_in (dialling.Waits turn frames) = None
-want_in (dialling.On number said) = Some number
-
 abbrev pub want_by : Option Running → Option ℕ
 want_by None = None
-want_by (Some running) = want_in running.dialling
+want_by (Some running) = turning.want_of running.dialling
 
 abbrev pub want_of : State → Option ℕ
 want_of s = want_by s.running

@@ -8,8 +8,8 @@ use Rattle.end_links.specs.Links.{LinkState}
 use Rattle.end_loop.specs.Acts.{is_made, most_made_by}
 use Rattle.channel_client.specs.State.{Requester}
 use Rattle.channel_client.specs.Machine.{can_start}
-use Rattle.member_server.specs.declared.state.Dialling.{Dialling}
-use Rattle.member_server.specs.declared.state.Dialling.TheVariants as dialling
+use Rattle.channel_turns.specs.declared.state.Dialling.{Dialling}
+use Rattle.channel_turns.specs.declared.state.Dialling.TheVariants as dialling
 use Rattle.member_server.specs.declared.state.Phase.{Phase}
 use Rattle.member_server.specs.declared.state.Phase.TheVariants as phase
 use Rattle.member_server.specs.declared.state.Running.{Running}

@@ -21,7 +21,7 @@ use Rattle.member_server.specs.declared.state.AtLink.{AtLink}
 use Rattle.member_server.specs.declared.state.Phase.{Phase}
 use Rattle.member_server.specs.declared.state.Talk.{Talk}
 use Rattle.member_server.specs.Binds.{ack_fits, answer_bind, bind_by, fresh_unit, offer_in}
-use Rattle.member_server.specs.Turns.{turn_server, turn_unit}
+use Rattle.member_server.specs.Turns.{turn_server}
 use Rattle.member_server.specs.Units.{bound_unit, first_unit, is_fresh, unit_by, link_server}
 
 -- all of them
@@ -126,12 +126,5 @@ unit_few false how bytes joiner at left = none_drawn (bound_unit how bytes joine
 pub link_few : ServerDrawsFew link_server (λ talk. 0)
 link_few = record {
   unit = λ bytes at talk left. unit_few (is_fresh talk.phase) talk.phase bytes talk.joiner at left;
-  refusal = λ why at talk left. none_fewer (length left);
-}
-
--- the link of a turn
-pub turn_few : ServerDrawsFew turn_server (λ talk. 0)
-turn_few = record {
-  unit = λ bytes at talk left. none_drawn (turn_unit (unit_of bytes) talk.joiner at).1 left;
   refusal = λ why at talk left. none_fewer (length left);
 }

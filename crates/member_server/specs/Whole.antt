@@ -19,8 +19,8 @@ use Rattle.channel_client.specs.Whole.{InRangeRequester}
 use Rattle.member_server.specs.Machine.{fresh_member, step_of}
 use Rattle.member_server.specs.State.{State}
 use Rattle.member_server.specs.declared.plan.MemberPlan.{MemberPlan}
-use Rattle.member_server.specs.declared.state.Dialling.{Dialling}
-use Rattle.member_server.specs.declared.state.Dialling.TheVariants as dialling
+use Rattle.channel_turns.specs.declared.state.Dialling.{Dialling}
+use Rattle.channel_turns.specs.declared.state.Dialling.TheVariants as dialling
 use Rattle.member_server.specs.declared.state.Phase.{Phase}
 use Rattle.member_server.specs.declared.state.Phase.TheVariants as phase
 use Rattle.member_server.specs.declared.state.Running.{Running}

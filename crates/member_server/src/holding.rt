@@ -1,11 +1,12 @@
 //! The bytes that a member holds.
 
 ghost use Rattle.std.specs.Prelude.{◌≡◌, ◌≤◌, ◌+◌};
+ghost use Rattle.channel_turns.specs.Turning as turning;
 ghost use Rattle.end_links.specs.Links.{held_by};
-ghost use Rattle.member_server.specs.Holding.{bytes_in, held_of, talk_bytes, turn_bytes};
+ghost use Rattle.member_server.specs.Holding.{bytes_in, held_of, talk_bytes};
 
 use crate::member::Member;
-use crate::state::{Dialling, Phase, Running, Talk};
+use crate::state::{Phase, Running, Talk};
 use end_links::SaysHeld;
 
 impl SaysHeld for Talk {
@@ -32,24 +33,13 @@ fn bytes_in(phase: &Phase) -> usize
     }
 }
 
-/// The bytes that the link of the turn holds.
-fn turn_bytes(how: &Dialling) -> u64
-    ensures count { result ≡ turn_bytes how.now }
-    ensures most { result ≤ 71375 }
-{
-    match how {
-        Dialling::On(_, said) => (said.rest_len() + said.talk().joiner.len()) as u64,
-        Dialling::Nothing | Dialling::Waits(_, _) => 0,
-    }
-}
-
 /// The bytes that a member holds that keeps this.
 fn bytes_of(running: &Running) -> u64
     ensures count { result ≡
-        held_by talk_bytes running.now.links + turn_bytes running.now.dialling }
+        held_by talk_bytes running.now.links + turning.bytes_of running.now.dialling }
     ensures most { result ≤ 35120591 }
 {
-    running.links.held() + turn_bytes(&running.dialling)
+    running.links.held() + running.dialling.held()
 }
 
 impl Member {

@@ -1,9 +1,10 @@
 //! Laws of the member's machine, over its definitions. Each function does nothing, and its clause is the law.
 
-ghost use Rattle.member_server.specs.Laws.{AsksWhatWaits, ClosesNothing, KeepsRequests, LeavesOtherLinks, LetsInTheGranted, ReachesItsLink, ServesOneMessage, StepsTheChannel};
+ghost use Rattle.member_server.specs.Laws.{AsksWhatWaits, ClosesNothing, KeepsRequests, LeavesOtherLinks, LetsInTheGranted, ReachesItsLink, ServesOneMessage};
 ghost use Rattle.member_server.specs.Pending.{Settles};
 ghost use Rattle.member_server.specs.ChannelSteps.{ChannelStepsKnown};
 ghost use Rattle.member_server.specs.Dials.{TurnsAreDialled};
+ghost use Rattle.member_server.specs.Sharing.{SharesTurns};
 ghost use Rattle.member_server.specs.Whole.{MembersSendWhole};
 
 /// The events that the step for a closed or dialled link makes, with those that may come of it, are no more than
@@ -38,13 +39,6 @@ pub fn what_is_closed_closes_nothing()
 #[tactic(auto, using(crate::proofs::KeptLaws::keeps_requests))]
 pub fn what_is_held_are_requests()
     ensures { KeepsRequests }
-{}
-
-/// A step does to the shared channel what channel_client's own steps do, in some order, and nothing else: a logon is
-/// asked, a turn starts, a unit is taken, the turn is lost.
-#[tactic(auto, using(crate::proofs::KeptLaws::steps_the_channel))]
-pub fn the_channel_steps_by_its_own()
-    ensures { StepsTheChannel }
 {}
 
 /// Bytes on a link that isn't the turn's leave every other link as it is.
@@ -88,4 +82,11 @@ pub fn what_turns_send_is_whole()
 #[tactic(auto, using(crate::proofs::DialLaws::turns_dialled))]
 pub fn turns_are_dialled()
     ensures { TurnsAreDialled }
+{}
+
+/// The member's turns are those that all ends share: what the units of a piece on the link of the turn come to is what
+/// they come to for its channel, and then the close of the link and the outcome of the logon, where the turn ended.
+#[tactic(auto, using(crate::proofs::SharingLaws::shares_turns))]
+pub fn turns_are_shared()
+    ensures { SharesTurns }
 {}

@@ -7,19 +7,19 @@ ghost use Rattle.end_links.specs.Bounds.{AreShortSends, units_at, units_in_piece
 ghost use Rattle.outside.specs.Drawing.{DrawsSome};
 ghost use Rattle.outside.specs.Machine.{AnswersBy, StepsBy};
 ghost use Rattle.channel_client.specs.Machine.{fresh_requester};
-ghost use Rattle.member_server.specs.declared.state.Dialling.TheVariants as dialling;
-ghost use Rattle.member_server.specs.Machine.{account_of, caller_of, fresh_member, close_link, open_by, open_after_close, answer_dial, fail_dial, bytes_on_link, serve_alone, serve_dialled, bytes_on, by_event, put_open, halted_state, is_stopped, event_part, step_of, want_in, want_of};
+ghost use Rattle.member_server.specs.Machine.{account_of, caller_of, fresh_member, close_link, open_by, open_after_close, answer_dial, bytes_on_link, serve_alone, bytes_on, by_event, put_open, halted_state, is_stopped, event_part, step_of, want_of};
 ghost use Rattle.member_server.specs.Outcomes.{without_link};
 ghost use Rattle.member_server.specs.Pending.{pending_in};
 ghost use Rattle.rpc_units.specs.Stream.{cut_stream};
 
 use crate::outcomes::tell_at;
 use crate::plan::MemberPlan;
-use crate::state::{AtLink, AtTurn, Dialling, Logons, Phase, Running, Talk, TurnTalk, Work};
-use crate::turns::{lose_turn, next_turn};
-use channel_client::{Channel, ShortFrames, Turn};
+use crate::state::{AtLink, Logons, Phase, Running, Talk, Work};
+use crate::turns::{close_turn, fail_dial, hear_turn, next_turn, send_bind};
+use channel_client::Channel;
+use channel_turns::Dialling;
 use end_links::{Link, Links, ShortActions, serve_piece};
-use outside::{Action, Actions, Chances, CloseCause, DropCause, Event, StepRefused};
+use outside::{Action, Actions, Chances, CloseCause, Event, StepRefused};
 use rpc_units::Joiner;
 use std::alloc::Global;
 use std::marker::Model;
@@ -116,7 +116,7 @@ impl Member {
         ensures { result ≡ want_of self.now }
     {
         match &self.running {
-            Some(running) => want_in(&running.dialling),
+            Some(running) => running.dialling.wants(),
             None => None,
         }
     }
@@ -126,16 +126,6 @@ impl Member {
         ensures { option_copied result ≡ self.now.running }
     {
         self.running.as_ref()
-    }
-}
-
-/// The link of a turn.
-fn want_in(how: &Dialling) -> Option<u32>
-    ensures { result ≡ want_in how.now }
-{
-    match how {
-        Dialling::On(number, _) => Some(*number),
-        Dialling::Nothing | Dialling::Waits(_, _) => None,
     }
 }
 
@@ -178,13 +168,6 @@ fn drop_link(link: u32, work: Work) -> Work
     }
 }
 
-/// The right to the turn whose link that is.
-fn turn_on(link: Link<TurnTalk>) -> Turn {
-    let (_flow, talk) = link.parts();
-    let TurnTalk { turn, .. } = talk;
-    turn
-}
-
 /// A link is closed: the turn is lost where it is its link.
 fn close_link(
     alloc: Global,
@@ -194,13 +177,10 @@ fn close_link(
 ) -> Result<(Work, Dialling), NoMemory>
     ensures { IfOk result (λ dial_work. dial_work ≡ close_link how link work) }
 {
-    match how {
-        Dialling::On(number, said) if number == link => {
-            let work = lose_turn(alloc, turn_on(said), DropCause::LinkClosed, work)?;
-            Ok((work, Dialling::Nothing))
-        }
-        how => Ok((drop_link(link, work), how)),
+    if !how.is_on(link) {
+        return Ok((drop_link(link, work), how));
     }
+    close_turn(alloc, how, link, work)
 }
 
 /// A peer opened a link, of a number that no link has.
@@ -237,43 +217,10 @@ fn answer_dial(
 ) -> Result<(Work, Dialling), NoMemory>
     ensures { IfOk result (λ dial_work. dial_work ≡ answer_dial how link work) }
 {
-    match how {
-        Dialling::Waits(turn, frames) => send_bind(alloc, turn, &frames, link, work),
-        how => Ok((work, how)),
+    if !how.is_waiting() {
+        return Ok((work, how));
     }
-}
-
-/// The bind goes out in these frames.
-fn send_bind(
-    alloc: Global,
-    turn: Turn,
-    frames: &ShortFrames,
-    link: u32,
-    work: Work,
-) -> Result<(Work, Dialling), NoMemory>
-    ensures { IfOk result (λ dial_work. dial_work
-        ≡ answer_dial (dialling.Waits turn frames.now) link work) }
-{
-    let bytes = frames.join(alloc)?;
-    let work = tell_at(drop_link(link, work), Action::Send(link, bytes))?;
-    let talk = TurnTalk {
-        joiner: Joiner::new(),
-        turn,
-    };
-    Ok((work, Dialling::On(link, Link::new(alloc, talk)?)))
-}
-
-/// The dial failed.
-fn fail_dial(alloc: Global, how: Dialling, work: Work) -> Result<(Work, Dialling), NoMemory>
-    ensures { IfOk result (λ dial_work. dial_work ≡ fail_dial how work) }
-{
-    match how {
-        Dialling::Waits(turn, _frames) => {
-            let work = lose_turn(alloc, turn, DropCause::DialFailed, work)?;
-            Ok((work, Dialling::Nothing))
-        }
-        how => Ok((work, how)),
-    }
+    send_bind(alloc, how, link, drop_link(link, work))
 }
 
 // ---- bytes
@@ -386,36 +333,8 @@ fn bytes_on_link<Q: Chances>(
     }
 }
 
-/// Bytes came on the link of the turn.
-#[tactic(auto, using(crate::proofs::StepLaws::serving))]
-fn serve_dialled<Q: Chances>(
-    alloc: Global,
-    number: u32,
-    said: Link<TurnTalk>,
-    piece: &[u8],
-    work: Work,
-    chances: &mut Q,
-) -> Result<(Work, Dialling), StepRefused>
-    ensures draws { DrawsSome (Q.drawing chances.old) (Q.drawing chances.new) }
-    ensures answer { AnswersBy result
-        (serve_dialled (cut_stream (said.rest ++ piece.now)) number said.talk work
-        (Q.drawing chances.old).left)
-        (Q.drawing chances.new).left }
-    ensures few { length (Q.drawing chances.old).left
-        ≤ length (Q.drawing chances.new).left + units_in_piece (length piece.now) }
-{
-    let at = AtTurn { link: number, work };
-    let (at, open) = match serve_piece(alloc, at, said, piece, chances) {
-        Ok(served) => served,
-        Err(why) => return Err(why),
-    };
-    match open {
-        Some(said) => Ok((at.work, Dialling::On(number, said))),
-        None => Ok((at.work, Dialling::Nothing)),
-    }
-}
-
 /// Bytes came on a link.
+#[tactic(auto, using(crate::proofs::SharingLaws::serving))]
 fn bytes_on<Q: Chances>(
     alloc: Global,
     number: u32,
@@ -431,11 +350,12 @@ fn bytes_on<Q: Chances>(
     ensures few { length (Q.drawing chances.old).left
         ≤ length (Q.drawing chances.new).left + units_in_piece (length piece.now) }
 {
-    match how {
-        Dialling::On(other, said) if other == number => {
-            serve_dialled(alloc, number, said, piece, work, chances)
-        }
-        how => bytes_on_link(alloc, number, piece, how, work, chances),
+    if !how.is_on(number) {
+        return bytes_on_link(alloc, number, piece, how, work, chances);
+    }
+    match hear_turn(alloc, number, piece, how, work, chances) {
+        Ok(dial_work) => Ok(dial_work),
+        Err(NoMemory) => Err(StepRefused::Memory),
     }
 }
 

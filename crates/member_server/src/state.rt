@@ -1,9 +1,12 @@
 //! What a member keeps.
 
+ghost use Rattle.std.specs.Prelude.{◌≡◌};
+
 use crate::held::Held;
 use crate::plan::MemberPlan;
-use channel_client::{Channel, ShortFrames, Turn};
-use end_links::{Binding, Link, Links, ShortActions};
+use channel_client::Channel;
+use channel_turns::Dialling;
+use end_links::{Binding, Links, ShortActions};
 use ntlm_messages::Authenticate;
 use ntlm_seal::Session;
 use rpc_units::Joiner;
@@ -90,22 +93,18 @@ impl Drop for Logons {
     }
 }
 
-/// What is said on the link of the turn so far: the fragments of an open reply, and the right to the turn.
-#[derive(Drop)]
-pub struct TurnTalk {
-    pub joiner: Joiner,
-    pub turn: Turn,
-}
-
-/// The link of the turn that is out.
-#[derive(Drop)]
-pub enum Dialling {
-    /// No turn is out.
-    Nothing,
-    /// The dial waits; the frames of the bind go out where it is answered.
-    Waits(Turn, ShortFrames),
-    /// The number of the link, and the link.
-    On(u32, Link<TurnTalk>),
+impl Logons {
+    /// The plan, the channel, and the logons that are asked. It takes no memory.
+    pub(crate) fn apart(self) -> (MemberPlan, Channel, List<(u32, Logon)>)
+        ensures { result ≡ (self.plan, self.channel, self.asked) }
+    {
+        let Logons {
+            plan,
+            channel,
+            asked,
+        } = self;
+        (plan, channel, asked)
+    }
 }
 
 /// What a member keeps while it isn't stopped.
@@ -131,11 +130,4 @@ pub struct Work {
     pub logons: Logons,
     pub links: Links<Talk>,
     pub actions: ShortActions,
-}
-
-/// A member at work on the link of the turn, by the number of that link.
-#[derive(Drop)]
-pub struct AtTurn {
-    pub link: u32,
-    pub work: Work,
 }

@@ -71,11 +71,6 @@ same_service machine old other address place seed key boot number most events be
     (subst (λ z. ServesTo machine old address seed z events before after exit) x
     (subst (λ z. ServesTo machine old address seed boot z before after exit) y serves))))
 
--- a failure of the files is told only where their count rose
-pub fault_rose : {T : Type 0} (r : Result T FilesRefused) (refused : FilesRefused) (before after : Shelf) →
-    r ≡ Err refused → refused ≡ files.FileFault → HasFault r before after → Rose before.faults after.faults
-fault_rose r refused before after is fault has = subst (λ f. FaultRose f before after) fault (subst (λ z. HasFault z before after) is has)
-
 -- what follows the files, by their result
 pub follows_ok : (read : Result Setup FilesRefused) (setup : Setup) (before after : Sight) (exit : Exit) →
     read ≡ Ok setup → ServiceBy setup before after exit → ServiceFollows read before after exit
@@ -84,15 +79,6 @@ follows_ok read setup before after exit is serves = subst (λ z. ServiceFollows 
 pub follows_err : (read : Result Setup FilesRefused) (refused : FilesRefused) (sight : Sight) (exit : Exit) →
     read ≡ Err refused → exit ≡ files_exit refused → ServiceFollows read sight sight exit
 follows_err read refused sight exit is due = subst (λ z. ServiceFollows z sight sight exit) (sym is) (due, refl)
-
--- what follows the words, by their result
-pub asked_ok : (asked : Result Job WordsRefused) (service : Service) (shelf shelf_after : Shelf) (before after : Sight) (exit : Exit) →
-    asked ≡ Ok (jobs.Service service) → ServiceReads service shelf shelf_after before after exit → ServiceAsked asked shelf shelf_after before after exit
-asked_ok asked service shelf shelf_after before after exit is reads = subst (λ z. ServiceAsked z shelf shelf_after before after exit) (sym is) reads
-
-pub asked_err : (asked : Result Job WordsRefused) (refused : WordsRefused) (shelf : Shelf) (sight : Sight) (exit : Exit) →
-    asked ≡ Err refused → exit ≡ words_exit refused → ServiceAsked asked shelf shelf sight sight exit
-asked_err asked refused shelf sight exit is due = subst (λ z. ServiceAsked z shelf shelf sight sight exit) (sym is) (refl, (due, refl))
 
 -- ---- a command that uses the port isn't asked to check, to show or to drill
 
@@ -310,9 +296,6 @@ pub files_only : (role : Role) (words : List (List ℕ)) (told : List (List ℕ 
 files_only role words told refused shelf shelf_after before after exit uses runs tells is e =
     asked_only role words runs.job told refused shelf shelf_after before after exit uses runs.is tells is e runs.runs
 
-pub not_files : (role : Role) (words : List (List ℕ)) (contents : Option (List (List ℕ × List ℕ))) (refused : FilesRefused) → uses_port role words ≡ false → IsBadOfFiles role words contents refused → ⊥
-not_files role words contents refused other bad = let wrong : true ≡ false = sym bad.uses ∙ other in cc
-
 -- ---- completeness
 
 service_served : {S : Type 0} (machine : Machine S) (old : S) (address seed : List ℕ) (boot most : ℕ) (before after : Sight) (exit : Exit) →
@@ -389,9 +372,6 @@ pub serve_done : (role : Role) (words : List (List ℕ)) (shelf shelf_after : Sh
     (exit ≡ exits.FileFault → ⊥) → (exit ≡ exits.PortFault → ⊥) → (exit ≡ exits.SinkFault → ⊥) → IsServedBy form.setup exit
 serve_done role words shelf shelf_after before after exit runs form file port sink =
     asked_served runs.job (job_of role words) form.service form.told form.setup shelf shelf_after before after exit runs.is form.job_is form.told_is form.setup_is file port sink runs.runs
-
-pub not_serve : (role : Role) (words : List (List ℕ)) (contents : Option (List (List ℕ × List ℕ))) → uses_port role words ≡ false → IsServiceOfForm role words contents → ⊥
-not_serve role words contents other form = let wrong : true ≡ false = sym form.uses ∙ other in cc
 
 -- ---- a client that has no answer
 

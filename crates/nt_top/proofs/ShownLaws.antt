@@ -29,9 +29,6 @@ use Rattle.nt_top.proofs.NeedsLaws.{ok_injective, err_injective, ok_no_err, ok_o
 
 -- ---- a message says its type
 
-some_injective : {X : Type 0} {a b : X} → ◌≡◌ {A = Option X} (Some a) (Some b) → a ≡ b
-some_injective e = cc
-
 kind_of : (kind size : ℕ) (bytes : List ℕ) → 12 ≤ size → IsHeader kind size bytes → u32_of bytes 8 ≡ Some kind
 kind_of kind size bytes long header =
     let inside : u32_of bytes 8 ≡ Some (from_le_bytes w32 (take 4 (drop 8 bytes))) = number_at-inside w32 bytes 8 (omega (arith, header.whole)) in

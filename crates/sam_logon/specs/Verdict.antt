@@ -13,6 +13,7 @@ use Rattle.logon_stubs.specs.declared.info.SamInfo.{SamInfo}
 use Rattle.logon_stubs.specs.declared.info.Verdict.{Verdict}
 use Rattle.logon_stubs.specs.declared.info.Verdict.TheVariants.{Granted, Status}
 use Rattle.logon_stubs.specs.Status.{no_such_user, no_such_domain}
+pub use Rattle.logon_stubs.specs.Verdicts.{IfGranted}
 use Rattle.sam_logon.specs.Granting.{sam_info_of}
 use Rattle.sam_logon.specs.Rules.{Shown, count_after, first_refusal, rules_for, shown_by_hash, shown_by_response}
 use Rattle.sam_logon.specs.declared.rules.Refusal.{Refusal}
@@ -109,8 +110,3 @@ interactive_judgement_of table controller domain user workstation nt now = recor
 abbrev pub is_granted : Verdict → Bool
 is_granted (Granted info) = true
 is_granted (Status status) = false
-
--- the fact holds of what is granted
-abbrev pub IfGranted : Verdict → (SamInfo → Type 0) → Type 0
-IfGranted (Granted info) Fact = Fact info
-IfGranted (Status status) Fact = Unit {0}

@@ -235,15 +235,6 @@ no_key_in_fault : (none : Bool) (status : ℕ) → key_in_outcome (Some (fault_o
 no_key_in_fault true status = refl
 no_key_in_fault false status = refl
 
-no_key_in : (body : Body) → key_in_outcome (Some (outcome_of body)) ≡ None
-no_key_in (Bind send receive group contexts) = refl
-no_key_in (BindAck send receive group results) = refl
-no_key_in (BindNak reason) = refl
-no_key_in Auth3 = refl
-no_key_in (Request hint context opnum stub) = refl
-no_key_in (Response hint context stub) = refl
-no_key_in (Fault hint context status) = no_key_in_fault (status == rpc_s_server_unavailable) status
-
 no_key_same : (key : List ℕ) (found : Option (List ℕ)) → found ≡ None → IsSameKey key found
 no_key_same key found none = subst (IsSameKey key) (sym none) tt
 

@@ -3,6 +3,7 @@ pub mod ComputerLaws
 pub mod GrantSendLaws
 pub mod GrantVerdictLaws
 pub mod HeardLaws
+pub mod JudgedCallLaws
 pub mod JudgedInRangeLaws
 pub mod JudgedStepLaws
 pub mod KeptNoteLaws

@@ -1,5 +1,5 @@
 pub mod Channels
-mod ClientNoteLaws
+pub mod ClientNoteLaws
 pub mod Controllers
 pub mod Members
 pub mod ServedLaws

@@ -42,8 +42,8 @@ use Rattle.domain_controller.specs.State.{State as ControllerState}
 use Rattle.domain_controller.specs.Step.{step_of as controller_step}
 use Rattle.domain_controller.specs.declared.hearing.Heard.{Heard}
 use Rattle.domain_controller.specs.declared.hearing.Heard.TheVariants as heard
-use Rattle.domain_controller.specs.declared.line.Line.{Line}
-use Rattle.domain_controller.specs.declared.state.Computers.{Computers}
+use Rattle.controller_calls.specs.declared.line.Line.{Line}
+use Rattle.controller_calls.specs.declared.state.Computers.{Computers}
 use Rattle.domain_controller.specs.declared.state.Talk.{Talk as ControllerTalk}
 use Rattle.logon_client.specs.Answering.{auth3_unit}
 use Rattle.logon_client.specs.Machine.{step_of}
@@ -60,12 +60,11 @@ use Rattle.logon_client.specs.declared.state.ClientLink.{ClientLink as ClientSta
 use Rattle.logon_client.specs.declared.state.ClientLink.TheVariants.{Idle, Dialling, On}
 use Rattle.logon_client.specs.declared.state.Talk.{Talk as ClientTalk}
 use Rattle.logon_client.specs.declared.state.Terms.{Terms}
-use Rattle.member_server.specs.Turns.{turn_server}
-use Rattle.member_server.specs.declared.state.AtTurn.{AtTurn}
-use Rattle.member_server.specs.declared.state.TurnTalk.{TurnTalk}
+use Rattle.member_server.specs.Turns.{AtTurn, turn_server}
+use Rattle.channel_turns.specs.declared.state.TurnTalk.{TurnTalk}
 use Rattle.channel_events.specs.Marks.{Calling, Mark, Opening, Plain}
 use Rattle.step_notes.specs.ClientNotes.{ClientAt, made_note, units_of_client}
-use Rattle.step_notes.specs.ControllerNotes.{Where, answer_on, call_answer, has_passed, logon_answer, opened_by, opening, passing, units_of_controller}
+use Rattle.step_notes.specs.ControllerNotes.{Where, answer_on, call_answer, checked_on, has_passed, logon_answer, opened_by, opening, passing, units_of_controller}
 use Rattle.step_notes.specs.Marking.{answered_marks, clashes, sent_channel}
 use Rattle.step_notes.specs.MemberNotes.{TurnNote, half_channel, request_note, taking_note, turn_note}
 use Rattle.step_notes.specs.Records.{Judging, MessageMade, Sent, computer_named, timestamp_in}
@@ -234,8 +233,9 @@ pub record CallsAreNamedAlike : Type 0 where
       (channel : ChannelIdentity) → HasChannel before.work.computers channel →
       IsOfOther channel.computer (opened_unit controller (hear link bytes talk) before) →
       work_after ((controller_server name now link).unit bytes before talk left) ≡ Some after → HasChannel after.work.computers channel
-  pub passes : (j : Judging) (channel : ChannelIdentity) → j.controller ≡ channel.controller → computer_named j.asked ≡ Some channel.computer →
-      HasChannel j.computers channel → has_passed j.how ≡ true → logon_answer j ≡ passing (Some channel) j
+  pub passes : (j : Judging) (computers : Computers) (channel : ChannelIdentity) → j.checks ≡ checked_on (computer_named j.asked) computers →
+      j.controller ≡ channel.controller → computer_named j.asked ≡ Some channel.computer → HasChannel computers channel →
+      has_passed j.how ≡ true → logon_answer j ≡ passing (Some channel) j
   pub takes : (controller : ℕ) (s : Requester) (unit : RpcUnit) (place : ℕ) → place_answered (take_of s unit).taken ≡ Some place →
       (channel : ChannelIdentity) × (standing_channel controller s ≡ Some channel)
       × (standing_channel controller (take_of s unit).state ≡ Some channel)
@@ -263,8 +263,9 @@ pub record ExchangesHaveNoClash : Type 0 where
       s.standing ≡ standing.Half client server → (take_of s unit).taken ≡ taken.Opened →
       channel_marked number sent ≡ Some (half_channel controller s client server) →
       clashes (taking_note (Some (take_of s unit)) controller s).checked number sent ≡ false
-  pub calling : (j : Judging) (channel : ChannelIdentity) (sent : List Sent) → j.controller ≡ channel.controller →
-      computer_named j.asked ≡ Some channel.computer → HasChannel j.computers channel → has_passed j.how ≡ true →
+  pub calling : (j : Judging) (computers : Computers) (channel : ChannelIdentity) (sent : List Sent) →
+      j.checks ≡ checked_on (computer_named j.asked) computers → j.controller ≡ channel.controller →
+      computer_named j.asked ≡ Some channel.computer → HasChannel computers channel → has_passed j.how ≡ true →
       channel_marked j.unit sent ≡ Some channel → clashes (logon_answer j).checked j.unit sent ≡ false
   pub answered : (controller : ℕ) (s : Requester) (unit : RpcUnit) (place : ℕ) (channel : ChannelIdentity) (number : Option ℕ) (sent : List Sent) →
       standing_channel controller s ≡ Some channel → place_answered (take_of s unit).taken ≡ Some place →

@@ -16,7 +16,6 @@ use Rattle.outside.specs.declared.event.Event.TheVariants as event
 use Rattle.logon_stubs.specs.declared.calls.Call.{Call}
 use Rattle.logon_stubs.specs.declared.calls.Call.TheVariants as call
 use Rattle.logon_stubs.specs.declared.calls.AuthCall.{AuthCall}
-use Rattle.logon_stubs.specs.declared.calls.LogonCall.{LogonCall}
 use Rattle.account_table.specs.declared.account.Account.{Account}
 use Rattle.rpc_units.specs.Stream.{cut_stream}
 use Rattle.end_links.specs.Links.{LinkState}
@@ -28,13 +27,13 @@ use Rattle.domain_controller.specs.State.{State as ControllerState}
 use Rattle.domain_controller.specs.Step.{first_desk, step_of}
 use Rattle.domain_controller.specs.declared.hearing.Heard.{Heard}
 use Rattle.domain_controller.specs.declared.hearing.Heard.TheVariants as heard
-use Rattle.domain_controller.specs.declared.line.Line.{Line}
-use Rattle.domain_controller.specs.declared.state.Computers.{Computers}
-use Rattle.domain_controller.specs.declared.state.ChallengePair.{ChallengePair}
+use Rattle.controller_calls.specs.declared.line.Line.{Line}
+use Rattle.controller_calls.specs.declared.state.Computers.{Computers}
+use Rattle.controller_calls.specs.declared.state.ChallengePair.{ChallengePair}
 use Rattle.domain_controller.specs.declared.state.Running.{Running}
 use Rattle.domain_controller.specs.declared.state.Talk.{Talk}
 use Rattle.channel_events.specs.Marks.{Mark, Plain, Opened, ReplyTo}
-use Rattle.step_notes.specs.Records.{Judging, Network, computer_named}
+use Rattle.step_notes.specs.Records.{JudgedCall, Judging, Network, computer_named}
 use Rattle.step_notes.specs.Served.{units_if_taken, work_after}
 
 -- ---- the units
@@ -59,10 +58,15 @@ abbrev pub identity_by : ℕ → List ℕ → Option SecureChannelState → Opti
 identity_by controller computer None = None
 identity_by controller computer (Some c) = Some (channel_of controller computer c)
 
--- the channel of the computer that a call names
-abbrev pub channel_in : ℕ → Option (List ℕ) → Computers → Option ChannelIdentity
-channel_in controller None computers = None
-channel_in controller (Some computer) computers = identity_by controller computer (lookup same_name computer computers.channels)
+-- the channel that a call is checked on: that of the computer that it names, as it stands
+abbrev pub checked_on : Option (List ℕ) → Computers → Option SecureChannelState
+checked_on None computers = None
+checked_on (Some computer) computers = lookup same_name computer computers.channels
+
+-- which one that is, by the computer and by the state in which it stands
+abbrev pub channel_in : ℕ → Option (List ℕ) → Option SecureChannelState → Option ChannelIdentity
+channel_in controller None checks = None
+channel_in controller (Some computer) checks = identity_by controller computer checks
 
 -- the channel that an accepted NetrServerAuthenticate2 opens; the arguments are those of the controller's own cases
 abbrev pub opened_if : Bool → SecureChannelState → Option SecureChannelState
@@ -133,7 +137,7 @@ passing (Some channel) j =
 -- the argument: whether it passed
 abbrev pub judging_by : Bool → Judging → Answered
 judging_by false j = record { sends = true; mark = Plain; checked = None; judging = Some j }
-judging_by true j = passing (channel_in j.controller (computer_named j.asked) j.computers) j
+judging_by true j = passing (channel_in j.controller (computer_named j.asked) j.checks) j
 
 -- at which controller, in which unit of the bag, and after how many moves
 pub record Where : Type 0 where
@@ -154,16 +158,16 @@ opening None w number = plain
 opening (Some channel) w number =
     record { sends = true; mark = opened_mark w.unit channel number; checked = Some channel; judging = None }
 
-abbrev pub judging_of : Where → Line → LogonCall → Desk → Option Desk → Judging
-judging_of w line c before after = record {
+abbrev pub judging_of : Where → Line → JudgedCall → Desk → Option Desk → Judging
+judging_of w line asked before after = record {
   at = w.at;
   controller = w.controller;
   name = w.name;
   unit = w.unit;
   number = line.call;
-  asked = Network c;
+  asked = asked;
+  checks = checked_on (computer_named asked) before.work.computers;
   table = before.table;
-  computers = before.work.computers;
   moment = w.moment;
   how = judged_in (new_actions after before);
   reply = None;
@@ -175,7 +179,7 @@ logon_answer j = judging_by (has_passed j.how) j
 abbrev pub call_answer : Call → Line → Where → Desk → Option Desk → Answered
 call_answer (call.Challenge c) line w before after = plain
 call_answer (call.Authenticate c) line w before after = opening (opened_by w.controller c before) w line.call
-call_answer (call.Logon c) line w before after = logon_answer (judging_of w line c before after)
+call_answer (call.Logon c) line w before after = logon_answer (judging_of w line (Network c) before after)
 call_answer (call.Logoff c) line w before after = plain
 
 abbrev pub heard_answer : Heard → Where → Desk → Option Desk → Answered

@@ -1,8 +1,6 @@
 -- How a Logon call that a controller heard was judged: on which channel its authenticator passed, by which hash and
 -- key, and whether that is right (MS-NRPC 3.1.4.5; the names are this project's own choice).
 use Rattle.std.specs.Prelude.{ℕ, ◌≡◌, ◌↔◌, Bool, true, false, List, [], Option, Some, None}
-use Rattle.wire_base.specs.Maps.{lookup}
-use Rattle.wire_base.specs.Names.{same_name}
 use Rattle.wire_base.specs.declared.authenticator.Authenticator.{Authenticator}
 use Rattle.authenticators.specs.Channels.{ChannelIdentity}
 use Rattle.authenticators.specs.Sequences.{Passes}
@@ -13,8 +11,6 @@ use Rattle.ntlm_responses.specs.Verification.{base_key_of}
 use Rattle.logon_stubs.specs.declared.info.NetworkInfo.{NetworkInfo}
 use Rattle.account_table.specs.declared.account.Account.{Account}
 use Rattle.account_table.specs.LookUps.{account_in}
-use Rattle.domain_controller.specs.Laws.{IsNext}
-use Rattle.domain_controller.specs.declared.state.Computers.{Computers}
 use Rattle.step_notes.specs.ControllerNotes.{channel_in, has_passed}
 use Rattle.step_notes.specs.Records.{Judging, computer_named, given_in}
 
@@ -23,7 +19,7 @@ use Rattle.step_notes.specs.Records.{Judging, computer_named, given_in}
 -- the channel on which the authenticator of a call passed: none where it didn't pass
 abbrev pub channel_if : Bool → Judging → Option ChannelIdentity
 channel_if false j = None
-channel_if true j = channel_in j.controller (computer_named j.asked) j.computers
+channel_if true j = channel_in j.controller (computer_named j.asked) j.checks
 
 abbrev pub passed_channel : Judging → Option ChannelIdentity
 passed_channel j = channel_if (has_passed j.how) j
@@ -39,23 +35,37 @@ stored_hash j info = hash_in (account_in j.table.accounts info.user)
 abbrev pub base_key_asked : Judging → NetworkInfo → List ℕ
 base_key_asked j info = base_key_of (stored_hash j info) info.user info.domain info.nt
 
--- a call names a computer that has a channel and has an authenticator, which isn't the next one of its sequence
-pub record IsBarredBy (computers : Computers) (name : Option (List ℕ)) (shown : Option Authenticator) : Type 0 where
-  pub computer : List ℕ
-  pub given : Authenticator
+-- ---- which authenticator passes
+
+-- the authenticator is the next one of the channel that the call is checked on
+pub record IsNextOn (checks : Option SecureChannelState) (shown : Option Authenticator) : Type 0 where
   pub channel : SecureChannelState
-  pub named : name ≡ Some computer
+  pub given : Authenticator
+  pub stands : checks ≡ Some channel
   pub there : shown ≡ Some given
-  pub stands : lookup same_name computer computers.channels ≡ Some channel
+  pub passes : Passes (key_of_channel channel) channel.seed given
+
+-- there are both, and it isn't
+pub record IsBarredBy (checks : Option SecureChannelState) (shown : Option Authenticator) : Type 0 where
+  pub channel : SecureChannelState
+  pub given : Authenticator
+  pub stands : checks ≡ Some channel
+  pub there : shown ≡ Some given
   pub fails : Passes (key_of_channel channel) channel.seed given → ⊥
 
--- Next credential: a controller tells that a call passed, with whatever status, exactly where its authenticator
--- is the next one of the channel of the computer that it names; that it was barred exactly where there is a channel and
--- an authenticator, which isn't the next one; else that there is no channel.
-pub record IsRightOf (how : Option Judged) (computers : Computers) (name : Option (List ℕ)) (shown : Option Authenticator) : Type 0 where
-  pub passed : (has_passed how ≡ true) ↔ IsNext computers name shown
-  pub barred : (how ≡ Some judged.Barred) ↔ IsBarredBy computers name shown
-  pub other : (how ≡ Some judged.NoChannel) ↔ ((IsNext computers name shown → ⊥) × (IsBarredBy computers name shown → ⊥))
+-- Next credential: a controller tells that a call passed, with whatever status, exactly where its authenticator is the
+-- next one of the channel that it is checked on; that it was barred exactly where there is a channel and an
+-- authenticator, which isn't the next one; else that there is no channel.
+pub record IsRightOf (how : Option Judged) (checks : Option SecureChannelState) (shown : Option Authenticator) : Type 0 where
+  pub passed : (has_passed how ≡ true) ↔ IsNextOn checks shown
+  pub barred : (how ≡ Some judged.Barred) ↔ IsBarredBy checks shown
+  pub other : (how ≡ Some judged.NoChannel) ↔ ((IsNextOn checks shown → ⊥) × (IsBarredBy checks shown → ⊥))
 
-abbrev pub IsJudgedRight : Judging → Type 0
-IsJudgedRight j = IsRightOf j.how j.computers (computer_named j.asked) (given_in j.asked)
+-- a call that names no computer is checked on no channel
+abbrev pub IsOfName : Option (List ℕ) → Option SecureChannelState → Type 0
+IsOfName None checks = checks ≡ None
+IsOfName (Some computer) checks = Unit {0}
+
+pub record IsJudgedRight (j : Judging) : Type 0 where
+  pub right : IsRightOf j.how j.checks (given_in j.asked)
+  pub named : IsOfName (computer_named j.asked) j.checks

@@ -9,24 +9,28 @@ use Rattle.rpc_units.specs.Calls.{IsHeard}
 use Rattle.rpc_units.specs.Joining.{stub_of}
 use Rattle.logon_stubs.specs.Calls.{reply_of}
 use Rattle.logon_stubs.specs.Parts.{IfThere}
-use Rattle.logon_stubs.specs.Writing.{written_reply}
+use Rattle.logon_stubs.specs.declared.calls.LogonCall.{LogonCall}
 use Rattle.domain_controller.specs.ReadBack.{heard_reply}
 use Rattle.domain_controller.specs.State.{State as ControllerState}
 use Rattle.domain_controller.specs.Whole.{AreChallenges, InRangeState, InRangeTable}
 use Rattle.step_notes.specs.ControllerNotes.{Answered, answer_on, units_of_controller}
-use Rattle.step_notes.specs.Records.{Judging, network_in}
-use Rattle.step_notes.specs.ReplySends.{IsItsReply, reply_passed, standing_at}
+use Rattle.step_notes.specs.Records.{IfNetwork, JudgedCall, Judging}
+use Rattle.step_notes.specs.ReplySends.{IsItsReply, reply_passed, standing_at, stub_passed}
 
 pub record IsJudgedInRange (j : Judging) : Type 0 where
   pub table : InRangeTable j.table
   pub name : IsName j.name
   pub moment : j.moment < 2 ^ 64
 
--- The bytes of the reply to a call that passed, where they are those of one whole unit: that unit is the reply, and its
--- stub is read as the reply that was made.
+-- the level of a network logon has 16 bits: one of more would be written as another one
+abbrev pub HasLevel : JudgedCall → Type 0
+HasLevel asked = IfNetwork (λ (c : LogonCall). c.validation < 2 ^ 16) asked
+
+-- The bytes of the reply to a call that passed, where they are those of one whole unit: that unit is the reply, and the
+-- stub of the reply to a network logon is read as that reply.
 pub record IsReadAsMade (j : Judging) (bytes : List ℕ) (is : IsItsReply j bytes) (unit : RpcUnit) : Type 0 where
-  pub unit_is : unit ≡ heard_reply j.number is.context (written_reply (reply_passed j is.next.channel is.next.given))
-  pub read : reply_of 2 (stub_of unit.body) ≡ Ok (reply_passed j is.next.channel is.next.given)
+  pub unit_is : unit ≡ heard_reply j.number is.context (stub_passed j is.next.channel is.next.given)
+  pub read : IfNetwork (λ (c : LogonCall). reply_of 2 (stub_of unit.body) ≡ Ok (reply_passed j c is.next.channel is.next.given)) j.asked
 
 pub record PassedRepliesAreRead : Type 0 where
   -- whatever bytes come at a controller that has its ranges
@@ -34,6 +38,5 @@ pub record PassedRepliesAreRead : Type 0 where
       InRangeState c → now < 2 ^ 64 → AreChallenges left →
       AllByRecursion (λ (one : Answered). IfThere IsJudgedInRange one.judging)
       (map (answer_on link (standing_at at controller unit c now)) (units_of_controller c link piece now left))
-  -- a level of more than 16 bits would be written as another one
   pub read : (j : Judging) (bytes : List ℕ) (is : IsItsReply j bytes) (frames : List RpcUnit) (unit : RpcUnit) →
-      IsJudgedInRange j → (network_in j.asked).validation < 2 ^ 16 → IsHeard bytes frames unit → IsReadAsMade j bytes is unit
+      IsJudgedInRange j → HasLevel j.asked → IsHeard bytes frames unit → IsReadAsMade j bytes is unit

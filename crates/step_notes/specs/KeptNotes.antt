@@ -12,10 +12,10 @@ use Rattle.logon_stubs.specs.declared.info.NetworkInfo.{NetworkInfo}
 use Rattle.account_table.specs.AccountTable.{AccountTable}
 use Rattle.account_table.specs.LookUps.{knows_in}
 use Rattle.domain_controller.specs.Machine.{Desk, answer_authenticate, answer_challenge, answer_logon, desk}
-use Rattle.domain_controller.specs.declared.line.Line.{Line}
-use Rattle.domain_controller.specs.declared.state.Computers.{Computers}
-use Rattle.domain_controller.specs.declared.state.ChallengePair.{ChallengePair}
-use Rattle.domain_controller.specs.declared.state.Work.{Work}
+use Rattle.controller_calls.specs.declared.line.Line.{Line}
+use Rattle.controller_calls.specs.declared.state.Computers.{Computers}
+use Rattle.controller_calls.specs.declared.state.ChallengePair.{ChallengePair}
+use Rattle.controller_calls.specs.declared.state.Work.{Work}
 use Rattle.step_notes.specs.ControllerNotes.{identity_by, opened_by}
 
 -- ---- what is kept

@@ -32,21 +32,20 @@ use Rattle.member_server.specs.Laws.{is_past}
 use Rattle.member_server.specs.Machine.{at_turn, step_of, work_of}
 use Rattle.member_server.specs.Outcomes.{at_link}
 use Rattle.member_server.specs.State.{State as MemberState}
-use Rattle.member_server.specs.Turns.{turn_server}
+use Rattle.member_server.specs.Turns.{AtTurn, turn_server}
 use Rattle.member_server.specs.Units.{is_fresh, link_server}
 use Rattle.member_server.specs.declared.state.AtLink.{AtLink}
-use Rattle.member_server.specs.declared.state.AtTurn.{AtTurn}
-use Rattle.member_server.specs.declared.state.Dialling.{Dialling}
-use Rattle.member_server.specs.declared.state.Dialling.TheVariants as dialling
+use Rattle.channel_turns.specs.declared.state.Dialling.{Dialling}
+use Rattle.channel_turns.specs.declared.state.Dialling.TheVariants as dialling
 use Rattle.member_server.specs.declared.state.Logon.{Logon}
 use Rattle.member_server.specs.declared.state.Logons.{Logons}
 use Rattle.member_server.specs.declared.state.Phase.{Phase}
 use Rattle.member_server.specs.declared.state.Phase.TheVariants as phase
 use Rattle.member_server.specs.declared.state.Running.{Running}
 use Rattle.member_server.specs.declared.state.Talk.{Talk}
-use Rattle.member_server.specs.declared.state.TurnTalk.{TurnTalk}
+use Rattle.channel_turns.specs.declared.state.TurnTalk.{TurnTalk}
 use Rattle.channel_events.specs.Marks.{Mark, Plain, Opening, Calling}
-use Rattle.step_notes.specs.Records.{ChallengeSent, LogonTurn, MessageTaken, OfMember, RequesterId, timestamp_in}
+use Rattle.step_notes.specs.Records.{ChallengeSent, ChannelTurn, MessageTaken, OfMember, RequesterId, timestamp_in}
 use Rattle.step_notes.specs.Served.{talk_after, units_if_taken, work_after}
 
 -- ---- the units of the link of the turn
@@ -184,21 +183,21 @@ turn_note controller unit = taking_note (taking_at unit) controller unit.work.wo
 
 -- ---- a turn that starts
 
-abbrev pub stamped : Option ChannelIdentity → Option Authenticator → RequesterId → List LogonTurn
+abbrev pub stamped : Option ChannelIdentity → Option Authenticator → RequesterId → List ChannelTurn
 stamped None given who = []
 stamped (Some channel) None who = []
 stamped (Some channel) (Some given) who = record { requester = who; channel = channel; timestamp = given.timestamp } ∷ []
 
-abbrev pub turn_by : Option Step → Option ChannelIdentity → RequesterId → List LogonTurn
+abbrev pub turn_by : Option Step → Option ChannelIdentity → RequesterId → List ChannelTurn
 turn_by (Some (step.Bind (call.Logon c))) channel who = stamped channel c.authenticator who
 turn_by _ channel who = []
 
--- the Logon turn whose bind waits, if one does, where the channel is with that controller
-abbrev pub turn_of : ℕ → RequesterId → Requester → List LogonTurn
+-- the turn on the channel whose bind waits, if one does, where the channel is with that controller
+abbrev pub turn_of : ℕ → RequesterId → Requester → List ChannelTurn
 turn_of controller who s = turn_by (step_in s.turn) (stands_in controller s.caller.computer s.standing) who
 
 -- of a member
-abbrev pub turn_in : ℕ → ℕ → Option Running → List LogonTurn
+abbrev pub turn_in : ℕ → ℕ → Option Running → List ChannelTurn
 turn_in controller member None = []
 turn_in controller member (Some running) = turn_of controller (OfMember member) running.logons.channel
 

@@ -4,11 +4,11 @@
 use Rattle.std.specs.Prelude.{ℕ, ◌==◌, Bool, false, List, [], Option, Some, None}
 use Rattle.wire_base.specs.declared.authenticator.Authenticator.{Authenticator}
 use Rattle.authenticators.specs.Channels.{ChannelIdentity}
+use Rattle.authenticators.specs.SecureChannels.{SecureChannelState}
 use Rattle.outside.specs.declared.action.Judged.{Judged}
 use Rattle.outside.specs.declared.action.Outcome.{Outcome}
-use Rattle.logon_stubs.specs.declared.calls.LogonCall.{LogonCall}
 use Rattle.account_table.specs.AccountTable.{AccountTable}
-use Rattle.domain_controller.specs.declared.state.Computers.{Computers}
+pub use Rattle.controller_calls.specs.Calls.{IfNetwork, JudgedCall, Network, computer_named, given_in}
 use Rattle.logon_client.specs.declared.plan.ClientPlan.{ClientPlan}
 use Rattle.member_server.specs.declared.state.Logon.{Logon}
 use Rattle.channel_events.specs.Marks.{Mark}
@@ -21,23 +21,6 @@ pub record Sent : Type 0 where
   pub at : ℕ
 
 -- ---- at a controller
-
--- A call that a controller judges: it names a computer and has an authenticator, and asks for something (MS-NRPC
--- 3.1.4.5). A NetrLogonSamLogon with a network logon (3.5.4.5.3) is the only one yet.
-pub data JudgedCall : Type 0 where
-  Network : (call : LogonCall) → JudgedCall
-
--- the computer that it names
-abbrev pub computer_named : JudgedCall → Option (List ℕ)
-computer_named (Network c) = c.computer
-
--- its authenticator
-abbrev pub given_in : JudgedCall → Option Authenticator
-given_in (Network c) = c.authenticator
-
--- the network logon that it asks for
-abbrev pub network_in : JudgedCall → LogonCall
-network_in (Network c) = c
 
 -- the timestamp of an authenticator; 0 of none
 abbrev pub timestamp_in : Option Authenticator → ℕ
@@ -56,9 +39,10 @@ pub record Judging : Type 0 where
   -- the call's number, and what it asked
   pub number : ℕ
   pub asked : JudgedCall
-  -- the accounts, the channels of computers, and the moment, before it was judged
+  -- the channel that it is checked on, as it stood before: that of the computer that it names
+  pub checks : Option SecureChannelState
+  -- the accounts, and the moment, before it was judged
   pub table : AccountTable
-  pub computers : Computers
   pub moment : ℕ
   -- how it was judged, as the controller told
   pub how : Option Judged
@@ -112,8 +96,9 @@ pub data RequesterId : Type 0 where
 abbrev pub same_requester : RequesterId → RequesterId → Bool
 same_requester (OfMember one) (OfMember other) = one == other
 
--- A Logon turn of who asks: the channel and the timestamp of its authenticator.
-pub record LogonTurn : Type 0 where
+-- A turn of who asks on a channel that stands, whatever its call is: the channel and the timestamp of its
+-- authenticator. The call is a NetrLogonSamLogon; no other is asked yet.
+pub record ChannelTurn : Type 0 where
   pub requester : RequesterId
   pub channel : ChannelIdentity
   pub timestamp : ℕ
@@ -146,7 +131,7 @@ pub record Book : Type 0 where
   pub taken : List ℕ
   pub messages : List MessageTaken
   pub told : List OutcomeTold
-  pub turns : List LogonTurn
+  pub turns : List ChannelTurn
   pub made : List MessageMade
   -- a credential passed on a unit that was made for another channel, or for none
   pub clash : Bool

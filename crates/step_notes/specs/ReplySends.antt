@@ -10,54 +10,69 @@ use Rattle.outside.specs.declared.action.Action.{Action}
 use Rattle.outside.specs.declared.action.Judged.TheVariants as judged
 use Rattle.outside.specs.declared.event.Event.TheVariants as event
 use Rattle.rpc_units.specs.Calls.{bytes_of_call}
+use Rattle.logon_stubs.specs.declared.calls.LogonCall.{LogonCall}
 use Rattle.logon_stubs.specs.declared.calls.Reply.{Reply}
 use Rattle.logon_stubs.specs.declared.calls.Reply.TheVariants as reply
+use Rattle.logon_stubs.specs.declared.info.SamInfo.{SamInfo}
 use Rattle.logon_stubs.specs.declared.info.Verdict.{Verdict}
 use Rattle.logon_stubs.specs.Writing.{written_reply}
 use Rattle.end_links.specs.Sending.{response_of}
-use Rattle.domain_controller.specs.Laws.{IsNext}
-use Rattle.domain_controller.specs.Machine.{info_of, judge_info, status_of}
-use Rattle.domain_controller.specs.ReadBack.{opened_reply}
+use Rattle.controller_calls.specs.Calls.{Done, done_by, network_judged}
+use Rattle.domain_controller.specs.Machine.{info_of}
+use Rattle.domain_controller.specs.ReadBack.{opened_reply, passed_reply}
 use Rattle.domain_controller.specs.State.{State as ControllerState}
 use Rattle.domain_controller.specs.Step.{step_of as controller_step}
 use Rattle.channel_events.specs.Marks.{Mark, Plain, Opening, Opened, Calling, ReplyTo}
 use Rattle.step_notes.specs.ChannelNames.{sends_in}
 use Rattle.step_notes.specs.ControllerNotes.{Answered, Where, answer_on, units_of_controller}
-use Rattle.step_notes.specs.Judged.{passed_channel}
-use Rattle.step_notes.specs.Records.{Judging, computer_named, given_in, network_in}
+use Rattle.step_notes.specs.Judged.{IsNextOn, passed_channel}
+use Rattle.step_notes.specs.Records.{JudgedCall, Judging, Network, given_in}
 
 -- ---- the reply to a call that passed
 
--- what the call comes to by the accounts of its controller and at the moment of that step; a level other than 2 and
--- 3 isn't served
-abbrev pub verdict_passed : Judging → Verdict
-verdict_passed j = (judge_info j.table j.name j.moment (network_in j.asked).info (network_in j.asked).validation).verdict
+-- what the call comes to where it passes on that channel, by the accounts of its controller and at the moment of that
+-- step
+abbrev pub done_on : Judging → SecureChannelState → Done
+done_on j channel = done_by j.asked channel j.name j.table j.moment
 
--- the reply by the session key of the channel, the credential that is returned, the level that was asked for, and the
--- verdict: what is granted has its key under that session key
-abbrev pub reply_with : List ℕ → List ℕ → ℕ → Verdict → Reply
-reply_with key credential level verdict = reply.Logon (record {
+-- the verdict on a network logon at that step; a level other than 2 and 3 isn't served
+abbrev pub verdict_passed : Judging → LogonCall → Verdict
+verdict_passed j c = (network_judged c j.name j.table j.moment).verdict
+
+-- what is granted has its key under the session key of the channel
+abbrev pub info_done : ℕ → List ℕ → Option Verdict → Option SamInfo
+info_done level key None = None
+info_done level key (Some verdict) = info_of level key verdict
+
+-- the stub of the reply, by that session key, the credential that is returned, and what the call came to: of a network
+-- logon at the level that was asked for
+abbrev pub reply_stub : JudgedCall → List ℕ → List ℕ → Done → List ℕ
+reply_stub (Network c) key credential done = written_reply (reply.Logon (record {
   returned = Some (record { credential = credential; timestamp = 0 });
-  level = level;
-  info = info_of level key verdict;
+  level = c.validation;
+  info = info_done c.validation key done.verdict;
   authoritative = 1;
-  status = status_of verdict;
-})
+  status = done.status;
+}))
 
 -- on a channel whose next authenticator the call has
-abbrev pub reply_passed : Judging → SecureChannelState → Authenticator → Reply
-reply_passed j channel given =
-    reply_with (key_of_channel channel) (return_of (key_of_channel channel) channel.seed given.timestamp) (network_in j.asked).validation
-    (verdict_passed j)
+abbrev pub stub_passed : Judging → SecureChannelState → Authenticator → List ℕ
+stub_passed j channel given =
+    reply_stub j.asked (key_of_channel channel) (return_of (key_of_channel channel) channel.seed given.timestamp) (done_on j channel)
+
+-- the reply to a network logon, whose stub that is
+abbrev pub reply_passed : Judging → LogonCall → SecureChannelState → Authenticator → Reply
+reply_passed j c channel given =
+    passed_reply (key_of_channel channel) (return_of (key_of_channel channel) channel.seed given.timestamp) c.validation (verdict_passed j c)
 
 -- The call passed, with the status of that reply, and these bytes are all frames of the reply, under the call's number.
 -- Which presentation context it names, and how long its frames are, isn't said.
 pub record IsItsReply (j : Judging) (bytes : List ℕ) : Type 0 where
-  pub next : IsNext j.computers (computer_named j.asked) (given_in j.asked)
-  pub how : j.how ≡ Some (judged.Passed (status_of (verdict_passed j)))
+  pub next : IsNextOn j.checks (given_in j.asked)
+  pub how : j.how ≡ Some (judged.Passed (done_on j next.channel).status)
   pub context : ℕ
   pub limit : ℕ
-  pub frames : bytes ≡ bytes_of_call (response_of j.number context (written_reply (reply_passed j next.channel next.given))) limit
+  pub frames : bytes ≡ bytes_of_call (response_of j.number context (stub_passed j next.channel next.given)) limit
 
 -- The call came in that unit of the bag, passed on that channel and had that number, and these bytes are its reply.
 pub record IsReplyOfCall (channel : ChannelIdentity) (number request : ℕ) (j : Judging) (bytes : List ℕ) : Type 0 where

@@ -7,9 +7,8 @@ use Rattle.rpc_units.specs.Calls.{IsHeard}
 use Rattle.rpc_units.specs.Stream.{cut_stream}
 use Rattle.rpc_units.specs.declared.unit.Unit.{Unit as RpcUnit}
 use Rattle.end_links.specs.Serving.{served_cut, ServedUnit, served_units}
-use Rattle.member_server.specs.Turns.{take_by, turn_server}
-use Rattle.member_server.specs.declared.state.AtTurn.{AtTurn}
-use Rattle.member_server.specs.declared.state.TurnTalk.{TurnTalk}
+use Rattle.member_server.specs.Turns.{AtTurn, take_by, turn_server}
+use Rattle.channel_turns.specs.declared.state.TurnTalk.{TurnTalk}
 use Rattle.step_notes.specs.MemberNotes.{taking_at}
 
 -- the units that are served: all but the last let nothing happen, and with the last the channel takes the whole unit,

@@ -2,13 +2,11 @@
 
 ghost use Rattle.std.specs.Prelude.{◌≡◌, true};
 ghost use Rattle.ndr_codec.specs.Parts.{FitsText, IfThere};
-ghost use Rattle.logon_stubs.specs.Writing.{CanWriteNetworkInfo, CanWriteSamInfo, CanWriteCall, CanWriteReply, HasLevel};
+ghost use Rattle.logon_stubs.specs.Writing.{CanWriteInfo, CanWriteCall};
 
 use crate::outcomes::not_to_be_written;
 use case_words::{bytes, debug_text, long_text, no_case, number16, word};
-use logon_stubs::{
-    Call, NetworkInfo, Reply, SamInfo, read_call, read_reply, write_call, write_reply,
-};
+use logon_stubs::{Call, read_call, read_reply, write_call, write_reply};
 use std::alloc::Global;
 use wire_base::Units;
 
@@ -29,51 +27,14 @@ pub(crate) fn fits_option(units: &Option<Units>) -> bool
     }
 }
 
-/// Whether a network logon may be written.
-fn fits_network(info: &NetworkInfo) -> bool
-    ensures { result ≡ true → CanWriteNetworkInfo info.now }
-{
-    fits(&info.domain)
-        && fits(&info.user)
-        && fits(&info.workstation)
-        && info.nt.bytes().len() <= 65535
-        && info.lm.bytes().len() <= 65535
-}
-
-/// Whether a user's information may be written.
-fn fits_sam(info: &SamInfo) -> bool
-    ensures { result ≡ true → CanWriteSamInfo info.now }
-{
-    fits(&info.effective_name)
-        && fits(&info.full_name)
-        && fits(&info.script)
-        && fits(&info.profile)
-        && fits(&info.home)
-        && fits(&info.home_drive)
-        && info.groups.len() <= 256
-        && fits(&info.server)
-        && fits(&info.domain)
-        && info.extra.len() <= 256
-}
-
-/// Whether a user's information may be written at a level: at 3, and at 2 without identifiers beside the groups.
-fn fits_level(level: u16, info: &SamInfo) -> bool
-    ensures { result ≡ true → HasLevel level info.now }
-{
-    level == 3 || (level == 2 && info.extra.items().is_empty())
-}
-
-/// Whether the parameters of a request may be written.
+/// Whether the names of a request may be written, of one whose information may.
 fn fits_call(call: &Call) -> bool
+    requires { CanWriteInfo call.now }
     ensures { result ≡ true → CanWriteCall call.now }
 {
     match call {
-        Call::Logon(it) => {
-            fits_option(&it.server) && fits_option(&it.computer) && fits_network(&it.info)
-        }
-        Call::Logoff(it) => {
-            fits_option(&it.server) && fits_option(&it.computer) && fits_network(&it.info)
-        }
+        Call::Logon(it) => fits_option(&it.server) && fits_option(&it.computer),
+        Call::Logoff(it) => fits_option(&it.server) && fits_option(&it.computer),
         Call::Challenge(it) => fits_option(&it.primary) && fits(&it.computer),
         Call::Authenticate(it) => {
             fits_option(&it.primary) && fits(&it.account) && fits(&it.computer)
@@ -81,47 +42,29 @@ fn fits_call(call: &Call) -> bool
     }
 }
 
-/// Whether the parameters of a reply may be written.
-fn fits_reply(reply: &Reply) -> bool
-    ensures { result ≡ true → CanWriteReply reply.now }
+/// The stub of a request that was read, of one that may be written.
+fn call_text(alloc: Global, call: &Call) -> anyhow::Result<String>
+    requires { CanWriteCall call.now }
 {
-    match reply {
-        Reply::Logon(it) => match &it.info {
-            Some(info) => fits_level(it.level, info) && fits_sam(info),
-            None => true,
-        },
-        _ => true,
-    }
-}
-
-/// The stub of a request.
-fn call_text(alloc: Global, call: &Call) -> anyhow::Result<String> {
-    if !fits_call(call) {
-        return not_to_be_written(alloc);
-    }
     let stub = write_call(alloc, call)?;
     long_text(alloc, stub.bytes())
 }
 
-/// The stub of a reply.
-fn reply_text(alloc: Global, reply: &Reply) -> anyhow::Result<String> {
-    if !fits_reply(reply) {
-        return not_to_be_written(alloc);
-    }
-    let stub = write_reply(alloc, reply)?;
-    long_text(alloc, stub.bytes())
-}
-
-/// The stub of a request that was read.
+/// The stub of a request that was read. That of a stub of at most 65,536 bytes may be written; of a longer one it is
+/// tested.
 fn call_again(alloc: Global, opnum: u16, stub: &[u8]) -> anyhow::Result<String> {
     let read = read_call(alloc, opnum, stub)?;
-    call_text(alloc, &read)
+    if stub.len() <= 65536 || fits_call(&read) {
+        return call_text(alloc, &read);
+    }
+    not_to_be_written(alloc)
 }
 
 /// The stub of a reply that was read.
 fn reply_again(alloc: Global, opnum: u16, stub: &[u8]) -> anyhow::Result<String> {
     let read = read_reply(alloc, opnum, stub)?;
-    reply_text(alloc, &read)
+    let written = write_reply(alloc, &read)?;
+    long_text(alloc, written.bytes())
 }
 
 /// What an operation on the stub of a call or reply gives.

@@ -43,10 +43,9 @@ use Rattle.member_server.specs.declared.memo.Answer.TheVariants as answer
 use Rattle.member_server.specs.declared.outcomes.Ending.{Ending}
 use Rattle.member_server.specs.declared.outcomes.Ending.TheVariants as ending
 use Rattle.member_server.specs.declared.state.AtLink.{AtLink}
-use Rattle.member_server.specs.declared.state.AtTurn.{AtTurn}
 use Rattle.member_server.specs.declared.state.Bound.{Bound}
-use Rattle.member_server.specs.declared.state.Dialling.{Dialling}
-use Rattle.member_server.specs.declared.state.Dialling.TheVariants as dialling
+use Rattle.channel_turns.specs.declared.state.Dialling.{Dialling}
+use Rattle.channel_turns.specs.declared.state.Dialling.TheVariants as dialling
 use Rattle.member_server.specs.declared.state.LoggedOn.{LoggedOn}
 use Rattle.member_server.specs.declared.state.Logon.{Logon}
 use Rattle.member_server.specs.declared.state.Logons.{Logons}
@@ -54,7 +53,7 @@ use Rattle.member_server.specs.declared.state.Phase.{Phase}
 use Rattle.member_server.specs.declared.state.Phase.TheVariants as phase
 use Rattle.member_server.specs.declared.state.Running.{Running}
 use Rattle.member_server.specs.declared.state.Talk.{Talk}
-use Rattle.member_server.specs.declared.state.TurnTalk.{TurnTalk}
+use Rattle.channel_turns.specs.declared.state.TurnTalk.{TurnTalk}
 use Rattle.member_server.specs.declared.state.Work.{Work}
 use Rattle.member_server.specs.Binds.{ack_fits, answer_bind, bind_by, fresh_unit, offer_in}
 use Rattle.member_server.specs.Held.{held_limit, held_size}
@@ -67,7 +66,7 @@ use Rattle.member_server.specs.Outcomes.{after_link, at_link, end_found, end_log
 use Rattle.unit_security.specs.declared.securing.Secured.{Secured}
 use Rattle.member_server.specs.Requests.{answer_call, body_asked, body_out, hold_by, join_by, join_opened, join_request, join_unit, open_request, reply, secure_reply, send_reply, send_secured, signed_cause, signed_unit, unit_asked, unit_in, unit_out, with_session}
 use Rattle.member_server.specs.State.{State as MemberState}
-use Rattle.member_server.specs.Turns.{DialWork, break_turn, dial_for, do_taken, ending_of, lose_turn, next_turn, tell_turn_closed, timestamp_of, turn_by, turn_by_join, turn_server, turn_unit, with_requester, with_work}
+use Rattle.member_server.specs.Turns.{AtTurn, DialWork, break_turn, dial_for, do_taken, ending_of, lose_turn, next_turn, tell_turn_closed, timestamp_of, turn_by, turn_by_join, turn_server, turn_unit, with_requester, with_work}
 use Rattle.member_server.specs.Units.{body_challenged, bound_unit, first_unit, is_fresh, link_server, serve_held, then_said, unit_by, unit_challenged}
 use Rattle.member_server.specs.Work.{Served, send, shut}
 use Rattle.world_moves.specs.Ends.{actions_by}

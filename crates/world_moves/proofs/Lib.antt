@@ -1,18 +1,18 @@
-mod AskingLaws
+pub mod AskingLaws
 pub mod BagLaws
 pub mod BoundLaws
-mod CountLaws
-mod DrawBlockLaws
-mod EndLaws
-mod GeneratorLaws
+pub mod CountLaws
+pub mod DrawBlockLaws
+pub mod EndLaws
+pub mod GeneratorLaws
 pub mod LevelLaws
 pub mod LinkFrameLaws
-mod MakingLaws
-mod MuteLaws
-mod OutcomeLaws
+pub mod MakingLaws
+pub mod MuteLaws
+pub mod OutcomeLaws
 pub mod OpenLaws
-mod PlaceLaws
+pub mod PlaceLaws
 pub mod RangeLaws
 pub mod RunLaws
-mod RunningLaws
-mod TellingLaws
+pub mod RunningLaws
+pub mod TellingLaws

@@ -22,7 +22,7 @@ use Rattle.channel_client.specs.declared.state.Question.TheVariants as question
 use Rattle.channel_client.specs.declared.state.Standing.{Standing}
 use Rattle.channel_client.specs.declared.state.Standing.TheVariants as standing
 use Rattle.channel_client.specs.declared.state.Step.TheVariants as step
-use Rattle.domain_controller.specs.declared.state.Computers.{Computers}
+use Rattle.controller_calls.specs.declared.state.Computers.{Computers}
 use Rattle.logon_client.specs.Answering.{bind_for}
 use Rattle.logon_client.specs.Machine as steps
 use Rattle.unit_security.specs.Levels.{is_signed}
@@ -32,7 +32,9 @@ use Rattle.member_server.specs.Turns.{timestamp_of}
 use Rattle.channel_events.specs.Marks.{OneOf}
 use Rattle.channel_events.proofs.ListLaws.{all_weaker, one_found, one_weaker, one_with}
 use Rattle.step_notes.specs.Judged.{hash_in}
-use Rattle.step_notes.specs.Records.{Book, Judging, MessageTaken, OutcomeTold, blank, network_in}
+use Rattle.logon_stubs.specs.declared.calls.LogonCall.{LogonCall}
+use Rattle.step_notes.specs.Records.{Book, IfNetwork, Judging, MessageTaken, OutcomeTold, blank}
+use Rattle.step_notes.proofs.Controllers.JudgedCallLaws.{network_so}
 use Rattle.world_moves.specs.declared.bag.BagUnit.{BagUnit}
 use Rattle.world_moves.specs.declared.links.EndId.{EndId}
 use Rattle.world_moves.specs.declared.links.EndId.TheVariants.{Client, Member}
@@ -45,7 +47,7 @@ use Rattle.world_moves.specs.Choosing.{chosen_place}
 use Rattle.world_moves.specs.Forms.{HasForms}
 use Rattle.world_moves.specs.World.{IsPlan, World, first_world, happens, run}
 use Rattle.domain_world.specs.Claims.{AcceptsOnlyGranted, IsAccepted, TravelsAsZeros, Wraps}
-use Rattle.domain_world.specs.Claims.Completeness.{IsQuiet, OneAtATime, IsPlainMove, started_in}
+use Rattle.domain_world.specs.Claims.Completeness.{IsQuiet, NoKeyIsLost, OneAtATime, IsPlainMove, started_in}
 use Rattle.domain_world.specs.Claims.LetIn.{IsLetInBy, LetsInWhoAsked}
 use Rattle.domain_world.specs.Past.{Past, book, note, past}
 use Rattle.logon_steps.specs.Answering.{pair_of}
@@ -71,8 +73,7 @@ use Rattle.logon_runs.specs.First.FirstRuns.{IsToBeOpened, channel_as, opened_at
 use Rattle.logon_runs.specs.First.FirstTraces.{FirstLogonSeen, asked_turn, turn_first, turn_second, turn_third, waits_for_name}
 use Rattle.logon_runs.specs.First.FirstWorlds.{CanComeIn, FirstKeyArrives, draw, echo_moves, first_asked, first_meeting, left_then, logon_moves, no_computers, turn_moves}
 use Rattle.logon_runs.specs.Seen.LinkScenes.{IsJoined, Meeting, its_link, joined, unit_down, unit_up}
-use Rattle.logon_runs.specs.LogonRuns.{meets, starts}
-use Rattle.logon_runs.specs.Runs.{Asked, connects, goes, hidden, info_asked, message_for, sam_for, with_moved}
+use Rattle.logon_runs.specs.Runs.{Asked, connects, goes, hidden, info_asked, meets, message_for, sam_for, starts, with_moved}
 use Rattle.logon_runs.specs.Scenes.{HasFirst, Scene, Shows}
 use Rattle.logon_runs.specs.Seen.Staying.{HasSameEnds}
 use Rattle.logon_runs.specs.Seen.TurnScenes.{IsBetween, Turn, with_accounts}
@@ -82,8 +83,7 @@ use Rattle.logon_runs.proofs.First.FirstLogonRunLaws.{joined_still}
 use Rattle.logon_runs.proofs.First.FirstTraceLaws.{after_below}
 use Rattle.logon_runs.proofs.First.FirstWorldLaws.{comes_first, first_worlds_run}
 use Rattle.logon_runs.proofs.Seen.LinkSceneLaws.{found_here, heard_down, heard_up, meetings_are_seen}
-use Rattle.logon_runs.proofs.LogonRunLaws.{meets_same}
-use Rattle.logon_runs.proofs.RunLaws.{between_still, grants_so, same_computer, timestamp_below, twice_same}
+use Rattle.logon_runs.proofs.RunLaws.{between_still, grants_so, meets_same, same_computer, timestamp_below, twice_same}
 use Rattle.logon_runs.proofs.Seen.StayingLaws.{both_same, connects_same}
 use Rattle.logon_runs.proofs.Seen.TurnSceneLaws.{heard_back}
 use Rattle.logon_runs.proofs.Seen.WaitingLaws.{waiting_comes}
@@ -93,6 +93,7 @@ use Rattle.claim_examples.proofs.Runs.LogonTrailLaws.{FineSo, logon_trail}
 use Rattle.claim_examples.proofs.Runs.JudgedOnLaws.{HearsNoCall, OnlyTravels, travels_still}
 use Rattle.claim_examples.proofs.Runs.NotedLaws.{Fine, Leads, Trail, then_on, world_at}
 use Rattle.domain_world.proofs.Completeness.UnitNotedLaws.{Came, comes_so}
+use Rattle.domain_world.proofs.Accepting.LetInLaws.{lets_in_who_asked}
 use Rattle.claim_examples.proofs.SequenceLaws.{one_apart}
 use Rattle.claim_examples.proofs.Runs.SharedChannelLaws.{shared_channel}
 use Rattle.claim_examples.proofs.Runs.ToldLaws.{LetsIn, lets_in, stays_told}
@@ -369,12 +370,12 @@ module _ (plan : Plan) (client member controller : ℕ) (can : CanComeIn plan cl
       meets_trail seen_so (turn_moves ++ turn_moves ++ turn_moves ++ move.Onward ∷ echo_moves silent) (EndsSo silent)
       (turns_trail seen_so (move.Onward ∷ echo_moves silent) (EndsSo silent) (end_trail seen_so silent refl)) 0 blank (record { apart = refl; few = omega arith; marked = refl })
 
-  lets_in_clearly : LetsInWhoAsked (past plan (logon_moves number (can.task.echo == 0))) → LetsInClearly (past plan (logon_moves number (can.task.echo == 0)))
-  lets_in_clearly asked =
+  lets_in_clearly : LetsInClearly (past plan (logon_moves number (can.task.echo == 0)))
+  lets_in_clearly =
       let now : Past = past plan (logon_moves number (can.task.echo == 0)) in
       record {
         clear = record { apart = ends_so.0; onward = no_wrap now.book ends_so.1 };
-        told = asked_so now asked ends_so.2.0;
+        told = asked_so now (lets_in_who_asked plan (logon_moves number (can.task.echo == 0))) ends_so.2.0;
         accepted = λ only. accepted_so now only ends_so.2.0;
       }
 
@@ -388,10 +389,13 @@ module _ (plan : Plan) (client member controller : ℕ) (can : CanComeIn plan cl
 
   -- where it doesn't travel as zeros, no key of the run does
   pub keys_arrive : (KeyTravels key (base_key can.task (message_for j a)) → ⊥) →
-      AllByRecursion (λ (call : Judging). call.how ≡ Some (judged.Passed 0) → TravelsAsZeros call (network_in call.asked).info → ⊥) (past plan (logon_moves number (can.task.echo == 0))).book.judged
+      AllByRecursion NoKeyIsLost (past plan (logon_moves number (can.task.echo == 0))).book.judged
   keys_arrive never =
-      all_weaker (λ (call : Judging). TravelsAsZeros call (network_in call.asked).info → KeyTravels key base) (λ (call : Judging). call.how ≡ Some (judged.Passed 0) → TravelsAsZeros call (network_in call.asked).info → ⊥)
-      (past plan (logon_moves number (can.task.echo == 0))).book.judged (λ call only how zeros. never (sym base_so ∙ only zeros)) ends_so.2.1
+      all_weaker (λ (call : Judging). IfNetwork (λ (c : LogonCall). TravelsAsZeros call c.info → KeyTravels key base) call.asked) NoKeyIsLost
+      (past plan (logon_moves number (can.task.echo == 0))).book.judged
+      (λ call only how.
+      network_so (λ (c : LogonCall). TravelsAsZeros call c.info → KeyTravels key base) (λ (c : LogonCall). TravelsAsZeros call c.info → ⊥) call.asked
+      (λ c so zeros. never (sym base_so ∙ so zeros)) only) ends_so.2.1
 
 -- the example's client follows the plan of ann
 ann_task_is : (can : CanComeIn ann_plan 0 0 0) → ann_task ≡ can.task
@@ -409,11 +413,11 @@ ann_rests =
     subst (λ (silent : Bool). IsQuiet (run (logon_moves 0 silent) (first_world ann_plan))) (ann_echoes can)
     (rests_so (run (logon_moves 0 (can.task.echo == 0)) (first_world ann_plan)) _ refl refl an_example_logs_on.comes.rests)
 
-ann_clear : ((plan : Plan) (moves : List Move) → LetsInWhoAsked (past plan moves)) → LetsInClearly (past ann_plan ann_moves)
-ann_clear asked =
+ann_clear : LetsInClearly (past ann_plan ann_moves)
+ann_clear =
     let can : CanComeIn ann_plan 0 0 0 = an_example_logs_on.can in
     subst (λ (silent : Bool). LetsInClearly (past ann_plan (logon_moves 0 silent))) (ann_echoes can)
-    (lets_in_clearly ann_plan 0 0 0 can an_example_logs_on.schedule.start an_example_logs_on.schedule.forms 0 refl (ann_arrives can) (asked ann_plan (logon_moves 0 (can.task.echo == 0))))
+    (lets_in_clearly ann_plan 0 0 0 can an_example_logs_on.schedule.start an_example_logs_on.schedule.forms 0 refl (ann_arrives can))
 
 ann_channel : HasSharedChannel (past ann_plan ann_moves)
 ann_channel =
@@ -431,16 +435,16 @@ ann_once = one_apart (λ (one other : ℕ). one ≢ other) 0
 pub ann_quiet : OneAtATime ann_moves (first_world ann_plan)
 ann_quiet = (record { dials = refl; units = refl }, later_quiet (drop 1 ann_moves) (happens (first_world ann_plan) (move.Start 0)) (tt, (tt, (tt, (tt, (tt, (tt, (tt, (tt, (tt, (tt, (tt, (tt, (tt, (tt, (tt, (tt, (tt, (tt, (tt, (tt, (tt, (tt, (tt, tt))))))))))))))))))))))) ann_rests)
 
-pub first_logons_are_clear : ((plan : Plan) (moves : List Move) → LetsInWhoAsked (past plan moves)) → FirstLogonsAreClear
-first_logons_are_clear asked = record {
+pub first_logons_are_clear : FirstLogonsAreClear
+first_logons_are_clear = record {
   first = λ plan client member controller number is forms chosen can arrives.
-      lets_in_clearly plan client member controller can is forms number chosen arrives (asked plan (logon_moves number (can.task.echo == 0)));
+      lets_in_clearly plan client member controller can is forms number chosen arrives;
   stands = λ plan client member controller number is forms chosen can arrives. shared_channel plan client member controller number is forms chosen can arrives;
   schedule = an_example_logs_on.schedule;
-  ann = ann_clear asked;
+  ann = ann_clear;
   ann_stands = ann_channel;
   claimed = λ proved.
-      let clear = (ann_clear asked).clear in
+      let clear = ann_clear.clear in
       let schedule = an_example_logs_on.schedule in
       record {
         only = proved.only schedule clear;

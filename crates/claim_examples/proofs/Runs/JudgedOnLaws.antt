@@ -10,12 +10,14 @@ use Rattle.authenticators.specs.SecureChannels.{SecureChannelState, key_of_chann
 use Rattle.end_links.specs.Serving.{ServedUnit}
 use Rattle.logon_client.specs.State.{State as ClientState}
 use Rattle.member_server.specs.State.{State as MemberState}
-use Rattle.member_server.specs.declared.state.AtTurn.{AtTurn}
-use Rattle.member_server.specs.declared.state.TurnTalk.{TurnTalk}
+use Rattle.member_server.specs.Turns.{AtTurn}
+use Rattle.channel_turns.specs.declared.state.TurnTalk.{TurnTalk}
 use Rattle.step_notes.specs.ControllerNotes.{identity_by, channel_in, has_passed}
 use Rattle.step_notes.specs.Judged.{base_key_asked, channel_if}
 use Rattle.step_notes.specs.MemberNotes.{turn_note, turn_units}
-use Rattle.step_notes.specs.Records.{Book, Judging, computer_named, network_in}
+use Rattle.logon_stubs.specs.declared.calls.LogonCall.{LogonCall}
+use Rattle.logon_stubs.specs.declared.info.NetworkInfo.{NetworkInfo}
+use Rattle.step_notes.specs.Records.{Book, IfNetwork, Judging, computer_named}
 use Rattle.world_moves.specs.declared.bag.BagUnit.{BagUnit}
 use Rattle.world_moves.specs.declared.links.EndId.{EndId}
 use Rattle.world_moves.specs.declared.links.EndId.TheVariants.{Client, Controller, Member}
@@ -60,14 +62,14 @@ judged_still s unit later end none came k b =
 
 -- where a key of a call that was judged travels as zeros, this one does
 abbrev pub OnlyTravels : (key base : List ℕ) → List Judging → Type 0
-OnlyTravels key base judged = AllByRecursion (λ (j : Judging). TravelsAsZeros j (network_in j.asked).info → KeyTravels key base) judged
+OnlyTravels key base judged = AllByRecursion (λ (j : Judging). IfNetwork (λ (c : LogonCall). TravelsAsZeros j c.info → KeyTravels key base) j.asked) judged
 
--- it is the key of the client's answer under the key of its member's channel, where the controller keeps that channel
-pub travels_so : (j : Judging) (o state : SecureChannelState) (computer : List ℕ) → has_passed j.how ≡ true → computer_named j.asked ≡ Some computer →
-    lookup same_name computer j.computers.channels ≡ Some state → key_of_channel state ≡ key_of_channel o → TravelsAsZeros j (network_in j.asked).info → KeyTravels (key_of_channel o) (base_key_asked j (network_in j.asked).info)
-travels_so j o state computer passed named found same zeros =
+-- it is the key of the client's answer under the key of its member's channel, where the call is checked on that channel
+pub travels_so : (j : Judging) (info : NetworkInfo) (o state : SecureChannelState) (computer : List ℕ) → has_passed j.how ≡ true → computer_named j.asked ≡ Some computer →
+    j.checks ≡ Some state → key_of_channel state ≡ key_of_channel o → TravelsAsZeros j info → KeyTravels (key_of_channel o) (base_key_asked j info)
+travels_so j info o state computer passed named found same zeros =
     zeros ∙ ap (λ (is : Bool). key_bytes (channel_if is j)) passed
-    ∙ ap (λ (name : Option (List ℕ)). key_bytes (channel_in j.controller name j.computers)) named
+    ∙ ap (λ (name : Option (List ℕ)). key_bytes (channel_in j.controller name j.checks)) named
     ∙ ap (λ (kept : Option SecureChannelState). key_bytes (identity_by j.controller computer kept)) found
     ∙ ap (λ (key : List ℕ). applied key 0 (replicate 16 0)) same
 

@@ -27,13 +27,13 @@ use Rattle.domain_controller.specs.Hearing.{bound_talk}
 use Rattle.domain_controller.specs.Machine.{Desk, by_call}
 use Rattle.domain_controller.specs.State.{State as ControllerState}
 use Rattle.domain_controller.specs.Step.{step_of as controller_step_of}
-use Rattle.domain_controller.specs.declared.state.Computers.{Computers}
+use Rattle.controller_calls.specs.declared.state.Computers.{Computers}
 use Rattle.step_notes.specs.ChannelNames.{HasChannel, place_answered}
 use Rattle.step_notes.specs.ControllerNotes.{Answered, has_passed, judged_in, judging_of, new_actions, passing}
 use Rattle.step_notes.specs.Marking.{answered_marks}
 use Rattle.step_notes.specs.MemberNotes.{asked_note}
 use Rattle.step_notes.specs.Judged.{hash_in}
-use Rattle.step_notes.specs.Records.{Book, Judging}
+use Rattle.step_notes.specs.Records.{Book, Judging, Network}
 use Rattle.step_notes.specs.Served.{work_after}
 use Rattle.step_notes.proofs.Channels.ChannelNameLaws.{channels_are_named_alike}
 use Rattle.world_moves.specs.declared.moves.Move.TheVariants as move
@@ -105,19 +105,19 @@ logon_trail s t accounts next number stamp o state info sam how_judged computers
     (λ (b : Book). FineAnd s4 1 (Some named) b × OnlyTravels (key_of_channel o) base b.judged) (FineSo (turned s) 1 Holds) seen between below names
     (ap (λ (h : Standing). asked_note (Some (step.Reply q)) h t.at_controller asks (wait_for asks t.place (step.Reply q))) how)
     (λ k b f.
-    let j : ℕ → Judging = λ unit. judging_of (where_in_turn s3 t next c computers k unit) (turn_line t.link next) _ d then_so in
+    let j : ℕ → Judging = λ unit. judging_of (where_in_turn s3 t next c computers k unit) (turn_line t.link next) (Network _) d then_so in
     let one : (unit : ℕ) → answer_in_turn s3 t next c computers k unit left moment ≡ passing (Some named) (j unit) =
-    λ unit. channels_are_named_alike.calls.passes (j unit) named refl refl has passed in
+    λ unit. channels_are_named_alike.calls.passes (j unit) computers named refl refl refl has passed in
     let called : Called s3 t next c computers k 1 left moment b =
     call_comes s3 t (after next) next (step.Reply q) c computers left left moment 0 1 _ _ between below_next is_call steps seen.call k b f.fine
-    (λ unit first. channels_are_named_alike.exchanges.calling (j unit) named b.sent refl refl has passed (waits_marked s3 (Some named) b unit f.waits first))
+    (λ unit first. channels_are_named_alike.exchanges.calling (j unit) computers named b.sent refl refl refl has passed (waits_marked s3 (Some named) b unit f.waits first))
     (λ unit numbers. omega (arith, ap (λ (a : Answered). length (judged_of (a ∷ []) numbers)) (one unit))) in (
       reply_waits s3 t next c computers k 0 1 left moment b (reply_bytes next r) (Some named) f.fine called (ReplyTo named next called.came.number)
           (ap (λ (a : Answered). answered_marks (a ∷ [])) (one called.came.number)) refl
           (judged_bag s3 t (after next) next (step.Reply q) c computers left left moment how_judged (reply_bytes next r) after_step called.came.number between steps seen.call),
       subst (OnlyTravels (key_of_channel o) base)
           (sym (called.judged ∙ ap (λ (a : Answered). onto (judged_of (a ∷ []) called.numbers) b.judged) (one called.came.number))) (
-            travels_so (record (j called.came.number) { reply = first_of called.numbers }) o state t.caller.computer passed refl found in_step.key,
+            travels_so (record (j called.came.number) { reply = first_of called.numbers }) info o state t.caller.computer passed refl found in_step.key,
             none_travels (key_of_channel o) base b.judged f.fine.few,
           ),
     ))

@@ -9,8 +9,8 @@ use Rattle.end_links.specs.Serving.{ServedUnit}
 use Rattle.domain_controller.specs.State.{State as ControllerState}
 use Rattle.logon_client.specs.State.{State as ClientState}
 use Rattle.member_server.specs.State.{State as MemberState}
-use Rattle.member_server.specs.declared.state.AtTurn.{AtTurn}
-use Rattle.member_server.specs.declared.state.TurnTalk.{TurnTalk}
+use Rattle.member_server.specs.Turns.{AtTurn}
+use Rattle.channel_turns.specs.declared.state.TurnTalk.{TurnTalk}
 use Rattle.authenticators.specs.Channels.{ChannelIdentity}
 use Rattle.channel_events.specs.Marks.{Mark}
 use Rattle.step_notes.specs.Marking.{answered_marks, clashes, mark_channel, turn_marks}

@@ -27,14 +27,13 @@ use Rattle.channel_client.specs.declared.state.Standing.{Standing}
 use Rattle.channel_client.specs.declared.state.Step.TheVariants as step
 use Rattle.channel_events.proofs.ListLaws.{all_weaker}
 use Rattle.member_server.specs.Machine.{at_turn, step_of}
-use Rattle.member_server.specs.Turns.{turn_server, turn_talk}
+use Rattle.member_server.specs.Turns.{AtTurn, turn_server, turn_talk}
 use Rattle.member_server.specs.declared.plan.MemberPlan.{MemberPlan}
-use Rattle.member_server.specs.declared.state.AtTurn.{AtTurn}
-use Rattle.member_server.specs.declared.state.Dialling.TheVariants as dialling
+use Rattle.channel_turns.specs.declared.state.Dialling.TheVariants as dialling
 use Rattle.member_server.specs.declared.state.Logon.{Logon}
 use Rattle.member_server.specs.declared.state.Logons.{Logons}
 use Rattle.member_server.specs.declared.state.Talk.{Talk}
-use Rattle.member_server.specs.declared.state.TurnTalk.{TurnTalk}
+use Rattle.channel_turns.specs.declared.state.TurnTalk.{TurnTalk}
 use Rattle.step_notes.specs.Marking.{clashes}
 use Rattle.step_notes.specs.MemberNotes.{TurnNote, asked_note, taking_at, taking_joined, taking_note, taking_read, turn_note, turn_units, turn_units_by}
 use Rattle.step_notes.specs.Records.{Sent}

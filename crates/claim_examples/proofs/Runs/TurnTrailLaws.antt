@@ -20,7 +20,7 @@ use Rattle.channel_client.specs.declared.state.Step.TheVariants as step
 use Rattle.channel_events.specs.Marks.{Mark, Opened, Opening, Plain}
 use Rattle.domain_controller.specs.Hearing.{bound_talk}
 use Rattle.domain_controller.specs.Machine.{Desk, account_for, by_call}
-use Rattle.domain_controller.specs.declared.state.Computers.{Computers}
+use Rattle.controller_calls.specs.declared.state.Computers.{Computers}
 use Rattle.step_notes.specs.ChannelNames.{Expects}
 use Rattle.step_notes.specs.ControllerNotes.{Answered, opening}
 use Rattle.step_notes.specs.Marking.{answered_marks, clashes, mark_channel}

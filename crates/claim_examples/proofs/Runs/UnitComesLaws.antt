@@ -26,7 +26,7 @@ use Rattle.domain_controller.specs.Hearing.{first_talk}
 use Rattle.domain_controller.specs.Machine.{Desk}
 use Rattle.domain_controller.specs.State.{State as ControllerState}
 use Rattle.domain_controller.specs.Step.{first_desk, step_of as controller_step_of}
-use Rattle.domain_controller.specs.declared.state.Computers.{Computers}
+use Rattle.controller_calls.specs.declared.state.Computers.{Computers}
 use Rattle.member_server.specs.Machine.{step_of as member_step_of}
 use Rattle.logon_client.specs.declared.state.Phase.{Phase as ClientPhase}
 use Rattle.member_server.specs.declared.state.Talk.{Talk}

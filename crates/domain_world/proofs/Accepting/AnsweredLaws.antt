@@ -1,7 +1,7 @@
 -- A member accepts only what its controller granted, and all of it, and client and member hold one key, where what is
 -- said of units that are heard whole holds of the run. No call passes twice, since no seed comes round.
 -- It serves `what_is_heard_is_accepted`.
-use Rattle.std.proofs.Common.{◌≡◌, ℕ, ◌<◌, ◌&&◌, Bool, true, false, not, List, [], ◌∷◌, inl, inr, Option, Some, None, slice_get, refl, sym, ap, ap₂, ◌∙◌, subst}
+use Rattle.std.proofs.Common.{◌≡◌, ◌↔◌, ℕ, ◌<◌, ◌&&◌, Bool, true, false, not, List, [], ◌∷◌, inl, inr, Option, Some, None, slice_get, refl, sym, ap, ap₂, ◌∙◌, subst}
 use Rattle.std.specs.Prelude.{replicate}
 use Rattle.std.specs.List.{AllByRecursion}
 use Rattle.std.proofs.lemmas.Bool.Decides.{Decides-eqb}
@@ -11,6 +11,7 @@ use Rattle.authenticators.proofs.ChannelLaws.{same_channel-Decides}
 use Rattle.outside.specs.declared.action.Judged.TheVariants as judged
 use Rattle.outside.specs.declared.action.Outcome.{Outcome}
 use Rattle.outside.specs.declared.action.Outcome.TheVariants as outcome
+use Rattle.logon_stubs.specs.declared.calls.LogonCall.{LogonCall}
 use Rattle.logon_stubs.specs.declared.info.NetworkInfo.{NetworkInfo}
 use Rattle.logon_stubs.specs.declared.info.SamInfo.{SamInfo}
 use Rattle.logon_stubs.specs.declared.info.Verdict.{Verdict}
@@ -18,24 +19,23 @@ use Rattle.logon_stubs.specs.declared.info.Verdict.TheVariants.{Granted, Status}
 use Rattle.rc4_stream.specs.Rc4.{applied}
 use Rattle.rc4_stream.proofs.Rc4Laws.{applied-applied}
 use Rattle.channel_keys.specs.Hidden.{crypt_by, crypt_key, is_zero}
-use Rattle.authenticators.specs.SecureChannels.{channel_of}
+use Rattle.authenticators.specs.SecureChannels.{SecureChannelState, channel_of}
 use Rattle.ntlm_responses.specs.Verification.{base_key_of}
 use Rattle.account_table.specs.AccountTable.{AccountTable}
 use Rattle.account_table.specs.LookUps.{account_in}
 use Rattle.account_table.specs.declared.account.Account.{Account}
 use Rattle.sam_logon.specs.Granting.{sam_info_of}
 use Rattle.sam_logon.specs.MayLogOn.{MayLogOn, ResponseVerifies}
-use Rattle.domain_controller.specs.Laws.{IsNext}
 use Rattle.domain_controller.specs.Machine.{status_of}
 use Rattle.member_server.specs.Outcomes.{key_in, outcome_of}
 use Rattle.member_server.specs.Turns.{ending_of}
 use Rattle.member_server.specs.declared.state.Logon.{Logon}
 use Rattle.channel_events.specs.Marks.{OneOf, ReplyTo}
 use Rattle.step_notes.specs.ControllerNotes.{identity_by, channel_in, has_passed}
-use Rattle.step_notes.specs.Judged.{IsJudgedRight, base_key_asked, channel_if, hash_in, passed_channel, stored_hash}
+use Rattle.step_notes.specs.Judged.{IsJudgedRight, IsNextOn, IsOfName, base_key_asked, channel_if, hash_in, passed_channel, stored_hash}
 use Rattle.step_notes.specs.Marking.{clashes, is_channel, sent_channel}
-use Rattle.step_notes.specs.Records.{ChallengeSent, Judging, JudgementTold, MessageMade, MessageTaken, OutcomeTold, Sent, computer_named, given_in, network_in}
-use Rattle.step_notes.specs.ReplySends.{IsReplyOfCall, verdict_passed}
+use Rattle.step_notes.specs.Records.{ChallengeSent, Judging, JudgementTold, MessageMade, MessageTaken, Network, OutcomeTold, Sent, computer_named, given_in}
+use Rattle.step_notes.specs.ReplySends.{IsReplyOfCall, done_on, verdict_passed}
 use Rattle.world_moves.specs.declared.bag.BagUnit.{BagUnit}
 use Rattle.world_moves.specs.Counting.{is_in}
 use Rattle.domain_world.specs.Accepting.Answered.{AnswersAreHeard, AsksForIt, IsAnsweredIn, IsLetInAsRead, IsProved, IsToldAsRead, outcome_read, verdict_read}
@@ -48,6 +48,7 @@ use Rattle.domain_world.specs.Past.{Past}
 use Rattle.channel_events.proofs.ListLaws.{one_weaker, some_is}
 use Rattle.channel_events.proofs.SameLaws.{itself, one_channel, same_back, same_on}
 use Rattle.step_notes.proofs.Controllers.GrantVerdictLaws.{IsServedGrant, served_grant}
+use Rattle.step_notes.proofs.Controllers.JudgedCallLaws.{of_network, status_done}
 use Rattle.step_notes.proofs.Controllers.JudgedStepLaws.{same_status}
 use Rattle.domain_world.proofs.Accepting.ListPlaceLaws.{Cut, Placed, all_at, all_by_place, apart_same, cut_twice, first_found, found_is, one_at, ordered, placed}
 use Rattle.domain_world.proofs.Frames.MarkPlaceLaws.{got_beside}
@@ -104,15 +105,18 @@ are_answers message j request unit passed call came reply sent =
 
 pub record StandsFor (j : Judging) : Type 0 where
   pub channel : ChannelIdentity
-  pub found : channel_in j.controller (computer_named j.asked) j.computers ≡ Some channel
+  pub found : channel_in j.controller (computer_named j.asked) j.checks ≡ Some channel
   pub passed : passed_channel j ≡ Some channel
 
+stands_by : (name : Option (List ℕ)) (j : Judging) → computer_named j.asked ≡ name → IsOfName name j.checks → IsNextOn j.checks (given_in j.asked) → has_passed j.how ≡ true → StandsFor j
+stands_by None j named none next passed = absurd (let both : None ≡ Some next.channel = sym none ∙ next.stands in let x = both in cc)
+stands_by (Some computer) j named none next passed =
+    let found : channel_in j.controller (computer_named j.asked) j.checks ≡ Some (channel_of j.controller computer next.channel) =
+    ap (λ (name : Option (List ℕ)). channel_in j.controller name j.checks) named ∙ ap (λ (c : _). identity_by j.controller computer c) next.stands in
+    record { channel = channel_of j.controller computer next.channel; found = found; passed = ap (λ (p : Bool). channel_if p j) passed ∙ found }
+
 pub channel_there : (j : Judging) → IsJudgedRight j → has_passed j.how ≡ true → StandsFor j
-channel_there j right passed =
-    let next : IsNext j.computers (computer_named j.asked) (given_in j.asked) = right.passed.0 passed in
-    let found : channel_in j.controller (computer_named j.asked) j.computers ≡ Some (channel_of j.controller next.computer next.channel) =
-    ap (λ (name : Option (List ℕ)). channel_in j.controller name j.computers) next.named ∙ ap (λ (c : _). identity_by j.controller next.computer c) next.stands in
-    record { channel = channel_of j.controller next.computer next.channel; found = found; passed = ap (λ (p : Bool). channel_if p j) passed ∙ found }
+channel_there j right passed = stands_by (computer_named j.asked) j refl right.named (right.right.passed.0 passed) passed
 
 -- the channel that a unit was made for is the one on which a credential passed in it
 pub record IsMade (made : Option ChannelIdentity) (channel : ChannelIdentity) : Type 0 where
@@ -292,7 +296,7 @@ module _ (past : Past) (known : IsProved past) (heard : AnswersAreHeard past) (c
       let other : IsAnswerOf message found.item = answers_are message found.item found.passes in
       let request : other.call.unit ≡ is.request = some_is other.call.unit is.request (sym other.call.first ∙ is.call) in
       let same : found.item ≡ j = one_pass found.place at.place found.item j is.request found.there at.there other.passed passed (other.call.second ∙ ap Some request) of.came in
-      let on : IsFound j.controller (computer_named j.asked) j.computers is.channel = passed_in j is.channel of.passed in
+      let on : IsFound j.controller (computer_named j.asked) j.checks is.channel = passed_in j is.channel of.passed in
       record {
         in_reply = is;
         carrier = carrier.0;
@@ -334,17 +338,19 @@ module _ (past : Past) (known : IsProved past) (heard : AnswersAreHeard past) (c
       placed (IsLetInAsRead past told) past.book.messages
       (all_at (λ (t : OutcomeTold). is_in t.outcome ≡ true → OneOf (IsLetInAsRead past t) past.book.messages) past.book.told k told (heard.let_in clear.apart) here is)
 
-  read_is : (message : MessageTaken) (told : OutcomeTold) (by : IsLetInAsRead past told message) (judged_so : IsJudgedAs past message by.unit) →
-      told.outcome ≡ outcome_read judged_so.in_reply.channel judged_so.j message
-  read_is message told by judged_so =
-      by.outcome judged_so.carrier judged_so.in_reply.sent judged_so.in_reply.channel judged_so.in_reply.number judged_so.in_reply.request judged_so.place judged_so.j judged_so.carried judged_so.in_reply.there judged_so.there judged_so.in_reply.mark judged_so.of
+  read_is : (message : MessageTaken) (told : OutcomeTold) (by : IsLetInAsRead past told message) (judged_so : IsJudgedAs past message by.unit) (asks : AsksForIt message judged_so.j) →
+      told.outcome ≡ outcome_read judged_so.in_reply.channel judged_so.j message asks.call
+  read_is message told by judged_so asks =
+      of_network (λ (c : LogonCall). told.outcome ≡ outcome_read judged_so.in_reply.channel judged_so.j message c) judged_so.j.asked asks.call asks.is
+      (by.outcome judged_so.carrier judged_so.in_reply.sent judged_so.in_reply.channel judged_so.in_reply.number judged_so.in_reply.request judged_so.place judged_so.j judged_so.carried judged_so.in_reply.there judged_so.there judged_so.in_reply.mark judged_so.of)
 
-  granted_at : (k : ℕ) (j : Judging) → slice_get all_judged k ≡ Some j → (j.how ≡ Some (judged.Passed 0) → IsToBeGranted j) × (IsToBeGranted j → j.how ≡ Some (judged.Passed 0))
-  granted_at k j there = (all_at _ all_judged k j known.grants there).granted
+  granted_at : (k : ℕ) (j : Judging) (c : LogonCall) → slice_get all_judged k ≡ Some j → j.asked ≡ Network c → (j.how ≡ Some (judged.Passed 0)) ↔ IsToBeGranted j c
+  granted_at k j c there asks =
+      of_network (λ (call : LogonCall). (j.how ≡ Some (judged.Passed 0)) ↔ IsToBeGranted j call) j.asked c asks (all_at _ all_judged k j known.grants there).granted
 
   granted_so : (message : MessageTaken) (k : ℕ) (j : Judging) → slice_get all_judged k ≡ Some j → AsksForIt message j → j.how ≡ Some (judged.Passed 0) → IsGrantedBy message j
   granted_so message k j there asks how =
-      let so : IsToBeGranted j = (granted_at k j there).0 how in
+      let so : IsToBeGranted j asks.call = (granted_at k j asks.call there asks.is).0 how in
       record {
         may = may_plain j.table (info_asked message) j.moment message.place (subst (λ (info : NetworkInfo). MayLogOn j.table info j.moment) asks.info so.may);
         verifies = subst (λ (info : NetworkInfo). ResponseVerifies j.table info) asks.info so.verifies;
@@ -353,12 +359,25 @@ module _ (past : Past) (known : IsProved past) (heard : AnswersAreHeard past) (c
   to_be_granted : (message : MessageTaken) (k : ℕ) (j : Judging) → slice_get all_judged k ≡ Some j → AsksForIt message j → has_passed j.how ≡ true → IsGrantedBy message j →
       j.how ≡ Some (judged.Passed 0)
   to_be_granted message k j there asks passed granted =
-      (granted_at k j there).1 (record {
-        next = (right_at k j there).passed.0 passed;
+      (granted_at k j asks.call there asks.is).1 (record {
+        next = (right_at k j there).right.passed.0 passed;
         level = inr asks.level;
         may = subst (λ (info : NetworkInfo). MayLogOn j.table info j.moment) (sym asks.info) (may_placed j.table (info_asked message) j.moment message.place granted.may);
         verifies = subst (λ (info : NetworkInfo). ResponseVerifies j.table info) (sym asks.info) granted.verifies;
       })
+
+  -- where somebody is let in by it, the verdict that was read is a grant
+  is_zero_at : (message : MessageTaken) (told : OutcomeTold) (by : IsLetInAsRead past told message) (judged_so : IsJudgedAs past message by.unit) (asks : AsksForIt message judged_so.j) →
+      is_in told.outcome ≡ true → status_of (verdict_passed judged_so.j asks.call) ≡ 0
+  is_zero_at message told by judged_so asks is =
+      status_zero (channel_key judged_so.in_reply.channel) (verdict_passed judged_so.j asks.call) message.logon (ap is_in (sym (read_is message told by judged_so asks)) ∙ is)
+
+  passes_at : (message : MessageTaken) (told : OutcomeTold) (by : IsLetInAsRead past told message) (judged_so : IsJudgedAs past message by.unit) (asks : AsksForIt message judged_so.j) →
+      is_in told.outcome ≡ true → judged_so.j.how ≡ Some (judged.Passed 0)
+  passes_at message told by judged_so asks is =
+      judged_so.of.carries.how
+      ∙ ap (λ (status : ℕ). Some (judged.Passed status))
+      (status_done judged_so.j asks.call judged_so.of.carries.next.channel asks.is ∙ is_zero_at message told by judged_so asks is)
 
   -- only so
   pub accepts_only : AcceptsOnlyGranted past
@@ -371,9 +390,8 @@ module _ (past : Past) (known : IsProved past) (heard : AnswersAreHeard past) (c
       let by : IsLetInAsRead past told message = one.is in
       let judged_so : IsJudgedAs past message by.unit = judged_as one.place message by.unit one.there by.reply in
       let own : HasOwnChallenge past message = all_at (HasOwnChallenge past) past.book.messages one.place message known.own.each one.there in
-      let outcome : told.outcome ≡ outcome_read judged_so.in_reply.channel judged_so.j message = read_is message told by judged_so in
-      let nothing : status_of (verdict_passed judged_so.j) ≡ 0 = status_zero (channel_key judged_so.in_reply.channel) (verdict_passed judged_so.j) message.logon (ap is_in (sym outcome) ∙ is) in
-      let how : judged_so.j.how ≡ Some (judged.Passed 0) = judged_so.of.carries.how ∙ ap (λ (status : ℕ). Some (judged.Passed status)) nothing in
+      let asks : AsksForIt message judged_so.j = asks_at one.place message by.unit one.there judged_so in
+      let how : judged_so.j.how ≡ Some (judged.Passed 0) = passes_at message told by judged_so asks is in
       one_at (λ (m : MessageTaken). (m.link ≡ told.link) × (m.member ≡ told.member) × IsAccepted past m) past.book.messages one.place message one.there (
         by.link,
         by.member,
@@ -381,15 +399,16 @@ module _ (past : Past) (known : IsProved past) (heard : AnswersAreHeard past) (c
           own = own.own;
           judging = judged_so.j;
           answer = its_answer message by.unit judged_so;
-          granted = granted_so message judged_so.place judged_so.j judged_so.there (asks_at one.place message by.unit one.there judged_so) how;
+          granted = granted_so message judged_so.place judged_so.j judged_so.there asks how;
           unused = own.unused;
         },
       ))
 
   -- the verdict is a grant
-  served_at : (k : ℕ) (j : Judging) → j.how ≡ Some (judged.Passed (status_of (verdict_passed j))) → j.how ≡ Some (judged.Passed 0) →
-      IsServedGrant j.table j.name j.moment (network_in j.asked).info (network_in j.asked).validation (verdict_passed j)
-  served_at k j how nothing = served_grant j.table j.name j.moment (network_in j.asked).info (network_in j.asked).validation (same_status (status_of (verdict_passed j)) 0 (sym how ∙ nothing))
+  served_at : (j : Judging) (c : LogonCall) (channel : SecureChannelState) → j.asked ≡ Network c → j.how ≡ Some (judged.Passed (done_on j channel).status) → j.how ≡ Some (judged.Passed 0) →
+      IsServedGrant j.table j.name j.moment c.info c.validation (verdict_passed j c)
+  served_at j c channel asks how nothing =
+      served_grant j.table j.name j.moment c.info c.validation (sym (status_done j c channel asks) ∙ same_status (done_on j channel).status 0 (sym how ∙ nothing))
 
   -- and always then
   pub accepts_all : AcceptsAllGranted past
@@ -401,27 +420,30 @@ module _ (past : Past) (known : IsProved past) (heard : AnswersAreHeard past) (c
       let unit : ℕ = is.reply.unit in
       let judged_so : IsJudgedAs past message unit = judged_as place message unit there is.reply.first in
       let same : j ≡ judged_so.j = some_is j judged_so.j (sym answer.taken ∙ judged_so.taken) in
+      let asks : AsksForIt message judged_so.j = asks_at place message unit there judged_so in
       let how : judged_so.j.how ≡ Some (judged.Passed 0) =
-      to_be_granted message judged_so.place judged_so.j judged_so.there (asks_at place message unit there judged_so) judged_so.passed (subst (λ (x : Judging). IsGrantedBy message x) same granted) in
-      let served = served_at judged_so.place judged_so.j judged_so.of.carries.how how in
+      to_be_granted message judged_so.place judged_so.j judged_so.there asks judged_so.passed (subst (λ (x : Judging). IsGrantedBy message x) same granted) in
+      let served = served_at judged_so.j asks.call judged_so.of.carries.next.channel asks.is judged_so.of.carries.how how in
       one_weaker (IsToldAsRead judged_so.in_reply.channel message judged_so.j) (IsToldIn message) past.book.told
       (λ told read. (
         read.link,
         read.member,
-        ap is_in read.outcome ∙ let_in_by (channel_key judged_so.in_reply.channel) (verdict_passed judged_so.j) message.logon _ served.grant.is,
+        ap is_in
+            (of_network (λ (c : LogonCall). told.outcome ≡ outcome_read judged_so.in_reply.channel judged_so.j message c) judged_so.j.asked asks.call asks.is read.outcome)
+            ∙ let_in_by (channel_key judged_so.in_reply.channel) (verdict_passed judged_so.j asks.call) message.logon _ served.grant.is,
       )) (told_as place message unit there is.reply.first judged_so))
 
   -- ---- keys
 
-  abbrev granted_key : (j : Judging) → Account → List ℕ
-  granted_key j account = base_key_of account.hash (network_in j.asked).info.user (network_in j.asked).info.domain (network_in j.asked).info.nt
+  abbrev granted_key : LogonCall → Account → List ℕ
+  granted_key c account = base_key_of account.hash c.info.user c.info.domain c.info.nt
 
-  stored_is : (message : MessageTaken) (j : Judging) (account : Account) → AsksForIt message j → account_in j.table.accounts (network_in j.asked).info.user ≡ Some account →
+  stored_is : (message : MessageTaken) (j : Judging) (account : Account) (asks : AsksForIt message j) → account_in j.table.accounts asks.call.info.user ≡ Some account →
       stored_hash j (info_asked message) ≡ account.hash
   stored_is message j account asks stored = ap hash_in (ap (λ (info : NetworkInfo). account_in j.table.accounts info.user) (sym asks.info) ∙ stored)
 
-  base_is : (message : MessageTaken) (j : Judging) (account : Account) → AsksForIt message j → account_in j.table.accounts (network_in j.asked).info.user ≡ Some account →
-      granted_key j account ≡ base_key_asked j (info_asked message)
+  base_is : (message : MessageTaken) (j : Judging) (account : Account) (asks : AsksForIt message j) → account_in j.table.accounts asks.call.info.user ≡ Some account →
+      granted_key asks.call account ≡ base_key_asked j (info_asked message)
   base_is message j account asks stored =
       ap (λ (info : NetworkInfo). base_key_of account.hash info.user info.domain info.nt) asks.info
       ∙ ap (λ (hash : List ℕ). base_key_of hash (info_asked message).user (info_asked message).domain (info_asked message).nt) (sym (stored_is message j account asks stored))
@@ -437,19 +459,19 @@ module _ (past : Past) (known : IsProved past) (heard : AnswersAreHeard past) (c
       let by : IsLetInAsRead past told message = subst (λ (m : MessageTaken). IsLetInAsRead past told m) same one.is in
       let judged_so : IsJudgedAs past message by.unit = judged_as place message by.unit there by.reply in
       let channel : ChannelIdentity = judged_so.in_reply.channel in
-      let outcome : told.outcome ≡ outcome_read channel judged_so.j message = read_is message told by judged_so in
       let same_j : j ≡ judged_so.j = some_is j judged_so.j (sym taken ∙ judged_so.taken) in
-      let nothing : status_of (verdict_passed judged_so.j) ≡ 0 = status_zero (channel_key channel) (verdict_passed judged_so.j) message.logon (ap is_in (sym outcome) ∙ let_in) in
-      let served = served_at judged_so.place judged_so.j judged_so.of.carries.how (judged_so.of.carries.how ∙ ap (λ (status : ℕ). Some (judged.Passed status)) nothing) in
       let asks : AsksForIt message judged_so.j = asks_at place message by.unit there judged_so in
+      let outcome : told.outcome ≡ outcome_read channel judged_so.j message asks.call = read_is message told by judged_so asks in
+      let served =
+      served_at judged_so.j asks.call judged_so.of.carries.next.channel asks.is judged_so.of.carries.how (passes_at message told by judged_so asks let_in) in
       let account : Account = served.grant.account in
-      let base : granted_key judged_so.j account ≡ base_key_asked judged_so.j (info_asked message) = base_is message judged_so.j account asks served.grant.stored in
+      let base : granted_key asks.call account ≡ base_key_asked judged_so.j (info_asked message) = base_is message judged_so.j account asks served.grant.stored in
       let lost : base_key_asked judged_so.j (info_asked message) ≡ applied (channel_key channel) 0 (replicate 16 0) → ⊥ =
       λ zeros. subst (λ (x : Judging). TravelsAsZeros x (info_asked message) → ⊥) same_j never (zeros ∙ ap key_bytes (sym judged_so.of.passed)) in
-      let whole : crypt_key (channel_key channel) (crypt_key (channel_key channel) (granted_key judged_so.j account)) ≡ granted_key judged_so.j account =
-      crypt_twice (channel_key channel) (granted_key judged_so.j account) (λ zeros. lost (sym base ∙ zeros)) in
+      let whole : crypt_key (channel_key channel) (crypt_key (channel_key channel) (granted_key asks.call account)) ≡ granted_key asks.call account =
+      crypt_twice (channel_key channel) (granted_key asks.call account) (λ zeros. lost (sym base ∙ zeros)) in
       let hash : made.plan.hash ≡ stored_hash judged_so.j (info_asked message) = subst (λ (x : Judging). made.plan.hash ≡ stored_hash x (info_asked message)) same_j is.hash in
-      let granted : SamInfo = sam_info_of judged_so.j.table judged_so.j.name account (granted_key judged_so.j account) judged_so.j.moment in
+      let granted : SamInfo = sam_info_of judged_so.j.table judged_so.j.name account (granted_key asks.call account) judged_so.j.moment in
       let key = all_at (λ (m : MessageMade). sent.link ≡ message.link → m.challenge ≡ sent.bytes → m.bytes ≡ message.bytes → (info : SamInfo) →
       info.key ≡ base_key_of m.plan.hash (info_asked message).user (info_asked message).domain (info_asked message).nt → key_in info message.logon ≡ m.key) past.book.made d made
       (all_at (λ (s : ChallengeSent). AllByRecursion (λ (m : MessageMade). s.link ≡ message.link → m.challenge ≡ s.bytes → m.bytes ≡ message.bytes → (info : SamInfo) →
@@ -460,7 +482,7 @@ module _ (past : Past) (known : IsProved past) (heard : AnswersAreHeard past) (c
       past.book.challenges) past.book.messages place message heard.keys there) at_sent) at_made is.link is.challenge is.bytes
       (record granted { key = crypt_key (channel_key channel) (crypt_key (channel_key channel) granted.key) })
       (whole ∙ base ∙ ap (λ (h : List ℕ). base_key_of h (info_asked message).user (info_asked message).domain (info_asked message).nt) (sym hash)) in
-      subst (λ (how : Outcome). HasKey how made.key) (sym outcome) (key_read (channel_key channel) (verdict_passed judged_so.j) granted message.logon made.key served.grant.is key)
+      subst (λ (how : Outcome). HasKey how made.key) (sym outcome) (key_read (channel_key channel) (verdict_passed judged_so.j asks.call) granted message.logon made.key served.grant.is key)
 
   pub keys_agree : KeysAgree past
   keys_agree =

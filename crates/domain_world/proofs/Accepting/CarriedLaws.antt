@@ -17,11 +17,11 @@ use Rattle.logon_stubs.specs.declared.calls.LogonCall.{LogonCall}
 use Rattle.channel_events.specs.Marks.{Mark, Plain, Opening, Opened, Calling, ReplyTo}
 use Rattle.step_notes.specs.Judged.{passed_channel}
 use Rattle.step_notes.specs.Marking.{clashes, is_channel, mark_channel, sent_channel}
-use Rattle.step_notes.specs.Records.{JudgedCall, Judging, MessageTaken, Network, Sent, network_in}
+use Rattle.step_notes.specs.Records.{JudgedCall, Judging, MessageTaken, Network, Sent}
 use Rattle.step_notes.specs.ReplySends.{IsReplyOfCall}
 use Rattle.world_moves.specs.declared.bag.BagUnit.{BagUnit}
 use Rattle.domain_world.specs.Accepting.Answered.{AsksForIt, IsAnsweredIn, IsItsWay, MarksHaveTheirWay, PassesAreUnclashed}
-use Rattle.domain_world.specs.Accepting.Carried.{AnswersAreInTurn, CallsHaveNumbers, CarriedCallsAreHeard, IsCalledFor, IsJudgedAsCarried, IsPlain, IsTakenInTurn, IsWholeAsMarked, IsWholeUnit, JudgedAsCarried, MarkedUnitsAreWhole, MessagesAreCalled, call_carried, call_read}
+use Rattle.domain_world.specs.Accepting.Carried.{AnswersAreInTurn, CallsHaveNumbers, CarriedCallsAreHeard, IsCalledFor, IsJudgedAsCarried, IsPlain, IsTakenInTurn, IsWholeAsMarked, IsWholeUnit, JudgedAsCarried, MarkedUnitsAreWhole, MessagesAreCalled, call_carried, call_judged, call_read}
 use Rattle.domain_world.specs.Claims.{HasController}
 use Rattle.domain_world.specs.Claims.Replies.{IsReplyOfOne, RepliesCarryTheirJudgement}
 use Rattle.domain_world.specs.Past.{Past}
@@ -75,9 +75,9 @@ logon_is one other is = cc
 
 -- ---- units are heard alike
 
--- calls that ask for one network logon are one call
-asked_is : (one other : JudgedCall) → network_in one ≡ network_in other → one ≡ other
-asked_is (Network c) (Network d) is = ap (λ (call : LogonCall). Network call) is
+-- calls that are read alike are one call
+asked_is : (one other : JudgedCall) → Some (call_judged one) ≡ Some (call_judged other) → one ≡ other
+asked_is (Network c) (Network d) is = ap (λ (call : LogonCall). Network call) (logon_is c d is)
 
 module _ (past : Past) where
   carried_units : (n : ℕ) (one other : BagUnit) (whole : IsWholeUnit one.bytes) (also : IsWholeUnit other.bytes) → slice_get past.world.state.bag n ≡ Some one →
@@ -89,8 +89,7 @@ module _ (past : Past) where
   same_call : (n : ℕ) (one other : Judging) → IsJudgedAsCarried past one n → IsJudgedAsCarried past other n → one.asked ≡ other.asked
   same_call n one other is also =
       let units : is.whole.unit ≡ also.whole.unit = carried_units n is.carrier also.carrier is.whole also.whole is.there also.there in
-      asked_is one.asked other.asked
-      (logon_is (network_in one.asked) (network_in other.asked) (sym is.carried ∙ ap (λ (u : RpcUnit). call_carried u.body) units ∙ also.carried))
+      asked_is one.asked other.asked (sym is.carried ∙ ap (λ (u : RpcUnit). call_carried u.body) units ∙ also.carried)
 
   judged_at : JudgedAsCarried past → (k : ℕ) (j : Judging) (n : ℕ) → slice_get past.book.judged k ≡ Some j → j.unit ≡ Some n → IsJudgedAsCarried past j n
   judged_at judged k j n there came = all_at (λ (one : Judging). (u : ℕ) → one.unit ≡ Some u → IsJudgedAsCarried past one u) past.book.judged k j judged there n came
@@ -109,8 +108,9 @@ module _ (past : Past) where
   asked_as message j n called is =
       let whole : IsWholeUnit called.carrier.bytes = record { frames = called.frames; unit = _; heard = called.heard } in
       let units : whole.unit ≡ is.whole.unit = carried_units n called.carrier is.carrier whole is.whole called.there is.there in
-      let same : called.logon ≡ network_in j.asked = logon_is called.logon (network_in j.asked) (sym (ap call_read called.again) ∙ ap (λ (u : RpcUnit). call_carried u.body) units ∙ is.carried) in
-      record { info = ap (λ (c : LogonCall). c.info) (sym same) ∙ called.info; level = ap (λ (c : LogonCall). c.validation) (sym same) ∙ called.level }
+      let same : Network called.logon ≡ j.asked =
+      asked_is (Network called.logon) j.asked (sym (ap call_read called.again) ∙ ap (λ (u : RpcUnit). call_carried u.body) units ∙ is.carried) in
+      record { call = called.logon; is = sym same; info = called.info; level = called.level }
 
   asks_for : JudgedAsCarried past → MessagesAreCalled past →
       AllByRecursion (λ (message : MessageTaken). AllByRecursion (λ (j : Judging). (unit : ℕ) → message.call ≡ Some unit → j.unit ≡ Some unit → AsksForIt message j) past.book.judged)
@@ -143,17 +143,17 @@ module _ (past : Past) where
   requested_by Plain one channel j request number is marked there on whole numbered = absurd (let x = on in cc)
   requested_by (Opening c k) one channel j request number is marked there on whole numbered =
       let its = whole (λ none. none) in
-      absurd (its.marked (network_in j.asked) (ap (λ (u : RpcUnit). call_carried u.body) (one_unit is.carrier.bytes its.whole is.whole) ∙ is.carried))
+      absurd (its.marked j.asked (ap (λ (u : RpcUnit). call_carried u.body) (one_unit is.carrier.bytes its.whole is.whole) ∙ is.carried))
   requested_by (Opened c k r) one channel j request number is marked there on whole numbered =
       let its = whole (λ none. none) in
-      absurd (its.marked.0 (network_in j.asked) (ap (λ (u : RpcUnit). call_carried u.body) (one_unit is.carrier.bytes its.whole is.whole) ∙ is.carried))
+      absurd (its.marked.0 j.asked (ap (λ (u : RpcUnit). call_carried u.body) (one_unit is.carrier.bytes its.whole is.whole) ∙ is.carried))
   requested_by (Calling c k t) one channel j request number is marked there on whole numbered =
       let its = whole (λ none. none) in
       let same : k ≡ number = sym its.marked ∙ ap (λ (u : RpcUnit). u.call) (one_unit is.carrier.bytes its.whole is.whole) ∙ sym is.number ∙ numbered in
       record { sent = one; there = there; named = c; timestamp = t; mark = marked ∙ ap (λ (m : ℕ). Calling c m t) same; same = one_channel c channel on }
   requested_by (ReplyTo c k r) one channel j request number is marked there on whole numbered =
       let its = whole (λ none. none) in
-      absurd (its.marked.0 (network_in j.asked) (ap (λ (u : RpcUnit). call_carried u.body) (one_unit is.carrier.bytes its.whole is.whole) ∙ is.carried))
+      absurd (its.marked.0 j.asked (ap (λ (u : RpcUnit). call_carried u.body) (one_unit is.carrier.bytes its.whole is.whole) ∙ is.carried))
 
   module _ (whole : MarkedUnitsAreWhole past) (way : MarksHaveTheirWay past) (judged : JudgedAsCarried past) (passes : PassesAreUnclashed past)
       (replies : RepliesCarryTheirJudgement past) (numbers : CallsHaveNumbers past) (clear : past.book.clash ≡ false) where

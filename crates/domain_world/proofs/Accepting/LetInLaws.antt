@@ -16,18 +16,19 @@ use Rattle.end_links.specs.Serving.{ServedUnit}
 use Rattle.domain_controller.specs.State.{State as ControllerState}
 use Rattle.logon_client.specs.State.{State as ClientState}
 use Rattle.rpc_units.specs.declared.unit.Unit.{Unit as RpcUnit}
-use Rattle.member_server.specs.Laws.{IsGranted, IsTold, LetsInTheGranted, heard_from, heard_if}
+use Rattle.member_server.specs.Laws.{IsGranted, IsTold, heard_from, heard_if}
 use Rattle.member_server.specs.Machine.{fresh_member, step_of, step_on}
 use Rattle.member_server.specs.Outcomes.{outcome_of}
 use Rattle.member_server.specs.State.{State as MemberState}
 use Rattle.member_server.specs.declared.outcomes.Ending.TheVariants as ending
 use Rattle.member_server.specs.declared.plan.MemberPlan.{MemberPlan}
-use Rattle.member_server.specs.declared.state.AtTurn.{AtTurn}
-use Rattle.member_server.specs.declared.state.Dialling.{Dialling}
-use Rattle.member_server.specs.declared.state.Dialling.TheVariants as dialling
+use Rattle.member_server.specs.Turns.{AtTurn}
+use Rattle.channel_turns.specs.declared.state.Dialling.{Dialling}
+use Rattle.channel_turns.specs.declared.state.Dialling.TheVariants as dialling
 use Rattle.member_server.specs.declared.state.Logon.{Logon}
 use Rattle.member_server.specs.declared.state.Running.{Running}
-use Rattle.member_server.specs.declared.state.TurnTalk.{TurnTalk}
+use Rattle.channel_turns.specs.declared.state.TurnTalk.{TurnTalk}
+use Rattle.member_server.proofs.KeptLaws.{lets_in_the_granted}
 use Rattle.channel_events.specs.Marks.{OneOf}
 use Rattle.step_notes.specs.MemberNotes.{link_units, message_note, taken_link, turn_units, turn_units_by, turn_units_in, turn_units_on}
 use Rattle.step_notes.specs.Records.{Book, MessageTaken, OutcomeTold, blank}
@@ -171,23 +172,23 @@ module _ (at member : ℕ) (links : List Route) (messages : List MessageTaken) (
       step_told (IsKnown at (note_turns controller (turn_units_on running.dialling link piece running left) unit numbers b).messages) member running (event.Bytes link piece)
       (grant_known unit is) (Ok actions) told
 
-running_known : LetsInTheGranted → (r : Option Running) (at member : ℕ) (links : List Route) (messages : List MessageTaken) (link : ℕ) (piece : List ℕ) (m : MemberState) (now : ℕ)
+running_known : (r : Option Running) (at member : ℕ) (links : List Route) (messages : List MessageTaken) (link : ℕ) (piece : List ℕ) (m : MemberState) (now : ℕ)
     (left : List (List ℕ)) (controller : ℕ) (numbers : List ℕ) (b : Book) (unit : Option ℕ) → m.running ≡ r → IsCarried unit links link →
     ((place : ℕ) (logon : Logon) → HasFor (IsLate link links member) at member messages place logon → HasFor (IsLate link links member) at member b.messages place logon) →
     KeptIn (HasFor (IsLate link links member) at member messages) (λ number. IsDialledBy links member number) r →
     OfLetIn (IsKnown at (note_turns controller (turn_units m link piece now left) unit numbers b).messages)
     (given_by (Member member) (actions_by (step_of m (event.Bytes link piece) now left).answer))
-running_known law None at member links messages link piece m now left controller numbers b unit is carries grown kept =
+running_known None at member links messages link piece m now left controller numbers b unit is carries grown kept =
     subst (λ (r : Option Running).
     OfLetIn (IsKnown at (note_turns controller (units_if_taken (step_on r m (event.Bytes link piece) now left).answer (turn_units_in r link piece left)) unit numbers b).messages)
     (given_by (Member member) (actions_by (step_on r m (event.Bytes link piece) now left).answer))) (sym is) tt
-running_known law (Some running) at member links messages link piece m now left controller numbers b unit is carries grown kept =
+running_known (Some running) at member links messages link piece m now left controller numbers b unit is carries grown kept =
     subst (λ (r : Option Running).
     OfLetIn (IsKnown at (note_turns controller (units_if_taken (step_on r m (event.Bytes link piece) now left).answer (turn_units_in r link piece left)) unit numbers b).messages)
     (given_by (Member member) (actions_by (step_on r m (event.Bytes link piece) now left).answer))) (sym is)
     (told_known at member links messages link piece running left kept controller numbers b grown (step_on (Some running) m (event.Bytes link piece) now left).answer unit carries
     (subst (λ (r : Option Running). AllByRecursion (IsTold running (event.Bytes link piece)) (actions_by (step_on r m (event.Bytes link piece) now left).answer)) is
-    (law.told m running (event.Bytes link piece) now left is)))
+    (lets_in_the_granted.told m running (event.Bytes link piece) now left is)))
 
 -- ---- what holds between steps
 
@@ -248,118 +249,117 @@ later_keeps X Y at messages members links kept =
     (λ k place logon one. one_so (IsFor (X links k) at k place logon) (IsFor (Y links k) (at + 1) k place logon) (later_for (X links k) (Y links k) at k place logon) messages one) kept
 
 -- an end has heard what is no bytes
-calm_goes : LetsInTheGranted → (at : ℕ) (on : Option Coming) (end : EndId) (what : Event) (s : State) (given : Given) (b : Book) → IsNoBytes what → Meets end s.links what →
+calm_goes : (at : ℕ) (on : Option Coming) (end : EndId) (what : Event) (s : State) (given : Given) (b : Book) → IsNoBytes what → Meets end s.links what →
     IsKept at on (ends_in s) given b → IsKept at on (ends_in (hear end what s).state) (given ++ given_by end (hear end what s).actions) b
-calm_goes law at on end what s given b none meets kept = record {
+calm_goes at on end what s given b none meets kept = record {
   keeps = hear_keeps (Late on) at b.messages end what s meets kept.keeps;
   known = kept.known;
   let_in = given_append (IsKnown at b.messages) given (given_by end (hear end what s).actions) kept.let_in
-      (nobody_so (IsKnown at b.messages) (given_by end (hear end what s).actions) (end_silent law end what s none));
+      (nobody_so (IsKnown at b.messages) (given_by end (hear end what s).actions) (end_silent end what s none));
 }
 
-module _ (law : LetsInTheGranted) where
-  -- an end has heard bytes
-  heard_goes : (w : Coming) (b later : Book) (s : State) (given : Given) (end : EndId) (heard : Heard) → IsKept w.at (Some w) (ends_in s) given b →
-      KeepsIn (IsLate w.link) w.at later.messages heard.state → OfLetIn (IsKnown w.at later.messages) (given_by end heard.actions) →
-      ((told : OutcomeTold) → IsLetIn b.messages told → IsLetIn later.messages told) → later.told ≡ b.told →
-      IsKept w.at (Some w) (ends_in heard.state) (given ++ given_by end heard.actions) later
-  heard_goes w b later s given end heard old kept known grows told = record {
-    keeps = kept;
-    known = subst (λ (all : List OutcomeTold). AreKnown later.messages all) (sym told) (known_so b.messages later.messages grows b.told old.known);
-    let_in = given_append (IsKnown w.at later.messages) given (given_by end heard.actions)
-        (given_so (IsKnown w.at b.messages) (IsKnown w.at later.messages)
-        (λ member on how is. grows (record { at = w.at; member = member; link = on; outcome = how }) is) given old.let_in) known;
-  }
+-- an end has heard bytes
+heard_goes : (w : Coming) (b later : Book) (s : State) (given : Given) (end : EndId) (heard : Heard) → IsKept w.at (Some w) (ends_in s) given b →
+    KeepsIn (IsLate w.link) w.at later.messages heard.state → OfLetIn (IsKnown w.at later.messages) (given_by end heard.actions) →
+    ((told : OutcomeTold) → IsLetIn b.messages told → IsLetIn later.messages told) → later.told ≡ b.told →
+    IsKept w.at (Some w) (ends_in heard.state) (given ++ given_by end heard.actions) later
+heard_goes w b later s given end heard old kept known grows told = record {
+  keeps = kept;
+  known = subst (λ (all : List OutcomeTold). AreKnown later.messages all) (sym told) (known_so b.messages later.messages grows b.told old.known);
+  let_in = given_append (IsKnown w.at later.messages) given (given_by end heard.actions)
+      (given_so (IsKnown w.at b.messages) (IsKnown w.at later.messages)
+      (λ member on how is. grows (record { at = w.at; member = member; link = on; outcome = how }) is) given old.let_in) known;
+}
 
-  controller_goes : (found : Option ControllerState) (controller : ℕ) (w : Coming) (piece : List ℕ) (s after : State) (given : Given) (b : Book) → IsKept w.at (Some w) (ends_in s) given b →
-      let heard : Heard = hear (Controller controller) (event.Bytes w.link piece) s in
-      IsKept w.at (Some w) (ends_in heard.state) (given ++ given_by (Controller controller) heard.actions) (note_controller found controller w piece s after b)
-  controller_goes None controller w piece s after given b kept =
-      heard_goes w b b s given (Controller controller) (hear (Controller controller) (event.Bytes w.link piece) s) kept
-      (hear_keeps (IsLate w.link) w.at b.messages (Controller controller) (event.Bytes w.link piece) s tt kept.keeps)
-      (controllers_tell (IsKnown w.at b.messages) controller (hear (Controller controller) (event.Bytes w.link piece) s).actions) (λ told known. known) refl
-  controller_goes (Some c) controller w piece s after given b kept =
-      heard_goes w b (note_controller (Some c) controller w piece s after b) s given (Controller controller) (hear (Controller controller) (event.Bytes w.link piece) s) kept
-      (hear_keeps (IsLate w.link) w.at b.messages (Controller controller) (event.Bytes w.link piece) s tt kept.keeps)
-      (controllers_tell (IsKnown w.at b.messages) controller (hear (Controller controller) (event.Bytes w.link piece) s).actions) (λ told known. known) refl
+controller_goes : (found : Option ControllerState) (controller : ℕ) (w : Coming) (piece : List ℕ) (s after : State) (given : Given) (b : Book) → IsKept w.at (Some w) (ends_in s) given b →
+    let heard : Heard = hear (Controller controller) (event.Bytes w.link piece) s in
+    IsKept w.at (Some w) (ends_in heard.state) (given ++ given_by (Controller controller) heard.actions) (note_controller found controller w piece s after b)
+controller_goes None controller w piece s after given b kept =
+    heard_goes w b b s given (Controller controller) (hear (Controller controller) (event.Bytes w.link piece) s) kept
+    (hear_keeps (IsLate w.link) w.at b.messages (Controller controller) (event.Bytes w.link piece) s tt kept.keeps)
+    (controllers_tell (IsKnown w.at b.messages) controller (hear (Controller controller) (event.Bytes w.link piece) s).actions) (λ told known. known) refl
+controller_goes (Some c) controller w piece s after given b kept =
+    heard_goes w b (note_controller (Some c) controller w piece s after b) s given (Controller controller) (hear (Controller controller) (event.Bytes w.link piece) s) kept
+    (hear_keeps (IsLate w.link) w.at b.messages (Controller controller) (event.Bytes w.link piece) s tt kept.keeps)
+    (controllers_tell (IsKnown w.at b.messages) controller (hear (Controller controller) (event.Bytes w.link piece) s).actions) (λ told known. known) refl
 
-  client_goes : (found : Option ClientState) (client : ℕ) (w : Coming) (piece : List ℕ) (s : State) (given : Given) (b : Book) → IsKept w.at (Some w) (ends_in s) given b →
-      let heard : Heard = hear (Client client) (event.Bytes w.link piece) s in
-      IsKept w.at (Some w) (ends_in heard.state) (given ++ given_by (Client client) heard.actions) (note_client found client w piece s b)
-  client_goes None client w piece s given b kept =
-      heard_goes w b b s given (Client client) (hear (Client client) (event.Bytes w.link piece) s) kept
-      (hear_keeps (IsLate w.link) w.at b.messages (Client client) (event.Bytes w.link piece) s tt kept.keeps)
-      (clients_tell (IsKnown w.at b.messages) client (hear (Client client) (event.Bytes w.link piece) s).actions) (λ told known. known) refl
-  client_goes (Some c) client w piece s given b kept =
-      heard_goes w b (note_client (Some c) client w piece s b) s given (Client client) (hear (Client client) (event.Bytes w.link piece) s) kept
-      (hear_keeps (IsLate w.link) w.at b.messages (Client client) (event.Bytes w.link piece) s tt kept.keeps)
-      (clients_tell (IsKnown w.at b.messages) client (hear (Client client) (event.Bytes w.link piece) s).actions) (λ told known. known) refl
+client_goes : (found : Option ClientState) (client : ℕ) (w : Coming) (piece : List ℕ) (s : State) (given : Given) (b : Book) → IsKept w.at (Some w) (ends_in s) given b →
+    let heard : Heard = hear (Client client) (event.Bytes w.link piece) s in
+    IsKept w.at (Some w) (ends_in heard.state) (given ++ given_by (Client client) heard.actions) (note_client found client w piece s b)
+client_goes None client w piece s given b kept =
+    heard_goes w b b s given (Client client) (hear (Client client) (event.Bytes w.link piece) s) kept
+    (hear_keeps (IsLate w.link) w.at b.messages (Client client) (event.Bytes w.link piece) s tt kept.keeps)
+    (clients_tell (IsKnown w.at b.messages) client (hear (Client client) (event.Bytes w.link piece) s).actions) (λ told known. known) refl
+client_goes (Some c) client w piece s given b kept =
+    heard_goes w b (note_client (Some c) client w piece s b) s given (Client client) (hear (Client client) (event.Bytes w.link piece) s) kept
+    (hear_keeps (IsLate w.link) w.at b.messages (Client client) (event.Bytes w.link piece) s tt kept.keeps)
+    (clients_tell (IsKnown w.at b.messages) client (hear (Client client) (event.Bytes w.link piece) s).actions) (λ told known. known) refl
 
-  member_goes : (found : Option MemberState) (member : ℕ) (w : Coming) (piece : List ℕ) (s after : State) (given : Given) (b : Book) → slice_get s.ends.members member ≡ found →
-      IsCarried w.unit s.links w.link → IsKept w.at (Some w) (ends_in s) given b →
-      let heard : Heard = heard_by (member_step found member (event.Bytes w.link piece) s.moment s.ends s.chances) s in
-      IsKept w.at (Some w) (ends_in heard.state) (given ++ given_by (Member member) heard.actions) (note_member found member w piece s after b)
-  member_goes None member w piece s after given b is carries kept =
-      heard_goes w b b s given (Member member) (heard_by (member_step None member (event.Bytes w.link piece) s.moment s.ends s.chances) s) kept kept.keeps tt (λ told known. known) refl
-  member_goes (Some m) member w piece s after given b is carries kept =
-      let new : MemberState = (step_of m (event.Bytes w.link piece) s.moment s.chances.left).state in
-      let units : List (ServedUnit AtTurn TurnTalk) = turn_units m w.link piece s.moment s.chances.left in
-      let first : Book = note_messages member m w piece s b in
-      let later : Book = note_member (Some m) member w piece s after b in
-      let controller : ℕ = controller_of member s in
-      let numbers : List ℕ = numbers_on w.link false s.bag after.bag in
-      let more : List MessageTaken = flat_map (message_note (at_member member w s)) (link_units m w.link piece s.moment s.chances.left) in
-      let late : ℕ → Type 0 = λ k. IsLate w.link s.links k in
-      let own : ℕ → Type 0 = λ number. IsDialledBy s.links member number in
-      let mine : KeptIn (HasFor (late member) w.at member b.messages) own m.running = kept.keeps.each member m is in
-      let accepted : LinksIn (λ number p. IsAcceptedBy s.links member number) m.running = kept.keeps.accepts member m is in
-      let all : AreCarried w.unit units = carried w.unit (HasFor (late member) w.at member b.messages) s.links member m w.link piece s.moment s.chances.left carries mine in
-      let noted : (k place : ℕ) (logon : Logon) → HasFor (late k) w.at k b.messages place logon → HasFor (late k) w.at k first.messages place logon = λ k place logon one.
-      one_before (IsFor (late k) w.at k place logon) b.messages more one in
-      let grown : (k place : ℕ) (logon : Logon) → HasFor (late k) w.at k first.messages place logon → HasFor (late k) w.at k later.messages place logon = λ k place logon one.
-      notes_grow (IsFor (late k) w.at k place logon) (for_stable (late k) w.at k place logon) controller units w.unit numbers first all one in
-      let stepped : KeptIn (HasFor (late member) w.at member later.messages) own new.running =
-      kept_so (HasFor (late member) w.at member first.messages) (HasFor (late member) w.at member later.messages) own own (grown member) (λ number dialled. dialled) new.running
-      (bytes_keep (λ number. IsAcceptedBy s.links member number) own (at_member member w s) m piece s.moment s.chances.left b.messages accepted mine) in
-      heard_goes w b later s given (Member member) (heard_by (member_step (Some m) member (event.Bytes w.link piece) s.moment s.ends s.chances) s) kept
-      (member_put (IsLate w.link) w.at later.messages s.ends.members s.links member new
-      (messages_so (IsLate w.link) (IsLate w.link) w.at w.at b.messages later.messages s.ends.members s.links (λ k place logon one. grown k place logon (noted k place logon one)) kept.keeps)
-      stepped
-      (took_known (λ number. IsAcceptedBy s.links member number) (flat_map (taken_link (at_member member w s)) (link_units m w.link piece s.moment s.chances.left)) new.running
-      (bytes_took (λ number. IsAcceptedBy s.links member number) (at_member member w s) m piece s.moment s.chances.left accepted)))
-      (running_known law m.running w.at member s.links b.messages w.link piece m s.moment s.chances.left controller numbers first w.unit refl carries (noted member) mine)
-      (λ told known.
-      notes_grow (IsLetInBy told) (let_in_stable told) controller units w.unit numbers first all (one_before (IsLetInBy told) b.messages more known))
-      (turns_told controller units w.unit numbers first)
+member_goes : (found : Option MemberState) (member : ℕ) (w : Coming) (piece : List ℕ) (s after : State) (given : Given) (b : Book) → slice_get s.ends.members member ≡ found →
+    IsCarried w.unit s.links w.link → IsKept w.at (Some w) (ends_in s) given b →
+    let heard : Heard = heard_by (member_step found member (event.Bytes w.link piece) s.moment s.ends s.chances) s in
+    IsKept w.at (Some w) (ends_in heard.state) (given ++ given_by (Member member) heard.actions) (note_member found member w piece s after b)
+member_goes None member w piece s after given b is carries kept =
+    heard_goes w b b s given (Member member) (heard_by (member_step None member (event.Bytes w.link piece) s.moment s.ends s.chances) s) kept kept.keeps tt (λ told known. known) refl
+member_goes (Some m) member w piece s after given b is carries kept =
+    let new : MemberState = (step_of m (event.Bytes w.link piece) s.moment s.chances.left).state in
+    let units : List (ServedUnit AtTurn TurnTalk) = turn_units m w.link piece s.moment s.chances.left in
+    let first : Book = note_messages member m w piece s b in
+    let later : Book = note_member (Some m) member w piece s after b in
+    let controller : ℕ = controller_of member s in
+    let numbers : List ℕ = numbers_on w.link false s.bag after.bag in
+    let more : List MessageTaken = flat_map (message_note (at_member member w s)) (link_units m w.link piece s.moment s.chances.left) in
+    let late : ℕ → Type 0 = λ k. IsLate w.link s.links k in
+    let own : ℕ → Type 0 = λ number. IsDialledBy s.links member number in
+    let mine : KeptIn (HasFor (late member) w.at member b.messages) own m.running = kept.keeps.each member m is in
+    let accepted : LinksIn (λ number p. IsAcceptedBy s.links member number) m.running = kept.keeps.accepts member m is in
+    let all : AreCarried w.unit units = carried w.unit (HasFor (late member) w.at member b.messages) s.links member m w.link piece s.moment s.chances.left carries mine in
+    let noted : (k place : ℕ) (logon : Logon) → HasFor (late k) w.at k b.messages place logon → HasFor (late k) w.at k first.messages place logon = λ k place logon one.
+    one_before (IsFor (late k) w.at k place logon) b.messages more one in
+    let grown : (k place : ℕ) (logon : Logon) → HasFor (late k) w.at k first.messages place logon → HasFor (late k) w.at k later.messages place logon = λ k place logon one.
+    notes_grow (IsFor (late k) w.at k place logon) (for_stable (late k) w.at k place logon) controller units w.unit numbers first all one in
+    let stepped : KeptIn (HasFor (late member) w.at member later.messages) own new.running =
+    kept_so (HasFor (late member) w.at member first.messages) (HasFor (late member) w.at member later.messages) own own (grown member) (λ number dialled. dialled) new.running
+    (bytes_keep (λ number. IsAcceptedBy s.links member number) own (at_member member w s) m piece s.moment s.chances.left b.messages accepted mine) in
+    heard_goes w b later s given (Member member) (heard_by (member_step (Some m) member (event.Bytes w.link piece) s.moment s.ends s.chances) s) kept
+    (member_put (IsLate w.link) w.at later.messages s.ends.members s.links member new
+    (messages_so (IsLate w.link) (IsLate w.link) w.at w.at b.messages later.messages s.ends.members s.links (λ k place logon one. grown k place logon (noted k place logon one)) kept.keeps)
+    stepped
+    (took_known (λ number. IsAcceptedBy s.links member number) (flat_map (taken_link (at_member member w s)) (link_units m w.link piece s.moment s.chances.left)) new.running
+    (bytes_took (λ number. IsAcceptedBy s.links member number) (at_member member w s) m piece s.moment s.chances.left accepted)))
+    (running_known m.running w.at member s.links b.messages w.link piece m s.moment s.chances.left controller numbers first w.unit refl carries (noted member) mine)
+    (λ told known.
+    notes_grow (IsLetInBy told) (let_in_stable told) controller units w.unit numbers first all (one_before (IsLetInBy told) b.messages more known))
+    (turns_told controller units w.unit numbers first)
 
-  end_goes : (end : EndId) (w : Coming) (piece : List ℕ) (s after : State) (given : Given) (b : Book) → IsCarried w.unit s.links w.link → IsKept w.at (Some w) (ends_in s) given b →
-      let heard : Heard = hear end (event.Bytes w.link piece) s in IsKept w.at (Some w) (ends_in heard.state) (given ++ given_by end heard.actions) (note_at (Some end) w piece s after b)
-  end_goes (Controller controller) w piece s after given b carries kept = controller_goes (slice_get s.ends.controllers controller) controller w piece s after given b kept
-  end_goes (Member member) w piece s after given b carries kept = member_goes (slice_get s.ends.members member) member w piece s after given b refl carries kept
-  end_goes (Client client) w piece s after given b carries kept = client_goes (slice_get s.ends.clients client) client w piece s given b kept
+end_goes : (end : EndId) (w : Coming) (piece : List ℕ) (s after : State) (given : Given) (b : Book) → IsCarried w.unit s.links w.link → IsKept w.at (Some w) (ends_in s) given b →
+    let heard : Heard = hear end (event.Bytes w.link piece) s in IsKept w.at (Some w) (ends_in heard.state) (given ++ given_by end heard.actions) (note_at (Some end) w piece s after b)
+end_goes (Controller controller) w piece s after given b carries kept = controller_goes (slice_get s.ends.controllers controller) controller w piece s after given b kept
+end_goes (Member member) w piece s after given b carries kept = member_goes (slice_get s.ends.members member) member w piece s after given b refl carries kept
+end_goes (Client client) w piece s after given b carries kept = client_goes (slice_get s.ends.clients client) client w piece s given b kept
 
-  -- ---- a run
+-- ---- a run
 
-  kept_on : KeepsEnds IsKept
-  kept_on = record {
-    calm = λ at on end what s given b calm kept. calm_goes law at on end what s given b (calm_bytes what calm) (calm_meets end s.links what calm) kept;
-    dialled = λ at end link s given b side kept. calm_goes law at None end (event.Dialled link) s given b tt (side_meets end s.links link side) kept;
-    opens = λ at route s given b kept. record {
-      keeps = hear_keeps NotLate at b.messages (acceptor_of route) (event.Opened (length s.links)) (with_link route s) (last_accepted (acceptor_of route) route s.links refl)
-          (link_made at b.messages s.ends.members s.links route kept.keeps);
-      known = kept.known;
-      let_in = given_append (IsKnown at b.messages) given _ kept.let_in
-          (nobody_so (IsKnown at b.messages) _ (end_silent law (acceptor_of route) (event.Opened (length s.links)) (with_link route s) tt));
-    };
-    begins = λ at client plan s b is kept. record { keeps = kept.keeps; known = kept.known; let_in = clients_tell (IsKnown at b.messages) client (begun client plan s).actions };
-    comes = λ end w piece s given b side came kept. end_goes end w piece s (hear_and_act end (event.Bytes w.link piece) s).state given b (carried_from w.unit s w piece came) kept;
-    renews = λ at end s b kept. record { keeps = renewed_keeps NotLate at b.messages end s kept.keeps; known = kept.known; let_in = kept.let_in };
-    over = λ at on next s given b kept. record {
-      keeps = later_keeps (Late on) (Late next) at b.messages s.ends.members s.links kept.keeps;
-      known = known_append b.messages b.told (told_in given at) kept.known (given_known b.messages at given kept.let_in);
-      let_in = tt;
-    };
-  }
+kept_on : KeepsEnds IsKept
+kept_on = record {
+  calm = λ at on end what s given b calm kept. calm_goes at on end what s given b (calm_bytes what calm) (calm_meets end s.links what calm) kept;
+  dialled = λ at end link s given b side kept. calm_goes at None end (event.Dialled link) s given b tt (side_meets end s.links link side) kept;
+  opens = λ at route s given b kept. record {
+    keeps = hear_keeps NotLate at b.messages (acceptor_of route) (event.Opened (length s.links)) (with_link route s) (last_accepted (acceptor_of route) route s.links refl)
+        (link_made at b.messages s.ends.members s.links route kept.keeps);
+    known = kept.known;
+    let_in = given_append (IsKnown at b.messages) given _ kept.let_in
+        (nobody_so (IsKnown at b.messages) _ (end_silent (acceptor_of route) (event.Opened (length s.links)) (with_link route s) tt));
+  };
+  begins = λ at client plan s b is kept. record { keeps = kept.keeps; known = kept.known; let_in = clients_tell (IsKnown at b.messages) client (begun client plan s).actions };
+  comes = λ end w piece s given b side came kept. end_goes end w piece s (hear_and_act end (event.Bytes w.link piece) s).state given b (carried_from w.unit s w piece came) kept;
+  renews = λ at end s b kept. record { keeps = renewed_keeps NotLate at b.messages end s kept.keeps; known = kept.known; let_in = kept.let_in };
+  over = λ at on next s given b kept. record {
+    keeps = later_keeps (Late on) (Late next) at b.messages s.ends.members s.links kept.keeps;
+    known = known_append b.messages b.told (told_in given at) kept.known (given_known b.messages at given kept.let_in);
+    let_in = tt;
+  };
+}
 
 pub record HoldsOf (w : World) (b : Book) : Type 0 where
   pub keeps : KeepsIn NotLate w.moves b.messages w.state
@@ -381,12 +381,12 @@ first_kept plan on = record {
   let_in = tt;
 }
 
-pub run_holds : LetsInTheGranted → (plan : Plan) (moves : List Move) → HoldsOf (past plan moves).world (past plan moves).book
-run_holds law plan moves =
+pub run_holds : (plan : Plan) (moves : List Move) → HoldsOf (past plan moves).world (past plan moves).book
+run_holds plan moves =
     let p : Past = past plan moves in
-    let kept : IsKept p.world.moves None (ends_in p.world.state) [] p.book = ends_after IsKept (kept_on law) plan moves (first_kept plan) in
+    let kept : IsKept p.world.moves None (ends_in p.world.state) [] p.book = ends_after IsKept kept_on plan moves (first_kept plan) in
     record { keeps = kept.keeps; known = kept.known }
 
 -- in every run a member lets in only who asked
-pub lets_in_who_asked : LetsInTheGranted → (plan : Plan) (moves : List Move) → LetsInWhoAsked (past plan moves)
-lets_in_who_asked law plan moves = (run_holds law plan moves).known
+pub lets_in_who_asked : (plan : Plan) (moves : List Move) → LetsInWhoAsked (past plan moves)
+lets_in_who_asked plan moves = (run_holds plan moves).known

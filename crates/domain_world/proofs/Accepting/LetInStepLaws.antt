@@ -13,12 +13,13 @@ use Rattle.outside.specs.declared.event.Event.TheVariants as event
 use Rattle.domain_controller.specs.State.{State as ControllerState}
 use Rattle.logon_client.specs.State.{State as ClientState}
 use Rattle.logon_client.specs.declared.plan.ClientPlan.{ClientPlan}
-use Rattle.member_server.specs.Laws.{IsGranted, IsTold, LetsInTheGranted}
+use Rattle.member_server.specs.Laws.{IsGranted, IsTold}
 use Rattle.member_server.specs.Machine.{fresh_member, step_of, step_on}
 use Rattle.member_server.specs.State.{State as MemberState}
 use Rattle.member_server.specs.declared.plan.MemberPlan.{MemberPlan}
 use Rattle.member_server.specs.declared.state.Logon.{Logon}
 use Rattle.member_server.specs.declared.state.Running.{Running}
+use Rattle.member_server.proofs.KeptLaws.{lets_in_the_granted}
 use Rattle.step_notes.specs.Records.{MessageTaken}
 use Rattle.world_moves.specs.declared.links.EndId.{EndId}
 use Rattle.world_moves.specs.declared.links.EndId.TheVariants.{Controller, Member, Client}
@@ -114,22 +115,22 @@ grant_comes (event.Dialled at) running link how none granted = none_whole grante
 grant_comes event.DialFailed running link how none granted = none_whole granted.earlier granted.unit granted.later granted.hears
 grant_comes event.Stop running link how none granted = none_whole granted.earlier granted.unit granted.later granted.hears
 
-running_silent : LetsInTheGranted → (r : Option Running) (m : MemberState) (at : ℕ) (what : Event) (now : ℕ) (left : List (List ℕ)) → m.running ≡ r → IsNoBytes what →
+running_silent : (r : Option Running) (m : MemberState) (at : ℕ) (what : Event) (now : ℕ) (left : List (List ℕ)) → m.running ≡ r → IsNoBytes what →
     OfLetIn Nobody (given_by (Member at) (actions_by (step_of m what now left).answer))
-running_silent law None m at what now left is none =
+running_silent None m at what now left is none =
     subst (λ (r : Option Running). OfLetIn Nobody (given_by (Member at) (actions_by (step_on r m what now left).answer))) (sym is) tt
-running_silent law (Some running) m at what now left is none =
-    step_told Nobody at running what (λ link how granted. grant_comes what running link how none granted) (step_of m what now left).answer (law.told m running what now left is)
+running_silent (Some running) m at what now left is none =
+    step_told Nobody at running what (λ link how granted. grant_comes what running link how none granted) (step_of m what now left).answer (lets_in_the_granted.told m running what now left is)
 
-member_silent : LetsInTheGranted → (found : Option MemberState) (at : ℕ) (what : Event) (now : ℕ) (ends : EndStates) (chances : Drawing) → IsNoBytes what →
+member_silent : (found : Option MemberState) (at : ℕ) (what : Event) (now : ℕ) (ends : EndStates) (chances : Drawing) → IsNoBytes what →
     OfLetIn Nobody (given_by (Member at) (member_step found at what now ends chances).actions)
-member_silent law None at what now ends chances none = tt
-member_silent law (Some m) at what now ends chances none = running_silent law m.running m at what now chances.left refl none
+member_silent None at what now ends chances none = tt
+member_silent (Some m) at what now ends chances none = running_silent m.running m at what now chances.left refl none
 
-pub end_silent : LetsInTheGranted → (end : EndId) (what : Event) (s : State) → IsNoBytes what → OfLetIn Nobody (given_by end (hear end what s).actions)
-end_silent law (Controller at) what s none = controllers_tell Nobody at (hear (Controller at) what s).actions
-end_silent law (Member at) what s none = member_silent law (slice_get s.ends.members at) at what s.moment s.ends s.chances none
-end_silent law (Client at) what s none = clients_tell Nobody at (hear (Client at) what s).actions
+pub end_silent : (end : EndId) (what : Event) (s : State) → IsNoBytes what → OfLetIn Nobody (given_by end (hear end what s).actions)
+end_silent (Controller at) what s none = controllers_tell Nobody at (hear (Controller at) what s).actions
+end_silent (Member at) what s none = member_silent (slice_get s.ends.members at) at what s.moment s.ends s.chances none
+end_silent (Client at) what s none = clients_tell Nobody at (hear (Client at) what s).actions
 
 -- ---- what is kept
 

@@ -11,7 +11,7 @@ use Rattle.domain_controller.specs.declared.state.Running.{Running as Controller
 use Rattle.member_server.specs.Machine.{caller_of, fresh_member}
 use Rattle.member_server.specs.State.{State as MemberState}
 use Rattle.member_server.specs.declared.plan.MemberPlan.{MemberPlan}
-use Rattle.member_server.specs.declared.state.Dialling.TheVariants as dialling
+use Rattle.channel_turns.specs.declared.state.Dialling.TheVariants as dialling
 use Rattle.member_server.specs.declared.state.Running.{Running as MemberRunning}
 use Rattle.channel_events.specs.Requests.{CallsAreApart, Holds, Requests}
 use Rattle.world_moves.specs.declared.plan.Plan.{Plan}

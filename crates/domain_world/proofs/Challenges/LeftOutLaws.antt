@@ -22,17 +22,16 @@ use Rattle.channel_client.specs.State.{Requester}
 use Rattle.channel_client.specs.declared.state.Pending.{Pending}
 use Rattle.channel_client.specs.declared.state.Waiting.{Waiting}
 use Rattle.member_server.specs.declared.state.AtLink.{AtLink}
-use Rattle.member_server.specs.declared.state.AtTurn.{AtTurn}
-use Rattle.member_server.specs.declared.state.Dialling.{Dialling}
+use Rattle.channel_turns.specs.declared.state.Dialling.{Dialling}
 use Rattle.member_server.specs.declared.state.Phase.TheVariants as phase
 use Rattle.member_server.specs.declared.state.Running.{Running}
 use Rattle.member_server.specs.declared.state.Talk.{Talk}
-use Rattle.member_server.specs.declared.state.TurnTalk.{TurnTalk}
+use Rattle.channel_turns.specs.declared.state.TurnTalk.{TurnTalk}
 use Rattle.member_server.specs.declared.state.Work.{Work}
 use Rattle.member_server.specs.Machine.{actions_in, after_turn, after_units, at_turn, bytes_on, bytes_on_link, event_part, halted_state, serve_dialled, state_in, step_of, step_on, work_of}
 use Rattle.member_server.specs.Outcomes.{at_link, without_link}
 use Rattle.member_server.specs.State.{State as MemberState}
-use Rattle.member_server.specs.Turns.{DialWork, dial_by, next_turn, timestamp_of, turn_by, turn_server}
+use Rattle.member_server.specs.Turns.{AtTurn, DialWork, dial_by, next_turn, timestamp_of, turn_by, turn_server}
 use Rattle.member_server.specs.Units.{is_fresh, link_server}
 use Rattle.channel_events.specs.Marks.{OneOf}
 use Rattle.step_notes.specs.MemberNotes.{LinkAt, challenge_note, link_units_in, link_units_on}

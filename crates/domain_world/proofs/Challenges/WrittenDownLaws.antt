@@ -3,7 +3,6 @@
 use Rattle.std.proofs.Common.{◌≡◌, ◌<◌, ◌⊎◌, ℕ, List, Option, Some, None, inl, inr, subst}
 use Rattle.wire_base.specs.Maps.{lookup, same_number}
 use Rattle.end_links.specs.Links.{LinkState}
-use Rattle.member_server.specs.Laws.{LetsInTheGranted}
 use Rattle.member_server.specs.declared.state.Bound.{Bound}
 use Rattle.member_server.specs.declared.state.Logon.{Logon}
 use Rattle.member_server.specs.declared.state.Phase.{Phase}
@@ -64,10 +63,10 @@ challenge_is run member (Some one) running number link bound challenge flags run
 
 -- ---- a run
 
-pub members_written_down : LetsInTheGranted → (plan : Plan) (moves : List Move) → MembersAreWrittenDown (past plan moves)
-members_written_down law plan moves =
+pub members_written_down : (plan : Plan) (moves : List Move) → MembersAreWrittenDown (past plan moves)
+members_written_down plan moves =
     let run : Past = past plan moves in
-    let holds : HoldsOf run.world run.book = run_holds law plan moves in
+    let holds : HoldsOf run.world run.book = run_holds plan moves in
     let own = links_own plan moves in
     record {
       logons = λ member m running place logon at runs there.

@@ -25,14 +25,14 @@ use Rattle.channel_client.specs.declared.caller.Caller.{Caller}
 use Rattle.channel_client.specs.Machine.{after, level_asked}
 use Rattle.domain_controller.specs.Hearing.{bound_talk}
 use Rattle.domain_controller.specs.Machine.{Desk, by_call, put_channel, take_channel, with_judgement}
-use Rattle.domain_controller.specs.declared.line.Line.{Line}
+use Rattle.controller_calls.specs.declared.line.Line.{Line}
 use Rattle.domain_controller.specs.declared.state.Talk.{Talk}
 use Rattle.domain_controller.specs.State.{State as ControllerState}
 use Rattle.domain_controller.specs.Step.{first_desk}
 use Rattle.channel_events.specs.Marks.{OneOf}
 use Rattle.step_notes.specs.ControllerNotes.{Answered, Where, answer_on, identity_by, channel_in, has_passed, judged_in, judging_by, judging_of, new_actions, passing, units_of_controller}
 use Rattle.step_notes.specs.Judged.{channel_if, hash_in, passed_channel}
-use Rattle.step_notes.specs.Records.{Book, Judging, computer_named, network_in}
+use Rattle.step_notes.specs.Records.{Book, Judging, Network, computer_named}
 use Rattle.step_notes.specs.Served.{work_after}
 use Rattle.world_moves.specs.declared.bag.BagUnit.{BagUnit}
 use Rattle.world_moves.specs.declared.links.EndId.TheVariants.{Controller}
@@ -76,10 +76,12 @@ newest P one j numbers older is holds =
 
 -- ---- the call that grants
 
--- passed with status 0, on a key that travels as zeros where this one does
+-- a network logon that passed with status 0, on a key that travels as zeros where this one does
 pub record IsGrant (key base : List ℕ) (j : Judging) : Type 0 where
   pub how : j.how ≡ Some (judged.Passed 0)
-  pub zeros : KeyTravels key base → TravelsAsZeros j (network_in j.asked).info
+  pub call : LogonCall
+  pub asks : j.asked ≡ Network call
+  pub zeros : KeyTravels key base → TravelsAsZeros j call.info
 
 -- the logon of the call
 abbrev pub logon_value : Caller → SecureChannelState → ℕ → NetworkInfo → LogonCall
@@ -128,7 +130,7 @@ module _ (p : LogonComing) (a : Asked) (v : TurnAt) (o c : SecureChannelState) (
 
   -- the judging that is written down
   abbrev judging_then : Where → Judging
-  judging_then w = judging_of w line (logon_value p.meeting.caller o timestamp info) before then_so
+  judging_then w = judging_of w line (Network (logon_value p.meeting.caller o timestamp info)) before then_so
 
   bytes_so : (w : Where) (number : Option ℕ) → key_bytes (passed_channel (record (judging_then w) { reply = number })) ≡ applied (key_of_channel o) 0 (replicate 16 0)
   bytes_so w number =
@@ -137,12 +139,12 @@ module _ (p : LogonComing) (a : Asked) (v : TurnAt) (o c : SecureChannelState) (
       ∙ ap (λ (key : List ℕ). applied key 0 (replicate 16 0)) aimed.2.key
 
   pub grant_so : (w : Where) (number : Option ℕ) → IsGrant (key_of_channel o) (base_key p.meeting.task (message_for (own p) a)) (record (judging_then w) { reply = number })
-  grant_so w number = record { how = passed_so; zeros = λ zeros. base_so ∙ zeros ∙ sym (bytes_so w number) }
+  grant_so w number = record { how = passed_so; call = logon_value p.meeting.caller o timestamp info; asks = refl; zeros = λ zeros. base_so ∙ zeros ∙ sym (bytes_so w number) }
 
   pub judging_so : (w : Where) → (turn_answer p.name moment (length v.links) v.next (call_for p a (Third o c timestamp)) w before left).judging ≡ Some (judging_then w)
   judging_so w =
       ap (λ (how : Option Judged). (judging_by (has_passed how) (judging_then w)).judging) passed_so
-      ∙ passing_judging (channel_in (judging_then w).controller (computer_named (judging_then w).asked) (judging_then w).computers) (judging_then w)
+      ∙ passing_judging (channel_in (judging_then w).controller (computer_named (judging_then w).asked) (judging_then w).checks) (judging_then w)
 
 -- ---- the move at which it is judged
 

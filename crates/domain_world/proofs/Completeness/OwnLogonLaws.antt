@@ -11,7 +11,9 @@ use Rattle.outside.specs.declared.action.Outcome.TheVariants as outcome
 use Rattle.account_table.specs.AccountTable.{AccountTable}
 use Rattle.channel_events.specs.Marks.{OneOf}
 use Rattle.channel_events.proofs.ListLaws.{one_found}
-use Rattle.step_notes.specs.Records.{Book, Judging, OutcomeTold, network_in}
+use Rattle.logon_stubs.specs.declared.calls.LogonCall.{LogonCall}
+use Rattle.step_notes.specs.Records.{Book, Judging, OutcomeTold}
+use Rattle.step_notes.proofs.Controllers.JudgedCallLaws.{of_network}
 use Rattle.world_moves.specs.declared.links.EndId.TheVariants.{Member}
 use Rattle.world_moves.specs.declared.moves.Move.{Move}
 use Rattle.world_moves.specs.declared.moves.Move.TheVariants as move
@@ -27,6 +29,7 @@ use Rattle.logon_runs.specs.Runs.{Asked, message_for}
 use Rattle.logon_runs.specs.Scenes.{Shows}
 use Rattle.logon_runs.proofs.GrantsToldLaws.{grants_tell}
 use Rattle.domain_world.specs.Claims.{TravelsAsZeros}
+use Rattle.domain_world.specs.Claims.Completeness.{NoKeyIsLost}
 use Rattle.domain_world.specs.Past.{book, note, told_in}
 use Rattle.domain_world.proofs.Accepting.Turns.TurnChangedLaws.{one_after}
 use Rattle.domain_world.proofs.Frames.PlacedLaws.{IsPlaced}
@@ -56,13 +59,13 @@ IsSafe b = (key base : List ℕ) → OneOf (IsGrant key base) b.judged → KeyTr
 
 -- of the whole run, so by then
 abbrev pub AreSafe : Book → Type 0
-AreSafe b = AllByRecursion (λ (j : Judging). j.how ≡ Some (judged.Passed 0) → TravelsAsZeros j (network_in j.asked).info → ⊥) b.judged
+AreSafe b = AllByRecursion NoKeyIsLost b.judged
 
 pub safe_then : (moves : List Move) (w : World) (b : Book) → IsPlaced w.state → AreSafe (book moves w b) → IsSafe b
 safe_then moves w b placed safe key base one zeros =
-    let found = one_found (IsGrant key base) (λ (j : Judging). j.how ≡ Some (judged.Passed 0) → TravelsAsZeros j (network_in j.asked).info → ⊥) (book moves w b).judged safe
-    (judged_stays (IsGrant key base) moves w b placed one) in
-    found.2 found.1.how (found.1.zeros zeros)
+    let found = one_found (IsGrant key base) NoKeyIsLost (book moves w b).judged safe (judged_stays (IsGrant key base) moves w b placed one) in
+    let j : Judging = found.0 in
+    of_network (λ (c : LogonCall). TravelsAsZeros j c.info → ⊥) j.asked found.1.call found.1.asks (found.2 found.1.how) (found.1.zeros zeros)
 
 -- ---- the member tells
 

@@ -21,12 +21,12 @@ use Rattle.world_moves.specs.World.{IsPlan, World, happens, run}
 use Rattle.logon_steps.specs.ClientSteps.{client_ended}
 use Rattle.logon_runs.specs.AnyLogons.{HasServers}
 use Rattle.logon_runs.specs.Seen.Others.{IsStepOn}
-use Rattle.logon_runs.specs.Passing.{HasEnough}
+use Rattle.logon_runs.specs.Rests.{HasEnough}
 use Rattle.logon_runs.specs.Phases.{Aim, ArrivesAt, ComesSoFar, Coming, DrawsFew, First, HasUser, HasUserAt, IsKnown, IsOver, IsReached, IsReady, IsUnderWay, LogonPhase, MayLogOnAt, Progress, Second, Third, TurnAt, WasTold, WhoAsked, key_at, own, progress_of, progress_onward, told_of}
 use Rattle.logon_runs.specs.Phases.{Acked, Answers, Binds, BindsBefore, BindsHeld, Calls, Challenged, Dials, DialsBefore, DialsHeld, Echoed, Echoes, Granted, Halved, Named, Proved}
 use Rattle.logon_runs.specs.Runs.{Asked}
-use Rattle.logon_runs.proofs.ComeInLaws.{reached_so}
-use Rattle.logon_runs.proofs.PassingLaws.{enough_after, none_drawn, three_from}
+use Rattle.logon_runs.proofs.AmongLaws.{reached_so}
+use Rattle.logon_runs.proofs.EnoughLaws.{enough_after, none_drawn, three_from}
 use Rattle.logon_runs.proofs.Phases.PhaseLaws.{phases_go_on}
 use Rattle.logon_runs.proofs.Seen.StayingLaws.{ends_stay}
 use Rattle.logon_runs.proofs.Failing.TurnedAwayLaws.{logons_are_turned_away}

@@ -25,12 +25,11 @@ use Rattle.world_moves.specs.Moving.{act, connect_first, start, start_at, withou
 use Rattle.world_moves.specs.World.{IsPlan, World, first_world, happens, run}
 use Rattle.logon_runs.specs.AnyLogons.{AreBelow, DrawsUpTo, HasServers, LogonRests}
 use Rattle.logon_runs.specs.Seen.Others.{IsStepOn}
-use Rattle.logon_runs.specs.Passing.{HasEnough}
-use Rattle.logon_runs.specs.Rests.{AtRest, moved_by}
+use Rattle.logon_runs.specs.Rests.{AtRest, HasEnough, moved_by}
 use Rattle.logon_runs.specs.Seen.Staying.{HasSameEnds}
 use Rattle.logon_runs.specs.Seen.WaitingUnits.{waiting}
 use Rattle.logon_runs.proofs.Any.AnyLogonLaws.{logons_rest}
-use Rattle.logon_runs.proofs.PassingLaws.{rest_of}
+use Rattle.logon_runs.proofs.EnoughLaws.{rest_of}
 use Rattle.logon_runs.proofs.RestStayLaws.{rests_stay}
 use Rattle.logon_runs.proofs.Seen.StayingLaws.{both_same, ends_stay}
 use Rattle.logon_runs.proofs.Seen.WaitingLaws.{waiting_comes}

@@ -23,10 +23,9 @@ use Rattle.world_moves.specs.Moving.{act, start}
 use Rattle.world_moves.specs.World.{IsPlan, World, first_world, happens, outcome_by, run}
 use Rattle.logon_runs.specs.AnyLogons.{HasServers}
 use Rattle.logon_runs.specs.Seen.Others.{IsStepOn}
-use Rattle.logon_runs.specs.Passing.{HasEnough}
+use Rattle.logon_runs.specs.Rests.{CanBeGranted, HasBegun, HasEnough, coming_of}
 use Rattle.logon_runs.specs.Phases.{Coming, IsReached, IsUnderWay, LogonPhase, NotYet, key_at, progress_of, scene_of, told_of}
 use Rattle.logon_runs.specs.Phases.{Acked, Answers, Binds, BindsBefore, BindsHeld, Calls, Challenged, Dials, DialsBefore, DialsHeld, Echoed, Echoes, Granted, Halved, Named, Proved}
-use Rattle.logon_runs.specs.Rests.{CanBeGranted, HasBegun, coming_of}
 use Rattle.logon_runs.specs.Scenes.{Shows}
 use Rattle.logon_runs.specs.Seen.WaitingUnits.{waiting}
 use Rattle.logon_runs.proofs.Phases.PhaseLaws.{one_waits}

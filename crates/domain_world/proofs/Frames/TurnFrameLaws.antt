@@ -3,8 +3,8 @@
 -- It serves `controllers_pass_the_next`, `members_let_in_who_asked`, `runs_are_heard` and others.
 use Rattle.std.proofs.Common.{◌≡◌, ℕ, List, [], ◌∷◌, Option, refl, ◌∙◌}
 use Rattle.end_links.specs.Serving.{ServedUnit}
-use Rattle.member_server.specs.declared.state.AtTurn.{AtTurn}
-use Rattle.member_server.specs.declared.state.TurnTalk.{TurnTalk}
+use Rattle.member_server.specs.Turns.{AtTurn}
+use Rattle.channel_turns.specs.declared.state.TurnTalk.{TurnTalk}
 use Rattle.step_notes.specs.MemberNotes.{TurnNote, turn_note}
 use Rattle.step_notes.specs.Records.{Book}
 use Rattle.domain_world.specs.Past.{first_of, later_of, note_turn, note_turns}

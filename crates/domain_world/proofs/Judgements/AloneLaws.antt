@@ -6,8 +6,8 @@ use Rattle.outside.specs.declared.action.Judged.{Judged}
 use Rattle.outside.specs.declared.action.Judged.TheVariants as judged
 use Rattle.domain_controller.specs.Laws.{judges_call}
 use Rattle.step_notes.specs.ControllerNotes.{has_passed}
-use Rattle.step_notes.specs.Judged.{IsJudgedRight, IsRightOf}
-use Rattle.step_notes.specs.Records.{Judging, JudgementTold, computer_named, given_in}
+use Rattle.step_notes.specs.Judged.{IsJudgedRight, IsNextOn, IsRightOf}
+use Rattle.step_notes.specs.Records.{Judging, JudgementTold, given_in}
 use Rattle.world_moves.specs.declared.moves.Move.{Move}
 use Rattle.world_moves.specs.declared.plan.Plan.{Plan}
 use Rattle.domain_world.specs.Claims.{TellsOfCallsAlone}
@@ -20,16 +20,18 @@ abbrev IsOfCall : JudgementTold → Type 0
 IsOfCall one = (judges_call one.how ≡ true) × (one.how ≢ judged.Forwarded)
 
 -- a call that passed was told with its status, so it wasn't handed on
-not_forwarded : (j : Judging) → HasItsStatus j → j.how ≡ Some judged.Forwarded → ⊥
-not_forwarded j status is = absurd (let told : Some judged.Forwarded ≡ Some (judged.Passed _) = sym is ∙ status (ap has_passed is) in cc)
+not_forwarded : (j : Judging) → IsJudgedRight j → HasItsStatus j → j.how ≡ Some judged.Forwarded → ⊥
+not_forwarded j right status is =
+    let next : IsNextOn j.checks (given_in j.asked) = right.right.passed.0 (ap has_passed is) in
+    absurd (let told : Some judged.Forwarded ≡ Some (judged.Passed _) = sym is ∙ status next.channel next.stands (ap has_passed is) in cc)
 
 one_judges : (how : Option Judged) (j : Judging) (more : List JudgementTold) → j.how ≡ how → IsJudgedRight j → HasItsStatus j → AllByRecursion IsOfCall more →
     AllByRecursion IsOfCall (telling_by j.at j.controller how ++ more)
 one_judges None j more is right status all = absurd (none_right j is right)
 one_judges (Some how) j more is right status all = (
   (
-    right_judges how j.computers (computer_named j.asked) (given_in j.asked) (subst (λ (told : Option Judged). IsRightOf told j.computers (computer_named j.asked) (given_in j.asked)) is right),
-    (λ forwarded. not_forwarded j status (is ∙ ap Some forwarded)),
+    right_judges how j.checks (given_in j.asked) (subst (λ (told : Option Judged). IsRightOf told j.checks (given_in j.asked)) is right.right),
+    (λ forwarded. not_forwarded j right status (is ∙ ap Some forwarded)),
   ),
   all,
 )

@@ -1,6 +1,6 @@
 -- In every run a controller grants a Logon call exactly where it is to be granted, by the accounts of the plan.
 -- It serves `controllers_grant_who_may_log_on` and `controllers_tell_of_calls_alone`.
-use Rattle.std.proofs.Common.{◌≡◌, ℕ, zero, suc, true, false, List, [], ◌∷◌, ◌++◌, drop, length, Option, Some, None, Ok, Err, inl, inr, slice_get, slice_set, refl, sym, ap, subst, ◌∙◌}
+use Rattle.std.proofs.Common.{◌≡◌, ◌↔◌, ℕ, zero, suc, true, false, List, [], ◌∷◌, ◌++◌, drop, length, Option, Some, None, Ok, Err, inl, inr, slice_get, slice_set, refl, sym, ap, subst, ◌∙◌}
 use Rattle.std.specs.List.{AllByRecursion}
 use Rattle.wire_base.specs.Maps.{lookup, same_number}
 use Rattle.wire_base.specs.Names.{same_name}
@@ -12,6 +12,7 @@ use Rattle.outside.specs.declared.action.Action.{Action}
 use Rattle.outside.specs.declared.action.Judged.{Judged}
 use Rattle.outside.specs.declared.event.Event.{Event}
 use Rattle.rpc_units.specs.Stream.{cut_stream}
+use Rattle.logon_stubs.specs.declared.calls.LogonCall.{LogonCall}
 use Rattle.logon_stubs.specs.declared.info.NetworkInfo.{NetworkInfo}
 use Rattle.logon_stubs.specs.declared.info.Verdict.{Verdict}
 use Rattle.account_table.specs.AccountTable.{AccountTable}
@@ -25,14 +26,15 @@ use Rattle.domain_controller.specs.Laws.{is_passed}
 use Rattle.domain_controller.specs.Machine.{Desk, answer_logon, by_heard, controller_server, desk, judge_channel, judge_info, judge_return, put_channel, status_of, take_channel}
 use Rattle.domain_controller.specs.State.{State as ControllerState}
 use Rattle.domain_controller.specs.Step.{StepPart, by_event, first_desk, first_state, halted, start_turn, state_after, step_of, step_on}
-use Rattle.domain_controller.specs.declared.line.Line.{Line}
+use Rattle.controller_calls.specs.declared.line.Line.{Line}
 use Rattle.domain_controller.specs.declared.state.Running.{Running}
 use Rattle.domain_controller.specs.declared.state.Talk.{Talk}
 use Rattle.logon_client.specs.State.{State as ClientState}
 use Rattle.member_server.specs.State.{State as MemberState}
 use Rattle.step_notes.specs.ControllerNotes.{Answered, Where, answer_on, has_passed, judged_in, units_at, units_by, units_of_controller}
-use Rattle.step_notes.specs.Judged.{IsJudgedRight}
-use Rattle.step_notes.specs.Records.{Book, Judging, network_in}
+use Rattle.step_notes.specs.Judged.{IsJudgedRight, IsNextOn}
+use Rattle.step_notes.specs.Records.{Book, Judging, Network, given_in}
+use Rattle.step_notes.specs.ReplySends.{done_on, verdict_passed}
 use Rattle.world_moves.specs.declared.links.EndId.{EndId}
 use Rattle.world_moves.specs.declared.links.EndId.TheVariants.{Controller, Member, Client}
 use Rattle.world_moves.specs.declared.links.Route.{Route}
@@ -45,6 +47,7 @@ use Rattle.world_moves.specs.World.{first_controllers, first_world}
 use Rattle.domain_world.specs.Claims.Grants.{GrantsWhoMayLogOn, IsGrantedRightly, IsPlannedTable, IsToBeGranted}
 use Rattle.domain_world.specs.Past.{Coming, answers_of, at_controller, judged_of, note_at, note_controller, numbers_on, past}
 use Rattle.step_notes.proofs.Controllers.GrantVerdictLaws.{IsServedGrant, granted_status, served_grant}
+use Rattle.step_notes.proofs.Controllers.JudgedCallLaws.{if_network, status_done}
 use Rattle.step_notes.proofs.Controllers.JudgedStepLaws.{told_first, same_status}
 use Rattle.domain_world.proofs.Challenges.MessageOnceLaws.{set_cases}
 use Rattle.domain_world.proofs.Frames.FrameLaws.{Fact, HoldsAfter, HoldsIn, Stays, StaysWritten, run_stays}
@@ -58,38 +61,38 @@ use Rattle.channel_events.proofs.ListLaws.{all_weaker}
 
 -- ---- a Logon call: its status is that of its verdict
 
--- where the call passed, it was told with the status of that verdict
-abbrev pub HasStatus : Option Judged → Verdict → Type 0
-HasStatus how verdict = has_passed how ≡ true → how ≡ Some (judged.Passed (status_of verdict))
+-- where the call passed, it was told with that status
+abbrev pub HasStatus : Option Judged → ℕ → Type 0
+HasStatus how status = has_passed how ≡ true → how ≡ Some (judged.Passed status)
 
 -- what is told by the actions behind those before
 abbrev pub told_by : List Action → Desk → Option Judged
 told_by old after = judged_in (drop (length old) after.work.actions)
 
-not_passed : (how : Judged) (verdict : Verdict) → is_passed how ≡ false → HasStatus (Some how) verdict
-not_passed how verdict none passed = absurd (let never : false ≡ true = sym none ∙ passed in cc)
+not_passed : (how : Judged) (status : ℕ) → is_passed how ≡ false → HasStatus (Some how) status
+not_passed how status none passed = absurd (let never : false ≡ true = sym none ∙ passed in cc)
 
-refused_status : (old : List Action) (how : Judged) (other : Action) (verdict : Verdict) → is_passed how ≡ false →
-    HasStatus (judged_in (drop (length old) ((old ++ action.Judged how ∷ []) ++ other ∷ []))) verdict
-refused_status old how other verdict none = subst (λ (told : Option Judged). HasStatus told verdict) (sym (told_first old how other)) (not_passed how verdict none)
+refused_status : (old : List Action) (how : Judged) (other : Action) (status : ℕ) → is_passed how ≡ false →
+    HasStatus (judged_in (drop (length old) ((old ++ action.Judged how ∷ []) ++ other ∷ []))) status
+refused_status old how other status none = subst (λ (told : Option Judged). HasStatus told status) (sym (told_first old how other)) (not_passed how status none)
 
 module _ (name : List ℕ) (now : ℕ) (line : Line) (info : NetworkInfo) (validation : ℕ) where
   return_status : (returned : Option (List ℕ)) (key : List ℕ) (d : Desk) →
-      HasStatus (told_by d.work.actions (judge_return returned key name now line info validation d)) (judge_info d.table name now info validation).verdict
-  return_status None key d = refused_status d.work.actions judged.Barred _ (judge_info d.table name now info validation).verdict refl
+      HasStatus (told_by d.work.actions (judge_return returned key name now line info validation d)) (status_of (judge_info d.table name now info validation).verdict)
+  return_status None key d = refused_status d.work.actions judged.Barred _ (status_of (judge_info d.table name now info validation).verdict) refl
   return_status (Some credential) key d = λ passed. told_first d.work.actions (judged.Passed (status_of (judge_info d.table name now info validation).verdict)) _
 
   channel_status : (found : Option SecureChannelState) (computer : List ℕ) (given : Authenticator) (d : Desk) →
-      HasStatus (told_by d.work.actions (judge_channel found computer given name now line info validation d)) (judge_info d.table name now info validation).verdict
-  channel_status None computer given d = refused_status d.work.actions judged.NoChannel _ (judge_info d.table name now info validation).verdict refl
+      HasStatus (told_by d.work.actions (judge_channel found computer given name now line info validation d)) (status_of (judge_info d.table name now info validation).verdict)
+  channel_status None computer given d = refused_status d.work.actions judged.NoChannel _ (status_of (judge_info d.table name now info validation).verdict) refl
   channel_status (Some channel) computer given d =
       return_status (return_by (passes_on channel given) channel given) (key_of_channel channel)
       (desk d.table (put_channel computer (channel_by (passes_on channel given) channel given) d.work))
 
   pub call_status : (computer : Option (List ℕ)) (given : Option Authenticator) (d : Desk) →
-      HasStatus (told_by d.work.actions (answer_logon computer given name now line info validation d)) (judge_info d.table name now info validation).verdict
-  call_status None given d = refused_status d.work.actions judged.NoChannel _ (judge_info d.table name now info validation).verdict refl
-  call_status (Some computer) None d = refused_status d.work.actions judged.NoChannel _ (judge_info d.table name now info validation).verdict refl
+      HasStatus (told_by d.work.actions (answer_logon computer given name now line info validation d)) (status_of (judge_info d.table name now info validation).verdict)
+  call_status None given d = refused_status d.work.actions judged.NoChannel _ (status_of (judge_info d.table name now info validation).verdict) refl
+  call_status (Some computer) None d = refused_status d.work.actions judged.NoChannel _ (status_of (judge_info d.table name now info validation).verdict) refl
   call_status (Some computer) (Some given) d =
       channel_status (lookup same_name computer d.work.computers.channels) computer given (desk d.table (take_channel computer d.work))
 
@@ -145,9 +148,9 @@ planned_later plan controller table other name planned differ = record {
   name_is = planned.name_is;
 }
 
--- where the call passed, it was told with the status of the verdict on it
+-- where the call passed, it was told with the status of what it came to on the channel that it is checked on
 abbrev pub HasItsStatus : Judging → Type 0
-HasItsStatus j = HasStatus j.how (judge_info j.table j.name j.moment (network_in j.asked).info (network_in j.asked).validation).verdict
+HasItsStatus j = (channel : SecureChannelState) → j.checks ≡ Some channel → HasStatus j.how (done_on j channel).status
 
 -- besides, it was judged by the accounts of the plan
 abbrev pub IsByPlan : Plan → Judging → Type 0
@@ -159,7 +162,7 @@ unit_by_plan plan w link table planned unit served =
     heard_holds (IsByPlan plan) (hear link unit.bytes unit.talk) w link unit.work unit.left unit.part
     (λ line c. (
       planned_later plan w.controller table unit.work.table w.name planned served.0,
-      call_status w.name w.moment line c.info c.validation c.computer c.authenticator unit.work,
+      (λ channel stands. call_status w.name w.moment line c.info c.validation c.computer c.authenticator unit.work),
     ))
     served.1
 
@@ -288,22 +291,29 @@ first_stands plan = record {
 
 -- ---- each is granted rightly
 
-to_be_granted : (j : Judging) → HasItsStatus j → IsJudgedRight j → j.how ≡ Some (judged.Passed 0) → IsToBeGranted j
-to_be_granted j told right how =
+to_be_granted : (j : Judging) (c : LogonCall) → j.asked ≡ Network c → HasItsStatus j → IsJudgedRight j → j.how ≡ Some (judged.Passed 0) → IsToBeGranted j c
+to_be_granted j c asks told right how =
     let passed : has_passed j.how ≡ true = ap has_passed how in
-    let served : IsServedGrant j.table j.name j.moment (network_in j.asked).info (network_in j.asked).validation (judge_info j.table j.name j.moment (network_in j.asked).info (network_in j.asked).validation).verdict =
-    served_grant j.table j.name j.moment (network_in j.asked).info (network_in j.asked).validation (same_status _ 0 (sym (told passed) ∙ how)) in
-    record { next = right.passed.0 passed; level = served.level; may = served.may; verifies = served.verifies }
+    let next : IsNextOn j.checks (given_in j.asked) = right.right.passed.0 passed in
+    let status : status_of (verdict_passed j c) ≡ 0 = sym (status_done j c next.channel asks) ∙ same_status _ 0 (sym (told next.channel next.stands passed) ∙ how) in
+    let served : IsServedGrant j.table j.name j.moment c.info c.validation (verdict_passed j c) = served_grant j.table j.name j.moment c.info c.validation status in
+    record { next = next; level = served.level; may = served.may; verifies = served.verifies }
 
-pub is_granted_so : (j : Judging) → HasItsStatus j → IsJudgedRight j → IsToBeGranted j → j.how ≡ Some (judged.Passed 0)
-is_granted_so j told right meets =
-    told (right.passed.1 meets.next)
-    ∙ ap (λ (status : ℕ). Some (judged.Passed status)) (granted_status j.table j.name j.moment (network_in j.asked).info (network_in j.asked).validation meets.level meets.may meets.verifies)
+pub is_granted_so : (j : Judging) (c : LogonCall) → j.asked ≡ Network c → HasItsStatus j → IsJudgedRight j → IsToBeGranted j c → j.how ≡ Some (judged.Passed 0)
+is_granted_so j c asks told right meets =
+    told meets.next.channel meets.next.stands (right.right.passed.1 meets.next)
+    ∙ ap (λ (status : ℕ). Some (judged.Passed status))
+    (status_done j c meets.next.channel asks ∙ granted_status j.table j.name j.moment c.info c.validation meets.level meets.may meets.verifies)
 
 all_rightly : (plan : Plan) (judgings : List Judging) → AllByRecursion (IsByPlan plan) judgings → AreRight judgings → AllByRecursion (λ (j : Judging). IsGrantedRightly plan j) judgings
 all_rightly plan [] planned right = tt
 all_rightly plan (j ∷ judgings) planned right = (
-  record { granted = (to_be_granted j planned.0.1 right.0, is_granted_so j planned.0.1 right.0); table = planned.0.0.table_is; name = planned.0.0.name_is },
+  record {
+    granted = if_network (λ (c : LogonCall). (j.how ≡ Some (judged.Passed 0)) ↔ IsToBeGranted j c) j.asked
+        (λ c asks. (to_be_granted j c asks planned.0.1 right.0, is_granted_so j c asks planned.0.1 right.0));
+    table = planned.0.0.table_is;
+    name = planned.0.0.name_is;
+  },
   all_rightly plan judgings planned.1 right.1,
 )
 

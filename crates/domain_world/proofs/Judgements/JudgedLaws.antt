@@ -18,15 +18,15 @@ use Rattle.domain_controller.specs.State.{State as ControllerState}
 use Rattle.domain_controller.specs.Step.{first_desk, step_of}
 use Rattle.domain_controller.specs.declared.hearing.Heard.{Heard}
 use Rattle.domain_controller.specs.declared.hearing.Heard.TheVariants as heard
-use Rattle.domain_controller.specs.declared.line.Line.{Line}
+use Rattle.controller_calls.specs.declared.line.Line.{Line}
 use Rattle.domain_controller.specs.declared.state.Running.{Running}
 use Rattle.domain_controller.specs.declared.state.Talk.{Talk}
 use Rattle.logon_client.specs.State.{State as ClientState}
 use Rattle.member_server.specs.State.{State as MemberState}
-use Rattle.step_notes.specs.ControllerNotes.{Answered, Where, answer_on, channel_in, has_passed, heard_answer, judging_by, judging_of, logon_answer, opened_by, opening, passing, units_at, units_by, units_of_controller}
+use Rattle.step_notes.specs.ControllerNotes.{Answered, Where, answer_on, channel_in, checked_on, has_passed, heard_answer, judging_by, judging_of, logon_answer, opened_by, opening, passing, units_at, units_by, units_of_controller}
 use Rattle.step_notes.specs.Judged.{IsJudgedRight}
 use Rattle.step_notes.specs.MemberNotes.{turn_units}
-use Rattle.step_notes.specs.Records.{Book, Judging, computer_named}
+use Rattle.step_notes.specs.Records.{Book, Judging, Network, computer_named}
 use Rattle.step_notes.specs.Served.{units_if_taken, work_after}
 use Rattle.world_moves.specs.declared.links.EndId.{EndId}
 use Rattle.world_moves.specs.declared.links.EndId.TheVariants.{Controller, Member, Client}
@@ -34,7 +34,7 @@ use Rattle.world_moves.specs.declared.moves.Move.{Move}
 use Rattle.world_moves.specs.declared.plan.Plan.{Plan}
 use Rattle.world_moves.specs.declared.state.State.{State}
 use Rattle.domain_world.specs.Past.{Coming, answers_of, at_controller, controller_of, first_of, judged_of, later_of, note_at, note_client, note_controller, note_member, note_messages, numbers_on, onto, past, with_reply}
-use Rattle.step_notes.proofs.Controllers.JudgedStepLaws.{by_names, told_right}
+use Rattle.step_notes.proofs.Controllers.JudgedStepLaws.{by_names, checked_named, told_right}
 use Rattle.step_notes.proofs.ServedLaws.{served_such}
 use Rattle.domain_world.proofs.Frames.TurnFrameLaws.{notes_keep}
 use Rattle.domain_world.proofs.Frames.BookFrameLaws.{book_holds}
@@ -57,7 +57,7 @@ module _ (Fits : Judging → Type 0) where
 
   pub judging_holds : (passed : Bool) (j : Judging) → Fits j → HoldsIf Fits (judging_by passed j).judging
   judging_holds false j holds = holds
-  judging_holds true j holds = passing_holds (channel_in j.controller (computer_named j.asked) j.computers) j holds
+  judging_holds true j holds = passing_holds (channel_in j.controller (computer_named j.asked) j.checks) j holds
 
   pub opening_holds : (channel : Option ChannelIdentity) (w : Where) (number : ℕ) → HoldsIf Fits (opening channel w number).judging
   opening_holds None w number = tt
@@ -66,7 +66,7 @@ module _ (Fits : Judging → Type 0) where
 -- a fact that holds of each Logon call that the controller answers
 abbrev pub HoldsOfCalls : (Judging → Type 0) → Where → Desk → Type 0
 HoldsOfCalls Fits w d =
-    (line : Line) (c : LogonCall) → Fits (judging_of w line c d (Some (answer_logon c.computer c.authenticator w.name w.moment line c.info c.validation d)))
+    (line : Line) (c : LogonCall) → Fits (judging_of w line (Network c) d (Some (answer_logon c.computer c.authenticator w.name w.moment line c.info c.validation d)))
 
 pub heard_holds : (Fits : Judging → Type 0) (what : Heard) (w : Where) (link : ℕ) (d : Desk) (left : List (List ℕ)) (part : ServedPart Desk Talk) → HoldsOfCalls Fits w d →
     part ≡ by_heard what link w.name w.moment d left → HoldsIf Fits (heard_answer what w d (work_after part)).judging
@@ -77,14 +77,17 @@ heard_holds Fits (heard.Asked line (call.Challenge c) talk) w link d left part e
 heard_holds Fits (heard.Asked line (call.Authenticate c) talk) w link d left part each is = opening_holds Fits (opened_by w.controller c d) w line.call
 heard_holds Fits (heard.Asked line (call.Logoff c) talk) w link d left part each is = tt
 heard_holds Fits (heard.Asked line (call.Logon c) talk) w link d left part each is =
-    let j : Judging = judging_of w line c d (Some (answer_logon c.computer c.authenticator w.name w.moment line c.info c.validation d)) in
-    subst (λ (p : ServedPart Desk Talk). HoldsIf Fits (logon_answer (judging_of w line c d (work_after p))).judging) (sym is)
+    let j : Judging = judging_of w line (Network c) d (Some (answer_logon c.computer c.authenticator w.name w.moment line c.info c.validation d)) in
+    subst (λ (p : ServedPart Desk Talk). HoldsIf Fits (logon_answer (judging_of w line (Network c) d (work_after p))).judging) (sym is)
     (judging_holds Fits (has_passed j.how) j (each line c))
 
 pub calls_right : (w : Where) (d : Desk) → HoldsOfCalls IsJudgedRight w d
 calls_right w d line c =
     let after : Desk = answer_logon c.computer c.authenticator w.name w.moment line c.info c.validation d in
-    told_right d.work.actions after.work.actions d.work.computers c.computer c.authenticator (by_names c.computer c.authenticator c w.name w.moment line d refl refl)
+    record {
+      right = told_right d.work.actions after.work.actions (checked_on c.computer d.work.computers) c.authenticator (by_names c.computer c.authenticator c w.name w.moment line d);
+      named = checked_named c.computer d.work.computers;
+    }
 
 unit_right : (w : Where) (link : ℕ) (unit : ServedUnit Desk Talk) → IsServedBy (controller_server w.name w.moment link) unit → HoldsIf IsJudgedRight (answer_on link w unit).judging
 unit_right w link unit is = heard_holds IsJudgedRight (hear link unit.bytes unit.talk) w link unit.work unit.left unit.part (calls_right w unit.work) is
@@ -142,7 +145,7 @@ controller_right : (c : Option ControllerState) (controller : ℕ) (w : Coming) 
 controller_right None controller w piece s after b was = was
 controller_right (Some c) controller w piece s after b was =
     onto_hold IsJudgedRight (judged_of (answers_of controller c w piece s) (numbers_on w.link true s.bag after.bag)) b.judged
-    (judged_hold IsJudgedRight (λ j number right. right) (answers_of controller c w piece s) (numbers_on w.link true s.bag after.bag)
+    (judged_hold IsJudgedRight (λ j number is. record { right = is.right; named = is.named }) (answers_of controller c w piece s) (numbers_on w.link true s.bag after.bag)
     (answers_hold IsJudgedRight (IsServedBy (controller_server c.name s.moment w.link)) (at_controller controller c w s) w.link (unit_right (at_controller controller c w s) w.link) (units_of_controller c w.link piece s.moment s.chances.left)
     (are_if_taken (IsServedBy (controller_server c.name s.moment w.link)) (step_of c (event.Bytes w.link piece) s.moment s.chances.left).answer (units_by c.running w.link piece c s.moment s.chances.left)
     (served_by c.running w.link piece c s.moment s.chances.left))))

@@ -1,13 +1,10 @@
 -- How far the authenticators that passed on a channel moved its seed.
 -- It serves `carried_calls_are_heard`, `controllers_grant_who_may_log_on`, `replays_pass_by_sum` and 5 more.
 use Rattle.std.proofs.Common.{◌≡◌, ℕ, ◌+◌, Bool, true, false, List, [], ◌∷◌, ◌++◌, Option, Some, None, refl, ap, ◌∙◌, arith}
-use Rattle.wire_base.specs.Maps.{lookup}
-use Rattle.wire_base.specs.Names.{same_name}
 use Rattle.authenticators.specs.Channels.{ChannelIdentity, SameChannel, same_channel}
 use Rattle.authenticators.specs.SecureChannels.{SecureChannelState, channel_of}
 use Rattle.channel_events.proofs.SameLaws.{fails_so, found_same, one_channel}
-use Rattle.domain_controller.specs.declared.state.Computers.{Computers}
-use Rattle.step_notes.specs.ControllerNotes.{identity_by, channel_in, has_passed}
+use Rattle.step_notes.specs.ControllerNotes.{channel_in, has_passed}
 use Rattle.step_notes.specs.Judged.{channel_if, passed_channel}
 use Rattle.step_notes.specs.Marking.{is_channel}
 use Rattle.step_notes.specs.Records.{Judging, computer_named}
@@ -47,30 +44,26 @@ moved_past channel j judgings none =
 
 -- ---- the channel that a call is checked on
 
--- it is that of the computer that the call names, as the controller keeps it
-pub record IsFound (controller : ℕ) (computer : Option (List ℕ)) (computers : Computers) (channel : ChannelIdentity) : Type 0 where
+-- it is that of the computer that the call names, in the state in which the call met it
+pub record IsFound (controller : ℕ) (computer : Option (List ℕ)) (checks : Option SecureChannelState) (channel : ChannelIdentity) : Type 0 where
   pub name : List ℕ
   pub state : SecureChannelState
   pub named : computer ≡ Some name
-  pub stands : lookup same_name name computers.channels ≡ Some state
+  pub stands : checks ≡ Some state
   pub is : channel_of controller name state ≡ channel
 
-found_by : (found : Option SecureChannelState) (controller : ℕ) (name : List ℕ) (computers : Computers) (channel : ChannelIdentity) → lookup same_name name computers.channels ≡ found →
-    identity_by controller name found ≡ Some channel → IsFound controller (Some name) computers channel
-found_by None controller name computers channel stands is = absurd cc
-found_by (Some state) controller name computers channel stands is = record { name = name; state = state; named = refl; stands = stands; is = cc }
+pub found_in : (controller : ℕ) (computer : Option (List ℕ)) (checks : Option SecureChannelState) (channel : ChannelIdentity) → channel_in controller computer checks ≡ Some channel →
+    IsFound controller computer checks channel
+found_in controller None checks channel is = absurd cc
+found_in controller (Some name) None channel is = absurd cc
+found_in controller (Some name) (Some state) channel is = record { name = name; state = state; named = refl; stands = refl; is = cc }
 
-pub found_in : (controller : ℕ) (computer : Option (List ℕ)) (computers : Computers) (channel : ChannelIdentity) → channel_in controller computer computers ≡ Some channel →
-    IsFound controller computer computers channel
-found_in controller None computers channel is = absurd cc
-found_in controller (Some name) computers channel is = found_by (lookup same_name name computers.channels) controller name computers channel refl is
-
-passed_if : (passed : Bool) (j : Judging) (channel : ChannelIdentity) → channel_if passed j ≡ Some channel → channel_in j.controller (computer_named j.asked) j.computers ≡ Some channel
+passed_if : (passed : Bool) (j : Judging) (channel : ChannelIdentity) → channel_if passed j ≡ Some channel → channel_in j.controller (computer_named j.asked) j.checks ≡ Some channel
 passed_if false j channel is = absurd cc
 passed_if true j channel is = is
 
-pub passed_in : (j : Judging) (channel : ChannelIdentity) → passed_channel j ≡ Some channel → IsFound j.controller (computer_named j.asked) j.computers channel
-passed_in j channel is = found_in j.controller (computer_named j.asked) j.computers channel (passed_if (has_passed j.how) j channel is)
+pub passed_in : (j : Judging) (channel : ChannelIdentity) → passed_channel j ≡ Some channel → IsFound j.controller (computer_named j.asked) j.checks channel
+passed_in j channel is = found_in j.controller (computer_named j.asked) j.checks channel (passed_if (has_passed j.how) j channel is)
 
 -- a call that was barred, or found no channel, passed on none
 pub not_passed : (passed : Bool) (j : Judging) (channel : ChannelIdentity) → passed ≡ false → channel_if passed j ≡ Some channel → ⊥

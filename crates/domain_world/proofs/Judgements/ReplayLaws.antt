@@ -20,13 +20,12 @@ use Rattle.outside.specs.declared.event.Event.{Event}
 use Rattle.outside.specs.declared.event.Event.TheVariants as event
 use Rattle.outside.proofs.CounterLaws.{challenges_from-distinct}
 use Rattle.account_table.specs.AccountTable.{AccountTable}
-use Rattle.domain_controller.specs.Laws.{IsNext}
 use Rattle.domain_controller.specs.State.{State as ControllerState}
 use Rattle.domain_controller.specs.Step.{first_state}
 use Rattle.logon_client.specs.State.{State as ClientState}
 use Rattle.member_server.specs.State.{State as MemberState}
 use Rattle.step_notes.specs.ControllerNotes.{channel_in, has_passed}
-use Rattle.step_notes.specs.Judged.{channel_if}
+use Rattle.step_notes.specs.Judged.{IsNextOn, channel_if}
 use Rattle.step_notes.specs.Marking.{is_channel}
 use Rattle.step_notes.specs.MemberNotes.{turn_units}
 use Rattle.step_notes.specs.Records.{Book, Judging, computer_named, given_in, timestamp_in}
@@ -188,13 +187,13 @@ pub record IsOn (j : Judging) (channel : ChannelIdentity) : Type 0 where
   pub name : List ℕ
   pub state : SecureChannelState
   pub named : computer_named j.asked ≡ Some name
-  pub stands : lookup same_name name j.computers.channels ≡ Some state
+  pub stands : j.checks ≡ Some state
   pub same : SameChannel (channel_of j.controller name state) channel
 
-on_by : (found : Option ChannelIdentity) (j : Judging) (channel : ChannelIdentity) → channel_in j.controller (computer_named j.asked) j.computers ≡ found → is_channel found channel ≡ true → IsOn j channel
+on_by : (found : Option ChannelIdentity) (j : Judging) (channel : ChannelIdentity) → channel_in j.controller (computer_named j.asked) j.checks ≡ found → is_channel found channel ≡ true → IsOn j channel
 on_by None j channel is same = absurd cc
 on_by (Some other) j channel is same =
-    let found = found_in j.controller (computer_named j.asked) j.computers other is in
+    let found = found_in j.controller (computer_named j.asked) j.checks other is in
     record {
       name = found.name;
       state = found.state;
@@ -205,7 +204,7 @@ on_by (Some other) j channel is same =
 
 pub on_if : (passed : Bool) (j : Judging) (channel : ChannelIdentity) → is_channel (channel_if passed j) channel ≡ true → (passed ≡ true) × IsOn j channel
 on_if false j channel same = absurd cc
-on_if true j channel same = (refl, on_by (channel_in j.controller (computer_named j.asked) j.computers) j channel refl same)
+on_if true j channel same = (refl, on_by (channel_in j.controller (computer_named j.asked) j.checks) j channel refl same)
 
 some_is : {T : Type 0} (one other : T) → Some one ≡ Some other → one ≡ other
 some_is one other is = cc
@@ -217,30 +216,26 @@ module _ (j : Judging) (channel : ChannelIdentity) (on : IsOn j channel) where
   -- the seed that the call met
   seed_is : (older : List Judging) → AreMoved (j ∷ older) → on.state.seed ≡ add_to (cred_of (channel_key channel) channel.client) (moved_on channel older)
   seed_is older moved =
-      (subst (λ (o : Option (List ℕ)). IsMovedIn older j.controller o j.computers) on.named moved.0) on.state on.stands
+      (subst (λ (o : Option (List ℕ)). IsMovedIn older j.controller o j.checks) on.named moved.0) on.state on.stands
       ∙ ap₂ (λ (key client : List ℕ). add_to (cred_of key client) (moved_on (channel_of j.controller on.name on.state) older)) key_is on.same.client
       ∙ ap (λ (n : ℕ). add_to (cred_of (channel_key channel) channel.client) n) (moved_same (channel_of j.controller on.name on.state) channel on.same older)
 
   -- its authenticator passes there where it is the next one
-  next_passes : (seed : List ℕ) (given : Authenticator) → on.state.seed ≡ seed → given_in j.asked ≡ Some given → IsNext j.computers (computer_named j.asked) (given_in j.asked) → Passes (channel_key channel) seed given
+  next_passes : (seed : List ℕ) (given : Authenticator) → on.state.seed ≡ seed → given_in j.asked ≡ Some given → IsNextOn j.checks (given_in j.asked) → Passes (channel_key channel) seed given
   next_passes seed given is there next =
-      let name : next.computer ≡ on.name = some_is next.computer on.name (sym next.named ∙ on.named) in
-      let state : next.channel ≡ on.state =
-      some_is next.channel on.state (sym next.stands ∙ ap (λ (n : List ℕ). lookup same_name n j.computers.channels) name ∙ on.stands) in
+      let state : next.channel ≡ on.state = some_is next.channel on.state (sym next.stands ∙ on.stands) in
       let own : next.given ≡ given = some_is next.given given (sym next.there ∙ there) in
       subst (λ (s : List ℕ). Passes (channel_key channel) s given) is
       (subst (λ (key : List ℕ). Passes key on.state.seed given) key_is
       (subst (λ (c : SecureChannelState). Passes (key_of_channel c) c.seed given) state
       (subst (λ (g : Authenticator). Passes (key_of_channel next.channel) next.channel.seed g) own next.passes)))
 
-  passes_next : (seed : List ℕ) (given : Authenticator) → on.state.seed ≡ seed → given_in j.asked ≡ Some given → Passes (channel_key channel) seed given → IsNext j.computers (computer_named j.asked) (given_in j.asked)
+  passes_next : (seed : List ℕ) (given : Authenticator) → on.state.seed ≡ seed → given_in j.asked ≡ Some given → Passes (channel_key channel) seed given → IsNextOn j.checks (given_in j.asked)
   passes_next seed given is there pass = record {
-    computer = on.name;
-    given = given;
     channel = on.state;
-    named = on.named;
-    there = there;
+    given = given;
     stands = on.stands;
+    there = there;
     passes = subst (λ (key : List ℕ). Passes key on.state.seed given) (sym key_is) (subst (λ (s : List ℕ). Passes (channel_key channel) s given) (sym is) pass);
   }
 
@@ -297,20 +292,20 @@ module _ (channel : ChannelIdentity) (between earlier : List Judging) (first : J
       )
 
 by_sum : (channel : ChannelIdentity) (between earlier : List Judging) (second first : Judging) → AreMoved (second ∷ (between ++ first ∷ earlier)) → AreRight (second ∷ (between ++ first ∷ earlier)) →
-    passed_on channel first ≡ true → is_channel (channel_in second.controller (computer_named second.asked) second.computers) channel ≡ true → given_in second.asked ≡ given_in first.asked →
+    passed_on channel first ≡ true → is_channel (channel_in second.controller (computer_named second.asked) second.checks) channel ≡ true → given_in second.asked ≡ given_in first.asked →
     (has_passed second.how ≡ true) ↔ (moved_on channel (between ++ first ∷ []) % 2 ^ 32 ≡ 0)
 by_sum channel between earlier second first moved right passed same again =
     let was = on_if (has_passed first.how) first channel passed in
-    let is : IsOn second channel = on_by (channel_in second.controller (computer_named second.asked) second.computers) second channel refl same in
-    let next : IsNext first.computers (computer_named first.asked) (given_in first.asked) = (later_right between first earlier right.1).0.passed.0 was.0 in
+    let is : IsOn second channel = on_by (channel_in second.controller (computer_named second.asked) second.checks) second channel refl same in
+    let next : IsNextOn first.checks (given_in first.asked) = (later_right between first earlier right.1).0.right.passed.0 was.0 in
     let given : Authenticator = next.given in
     let base : List ℕ = cred_of (channel_key channel) channel.client in
     let pass : Passes (channel_key channel) (add_to base (moved_on channel earlier)) given =
     next_passes first channel was.1 (add_to base (moved_on channel earlier)) given (seed_is first channel was.1 earlier (later_moved between first earlier moved.1)) next.there next in
     let law = passes_again channel between earlier first given passed next.there (channel_key channel) base (IsBlock-cred_of (channel_key channel) channel.client) pass in
     let seed : is.state.seed ≡ add_to base (moved_on channel (between ++ first ∷ earlier)) = seed_is second channel is (between ++ first ∷ earlier) moved in (
-      λ told. law.0 (next_passes second channel is _ given seed (again ∙ next.there) (right.0.passed.0 told)),
-      λ whole. right.0.passed.1 (passes_next second channel is _ given seed (again ∙ next.there) (law.1 whole)),
+      λ told. law.0 (next_passes second channel is _ given seed (again ∙ next.there) (right.0.right.passed.0 told)),
+      λ whole. right.0.right.passed.1 (passes_next second channel is _ given seed (again ∙ next.there) (law.1 whole)),
     )
 
 -- in every run a replay passes by the sum of timestamps

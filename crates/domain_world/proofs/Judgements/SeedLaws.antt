@@ -26,11 +26,11 @@ use Rattle.account_table.specs.declared.account.Account.{Account}
 use Rattle.channel_events.proofs.SameLaws.{itself}
 use Rattle.domain_controller.specs.Laws.{KeepsComputer}
 use Rattle.domain_controller.specs.Machine.{Desk, answer_logon, channel_for, desk, judge_account, judge_channel, judge_offer, judge_pair, judge_return, open_channel, put_channel, put_pair_if, take_channel, take_pair}
-use Rattle.domain_controller.specs.declared.line.Line.{Line}
-use Rattle.domain_controller.specs.declared.state.Computers.{Computers}
-use Rattle.domain_controller.specs.declared.state.ChallengePair.{ChallengePair}
-use Rattle.domain_controller.specs.declared.state.Work.{Work}
-use Rattle.step_notes.specs.ControllerNotes.{Where, channel_in, has_passed, judged_in}
+use Rattle.controller_calls.specs.declared.line.Line.{Line}
+use Rattle.controller_calls.specs.declared.state.Computers.{Computers}
+use Rattle.controller_calls.specs.declared.state.ChallengePair.{ChallengePair}
+use Rattle.controller_calls.specs.declared.state.Work.{Work}
+use Rattle.step_notes.specs.ControllerNotes.{Where, channel_in, checked_on, has_passed, judged_in}
 use Rattle.step_notes.specs.ControllerNotes as notes
 use Rattle.step_notes.specs.Judged.{channel_if, passed_channel}
 use Rattle.step_notes.specs.Marking.{is_channel}
@@ -38,7 +38,7 @@ use Rattle.step_notes.specs.Records.{Judging, Network, computer_named, given_in,
 use Rattle.domain_world.specs.Claims.{moved_if, moved_on, passed_on, judged_timestamp}
 use Rattle.step_notes.proofs.Controllers.ComputerLaws.{lookup_named, return_computers, taken_none}
 use Rattle.step_notes.proofs.Controllers.JudgedStepLaws.{told_first}
-use Rattle.domain_world.proofs.Judgements.MovedLaws.{moved_past, moved_same, not_passed, passed_in}
+use Rattle.domain_world.proofs.Judgements.MovedLaws.{IsFound, moved_past, moved_same, not_passed, passed_in}
 
 -- ---- what is known
 
@@ -76,15 +76,14 @@ pub record AreKept (judgings : List Judging) (left : List (List ℕ)) (controlle
   pub map : IsMap same_name computers.pending
   pub each : (name : List ℕ) → IsKept judgings left controller name computers
 
--- before a call was judged its channel's seed had moved so
-abbrev pub IsMovedIn : List Judging → ℕ → Option (List ℕ) → Computers → Type 0
-IsMovedIn judgings controller None computers = Unit {0}
-IsMovedIn judgings controller (Some name) computers =
-    (c : SecureChannelState) → lookup same_name name computers.channels ≡ Some c → IsMoved judgings controller name c
+-- before a call was judged the seed of the channel that it is checked on had moved so
+abbrev pub IsMovedIn : List Judging → ℕ → Option (List ℕ) → Option SecureChannelState → Type 0
+IsMovedIn judgings controller None checks = Unit {0}
+IsMovedIn judgings controller (Some name) checks = (c : SecureChannelState) → checks ≡ Some c → IsMoved judgings controller name c
 
 abbrev pub AreMoved : List Judging → Type 0
 AreMoved [] = Unit {0}
-AreMoved (j ∷ judgings) = IsMovedIn judgings j.controller (computer_named j.asked) j.computers × AreMoved judgings
+AreMoved (j ∷ judgings) = IsMovedIn judgings j.controller (computer_named j.asked) j.checks × AreMoved judgings
 
 -- nothing passed on a channel with a challenge that is left
 abbrev pub AreUnheard : List Judging → List (List ℕ) → Type 0
@@ -261,11 +260,17 @@ module _ (judgings : List Judging) (left : List (List ℕ)) (controller : ℕ) w
 
 -- ---- a Logon call is judged
 
-module _ (judgings : List Judging) (left : List (List ℕ)) (j : Judging) (kept : AreKept judgings left j.controller j.computers) where
+-- by what the controller kept of computers, of which the call is checked on the channel of the one that it names
+module _ (judgings : List Judging) (left : List (List ℕ)) (j : Judging) (computers : Computers) (checks : j.checks ≡ checked_on (computer_named j.asked) computers)
+    (kept : AreKept judgings left j.controller computers) where
+  -- the channel on which it passed is kept
+  kept_of : (channel : ChannelIdentity) (found : IsFound j.controller (computer_named j.asked) j.checks channel) → lookup same_name found.name computers.channels ≡ Some found.state
+  kept_of channel found = sym (ap (λ (name : Option (List ℕ)). checked_on name computers) found.named) ∙ sym checks ∙ found.stands
+
   spent_on : (channel : ChannelIdentity) → passed_channel j ≡ Some channel → IsSpent channel.server left
   spent_on channel passed =
-      let found = passed_in j channel passed in
-      subst (λ (c : ChannelIdentity). IsSpent c.server left) found.is ((kept.each found.name).channels found.state found.stands).1
+      let found : IsFound j.controller (computer_named j.asked) j.checks channel = passed_in j channel passed in
+      subst (λ (c : ChannelIdentity). IsSpent c.server left) found.is ((kept.each found.name).channels found.state (kept_of channel found)).1
 
   still_unheard : (some : List (List ℕ)) → ((channel : ChannelIdentity) → passed_channel j ≡ Some channel → IsSpent channel.server some) → AreUnheard judgings some → AreUnheard (j ∷ judgings) some
   still_unheard [] spent unheard = tt
@@ -275,13 +280,16 @@ module _ (judgings : List Judging) (left : List (List ℕ)) (j : Judging) (kept 
     still_unheard some (λ channel passed. (spent channel passed).1) unheard.1,
   )
 
-  moved_before : (computer : Option (List ℕ)) → IsMovedIn judgings j.controller computer j.computers
+  moved_before : (computer : Option (List ℕ)) → IsMovedIn judgings j.controller computer (checked_on computer computers)
   moved_before None = tt
   moved_before (Some name) = λ c stands. ((kept.each name).channels c stands).0
 
   pub judged_order : IsInOrder judgings left → IsInOrder (j ∷ judgings) left
   judged_order order = record {
-    moved = (moved_before (computer_named j.asked), order.moved);
+    moved = (
+      subst (λ (found : Option SecureChannelState). IsMovedIn judgings j.controller (computer_named j.asked) found) (sym checks) (moved_before (computer_named j.asked)),
+      order.moved,
+    );
     unheard = still_unheard left (λ channel passed. spent_on channel passed) order.unheard;
     apart = order.apart;
   }
@@ -302,38 +310,39 @@ module _ (judgings : List Judging) (left : List (List ℕ)) (j : Judging) (kept 
       absurd cc)
 
   -- challenges that wait open no channel on which the call passed
-  pair_unheard : (name : List ℕ) (pair : ChallengePair) → lookup same_name name j.computers.pending ≡ Some pair → IsUnheard (j ∷ judgings) j.controller name pair.server
+  pair_unheard : (name : List ℕ) (pair : ChallengePair) → lookup same_name name computers.pending ≡ Some pair → IsUnheard (j ∷ judgings) j.controller name pair.server
   pair_unheard name pair waits secret client flags =
       moved_past (channel_from j.controller name secret client pair.server flags) j judgings (λ other passed same.
-      let found = passed_in j other passed in
+      let found : IsFound j.controller (computer_named j.asked) j.checks other = passed_in j other passed in
       let one : same_name found.name name ≡ true =
       (same_name-Decides found.name name).1 (subst (λ (c : ChannelIdentity). SameName c.computer name) (sym found.is) same.computer) in
-      (kept.each name).differ found.state pair (lookup_named found.name name j.computers.channels one ∙ found.stands) waits (ap ChannelIdentity.server found.is ∙ same.server))
+      (kept.each name).differ found.state pair (lookup_named found.name name computers.channels one ∙ kept_of other found) waits (ap ChannelIdentity.server found.is ∙ same.server))
       ∙ ((kept.each name).pairs pair waits).0 secret client flags
 
   -- a call that passed on no channel
-  none_moved : ((channel : ChannelIdentity) → passed_channel j ≡ Some channel → ⊥) → (new : Computers) → new.pending ≡ j.computers.pending → new.channels ≡ j.computers.channels →
+  none_moved : ((channel : ChannelIdentity) → passed_channel j ≡ Some channel → ⊥) → (new : Computers) → new.pending ≡ computers.pending → new.channels ≡ computers.channels →
       AreKept (j ∷ judgings) left j.controller new
   none_moved none new pending channels = record {
     map = subst (λ entries. IsMap same_name entries) (sym pending) kept.map;
     each = λ name.
-        kept_on judgings (j ∷ judgings) left left j.controller name j.computers new
+        kept_on judgings (j ∷ judgings) left left j.controller name computers new
         (record { pair = ap (λ entries. lookup same_name name entries) pending; channel = ap (λ entries. lookup same_name name entries) channels })
         (λ secret client server flags. moved_past (channel_from j.controller name secret client server flags) j judgings (λ other passed same. none other passed))
         (λ challenge spent. spent) (kept.each name);
   }
 
-  passed_here : (name : List ℕ) (c : SecureChannelState) → has_passed j.how ≡ true → computer_named j.asked ≡ Some name → lookup same_name name j.computers.channels ≡ Some c →
+  passed_here : (name : List ℕ) (c : SecureChannelState) → has_passed j.how ≡ true → computer_named j.asked ≡ Some name → lookup same_name name computers.channels ≡ Some c →
       passed_on (channel_of j.controller name c) j ≡ true
   passed_here name c passed named stands =
       ap (λ (found : Option ChannelIdentity). is_channel found (channel_of j.controller name c))
-      (ap (λ (b : Bool). channel_if b j) passed ∙ ap (λ (o : Option (List ℕ)). channel_in j.controller o j.computers) named
-      ∙ ap (λ (found : Option SecureChannelState). notes.identity_by j.controller name found) stands)
+      (ap (λ (b : Bool). channel_if b j) passed ∙ ap (λ (o : Option (List ℕ)). channel_in j.controller o j.checks) named
+      ∙ ap (λ (found : Option SecureChannelState). notes.identity_by j.controller name found)
+      (checks ∙ ap (λ (o : Option (List ℕ)). checked_on o computers) named ∙ stands))
       ∙ itself (channel_of j.controller name c)
 
   -- its channel's seed moves where it passes
   seed_moved : (passes : Bool) (name : List ℕ) (given : Authenticator) (c : SecureChannelState) → has_passed j.how ≡ passes → computer_named j.asked ≡ Some name → given_in j.asked ≡ Some given →
-      lookup same_name name j.computers.channels ≡ Some c → IsMoved (j ∷ judgings) j.controller name (channel_by passes c given)
+      lookup same_name name computers.channels ≡ Some c → IsMoved (j ∷ judgings) j.controller name (channel_by passes c given)
   seed_moved false name given c passed named there stands =
       ((kept.each name).channels c stands).0
       ∙ ap (λ (n : ℕ). add_to (first_seed c) n)
@@ -354,14 +363,14 @@ module _ (judgings : List Judging) (left : List (List ℕ)) (j : Judging) (kept 
 
   -- the channel is put back so
   moved_kept : (passes : Bool) (name : List ℕ) (given : Authenticator) (c : SecureChannelState) (new : Computers) → has_passed j.how ≡ passes → computer_named j.asked ≡ Some name →
-      given_in j.asked ≡ Some given → lookup same_name name j.computers.channels ≡ Some c → new.pending ≡ j.computers.pending →
-      new.channels ≡ put same_name name (channel_by passes c given) (take_out same_name name j.computers.channels) → AreKept (j ∷ judgings) left j.controller new
+      given_in j.asked ≡ Some given → lookup same_name name computers.channels ≡ Some c → new.pending ≡ computers.pending →
+      new.channels ≡ put same_name name (channel_by passes c given) (take_out same_name name computers.channels) → AreKept (j ∷ judgings) left j.controller new
   moved_kept passes name given c new passed named there stands pending channels =
       let moved : SecureChannelState = channel_by passes c given in
-      let taken = take_out same_name name j.computers.channels in
+      let taken = take_out same_name name computers.channels in
       let now : lookup same_name name new.channels ≡ Some moved =
       ap (λ entries. lookup same_name name entries) channels ∙ lookup-put_same same_name name moved taken (IsSameness-same_name.reflexive name) in
-      let was : (pair : ChallengePair) → lookup same_name name new.pending ≡ Some pair → lookup same_name name j.computers.pending ≡ Some pair =
+      let was : (pair : ChallengePair) → lookup same_name name new.pending ≡ Some pair → lookup same_name name computers.pending ≡ Some pair =
       λ pair waits. sym (ap (λ entries. lookup same_name name entries) pending) ∙ waits in
       let spent : IsSpent moved.server left = subst (λ (x : List ℕ). IsSpent x left) (server_stays passes c given) ((kept.each name).channels c stands).1 in
       let here : IsKept (j ∷ judgings) left j.controller name new = record {
@@ -376,11 +385,11 @@ module _ (judgings : List Judging) (left : List (List ℕ)) (j : Judging) (kept 
       record {
         map = subst (λ entries. IsMap same_name entries) (sym pending) kept.map;
         each = by_name (j ∷ judgings) left j.controller name new here (λ other apart.
-            kept_on judgings (j ∷ judgings) left left j.controller other j.computers new (record {
+            kept_on judgings (j ∷ judgings) left left j.controller other computers new (record {
               pair = ap (λ entries. lookup same_name other entries) pending;
               channel = ap (λ entries. lookup same_name other entries) channels
                   ∙ put_others same_name name other moved taken IsSameness-same_name apart
-                  ∙ taken_others same_name name other j.computers.channels IsSameness-same_name apart;
+                  ∙ taken_others same_name name other computers.channels IsSameness-same_name apart;
             })
             (λ secret client server flags. unnamed_unmoved name (channel_from j.controller other secret client server flags) named apart)
             (λ challenge spent. spent) (kept.each other));
@@ -395,8 +404,8 @@ judged_as how number w line c d = record {
   unit = w.unit;
   number = line.call;
   asked = Network c;
+  checks = checked_on c.computer d.work.computers;
   table = d.table;
-  computers = d.work.computers;
   moment = w.moment;
   how = how;
   reply = number;
@@ -411,10 +420,6 @@ how_passes : (passes : Bool) (key : List ℕ) (channel : SecureChannelState) (gi
 how_passes true key channel given name now line info validation d = ap has_passed (told_first d.work.actions (judged.Passed _) _)
 how_passes false key channel given name now line info validation d = ap has_passed (told_first d.work.actions judged.Barred _)
 
-no_channel_found : (name other : List ℕ) (c : SecureChannelState) (computers : Computers) → name ≡ other → lookup same_name name computers.channels ≡ Some c → lookup same_name other computers.channels ≡ None → ⊥
-no_channel_found name other c computers same stands none =
-    absurd (let both : Some c ≡ None = sym stands ∙ ap (λ (n : List ℕ). lookup same_name n computers.channels) same ∙ none in cc)
-
 none_is : {T : Type 0} (value : T) → None ≡ Some value → ⊥
 none_is value is = absurd cc
 
@@ -425,9 +430,9 @@ module _ (judgings : List Judging) (left : List (List ℕ)) (number : Option ℕ
       AreKept (judged_as how number w line c d ∷ judgings) left w.controller (judge_channel found computer given name now line info validation (desk d.table (take_channel computer d.work))).work.computers
   channel_judged None how computer given d named there stands told kept =
       let j : Judging = judged_as how number w line c d in
-      none_moved judgings left j kept (λ channel passed.
+      none_moved judgings left j d.work.computers refl kept (λ channel passed.
       let found = passed_in j channel passed in
-      no_channel_found found.name computer found.state d.work.computers (some_is found.name computer (sym found.named ∙ named)) found.stands stands)
+      none_is found.state (sym stands ∙ sym (ap (λ (name : Option (List ℕ)). checked_on name d.work.computers) named) ∙ found.stands))
       (take_channel computer d.work).computers refl (taken_none computer d.work.computers.channels stands)
   channel_judged (Some channel) how computer given d named there stands told kept =
       let j : Judging = judged_as how number w line c d in
@@ -435,7 +440,7 @@ module _ (judgings : List Judging) (left : List (List ℕ)) (number : Option ℕ
       let put_back : Desk = desk d.table (put_channel computer (channel_by passes channel given) (take_channel computer d.work)) in
       let after : Desk = judge_return (return_by passes channel given) (key_of_channel channel) name now line info validation put_back in
       let same : after.work.computers ≡ put_back.work.computers = return_computers (return_by passes channel given) (key_of_channel channel) name now line info validation put_back in
-      moved_kept judgings left j kept passes computer given channel after.work.computers
+      moved_kept judgings left j d.work.computers refl kept passes computer given channel after.work.computers
       (ap has_passed told ∙ how_passes passes (key_of_channel channel) channel given name now line info validation put_back) named there stands
       (ap Computers.pending same) (ap Computers.channels same)
 
@@ -444,12 +449,12 @@ module _ (judgings : List Judging) (left : List (List ℕ)) (number : Option ℕ
       AreKept (judged_as how number w line c d ∷ judgings) left w.controller (answer_logon computer given name now line info validation d).work.computers
   logon_kept None given how d named there told kept =
       let j : Judging = judged_as how number w line c d in
-      none_moved judgings left j kept (λ channel passed.
+      none_moved judgings left j d.work.computers refl kept (λ channel passed.
       let found = passed_in j channel passed in none_is found.name (sym named ∙ found.named))
       d.work.computers refl refl
   logon_kept (Some computer) None how d named there told kept =
       let j : Judging = judged_as how number w line c d in
-      none_moved judgings left j kept
+      none_moved judgings left j d.work.computers refl kept
       (λ channel passed. not_passed (has_passed how) j channel (ap has_passed (told ∙ told_first d.work.actions judged.NoChannel _)) passed)
       d.work.computers refl refl
   logon_kept (Some computer) (Some given) how d named there told kept =

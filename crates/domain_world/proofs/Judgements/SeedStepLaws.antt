@@ -19,12 +19,12 @@ use Rattle.domain_controller.specs.Machine.{Desk, account_for, answer_logon, by_
 use Rattle.domain_controller.specs.State.{State as ControllerState}
 use Rattle.domain_controller.specs.Step.{LinkMap, first_desk, halted, state_after, step_of, step_on}
 use Rattle.domain_controller.specs.declared.hearing.Heard.{Heard}
-use Rattle.domain_controller.specs.declared.line.Line.{Line}
-use Rattle.domain_controller.specs.declared.state.Computers.{Computers}
+use Rattle.controller_calls.specs.declared.line.Line.{Line}
+use Rattle.controller_calls.specs.declared.state.Computers.{Computers}
 use Rattle.domain_controller.specs.declared.state.Running.{Running}
 use Rattle.domain_controller.specs.declared.state.Talk.{Talk}
 use Rattle.step_notes.specs.ControllerNotes.{Answered, Where, answer_on, channel_in, has_passed, heard_answer, judged_in, judging_by, judging_of, new_actions, opened_by, opening, passing, units_at, units_by}
-use Rattle.step_notes.specs.Records.{Judging, computer_named}
+use Rattle.step_notes.specs.Records.{Judging, Network, computer_named}
 use Rattle.step_notes.specs.Served.{units_if_taken, work_after}
 use Rattle.world_moves.specs.Ends.{EndStates, controller_step}
 use Rattle.domain_world.specs.Claims.{moved_on}
@@ -116,7 +116,7 @@ passing_some (Some channel) j = refl
 
 judging_some : (passed : Bool) (j : Judging) → (judging_by passed j).judging ≡ Some j
 judging_some false j = refl
-judging_some true j = passing_some (channel_in j.controller (computer_named j.asked) j.computers) j
+judging_some true j = passing_some (channel_in j.controller (computer_named j.asked) j.checks) j
 
 module _ (judgings : List Judging) (w : Where) (d : Desk) where
   drawn_goes : (left : List (List ℕ)) (line : Line) (c : ChallengeCall) (talk : Talk) → IsInOrder judgings left → AreKept judgings left w.controller d.work.computers →
@@ -147,11 +147,11 @@ module _ (judgings : List Judging) (w : Where) (d : Desk) where
       let how = judged_in (new_actions (Some after) d) in
       let j : Judging = judged_as how number w line c d in
       subst (λ (o : Option Judging). PartGoes judgings (with_judging o number judgings) left w.controller (by_heard (heard.Asked line (call.Logon c) talk) link w.name w.moment d left))
-      (sym (judging_some (has_passed how) (judging_of w line c d (Some after)))) (record {
-        order = judged_order judgings left j kept order;
+      (sym (judging_some (has_passed how) (judging_of w line (Network c) d (Some after)))) (record {
+        order = judged_order judgings left j d.work.computers refl kept order;
         kept = logon_kept judgings left number w line c w.name w.moment c.info c.validation c.computer c.authenticator how d refl refl refl kept;
         fewer = IsRest-refl left;
-        others = others_unmoved judgings left j kept;
+        others = others_unmoved judgings left j d.work.computers refl kept;
       })
 
 -- ---- the units of a stream

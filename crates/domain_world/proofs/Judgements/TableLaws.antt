@@ -13,6 +13,7 @@ use Rattle.logon_stubs.specs.declared.calls.Call.TheVariants as call
 use Rattle.logon_stubs.specs.declared.calls.ChallengeCall.{ChallengeCall}
 use Rattle.logon_stubs.specs.declared.calls.LogonCall.{LogonCall}
 use Rattle.authenticators.specs.Channels.{ChannelIdentity}
+use Rattle.authenticators.specs.SecureChannels.{SecureChannelState}
 use Rattle.account_table.specs.AccountTable.{AccountTable}
 use Rattle.end_links.specs.Links.{LinkState}
 use Rattle.end_links.specs.Serving.{ServedPart, served_cut, ServedUnit, served_units}
@@ -22,15 +23,15 @@ use Rattle.domain_controller.specs.State.{State as ControllerState}
 use Rattle.domain_controller.specs.Step.{LinkMap, StepPart, after_units, by_event, first_desk, first_state, halted, serve_on, start_turn, state_after, step_of, step_on}
 use Rattle.domain_controller.specs.declared.hearing.Heard.{Heard}
 use Rattle.domain_controller.specs.declared.hearing.Heard.TheVariants as heard
-use Rattle.domain_controller.specs.declared.line.Line.{Line}
+use Rattle.controller_calls.specs.declared.line.Line.{Line}
 use Rattle.domain_controller.specs.declared.state.Running.{Running}
 use Rattle.domain_controller.specs.declared.state.Talk.{Talk}
 use Rattle.domain_controller.proofs.CountLaws.{counts_by_verdict}
 use Rattle.logon_client.specs.State.{State as ClientState}
 use Rattle.member_server.specs.State.{State as MemberState}
-use Rattle.step_notes.specs.ControllerNotes.{Answered, Where, answer_on, channel_in, has_passed, heard_answer, judging_by, judging_of, logon_answer, opened_by, opening, passing, units_at, units_by}
-use Rattle.step_notes.specs.Judged.{IsJudgedRight}
-use Rattle.step_notes.specs.Records.{Book, Judging, computer_named}
+use Rattle.step_notes.specs.ControllerNotes.{Answered, Where, answer_on, channel_in, checked_on, has_passed, heard_answer, judging_by, judging_of, logon_answer, opened_by, opening, passing, units_at, units_by}
+use Rattle.step_notes.specs.Judged.{IsJudgedRight, IsNextOn}
+use Rattle.step_notes.specs.Records.{Book, Judging, Network, computer_named}
 use Rattle.step_notes.specs.Served.{units_if_taken, work_after}
 use Rattle.world_moves.specs.declared.links.EndId.{EndId}
 use Rattle.world_moves.specs.declared.links.EndId.TheVariants.{Controller, Member, Client}
@@ -41,8 +42,9 @@ use Rattle.world_moves.specs.declared.state.State.{State}
 use Rattle.world_moves.specs.Ends.{EndStates, client_step, controller_step, end_step, member_step}
 use Rattle.world_moves.specs.Links.{acceptor_of}
 use Rattle.world_moves.specs.World.{first_world}
-use Rattle.domain_world.specs.Claims.Tables.{AreByEarlier, IsLeft, TablesFollowVerdicts, accounts_after, accounts_if, left_by, left_if}
+use Rattle.domain_world.specs.Claims.Tables.{AreByEarlier, IsLeft, TablesFollowVerdicts, accounts_after, accounts_if, left_by, left_if, left_on}
 use Rattle.domain_world.specs.Past.{Coming, answers_of, at_controller, first_of, judged_of, later_of, note_at, note_controller, numbers_on, onto, past, with_reply}
+use Rattle.step_notes.proofs.Controllers.JudgedStepLaws.{next_of, on_next}
 use Rattle.step_notes.proofs.ServedLaws.{StaysNoted, served_mapped}
 use Rattle.domain_world.proofs.Challenges.MessageOnceLaws.{each_put}
 use Rattle.domain_world.proofs.Frames.FrameLaws.{Fact, HoldsAfter, HoldsIn, IsQuiet, Stays, StaysWritten, run_stays}
@@ -83,15 +85,17 @@ pub record Answers (controller : ℕ) (before : AccountTable) (one : Answered) (
   pub leaves : HasTable (left_of before one.judging) part
 
 module _ (w : Where) (d : Desk) where
-  logon_left : (passed : Bool) (line : Line) (c : LogonCall) → has_passed (judging_of w line c d (Some (answer_logon c.computer c.authenticator w.name w.moment line c.info c.validation d))).how ≡ passed →
+  logon_left : (passed : Bool) (line : Line) (c : LogonCall) → has_passed (judging_of w line (Network c) d (Some (answer_logon c.computer c.authenticator w.name w.moment line c.info c.validation d))).how ≡ passed →
       (answer_logon c.computer c.authenticator w.name w.moment line c.info c.validation d).table
-      ≡ left_if passed (judging_of w line c d (Some (answer_logon c.computer c.authenticator w.name w.moment line c.info c.validation d)))
+      ≡ left_if passed (judging_of w line (Network c) d (Some (answer_logon c.computer c.authenticator w.name w.moment line c.info c.validation d)))
   logon_left true line c is =
-      let right : IsJudgedRight (judging_of w line c d (Some (answer_logon c.computer c.authenticator w.name w.moment line c.info c.validation d))) = calls_right w d line c in
-      counts_by_verdict.next c w.name w.moment line d (right.passed.0 is)
+      let right : IsJudgedRight (judging_of w line (Network c) d (Some (answer_logon c.computer c.authenticator w.name w.moment line c.info c.validation d))) = calls_right w d line c in
+      let next : IsNextOn (checked_on c.computer d.work.computers) c.authenticator = right.right.passed.0 is in
+      counts_by_verdict.next c w.name w.moment line d (next_of c.computer d.work.computers c.authenticator next)
+      ∙ ap (λ (found : Option SecureChannelState). left_on found (judging_of w line (Network c) d (Some (answer_logon c.computer c.authenticator w.name w.moment line c.info c.validation d)))) (sym next.stands)
   logon_left false line c is =
-      let right : IsJudgedRight (judging_of w line c d (Some (answer_logon c.computer c.authenticator w.name w.moment line c.info c.validation d))) = calls_right w d line c in
-      counts_by_verdict.other c w.name w.moment line d (λ next. absurd (let never : false ≡ true = sym is ∙ right.passed.1 next in cc))
+      let right : IsJudgedRight (judging_of w line (Network c) d (Some (answer_logon c.computer c.authenticator w.name w.moment line c.info c.validation d))) = calls_right w d line c in
+      counts_by_verdict.other c w.name w.moment line d (λ next. absurd (let never : false ≡ true = sym is ∙ right.right.passed.1 (on_next c.computer d.work.computers c.authenticator next) in cc))
 
   passing_judging : (channel : Option ChannelIdentity) (j : Judging) → (passing channel j).judging ≡ Some j
   passing_judging None j = refl
@@ -99,7 +103,7 @@ module _ (w : Where) (d : Desk) where
 
   logon_judging : (passed : Bool) (j : Judging) → (judging_by passed j).judging ≡ Some j
   logon_judging false j = refl
-  logon_judging true j = passing_judging (channel_in j.controller (computer_named j.asked) j.computers) j
+  logon_judging true j = passing_judging (channel_in j.controller (computer_named j.asked) j.checks) j
 
   opening_judging : (channel : Option ChannelIdentity) (number : ℕ) → (opening channel w number).judging ≡ None
   opening_judging None number = refl
@@ -121,7 +125,7 @@ module _ (w : Where) (d : Desk) where
       }
   call_answers (call.Logoff c) line talk left link = record { by = tt; leaves = refl }
   call_answers (call.Logon c) line talk left link =
-      let j : Judging = judging_of w line c d (Some (answer_logon c.computer c.authenticator w.name w.moment line c.info c.validation d)) in
+      let j : Judging = judging_of w line (Network c) d (Some (answer_logon c.computer c.authenticator w.name w.moment line c.info c.validation d)) in
       let is : (logon_answer j).judging ≡ Some j = logon_judging (has_passed j.how) j in
       record {
         by = subst (λ (judging : Option Judging). IsBy w.controller d.table judging) (sym is) (refl, refl);
@@ -240,9 +244,13 @@ other_if false j before is = refl
 other_if true j before is = absurd (let never : true ≡ false = is in cc)
 
 -- what a call leaves doesn't depend on which unit carries its reply
+left_alike : (checks : Option SecureChannelState) (j : Judging) (number : Option ℕ) → left_on checks (record j { reply = number }) ≡ left_on checks j
+left_alike None j number = refl
+left_alike (Some channel) j number = refl
+
 left_same : (passed : Bool) (j : Judging) (number : Option ℕ) → left_if passed (record j { reply = number }) ≡ left_if passed j
 left_same false j number = refl
-left_same true j number = refl
+left_same true j number = left_alike j.checks j number
 
 -- one call more: the accounts of its controller are those that it leaves, and another's are as they were
 one_more : (plan : Plan) (j : Judging) (judgings : List Judging) → IsLeft plan j.controller (j ∷ judgings) (left_by j)

@@ -32,18 +32,18 @@ use Rattle.domain_controller.specs.Laws.{judges_call}
 use Rattle.domain_controller.specs.State.{State as ControllerState}
 use Rattle.domain_controller.specs.Step.{LinkMap, StepPart, after_units, first_desk, halted, serve_on, start_turn, state_after, step_on}
 use Rattle.domain_controller.specs.declared.hearing.Heard.{Heard}
-use Rattle.domain_controller.specs.declared.line.Line.{Line}
-use Rattle.domain_controller.specs.declared.state.Computers.{Computers}
-use Rattle.domain_controller.specs.declared.state.ChallengePair.{ChallengePair}
+use Rattle.controller_calls.specs.declared.line.Line.{Line}
+use Rattle.controller_calls.specs.declared.state.Computers.{Computers}
+use Rattle.controller_calls.specs.declared.state.ChallengePair.{ChallengePair}
 use Rattle.domain_controller.specs.declared.state.Running.{Running}
 use Rattle.domain_controller.specs.declared.state.Talk.{Talk}
-use Rattle.domain_controller.specs.declared.state.Work.{Work}
+use Rattle.controller_calls.specs.declared.state.Work.{Work}
 use Rattle.logon_client.specs.State.{State as ClientState}
 use Rattle.member_server.specs.State.{State as MemberState}
 use Rattle.step_notes.specs.ControllerNotes.{Answered, Where, answer_on, channel_in, has_passed, heard_answer, judging_by, judging_of, opened_by, opening, passing, units_at, units_by}
 use Rattle.step_notes.specs.Judged.{IsJudgedRight, IsRightOf}
 use Rattle.step_notes.specs.MemberNotes.{turn_units}
-use Rattle.step_notes.specs.Records.{Book, Judging, JudgementTold, computer_named, given_in}
+use Rattle.step_notes.specs.Records.{Book, JudgementTold, Judging, Network, computer_named, given_in}
 use Rattle.step_notes.specs.Served.{units_if_taken, work_after}
 use Rattle.world_moves.specs.declared.links.EndId.{EndId}
 use Rattle.world_moves.specs.declared.links.EndId.TheVariants.{Controller, Member, Client}
@@ -177,7 +177,7 @@ passing_told (Some channel) j = refl
 
 judging_told : (passed : Bool) (j : Judging) → telling_if (judging_by passed j).judging ≡ telling j
 judging_told false j = refl
-judging_told true j = passing_told (channel_in j.controller (computer_named j.asked) j.computers) j
+judging_told true j = passing_told (channel_in j.controller (computer_named j.asked) j.checks) j
 
 heard_told : (what : Heard) (w : Where) (link : ℕ) (d : Desk) (left : List (List ℕ)) →
     Follows w (acted w d.work.actions ++ telling_if (heard_answer what w d (work_after (by_heard what link w.name w.moment d left))).judging)
@@ -193,11 +193,11 @@ heard_told (heard.Asked line (call.Authenticate c) talk) w link d left =
 heard_told (heard.Asked line (call.Logoff c) talk) w link d left = no_more _ (acted w d.work.actions) (fault_sent w d.work line nca_op_rng_error)
 heard_told (heard.Asked line (call.Logon c) talk) w link d left =
     let after : Desk = answer_logon c.computer c.authenticator w.name w.moment line c.info c.validation d in
-    let told : Told d.work.actions after.work.actions d.work.computers c.computer c.authenticator = by_names c.computer c.authenticator c w.name w.moment line d refl refl in
-    let j : Judging = judging_of w line c d (Some after) in
+    let j : Judging = judging_of w line (Network c) d (Some after) in
+    let told : Told d.work.actions after.work.actions j.checks c.authenticator = by_names c.computer c.authenticator c w.name w.moment line d in
     ap (acted w) told.is
     ∙ judges w d.work.actions told.how told.link told.answer
-    ∙ ap (λ how. acted w d.work.actions ++ telling_by w.at w.controller how) (sym (how_is d.work.actions after.work.actions d.work.computers c.computer c.authenticator told))
+    ∙ ap (λ how. acted w d.work.actions ++ telling_by w.at w.controller how) (sym (how_is d.work.actions after.work.actions j.checks c.authenticator told))
     ∙ ap (λ rest. acted w d.work.actions ++ rest) (sym (judging_told (has_passed j.how) j))
 
 -- ---- the units of a stream
@@ -409,19 +409,19 @@ judgements_told plan moves = ends_after ToldSoFar told_keeps plan moves (λ on. 
 
 pub none_right : (j : Judging) → j.how ≡ None → IsJudgedRight j → ⊥
 none_right j is right =
-    let none : IsRightOf None j.computers (computer_named j.asked) (given_in j.asked) = subst (λ how. IsRightOf how j.computers (computer_named j.asked) (given_in j.asked)) is right in
+    let none : IsRightOf None j.checks (given_in j.asked) = subst (λ how. IsRightOf how j.checks (given_in j.asked)) is right.right in
     absurd (let told : None ≡ Some judged.NoChannel = none.other.1 (
       (λ next. absurd (let passed : false ≡ true = none.passed.1 next in cc)),
       (λ barred. absurd (let so : None ≡ Some judged.Barred = none.barred.1 barred in cc)),
     ) in cc)
 
 -- what is right of a call judges it
-pub right_judges : (how : Judged) (computers : Computers) (name : Option (List ℕ)) (shown : Option Authenticator) → IsRightOf (Some how) computers name shown → judges_call how ≡ true
-right_judges (judged.Passed status) computers name shown right = refl
-right_judges judged.Forwarded computers name shown right = refl
-right_judges judged.Barred computers name shown right = refl
-right_judges judged.NoChannel computers name shown right = refl
-right_judges (judged.Answered status) computers name shown right =
+pub right_judges : (how : Judged) (checks : Option SecureChannelState) (shown : Option Authenticator) → IsRightOf (Some how) checks shown → judges_call how ≡ true
+right_judges (judged.Passed status) checks shown right = refl
+right_judges judged.Forwarded checks shown right = refl
+right_judges judged.Barred checks shown right = refl
+right_judges judged.NoChannel checks shown right = refl
+right_judges (judged.Answered status) checks shown right =
     absurd (let told : Some (judged.Answered status) ≡ Some judged.NoChannel = right.other.1 (
       (λ next. absurd (let passed : false ≡ true = right.passed.1 next in cc)),
       (λ barred. absurd (let so : Some (judged.Answered status) ≡ Some judged.Barred = right.barred.1 barred in cc)),
@@ -436,8 +436,8 @@ one_rightly : (how : Option Judged) (j : Judging) (more : List JudgementTold) (j
 one_rightly None j more judgings is right rest = absurd (none_right j is right)
 one_rightly (Some how) j more judgings is right rest =
     let one : JudgementTold = record { at = j.at; controller = j.controller; how = how } in
-    let of : IsRightOf (Some how) j.computers (computer_named j.asked) (given_in j.asked) = subst (λ (told : Option Judged). IsRightOf told j.computers (computer_named j.asked) (given_in j.asked)) is right in
-    subst (λ (told : List JudgementTold). AreTheirJudgements told (j ∷ judgings)) (sym (call_first how one more refl (right_judges how j.computers (computer_named j.asked) (given_in j.asked) of)))
+    let of : IsRightOf (Some how) j.checks (given_in j.asked) = subst (λ (told : Option Judged). IsRightOf told j.checks (given_in j.asked)) is right.right in
+    subst (λ (told : List JudgementTold). AreTheirJudgements told (j ∷ judgings)) (sym (call_first how one more refl (right_judges how j.checks (given_in j.asked) of)))
     (record { at = refl; controller = refl; how = sym is; right = right }, rest)
 
 all_rightly : (judgings : List Judging) → AreRight judgings → AreRightlyTold (tellings judgings) judgings

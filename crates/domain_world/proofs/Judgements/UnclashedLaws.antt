@@ -11,17 +11,17 @@ use Rattle.domain_controller.specs.Machine.{Desk}
 use Rattle.domain_controller.specs.State.{State as ControllerState}
 use Rattle.domain_controller.specs.declared.hearing.Heard.{Heard}
 use Rattle.domain_controller.specs.declared.hearing.Heard.TheVariants as heard
-use Rattle.domain_controller.specs.declared.line.Line.{Line}
+use Rattle.controller_calls.specs.declared.line.Line.{Line}
 use Rattle.domain_controller.specs.declared.state.Talk.{Talk}
 use Rattle.logon_client.specs.State.{State as ClientState}
 use Rattle.member_server.specs.State.{State as MemberState}
-use Rattle.member_server.specs.declared.state.AtTurn.{AtTurn}
-use Rattle.member_server.specs.declared.state.TurnTalk.{TurnTalk}
+use Rattle.member_server.specs.Turns.{AtTurn}
+use Rattle.channel_turns.specs.declared.state.TurnTalk.{TurnTalk}
 use Rattle.step_notes.specs.ControllerNotes.{Answered, Where, answer_on, call_answer, channel_in, has_passed, heard_answer, judging_by, judging_of, opened_by, opening, passing, units_of_controller}
 use Rattle.step_notes.specs.Judged.{channel_if, passed_channel}
 use Rattle.step_notes.specs.Marking.{clashes, is_channel, sent_channel}
 use Rattle.step_notes.specs.MemberNotes.{turn_units}
-use Rattle.step_notes.specs.Records.{Book, Judging, Sent, computer_named}
+use Rattle.step_notes.specs.Records.{Book, Judging, Network, Sent, computer_named}
 use Rattle.step_notes.specs.Served.{work_after}
 use Rattle.world_moves.specs.declared.links.EndId.{EndId}
 use Rattle.world_moves.specs.declared.links.EndId.TheVariants.{Controller, Member, Client}
@@ -75,13 +75,13 @@ IfNoted unit checked (Some j) = (passed_channel j ≡ checked) × (j.unit ≡ un
 abbrev IsNoted : Option ℕ → Answered → Type 0
 IsNoted unit one = IfNoted unit one.checked one.judging
 
-passing_noted : (found : Option ChannelIdentity) (j : Judging) → has_passed j.how ≡ true → channel_in j.controller (computer_named j.asked) j.computers ≡ found → IsNoted j.unit (passing found j)
+passing_noted : (found : Option ChannelIdentity) (j : Judging) → has_passed j.how ≡ true → channel_in j.controller (computer_named j.asked) j.checks ≡ found → IsNoted j.unit (passing found j)
 passing_noted None j passed is = (ap (λ (p : Bool). channel_if p j) passed ∙ is, refl)
 passing_noted (Some channel) j passed is = (ap (λ (p : Bool). channel_if p j) passed ∙ is, refl)
 
 judging_noted : (passed : Bool) (j : Judging) → has_passed j.how ≡ passed → IsNoted j.unit (judging_by passed j)
 judging_noted false j is = (ap (λ (p : Bool). channel_if p j) is, refl)
-judging_noted true j is = passing_noted (channel_in j.controller (computer_named j.asked) j.computers) j is refl
+judging_noted true j is = passing_noted (channel_in j.controller (computer_named j.asked) j.checks) j is refl
 
 opening_noted : (channel : Option ChannelIdentity) (w : Where) (number : ℕ) → IsNoted w.unit (opening channel w number)
 opening_noted None w number = tt
@@ -90,7 +90,7 @@ opening_noted (Some channel) w number = tt
 call_noted : (c : Call) (line : Line) (w : Where) (before : Desk) (after : Option Desk) → IsNoted w.unit (call_answer c line w before after)
 call_noted (call.Challenge c) line w before after = tt
 call_noted (call.Authenticate c) line w before after = opening_noted (opened_by w.controller c before) w line.call
-call_noted (call.Logon c) line w before after = judging_noted (has_passed (judging_of w line c before after).how) (judging_of w line c before after) refl
+call_noted (call.Logon c) line w before after = judging_noted (has_passed (judging_of w line (Network c) before after).how) (judging_of w line (Network c) before after) refl
 call_noted (call.Logoff c) line w before after = tt
 
 heard_noted : (what : Heard) (w : Where) (before : Desk) (after : Option Desk) → IsNoted w.unit (heard_answer what w before after)

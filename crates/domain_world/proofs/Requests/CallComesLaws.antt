@@ -18,12 +18,11 @@ use Rattle.domain_controller.specs.State.{State as ControllerState}
 use Rattle.logon_client.specs.State.{State as ClientState}
 use Rattle.member_server.specs.Machine.{actions_in, at_turn, event_part, halted_state, state_in, step_of, work_of}
 use Rattle.member_server.specs.State.{State as MemberState}
-use Rattle.member_server.specs.Turns.{DialWork}
-use Rattle.member_server.specs.declared.state.AtTurn.{AtTurn}
-use Rattle.member_server.specs.declared.state.Dialling.{Dialling}
-use Rattle.member_server.specs.declared.state.Dialling.TheVariants as dialling
+use Rattle.member_server.specs.Turns.{AtTurn, DialWork}
+use Rattle.channel_turns.specs.declared.state.Dialling.{Dialling}
+use Rattle.channel_turns.specs.declared.state.Dialling.TheVariants as dialling
 use Rattle.member_server.specs.declared.state.Running.{Running}
-use Rattle.member_server.specs.declared.state.TurnTalk.{TurnTalk}
+use Rattle.channel_turns.specs.declared.state.TurnTalk.{TurnTalk}
 use Rattle.step_notes.specs.CallLogons.{AreFirst}
 use Rattle.step_notes.specs.ControllerNotes.{units_of_controller}
 use Rattle.step_notes.specs.Marking.{answered_marks, turn_marks}
@@ -45,7 +44,7 @@ use Rattle.domain_world.specs.Past.{Coming, answers_of, at_controller, at_member
 use Rattle.domain_world.proofs.Accepting.LetInStepLaws.{IsAcceptedBy, IsDialledBy}
 use Rattle.domain_world.proofs.Frames.MarkPlaceLaws.{unit_on}
 use Rattle.domain_world.proofs.Requests.CallHoldsLaws.{CallsHold, differ_front, marks_append, marks_in, marks_sent, member_changed, sent_more, views_at}
-use Rattle.domain_world.proofs.Requests.CallStepLaws.{CallLaws, KeptSo, client_hears, coherent_if, controller_hears}
+use Rattle.domain_world.proofs.Requests.CallStepLaws.{KeptSo, client_hears, coherent_if, controller_hears}
 use Rattle.domain_world.proofs.Requests.LooserLaws.{IsPlaced, NoCalls}
 use Rattle.domain_world.proofs.Requests.MarkWayLaws.{answers_way}
 use Rattle.domain_world.proofs.Requests.NewMessageLaws.{new_accepted}
@@ -151,7 +150,7 @@ pub record IsWhole (link : ℕ) (piece : List ℕ) (running : Running) : Type 0 
   pub unit : RpcUnit
   pub heard : IsHeard piece frames unit
 
-module _ (laws : CallLaws) (n at : ℕ) (w : Coming) (piece : List ℕ) (s after : State) (b : Book) where
+module _ (n at : ℕ) (w : Coming) (piece : List ℕ) (s after : State) (b : Book) where
   -- which member it is, on which link
   abbrev pub here : LinkAt
   here = at_member at w s
@@ -193,9 +192,9 @@ module _ (laws : CallLaws) (n at : ℕ) (w : Coming) (piece : List ℕ) (s after
       (no_calls_sent w.at (marks_of w.link false new []) (none_marked w.link false new))
       (member_changed s.member_plans s.ends at (step_of m (event.Bytes w.link piece) s.moment s.chances.left).state n (n + 1) (2 * n + 1) s.chances.drawn (s.chances.drawn ++ drawn) s.links b.sent b.sent
       b.messages (b.messages ++ news m) (omega arith) holds
-      (other_apart laws.keep (views_at s.member_plans s.ends) at its laws.steps m.running (event.Bytes w.link piece) s.moment s.chances.left (marks_in b.sent) s.chances.drawn (2 * n)
+      (other_apart (views_at s.member_plans s.ends) at its m.running (event.Bytes w.link piece) s.moment s.chances.left (marks_in b.sent) s.chances.drawn (2 * n)
       (omega (arith, few)) (other_none m.running w.link piece other) (coherent_if m.running own.asks) (ap (λ (x : Option MemberState). seen_member its x) is) holds.apart differ)
-      (other_holds laws.steps s.links b.sent b.messages its here m.running piece s.moment s.chances.left other own)
+      (other_holds s.links b.sent b.messages its here m.running piece s.moment s.chances.left other own)
       (λ k differs. messages_more s.links b.sent b.sent b.messages (news m) k (λ j unit there. there))
       (all_join (λ (message : MessageTaken). IsAcceptedBy s.links message.member message.link) b.messages (news m) holds.accepted
       (new_accepted s.links here m piece s.moment s.chances.left own.accepts))))
@@ -321,7 +320,7 @@ module _ (laws : CallLaws) (n at : ℕ) (w : Coming) (piece : List ℕ) (s after
       own_after (Ok part) is own =
           subst (λ (p : Result (Part DialWork) StepRefused).
           MemberHolds s.links sent (noted note running.logons w.unit (first_of numbers) all_messages) its at (step_by actions_in state_in halted_state left p).state.running) is
-          (whole_holds laws.steps s.links b.sent sent b.messages its here running whole.said piece whole.frames whole.unit s.moment left w.unit (first_of numbers) grown whole.on whole.rest whole.none
+          (whole_holds s.links b.sent sent b.messages its here running whole.said piece whole.frames whole.unit s.moment left w.unit (first_of numbers) grown whole.on whole.rest whole.none
           whole.heard request_sent own)
 
       accepted_messages : CallsHold n s.member_plans s.ends s.chances.drawn s.links b.sent b.messages → MemberHolds s.links b.sent b.messages its at (Some running) → AreAccepted s.links all_messages
@@ -352,7 +351,7 @@ module _ (laws : CallLaws) (n at : ℕ) (w : Coming) (piece : List ℕ) (s after
           marks_append b.sent (map (sent_at w.at) marks) ∙ ap (λ (more : List Mark). marks_in b.sent ++ more) (marks_sent w.at marks) in
           let apart : CallsAreApart
           (requests_after (views_at s.member_plans s.ends) at its (step_of m (event.Bytes w.link piece) s.moment left).state.running (marks_in b.sent ++ marks) (s.chances.drawn ++ drawn) (2 * n + 2)) =
-          whole_apart laws.keep (views_at s.member_plans s.ends) at its laws.steps running w.link whole.said piece whole.frames whole.unit s.moment left (marks_in b.sent) marks s.chances.drawn (2 * n)
+          whole_apart (views_at s.member_plans s.ends) at its running w.link whole.said piece whole.frames whole.unit s.moment left (marks_in b.sent) marks s.chances.drawn (2 * n)
           (omega (arith, few)) whole.on whole.rest whole.none whole.heard own.asks.coherent (ap (λ (x : Option MemberState). seen_member its x) is)
           (placed_part its turn whole.unit stepped w.link (drop (length s.bag) after.bag) left served units_whole) holds.apart differ in
           subst (λ (messages : List MessageTaken).

@@ -10,22 +10,20 @@ use Rattle.outside.specs.declared.event.Event.{Event}
 use Rattle.outside.specs.declared.event.Event.TheVariants as event
 use Rattle.channel_client.specs.declared.state.Pending.{Pending}
 use Rattle.channel_events.specs.Marks.{Plain}
-use Rattle.channel_events.specs.RequestSteps.{RequestersKeepCallsApart}
-use Rattle.channel_events.specs.Requests.{CallsAreApart, CallsStayApart, Requests}
+use Rattle.channel_events.specs.Requests.{CallsAreApart, Requests}
 use Rattle.channel_events.proofs.ListLaws.{one_weaker}
 use Rattle.domain_controller.specs.State.{State as ControllerState}
 use Rattle.domain_controller.specs.Step.{first_state}
 use Rattle.logon_client.specs.Machine.{begin_of, fresh_client}
 use Rattle.logon_client.specs.declared.plan.ClientPlan.{ClientPlan}
-use Rattle.member_server.specs.ChannelSteps.{ChannelStepsKnown}
 use Rattle.member_server.specs.Machine.{fresh_member, step_of}
 use Rattle.member_server.specs.State.{State as MemberState}
 use Rattle.member_server.specs.declared.plan.MemberPlan.{MemberPlan}
-use Rattle.member_server.specs.declared.state.Dialling.{Dialling}
-use Rattle.member_server.specs.declared.state.Dialling.TheVariants as dialling
+use Rattle.channel_turns.specs.declared.state.Dialling.{Dialling}
+use Rattle.channel_turns.specs.declared.state.Dialling.TheVariants as dialling
 use Rattle.member_server.specs.declared.state.Logon.{Logon}
 use Rattle.member_server.specs.declared.state.Running.{Running}
-use Rattle.member_server.specs.declared.state.TurnTalk.{TurnTalk}
+use Rattle.channel_turns.specs.declared.state.TurnTalk.{TurnTalk}
 use Rattle.end_links.specs.Links.{LinkState}
 use Rattle.step_notes.specs.ChannelNames.{standing_channel}
 use Rattle.step_notes.specs.MemberNotes.{is_turn_link}
@@ -42,7 +40,6 @@ use Rattle.world_moves.specs.declared.moves.Move.{Move}
 use Rattle.world_moves.specs.declared.plan.Plan.{Plan}
 use Rattle.world_moves.specs.declared.state.State.{State}
 use Rattle.world_moves.specs.Acting.{Given, bag_unit, hear, heard_by, hear_and_act, perform_all, perform_quietly, send_on}
-use Rattle.world_moves.specs.Bag.{AreShortUnits, HaveBytes}
 use Rattle.world_moves.specs.Draws.{DrawsDiffer}
 use Rattle.world_moves.specs.Ends.{actions_by, member_step, renew_client, renew_controller, renew_member}
 use Rattle.world_moves.specs.Forms.{IsSchedule}
@@ -52,6 +49,7 @@ use Rattle.world_moves.specs.World.{first_world}
 use Rattle.domain_world.specs.Accepting.Carried.{IsWholeUnit}
 use Rattle.domain_world.specs.Accepting.Runs.{AskedIsOut, BagIsWhole, IsOut, IsQuiet, IsQuietTurn, RunsStandSo, Shows, seen_in}
 use Rattle.domain_world.specs.Past.{Coming, Past, controller_of, note_at, note_given, note_member, past, sent_at}
+use Rattle.domain_world.specs.Schedules.{OfSchedules}
 use Rattle.domain_world.proofs.Accepting.LetInStepLaws.{IsDialledBy, Meets, calm_meets, last_accepted, side_meets}
 use Rattle.domain_world.proofs.Accepting.Quiet.QuietRunLaws.{one_piece, has_bytes, is_quiet, quiet_first, quiet_keeps}
 use Rattle.domain_world.proofs.Accepting.Quiet.QuietStepLaws.{QuietAction, QuietFact}
@@ -62,7 +60,7 @@ use Rattle.domain_world.proofs.Frames.MarkPlaceLaws.{got_map}
 use Rattle.domain_world.proofs.Frames.StepFrameLaws.{AnyAction, ActionFact, BothFacts, BothFine, HoldsAfterRun, Keeps, NoFact, RunFact, join, run_keeps, with_side}
 use Rattle.domain_world.proofs.Requests.CallComesLaws.{IsWhole, KeptAfter, KeptIn, client_comes, controller_comes, other_comes, whole_comes}
 use Rattle.domain_world.proofs.Requests.CallHoldsLaws.{CallsHold, differ_front, link_more, marks_in, requests_at, sent_more}
-use Rattle.domain_world.proofs.Requests.CallStepLaws.{CallLaws, client_anew, client_hears, controller_anew, controller_hears, member_anew, member_hears}
+use Rattle.domain_world.proofs.Requests.CallStepLaws.{client_anew, client_hears, controller_anew, controller_hears, member_anew, member_hears}
 use Rattle.domain_world.proofs.Requests.LooserLaws.{NoCalls}
 use Rattle.domain_world.proofs.Requests.OutStepLaws.{IsOther, IsOutIn, MemberHolds, OutFor, none_out}
 use Rattle.domain_world.proofs.Frames.PlacedLaws.{HasBytes}
@@ -129,130 +127,129 @@ plain_calls at zero (suc k) number timestamp c there = let x = there in cc
 plain_calls at (suc count) zero number timestamp c there = let x = there in cc
 plain_calls at (suc count) (suc k) number timestamp c there = plain_calls at count k number timestamp c there
 
-module _ (laws : CallLaws) where
-  hears_so : (n : ℕ) (end : EndId) (what : Event) (s : State) (b : Book) → Meets end s.links what → KeptIn n s b → KeptIn (n + 1) (hear end what s).state b
-  hears_so n (Controller at) what s b meets kept =
-      controller_hears n s.member_plans s.ends s.links b.sent b.messages (slice_get s.ends.controllers at) at what s.moment s.chances kept
-  hears_so n (Client at) what s b meets kept = client_hears n s.member_plans s.ends s.links b.sent b.messages (slice_get s.ends.clients at) at what s.moment s.chances kept
-  hears_so n (Member at) what s b meets kept =
-      member_hears n s.member_plans s.ends s.links b.sent b.messages laws (slice_get s.ends.members at) at what s.moment s.chances refl meets.0 meets.1 kept
+hears_so : (n : ℕ) (end : EndId) (what : Event) (s : State) (b : Book) → Meets end s.links what → KeptIn n s b → KeptIn (n + 1) (hear end what s).state b
+hears_so n (Controller at) what s b meets kept =
+    controller_hears n s.member_plans s.ends s.links b.sent b.messages (slice_get s.ends.controllers at) at what s.moment s.chances kept
+hears_so n (Client at) what s b meets kept = client_hears n s.member_plans s.ends s.links b.sent b.messages (slice_get s.ends.clients at) at what s.moment s.chances kept
+hears_so n (Member at) what s b meets kept =
+    member_hears n s.member_plans s.ends s.links b.sent b.messages (slice_get s.ends.members at) at what s.moment s.chances refl meets.0 meets.1 kept
 
-  -- ---- bytes come
+-- ---- bytes come
 
-  member_comes : (n : ℕ) (found : Option MemberState) (at : ℕ) (w : Coming) (piece : List ℕ) (s after : State) (b : Book) → slice_get s.ends.members at ≡ found → IsQuiet s →
-      CameFrom w.unit s w piece → length b.sent ≡ length s.bag →
-      ((m : MemberState) → found ≡ Some m →
-      after.bag
-      ≡ (perform_all (Member at) (actions_by (step_of m (event.Bytes w.link piece) s.moment s.chances.left).answer)
-      (heard_by (member_step (Some m) at (event.Bytes w.link piece) s.moment s.ends s.chances) s).state).state.bag) →
-      KeptIn n s b → KeptAfter (n + 1) s (member_step found at (event.Bytes w.link piece) s.moment s.ends s.chances) (note_member found at w piece s after b)
-  member_comes n None at w piece s after b is quiet came even bag kept =
-      member_hears n s.member_plans s.ends s.links b.sent b.messages laws None at event.Stop s.moment s.chances is tt tt kept
-  member_comes n (Some m) at w piece s after b is quiet came even bag kept = λ few differ.
-      let drawn : List (List ℕ) = (step_of m (event.Bytes w.link piece) s.moment s.chances.left).drawn in
-      let holds : CallsHold n s.member_plans s.ends s.chances.drawn s.links b.sent b.messages = kept (omega (arith, few)) (differ_front s.chances.drawn drawn differ) in
-      let own : MemberHolds s.links b.sent b.messages (controller_of at s) at m.running = holds.members at m is in
-      elim (turn_case m.running w.link) [
-        | inl other ↦ other_comes laws n at w piece s after b m is other kept few differ
-        | inr on ↦
-            let now : MemberState = record { running = Some on.running } in
-            let same : m ≡ now = ap (λ (r : Option Running). record { running = r }) on.runs in
-            let dialled : IsDialledBy s.links at w.link = dialled_on _ (λ number. IsDialledBy s.links at number) m.running w.link on own.kept in
-            let unit : IsWholeUnit piece = came_whole w.unit s w piece at came dialled quiet.bag in
-            let turn : IsQuietTurn (dialling.On w.link on.said) = subst IsQuietTurn on.on (quiet.members at m on.running is on.runs) in
-            let whole : IsWhole w.link piece on.running =
-            record { said = on.said; on = on.on; rest = turn.0; none = turn.1; frames = unit.frames; unit = unit.unit; heard = unit.heard } in
-            subst (λ (x : MemberState). KeptAfter (n + 1) s (member_step (Some x) at (event.Bytes w.link piece) s.moment s.ends s.chances) (note_member (Some x) at w piece s after b)) (sym same)
-            (whole_comes laws n at w piece s after b on.running whole dialled even (bag now (ap (λ (x : MemberState). Some x) same)) (is ∙ ap (λ (x : MemberState). Some x) same) kept)
-            few differ
-      ]
+member_comes : (n : ℕ) (found : Option MemberState) (at : ℕ) (w : Coming) (piece : List ℕ) (s after : State) (b : Book) → slice_get s.ends.members at ≡ found → IsQuiet s →
+    CameFrom w.unit s w piece → length b.sent ≡ length s.bag →
+    ((m : MemberState) → found ≡ Some m →
+    after.bag
+    ≡ (perform_all (Member at) (actions_by (step_of m (event.Bytes w.link piece) s.moment s.chances.left).answer)
+    (heard_by (member_step (Some m) at (event.Bytes w.link piece) s.moment s.ends s.chances) s).state).state.bag) →
+    KeptIn n s b → KeptAfter (n + 1) s (member_step found at (event.Bytes w.link piece) s.moment s.ends s.chances) (note_member found at w piece s after b)
+member_comes n None at w piece s after b is quiet came even bag kept =
+    member_hears n s.member_plans s.ends s.links b.sent b.messages None at event.Stop s.moment s.chances is tt tt kept
+member_comes n (Some m) at w piece s after b is quiet came even bag kept = λ few differ.
+    let drawn : List (List ℕ) = (step_of m (event.Bytes w.link piece) s.moment s.chances.left).drawn in
+    let holds : CallsHold n s.member_plans s.ends s.chances.drawn s.links b.sent b.messages = kept (omega (arith, few)) (differ_front s.chances.drawn drawn differ) in
+    let own : MemberHolds s.links b.sent b.messages (controller_of at s) at m.running = holds.members at m is in
+    elim (turn_case m.running w.link) [
+      | inl other ↦ other_comes n at w piece s after b m is other kept few differ
+      | inr on ↦
+          let now : MemberState = record { running = Some on.running } in
+          let same : m ≡ now = ap (λ (r : Option Running). record { running = r }) on.runs in
+          let dialled : IsDialledBy s.links at w.link = dialled_on _ (λ number. IsDialledBy s.links at number) m.running w.link on own.kept in
+          let unit : IsWholeUnit piece = came_whole w.unit s w piece at came dialled quiet.bag in
+          let turn : IsQuietTurn (dialling.On w.link on.said) = subst IsQuietTurn on.on (quiet.members at m on.running is on.runs) in
+          let whole : IsWhole w.link piece on.running =
+          record { said = on.said; on = on.on; rest = turn.0; none = turn.1; frames = unit.frames; unit = unit.unit; heard = unit.heard } in
+          subst (λ (x : MemberState). KeptAfter (n + 1) s (member_step (Some x) at (event.Bytes w.link piece) s.moment s.ends s.chances) (note_member (Some x) at w piece s after b)) (sym same)
+          (whole_comes n at w piece s after b on.running whole dialled even (bag now (ap (λ (x : MemberState). Some x) same)) (is ∙ ap (λ (x : MemberState). Some x) same) kept)
+          few differ
+    ]
 
-  comes_so : (n : ℕ) (end : EndId) (w : Coming) (piece : List ℕ) (s : State) (b : Book) → CameFrom w.unit s w piece → (IsServer end → length b.sent ≡ length s.bag) → IsQuiet s → KeptIn n s b →
-      KeptIn (n + 1) (hear end (event.Bytes w.link piece) s).state (note_at (Some end) w piece s (hear_and_act end (event.Bytes w.link piece) s).state b)
-  comes_so n (Controller at) w piece s b came even quiet kept =
-      controller_comes n (slice_get s.ends.controllers at) at w piece s (hear_and_act (Controller at) (event.Bytes w.link piece) s).state b kept
-  comes_so n (Client at) w piece s b came even quiet kept = client_comes n (slice_get s.ends.clients at) at w piece s b kept
-  comes_so n (Member at) w piece s b came even quiet kept =
-      let what : Event = event.Bytes w.link piece in
-      member_comes n (slice_get s.ends.members at) at w piece s (hear_and_act (Member at) what s).state b refl quiet came (even tt)
-      (λ m is. ap (λ (found : Option MemberState).
-      (perform_all (Member at) (member_step found at what s.moment s.ends s.chances).actions (heard_by (member_step found at what s.moment s.ends s.chances) s).state).state.bag) is) kept
+comes_so : (n : ℕ) (end : EndId) (w : Coming) (piece : List ℕ) (s : State) (b : Book) → CameFrom w.unit s w piece → (IsServer end → length b.sent ≡ length s.bag) → IsQuiet s → KeptIn n s b →
+    KeptIn (n + 1) (hear end (event.Bytes w.link piece) s).state (note_at (Some end) w piece s (hear_and_act end (event.Bytes w.link piece) s).state b)
+comes_so n (Controller at) w piece s b came even quiet kept =
+    controller_comes n (slice_get s.ends.controllers at) at w piece s (hear_and_act (Controller at) (event.Bytes w.link piece) s).state b kept
+comes_so n (Client at) w piece s b came even quiet kept = client_comes n (slice_get s.ends.clients at) at w piece s b kept
+comes_so n (Member at) w piece s b came even quiet kept =
+    let what : Event = event.Bytes w.link piece in
+    member_comes n (slice_get s.ends.members at) at w piece s (hear_and_act (Member at) what s).state b refl quiet came (even tt)
+    (λ m is. ap (λ (found : Option MemberState).
+    (perform_all (Member at) (member_step found at what s.moment s.ends s.chances).actions (heard_by (member_step found at what s.moment s.ends s.chances) s).state).state.bag) is) kept
 
-  -- ---- single changes
+-- ---- single changes
 
-  bag_so : (n : ℕ) (k : LinkKind) (back : Bool) (link : ℕ) (bytes : List ℕ) (s : State) (b : Book) → KeptIn n s b → KeptIn n (bag_unit k back link bytes s) b
-  bag_so n kind.Stranger back link bytes s b kept = kept
-  bag_so n kind.ToMember back link bytes s b kept = kept
-  bag_so n kind.ToController back link bytes s b kept = kept
+bag_so : (n : ℕ) (k : LinkKind) (back : Bool) (link : ℕ) (bytes : List ℕ) (s : State) (b : Book) → KeptIn n s b → KeptIn n (bag_unit k back link bytes s) b
+bag_so n kind.Stranger back link bytes s b kept = kept
+bag_so n kind.ToMember back link bytes s b kept = kept
+bag_so n kind.ToController back link bytes s b kept = kept
 
-  send_so : (n : ℕ) (route : Option Route) (end : EndId) (link : ℕ) (bytes : List ℕ) (s : State) (b : Book) → KeptIn n s b → KeptIn n (send_on route end link bytes s) b
-  send_so n None end link bytes s b kept = kept
-  send_so n (Some route) end link bytes s b kept = bag_so n (kind_of route) (is_accepted_by end route) link bytes s b kept
+send_so : (n : ℕ) (route : Option Route) (end : EndId) (link : ℕ) (bytes : List ℕ) (s : State) (b : Book) → KeptIn n s b → KeptIn n (send_on route end link bytes s) b
+send_so n None end link bytes s b kept = kept
+send_so n (Some route) end link bytes s b kept = bag_so n (kind_of route) (is_accepted_by end route) link bytes s b kept
 
-  act_so : (n : ℕ) (end : EndId) (what : Action) (s : State) (b : Book) → KeptIn n s b → KeptIn n (perform_quietly end what s) b
-  act_so n end (Keep bytes) s b kept = kept
-  act_so n end (Send link bytes) s b kept = send_so n (slice_get s.links link) end link bytes s b kept
-  act_so n end (Dial peer) s b kept = kept
-  act_so n end (Close link cause) s b kept = kept
-  act_so n end (Told link outcome) s b kept = kept
-  act_so n end (Judged how) s b kept = kept
+act_so : (n : ℕ) (end : EndId) (what : Action) (s : State) (b : Book) → KeptIn n s b → KeptIn n (perform_quietly end what s) b
+act_so n end (Keep bytes) s b kept = kept
+act_so n end (Send link bytes) s b kept = send_so n (slice_get s.links link) end link bytes s b kept
+act_so n end (Dial peer) s b kept = kept
+act_so n end (Close link cause) s b kept = kept
+act_so n end (Told link outcome) s b kept = kept
+act_so n end (Judged how) s b kept = kept
 
-  controller_renewed : (n : ℕ) (found : Option ControllerState) (at : ℕ) (s : State) (b : Book) → KeptIn n s b → KeptIn n (record s { ends = renew_controller found at s.ends }) b
-  controller_renewed n None at s b kept = kept
-  controller_renewed n (Some c) at s b kept = controller_anew n s.member_plans s.ends s.links b.sent b.messages at (first_state c.table c.name) s.chances.drawn kept
+controller_renewed : (n : ℕ) (found : Option ControllerState) (at : ℕ) (s : State) (b : Book) → KeptIn n s b → KeptIn n (record s { ends = renew_controller found at s.ends }) b
+controller_renewed n None at s b kept = kept
+controller_renewed n (Some c) at s b kept = controller_anew n s.member_plans s.ends s.links b.sent b.messages at (first_state c.table c.name) s.chances.drawn kept
 
-  member_renewed : (n : ℕ) (found : Option MemberPlan) (at : ℕ) (s : State) (b : Book) → KeptIn n s b → KeptIn n (record s { ends = renew_member found at s.ends }) b
-  member_renewed n None at s b kept = kept
-  member_renewed n (Some plan) at s b kept = member_anew n s.member_plans s.ends s.links b.sent b.messages laws plan at s.chances.drawn kept
+member_renewed : (n : ℕ) (found : Option MemberPlan) (at : ℕ) (s : State) (b : Book) → KeptIn n s b → KeptIn n (record s { ends = renew_member found at s.ends }) b
+member_renewed n None at s b kept = kept
+member_renewed n (Some plan) at s b kept = member_anew n s.member_plans s.ends s.links b.sent b.messages plan at s.chances.drawn kept
 
-  client_renewed : (n : ℕ) (found : Option ClientPlan) (at : ℕ) (s : State) (b : Book) → KeptIn n s b → KeptIn n (record s { ends = renew_client found at s.ends }) b
-  client_renewed n None at s b kept = kept
-  client_renewed n (Some plan) at s b kept = client_anew n s.member_plans s.ends s.links b.sent b.messages n at (fresh_client plan) s.chances.drawn (omega arith) kept
+client_renewed : (n : ℕ) (found : Option ClientPlan) (at : ℕ) (s : State) (b : Book) → KeptIn n s b → KeptIn n (record s { ends = renew_client found at s.ends }) b
+client_renewed n None at s b kept = kept
+client_renewed n (Some plan) at s b kept = client_anew n s.member_plans s.ends s.links b.sent b.messages n at (fresh_client plan) s.chances.drawn (omega arith) kept
 
-  renewed_so : (n : ℕ) (end : EndId) (s : State) (b : Book) → KeptIn n s b → KeptIn n (renewed end s) b
-  renewed_so n (Controller at) s b kept = controller_renewed n (slice_get s.ends.controllers at) at s b kept
-  renewed_so n (Member at) s b kept = member_renewed n (slice_get s.member_plans at) at s b kept
-  renewed_so n (Client at) s b kept = client_renewed n (slice_get s.client_plans at) at s b kept
+renewed_so : (n : ℕ) (end : EndId) (s : State) (b : Book) → KeptIn n s b → KeptIn n (renewed end s) b
+renewed_so n (Controller at) s b kept = controller_renewed n (slice_get s.ends.controllers at) at s b kept
+renewed_so n (Member at) s b kept = member_renewed n (slice_get s.member_plans at) at s b kept
+renewed_so n (Client at) s b kept = client_renewed n (slice_get s.client_plans at) at s b kept
 
-  over_so : (n at : ℕ) (given : Given) (s : State) (b : Book) → KeptIn n s b → KeptIn n s (note_given at given s b)
-  over_so n at given s b kept = λ few differ.
-      let count : ℕ = length s.bag - length b.sent in
-      sent_more n s.member_plans s.ends s.chances.drawn s.links b.sent (replicate count (sent_at at Plain)) b.messages (plain_calls at count) (kept few differ)
+over_so : (n at : ℕ) (given : Given) (s : State) (b : Book) → KeptIn n s b → KeptIn n s (note_given at given s b)
+over_so n at given s b kept = λ few differ.
+    let count : ℕ = length s.bag - length b.sent in
+    sent_more n s.member_plans s.ends s.chances.drawn s.links b.sent (replicate count (sent_at at Plain)) b.messages (plain_calls at count) (kept few differ)
 
-  -- through each step and each single change
-  pub calls_keep : Keeps QuietSide CallsKept AnyAction
-  calls_keep = record {
-    calm = λ n end what s given b calm quiet kept. record {
-      holds = hears_so n end what s b (calm_meets end s.links what calm) kept;
-      fine = any_fine end s.links (hear end what s).actions;
-    };
-    dialled = λ n end link s given b side quiet kept. record {
-      holds = hears_so n end (event.Dialled link) s b (side_meets end s.links link side) kept;
-      fine = any_fine end s.links (hear end (event.Dialled link) s).actions;
-    };
-    opens = λ n route s given b quiet kept. record {
-      holds = hears_so n (acceptor_of route) (event.Opened (length s.links)) (with_link route s) b (last_accepted (acceptor_of route) route s.links refl)
-          (λ few differ. link_more n s.member_plans s.ends s.chances.drawn s.links route b.sent b.messages (kept few differ));
-      fine = any_fine (acceptor_of route) (with_link route s).links (hear (acceptor_of route) (event.Opened (length s.links)) (with_link route s)).actions;
-    };
-    begins = λ n client plan s given b there quiet kept. record {
-      holds = client_anew n s.member_plans s.ends s.links b.sent b.messages (n + 1) client (begin_of (fresh_client plan)).state s.chances.drawn (omega arith) kept;
-      fine = any_fine (Client client) s.links (begun client plan s).actions;
-    };
-    comes = λ n end w piece s given b side came bytes even quiet kept. record {
-      holds = comes_so n end w piece s b came even quiet kept;
-      fine = any_fine end s.links (hear end (event.Bytes w.link piece) s).actions;
-    };
-    acts = λ n end what s given b fine quiet kept. act_so n end what s b kept;
-    shuts = λ n link s given b quiet kept. kept;
-    answers = λ n link there s given b is quiet kept. kept;
-    forgets = λ n end s given b quiet kept. kept;
-    settles = λ n number s given b quiet kept. kept;
-    dials = λ n s given b quiet kept. kept;
-    renews = λ n end s given b quiet kept. renewed_so n end s b kept;
-    ticks = λ n more s given b quiet kept. kept;
-    over = λ n at s given b quiet kept. over_so n at given s b kept;
-  }
+-- through each step and each single change
+pub calls_keep : Keeps QuietSide CallsKept AnyAction
+calls_keep = record {
+  calm = λ n end what s given b calm quiet kept. record {
+    holds = hears_so n end what s b (calm_meets end s.links what calm) kept;
+    fine = any_fine end s.links (hear end what s).actions;
+  };
+  dialled = λ n end link s given b side quiet kept. record {
+    holds = hears_so n end (event.Dialled link) s b (side_meets end s.links link side) kept;
+    fine = any_fine end s.links (hear end (event.Dialled link) s).actions;
+  };
+  opens = λ n route s given b quiet kept. record {
+    holds = hears_so n (acceptor_of route) (event.Opened (length s.links)) (with_link route s) b (last_accepted (acceptor_of route) route s.links refl)
+        (λ few differ. link_more n s.member_plans s.ends s.chances.drawn s.links route b.sent b.messages (kept few differ));
+    fine = any_fine (acceptor_of route) (with_link route s).links (hear (acceptor_of route) (event.Opened (length s.links)) (with_link route s)).actions;
+  };
+  begins = λ n client plan s given b there quiet kept. record {
+    holds = client_anew n s.member_plans s.ends s.links b.sent b.messages (n + 1) client (begin_of (fresh_client plan)).state s.chances.drawn (omega arith) kept;
+    fine = any_fine (Client client) s.links (begun client plan s).actions;
+  };
+  comes = λ n end w piece s given b side came bytes even quiet kept. record {
+    holds = comes_so n end w piece s b came even quiet kept;
+    fine = any_fine end s.links (hear end (event.Bytes w.link piece) s).actions;
+  };
+  acts = λ n end what s given b fine quiet kept. act_so n end what s b kept;
+  shuts = λ n link s given b quiet kept. kept;
+  answers = λ n link there s given b is quiet kept. kept;
+  forgets = λ n end s given b quiet kept. kept;
+  settles = λ n number s given b quiet kept. kept;
+  dials = λ n s given b quiet kept. kept;
+  renews = λ n end s given b quiet kept. renewed_so n end s b kept;
+  ticks = λ n more s given b quiet kept. kept;
+  over = λ n at s given b quiet kept. over_so n at given s b kept;
+}
 
 -- ---- at first
 
@@ -319,13 +316,12 @@ calls_stand plan moves steps kept few schedule differ =
 -- ---- with what keeps the ends quiet
 
 -- so a schedule whose draws differ stands as it is to, where any fact is kept by which its ends are quiet
-pub stand_so : RequestersKeepCallsApart → CallsStayApart ℕ → ChannelStepsKnown → (Quiet : RunFact) (Fine : ActionFact) → ((n : ℕ) (s : State) (given : Given) (b : Book) → Quiet n s given b → IsQuiet s) → Keeps NoFact Quiet Fine →
+pub stand_so : (Quiet : RunFact) (Fine : ActionFact) → ((n : ℕ) (s : State) (given : Given) (b : Book) → Quiet n s given b → IsQuiet s) → Keeps NoFact Quiet Fine →
     (plan : Plan) (moves : List Move) → Quiet 0 (first_world plan).state [] blank → HasBytes plan moves → IsSchedule plan moves →
     DrawsDiffer (past plan moves).world → RunsStandSo plan moves
-stand_so requesters events steps Quiet Fine so keeps plan moves first bytes schedule differ =
-    let laws : CallLaws = record { keep = requesters; events = events; steps = steps } in
+stand_so Quiet Fine so keeps plan moves first bytes schedule differ =
     let both : Keeps NoFact (BothFacts Quiet CallsKept) (BothFine Fine AnyAction) =
-    join Quiet CallsKept Fine AnyAction keeps (with_side QuietSide Quiet CallsKept AnyAction so (calls_keep laws)) in
+    join Quiet CallsKept Fine AnyAction keeps (with_side QuietSide Quiet CallsKept AnyAction so calls_keep) in
     let after : HoldsAfterRun (BothFacts Quiet CallsKept) plan moves =
     run_keeps (BothFacts Quiet CallsKept) (BothFine Fine AnyAction) both plan moves bytes (first, first_calls plan) in
     let stand : CallsStand plan moves = calls_stand plan moves after.steps after.holds.1 after.few schedule differ in
@@ -338,8 +334,7 @@ stand_so requesters events steps Quiet Fine so keeps plan moves first bytes sche
     }
 
 -- so it is of each schedule
-pub schedules_stand : RequestersKeepCallsApart → CallsStayApart ℕ → ChannelStepsKnown → (plan : Plan) (moves : List Move) → IsSchedule plan moves → AreShortUnits (past plan moves).world.state.bag →
-    HaveBytes (past plan moves).world.state.bag → DrawsDiffer (past plan moves).world → RunsStandSo plan moves
-schedules_stand requesters events steps plan moves schedule short bytes differ =
-    stand_so requesters events steps QuietFact QuietAction (λ n s given b quiet. is_quiet s quiet) quiet_keeps plan moves (quiet_first plan schedule.forms) (has_bytes plan moves schedule short bytes)
+pub schedules_stand : OfSchedules (λ plan moves. DrawsDiffer (past plan moves).world → RunsStandSo plan moves)
+schedules_stand plan moves schedule short bytes differ =
+    stand_so QuietFact QuietAction (λ n s given b quiet. is_quiet s quiet) quiet_keeps plan moves (quiet_first plan schedule.forms) (has_bytes plan moves schedule short bytes)
     schedule differ

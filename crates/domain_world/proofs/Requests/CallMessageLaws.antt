@@ -25,15 +25,13 @@ use Rattle.channel_client.specs.declared.judging.Judgement.TheVariants as judgem
 use Rattle.channel_client.specs.Effects.{seed_in}
 use Rattle.channel_client.specs.Machine.{act, hear, judge, settle}
 use Rattle.member_server.specs.declared.plan.MemberPlan.{MemberPlan}
-use Rattle.member_server.specs.declared.state.AtTurn.{AtTurn}
 use Rattle.member_server.specs.declared.state.Logon.{Logon}
 use Rattle.member_server.specs.declared.state.Logons.{Logons}
 use Rattle.member_server.specs.declared.state.Running.{Running}
-use Rattle.member_server.specs.declared.state.TurnTalk.{TurnTalk}
-use Rattle.member_server.specs.Laws.{LetsInTheGranted}
+use Rattle.channel_turns.specs.declared.state.TurnTalk.{TurnTalk}
 use Rattle.member_server.specs.Machine.{at_turn, work_of}
 use Rattle.member_server.specs.State.{State as MemberState}
-use Rattle.member_server.specs.Turns.{TurnServed, do_taken, turn_by_join, turn_server, turn_unit}
+use Rattle.member_server.specs.Turns.{AtTurn, TurnServed, do_taken, turn_by_join, turn_server, turn_unit}
 use Rattle.channel_events.specs.Marks.{Calling, Mark, Opened, Opening, Plain, ReplyTo}
 use Rattle.step_notes.specs.CallLogons.{AreFirst, AreForLogon, CarriesItsLogon, IfCalling, IsFirstBy, IsForItsLogon, call_for, info_at}
 use Rattle.step_notes.specs.ChannelNames.{AreFramesOf, sends_in}
@@ -209,9 +207,9 @@ module _ (most member : ℕ) (messages : List MessageTaken) where
 -- ---- a run
 
 -- in every run each Logon call that goes out next is for a message
-pub members_ask_for_messages : LetsInTheGranted → (plan : Plan) (moves : List Move) → MembersAskForMessages (past plan moves)
-members_ask_for_messages law plan moves member m there controller number piece now left =
-    let holds : HoldsOf (past plan moves).world (past plan moves).book = run_holds law plan moves in
+pub members_ask_for_messages : (plan : Plan) (moves : List Move) → MembersAskForMessages (past plan moves)
+members_ask_for_messages plan moves member m there controller number piece now left =
+    let holds : HoldsOf (past plan moves).world (past plan moves).book = run_holds plan moves in
     let most : ℕ = (past plan moves).world.moves in
     let messages : List MessageTaken = (past plan moves).book.messages in
     all_ask most member messages controller (turn_units m number piece now left)
@@ -284,9 +282,9 @@ module _ (member : ℕ) (m : MemberState) (messages : List MessageTaken) (contro
       (λ more. AreFirst controller units more) (λ more rest. all_place units more alike.1 asks.1 rest) alike.0 asks.0 first
 
 -- in every run each mark of the next step is that of what is sent in its place
-pub sends_ask_for_messages : LetsInTheGranted → (plan : Plan) (moves : List Move) → SendsAskForMessages (past plan moves)
-sends_ask_for_messages law plan moves member m there controller number piece now left actions is =
+pub sends_ask_for_messages : (plan : Plan) (moves : List Move) → SendsAskForMessages (past plan moves)
+sends_ask_for_messages plan moves member m there controller number piece now left actions is =
     all_place member m (past plan moves).book.messages controller (turn_units m number piece now left) actions
     (all_hold (AreAsBefore m.running) (as_kept m.running) m number piece now left (as_first m.running))
-    (members_ask_for_messages law plan moves member m there controller number piece now left)
+    (members_ask_for_messages plan moves member m there controller number piece now left)
     (requests_first.first controller m number piece now left actions is)

@@ -10,9 +10,8 @@ use Rattle.domain_controller.specs.Step.{step_of as controller_step_of}
 use Rattle.logon_client.specs.Machine.{step_of as client_step_of}
 use Rattle.logon_client.specs.State.{State as ClientState}
 use Rattle.channel_client.specs.Effects.{View}
-use Rattle.channel_events.specs.RequestSteps.{RequestersKeepCallsApart}
-use Rattle.channel_events.specs.Requests.{CallsStayApart, Requests}
-use Rattle.member_server.specs.ChannelSteps.{ChannelStepsKnown}
+use Rattle.channel_events.specs.Requests.{Requests}
+use Rattle.channel_events.proofs.RequestLaws.{calls_stay_apart}
 use Rattle.member_server.specs.Machine.{fresh_member, step_of}
 use Rattle.member_server.specs.State.{State as MemberState}
 use Rattle.member_server.specs.declared.plan.MemberPlan.{MemberPlan}
@@ -29,12 +28,6 @@ use Rattle.domain_world.proofs.Accepting.LetInStepLaws.{IsAcceptedBy, IsDialledB
 use Rattle.domain_world.proofs.Requests.CallHoldsLaws.{CallsHold, differ_front, ends_other, marks_in, member_changed, more_steps, requests_at, views_at}
 use Rattle.domain_world.proofs.Requests.OutStepLaws.{MemberHolds, StaysKnown, none_out, not_bytes, quiet_holds}
 use Rattle.domain_world.proofs.Requests.StepApartLaws.{CoherentIf, Differ, HearsNone, other_apart, seen_member, seen_or}
-
--- what is proved of requesters and of a member's steps
-pub record CallLaws : Type 0 where
-  pub keep : RequestersKeepCallsApart
-  pub events : CallsStayApart ℕ
-  pub steps : ChannelStepsKnown
 
 -- more steps than those of a schedule, and few enough that no number comes round
 abbrev pub most_steps : ℕ
@@ -105,37 +98,36 @@ module _ (n : ℕ) (plans : List MemberPlan) (ends : EndStates) (links : List Ro
 
   -- ---- a member
 
-  module _ (laws : CallLaws) where
-    -- a step of a member at which no bytes come
-    pub member_hears : (found : Option MemberState) (at : ℕ) (what : Event) (now : ℕ) (chances : Drawing) → slice_get ends.members at ≡ found → Dials (λ number. IsDialledBy links at number) what →
-        Opens what (λ number p. IsAcceptedBy links at number) → KeptSo n plans ends chances.drawn links sent messages →
-        KeptSo (n + 1) plans (member_step found at what now ends chances).ends (member_step found at what now ends chances).chances.drawn links sent messages
-    member_hears None at what now chances is dials opens kept few differ = none_so chances.drawn kept few differ
-    member_hears (Some m) at what now chances is dials opens kept few differ =
-        let controller : ℕ = controller_of_plan (slice_get plans at) ends in
-        let drawn : List (List ℕ) = chances.drawn ++ (step_of m what now chances.left).drawn in
-        let holds : CallsHold n plans ends chances.drawn links sent messages = kept (omega (arith, few)) (differ_front chances.drawn (step_of m what now chances.left).drawn differ) in
-        let own : MemberHolds links sent messages controller at m.running = holds.members at m is in
-        member_changed plans ends at (step_of m what now chances.left).state n (n + 1) (2 * n + 1) chances.drawn drawn links sent sent messages messages (omega arith) holds
-        (other_apart laws.keep (views_at plans ends) at controller laws.steps m.running what now chances.left (marks_in sent) chances.drawn (2 * n) (omega (arith, few))
-        (hears_none (λ number. IsDialledBy links at number) m.running what dials) (coherent_if m.running own.asks) (ap (λ (x : Option MemberState). seen_member controller x) is) holds.apart differ)
-        (quiet_holds laws.steps links sent messages controller at m.running what now chances.left dials opens own) (λ k other. nothing_new links sent messages k) holds.accepted
+  -- a step of a member at which no bytes come
+  pub member_hears : (found : Option MemberState) (at : ℕ) (what : Event) (now : ℕ) (chances : Drawing) → slice_get ends.members at ≡ found → Dials (λ number. IsDialledBy links at number) what →
+      Opens what (λ number p. IsAcceptedBy links at number) → KeptSo n plans ends chances.drawn links sent messages →
+      KeptSo (n + 1) plans (member_step found at what now ends chances).ends (member_step found at what now ends chances).chances.drawn links sent messages
+  member_hears None at what now chances is dials opens kept few differ = none_so chances.drawn kept few differ
+  member_hears (Some m) at what now chances is dials opens kept few differ =
+      let controller : ℕ = controller_of_plan (slice_get plans at) ends in
+      let drawn : List (List ℕ) = chances.drawn ++ (step_of m what now chances.left).drawn in
+      let holds : CallsHold n plans ends chances.drawn links sent messages = kept (omega (arith, few)) (differ_front chances.drawn (step_of m what now chances.left).drawn differ) in
+      let own : MemberHolds links sent messages controller at m.running = holds.members at m is in
+      member_changed plans ends at (step_of m what now chances.left).state n (n + 1) (2 * n + 1) chances.drawn drawn links sent sent messages messages (omega arith) holds
+      (other_apart (views_at plans ends) at controller m.running what now chances.left (marks_in sent) chances.drawn (2 * n) (omega (arith, few))
+      (hears_none (λ number. IsDialledBy links at number) m.running what dials) (coherent_if m.running own.asks) (ap (λ (x : Option MemberState). seen_member controller x) is) holds.apart differ)
+      (quiet_holds links sent messages controller at m.running what now chances.left dials opens own) (λ k other. nothing_new links sent messages k) holds.accepted
 
-    -- it is made anew
-    abbrev blank : View
-    blank = record { stands = None; seed = None; opening = None; asking = None; call = 1 }
+  -- it is made anew
+  abbrev blank : View
+  blank = record { stands = None; seed = None; opening = None; asking = None; call = 1 }
 
-    seen_anew : (hit : Bool) (j at : ℕ) (old : Option View) (v : View) → (j == at) ≡ hit → seen_or hit (Some blank) old ≡ Some v → ((j ≡ at) × (v ≡ blank)) ⊎ (old ≡ Some v)
-    seen_anew false j at old v is seen = inr seen
-    seen_anew true j at old v is seen = inl ((Decides-eqb j at).0 is, (let x = seen in cc))
+  seen_anew : (hit : Bool) (j at : ℕ) (old : Option View) (v : View) → (j == at) ≡ hit → seen_or hit (Some blank) old ≡ Some v → ((j ≡ at) × (v ≡ blank)) ⊎ (old ≡ Some v)
+  seen_anew false j at old v is seen = inr seen
+  seen_anew true j at old v is seen = inl ((Decides-eqb j at).0 is, (let x = seen in cc))
 
-    pub member_anew : (plan : MemberPlan) (at : ℕ) (drawn : List (List ℕ)) → KeptSo n plans ends drawn links sent messages →
-        KeptSo n plans (with_member at (fresh_member plan) ends) drawn links sent messages
-    member_anew plan at drawn kept few differ =
-        let controller : ℕ = controller_of_plan (slice_get plans at) ends in
-        let holds : CallsHold n plans ends drawn links sent messages = kept few differ in
-        let r : Requests ℕ = requests_at n plans ends drawn sent in
-        member_changed plans ends at (fresh_member plan) n n (2 * n) drawn drawn links sent sent messages messages (omega arith) holds
-        (laws.events.renewed r at (λ j. seen_or (j == at) (Some blank) (r.views j)) (λ j v seen. seen_anew (j == at) j at (r.views j) v refl seen) holds.apart)
-        (record { asks = fresh_asks plan; kept = (tt, tt); accepts = tt; out = λ pending logon turn reply there. absurd (none_out pending turn) })
-        (λ k other. nothing_new links sent messages k) holds.accepted
+  pub member_anew : (plan : MemberPlan) (at : ℕ) (drawn : List (List ℕ)) → KeptSo n plans ends drawn links sent messages →
+      KeptSo n plans (with_member at (fresh_member plan) ends) drawn links sent messages
+  member_anew plan at drawn kept few differ =
+      let controller : ℕ = controller_of_plan (slice_get plans at) ends in
+      let holds : CallsHold n plans ends drawn links sent messages = kept few differ in
+      let r : Requests ℕ = requests_at n plans ends drawn sent in
+      member_changed plans ends at (fresh_member plan) n n (2 * n) drawn drawn links sent sent messages messages (omega arith) holds
+      (calls_stay_apart.renewed r at (λ j. seen_or (j == at) (Some blank) (r.views j)) (λ j v seen. seen_anew (j == at) j at (r.views j) v refl seen) holds.apart)
+      (record { asks = fresh_asks plan; kept = (tt, tt); accepts = tt; out = λ pending logon turn reply there. absurd (none_out pending turn) })
+      (λ k other. nothing_new links sent messages k) holds.accepted

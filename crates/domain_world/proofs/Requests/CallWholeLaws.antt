@@ -40,16 +40,16 @@ use Rattle.channel_client.specs.declared.state.Waiting.{Waiting}
 use Rattle.channel_client.specs.Effects.{IsForFirst, MatchesStep, step_in}
 use Rattle.channel_client.specs.Machine.{act, hear, judge, place_of, question_of, settle, take_of, wait_for}
 use Rattle.channel_client.specs.State.{Requester}
-use Rattle.channel_client.specs.Whole.{HasRoom, InRangeRequester, InRangeTurn, RequestersSendWhole}
-use Rattle.member_server.specs.declared.state.AtTurn.{AtTurn}
-use Rattle.member_server.specs.declared.state.Dialling.{Dialling}
-use Rattle.member_server.specs.declared.state.Dialling.TheVariants as dialling
+use Rattle.channel_client.specs.Whole.{HasRoom, InRangeRequester, InRangeTurn}
+use Rattle.channel_turns.specs.declared.state.Dialling.{Dialling}
+use Rattle.channel_turns.specs.declared.state.Dialling.TheVariants as dialling
+use Rattle.channel_client.proofs.WholeLaws.{requesters_send_whole}
 use Rattle.member_server.specs.declared.state.Logon.{Logon}
 use Rattle.member_server.specs.declared.state.Running.{Running}
-use Rattle.member_server.specs.declared.state.TurnTalk.{TurnTalk}
+use Rattle.channel_turns.specs.declared.state.TurnTalk.{TurnTalk}
 use Rattle.member_server.specs.Machine.{at_turn, work_of}
 use Rattle.member_server.specs.State.{State as MemberState}
-use Rattle.member_server.specs.Turns.{TurnServed, do_taken, turn_by_join, turn_server, turn_unit}
+use Rattle.member_server.specs.Turns.{AtTurn, TurnServed, do_taken, turn_by_join, turn_server, turn_unit}
 use Rattle.step_notes.specs.CallLogons.{AsksForKept, IsStamped, IsStampedStep, info_at}
 use Rattle.step_notes.specs.MemberNotes.{TurnNote, asked_note, taken_note, taking_joined, taking_note, taking_read, turn_note, turn_units}
 use Rattle.step_notes.specs.Served.{work_after}
@@ -241,53 +241,52 @@ taken_range link taken.Opened joiner at known = tt
 taken_range link (taken.Answer place verdict) joiner at known = tt
 taken_range link (taken.Dropped place cause) joiner at known = tt
 
-module _ (law : RequestersSendWhole) where
-  joined_range : (link : ℕ) (whole : Result (Option RpcUnit) JoinRefused) (after : Option RpcUnit) (at : AtTurn) → InRangeTurnAt link at →
-      InRangeBy link (turn_by_join whole after at).1 (turn_by_join whole after at).0
-  joined_range link (Err join.OutOfPlace) after at known = tt
-  joined_range link (Err join.CallTooLong) after at known = tt
-  joined_range link (Err join.Memory) after at known = tt
-  joined_range link (Ok None) after at known = known
-  joined_range link (Ok (Some unit)) after at known =
-      let s : Requester = at.work.logons.channel in
-      taken_range link (take_of s unit).taken after (at_channel at (take_of s unit).state) (record { on = known.on; range = (law.take s unit known.range).0 })
+joined_range : (link : ℕ) (whole : Result (Option RpcUnit) JoinRefused) (after : Option RpcUnit) (at : AtTurn) → InRangeTurnAt link at →
+    InRangeBy link (turn_by_join whole after at).1 (turn_by_join whole after at).0
+joined_range link (Err join.OutOfPlace) after at known = tt
+joined_range link (Err join.CallTooLong) after at known = tt
+joined_range link (Err join.Memory) after at known = tt
+joined_range link (Ok None) after at known = known
+joined_range link (Ok (Some unit)) after at known =
+    let s : Requester = at.work.logons.channel in
+    taken_range link (take_of s unit).taken after (at_channel at (take_of s unit).state) (record { on = known.on; range = (requesters_send_whole.take s unit known.range).0 })
 
-  read_range : (link : ℕ) (read : Result RpcUnit UnitRefused) (joiner : Option RpcUnit) (at : AtTurn) → InRangeTurnAt link at →
-      InRangeBy link (turn_unit read joiner at).1 (turn_unit read joiner at).0
-  read_range link (Err why) joiner at known = tt
-  read_range link (Ok unit) joiner at known = joined_range link (answer_of joiner unit) (open_after joiner unit) at known
+read_range : (link : ℕ) (read : Result RpcUnit UnitRefused) (joiner : Option RpcUnit) (at : AtTurn) → InRangeTurnAt link at →
+    InRangeBy link (turn_unit read joiner at).1 (turn_unit read joiner at).0
+read_range link (Err why) joiner at known = tt
+read_range link (Ok unit) joiner at known = joined_range link (answer_of joiner unit) (open_after joiner unit) at known
 
-  -- ---- the units of the link of the turn
+-- ---- the units of the link of the turn
 
-  module _ (Fits : ℕ → Logon → Type 0) (link controller : ℕ) where
-    abbrev pub ReadyBy : Option TurnTalk → AtTurn → Type 0
-    ReadyBy None at = Unit {0}
-    ReadyBy (Some talk) at = IsReady Fits link at
+module _ (Fits : ℕ → Logon → Type 0) (link controller : ℕ) where
+  abbrev pub ReadyBy : Option TurnTalk → AtTurn → Type 0
+  ReadyBy None at = Unit {0}
+  ReadyBy (Some talk) at = IsReady Fits link at
 
-    ready_by : (said : Option TurnTalk) (at : AtTurn) → InRangeBy link said at → TurnAsksBy said at.work.logons → OfEach Fits at.work.logons.asked → ReadyBy said at
-    ready_by None at known asks each = tt
-    ready_by (Some talk) at known asks each = record { on = known.on; asks = asks; range = known.range; each = each }
+  ready_by : (said : Option TurnTalk) (at : AtTurn) → InRangeBy link said at → TurnAsksBy said at.work.logons → OfEach Fits at.work.logons.asked → ReadyBy said at
+  ready_by None at known asks each = tt
+  ready_by (Some talk) at known asks each = record { on = known.on; asks = asks; range = known.range; each = each }
 
-    abbrev pub AllReady : List (ServedUnit AtTurn TurnTalk) → Type 0
-    AllReady units = AllByRecursion (IsReadyUnit Fits link controller) units
+  abbrev pub AllReady : List (ServedUnit AtTurn TurnTalk) → Type 0
+  AllReady units = AllByRecursion (IsReadyUnit Fits link controller) units
 
-    abbrev pub ReadyPart : ServedPart AtTurn TurnTalk → Type 0
-    ReadyPart (Err why) = Unit {0}
-    ReadyPart (Ok part) = ReadyBy part.value.1 part.value.0
+  abbrev pub ReadyPart : ServedPart AtTurn TurnTalk → Type 0
+  ReadyPart (Err why) = Unit {0}
+  ReadyPart (Ok part) = ReadyBy part.value.1 part.value.0
 
-    units_ready : (said : LinkState TurnTalk) (piece : List ℕ) (running : Running) (left : List (List ℕ)) → IsReady Fits link (at_turn link (work_of running)) →
-        AllReady (served_units turn_server (cut_stream (said.rest ++ piece)).units (at_turn link (work_of running)) said.talk left)
-    units_ready said piece running left ready =
-        served_such turn_server ReadyPart (IsReadyUnit Fits link controller)
-        (λ bytes at talk left ready.
-        let served : TurnServed = turn_unit (unit_of bytes) talk.joiner at in (
-          record { ready = ready; out = read_out controller at ready.asks ready.range (unit_of bytes) talk.joiner },
-          ready_by served.1 served.0 (read_range link (unit_of bytes) talk.joiner at (record { on = ready.on; range = ready.range }))
-              (turn_asks (unit_of bytes) talk.joiner at ready.asks) (turn_keeps Fits (λ number. Unit {0}) (unit_of bytes) talk.joiner at ready.each),
-        ))
-        (cut_stream (said.rest ++ piece)).units (at_turn link (work_of running)) said.talk left ready
+  units_ready : (said : LinkState TurnTalk) (piece : List ℕ) (running : Running) (left : List (List ℕ)) → IsReady Fits link (at_turn link (work_of running)) →
+      AllReady (served_units turn_server (cut_stream (said.rest ++ piece)).units (at_turn link (work_of running)) said.talk left)
+  units_ready said piece running left ready =
+      served_such turn_server ReadyPart (IsReadyUnit Fits link controller)
+      (λ bytes at talk left ready.
+      let served : TurnServed = turn_unit (unit_of bytes) talk.joiner at in (
+        record { ready = ready; out = read_out controller at ready.asks ready.range (unit_of bytes) talk.joiner },
+        ready_by served.1 served.0 (read_range link (unit_of bytes) talk.joiner at (record { on = ready.on; range = ready.range }))
+            (turn_asks (unit_of bytes) talk.joiner at ready.asks) (turn_keeps Fits (λ number. Unit {0}) (unit_of bytes) talk.joiner at ready.each),
+      ))
+      (cut_stream (said.rest ++ piece)).units (at_turn link (work_of running)) said.talk left ready
 
-    pub turns_ready : (m : MemberState) (piece : List ℕ) (now : ℕ) (left : List (List ℕ)) → ReadyIn Fits link m.running → AllReady (turn_units m link piece now left)
-    turns_ready m piece now left ready =
-        turn_units_such (IsReadyUnit Fits link controller) (λ how running. ReadyOn Fits link how running) link piece left
-        (λ other said running known. units_ready said piece running left known) m now (λ running is. subst (ReadyIn Fits link) is ready)
+  pub turns_ready : (m : MemberState) (piece : List ℕ) (now : ℕ) (left : List (List ℕ)) → ReadyIn Fits link m.running → AllReady (turn_units m link piece now left)
+  turns_ready m piece now left ready =
+      turn_units_such (IsReadyUnit Fits link controller) (λ how running. ReadyOn Fits link how running) link piece left
+      (λ other said running known. units_ready said piece running left known) m now (λ running is. subst (ReadyIn Fits link) is ready)

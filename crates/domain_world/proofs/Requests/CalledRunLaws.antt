@@ -7,8 +7,8 @@ use Rattle.std.specs.List.{AllByRecursion}
 use Rattle.std.proofs.lemmas.List.Elements.{recursion_from_All}
 use Rattle.logon_stubs.specs.declared.calls.LogonCall.{LogonCall}
 use Rattle.member_server.specs.State.{State as MemberState}
-use Rattle.member_server.specs.declared.state.Dialling.{Dialling}
-use Rattle.member_server.specs.declared.state.Dialling.TheVariants as dialling
+use Rattle.channel_turns.specs.declared.state.Dialling.{Dialling}
+use Rattle.channel_turns.specs.declared.state.Dialling.TheVariants as dialling
 use Rattle.member_server.specs.declared.state.Running.{Running}
 use Rattle.channel_events.specs.Marks.{OneOf}
 use Rattle.step_notes.specs.Records.{Book, MessageTaken, blank}
@@ -17,14 +17,13 @@ use Rattle.world_moves.specs.declared.moves.Move.{Move}
 use Rattle.world_moves.specs.declared.plan.Plan.{Plan}
 use Rattle.world_moves.specs.declared.state.State.{State}
 use Rattle.world_moves.specs.Acting.{Given}
-use Rattle.world_moves.specs.Bag.{AreShortUnits, HaveBytes}
-use Rattle.world_moves.specs.Forms.{IsSchedule}
 use Rattle.world_moves.specs.World.{first_world}
 use Rattle.domain_world.specs.Accepting.Carried.{IsCalledFor, MessagesAreCalled}
 use Rattle.domain_world.specs.Claims.{info_asked}
 use Rattle.domain_world.specs.Past.{past}
 use Rattle.channel_events.proofs.ListLaws.{one_found}
 use Rattle.step_notes.proofs.Members.KeptLogonLaws.{IfDialled}
+use Rattle.domain_world.specs.Schedules.{OfSchedules}
 use Rattle.domain_world.proofs.Accepting.LetInStepLaws.{IsDialledBy}
 use Rattle.domain_world.proofs.Accepting.Quiet.QuietRunLaws.{has_bytes, quiet_first, quiet_keeps}
 use Rattle.domain_world.proofs.Accepting.Quiet.QuietStepLaws.{MemberIsQuiet, QuietAction, QuietFact, QuietState, RunningIsQuiet}
@@ -114,7 +113,6 @@ quiet_side s quiet = record {
 }
 
 -- so it is in each schedule
-pub schedules_call : (plan : Plan) (moves : List Move) → IsSchedule plan moves → AreShortUnits (past plan moves).world.state.bag → HaveBytes (past plan moves).world.state.bag →
-    MessagesAreCalled (past plan moves)
+pub schedules_call : OfSchedules (λ plan moves. MessagesAreCalled (past plan moves))
 schedules_call plan moves schedule short bytes =
     messages_called QuietFact QuietAction quiet_keeps (λ n s given b quiet. quiet_side s quiet) plan moves (has_bytes plan moves schedule short bytes) (quiet_first plan schedule.forms)

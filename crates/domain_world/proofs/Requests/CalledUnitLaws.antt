@@ -23,16 +23,16 @@ use Rattle.channel_client.specs.Whole.{InRangeRequester}
 use Rattle.domain_controller.specs.State.{State as ControllerState}
 use Rattle.logon_client.specs.State.{State as ClientState}
 use Rattle.member_server.specs.declared.state.AtLink.{AtLink}
-use Rattle.member_server.specs.declared.state.AtTurn.{AtTurn}
-use Rattle.member_server.specs.declared.state.Dialling.{Dialling}
-use Rattle.member_server.specs.declared.state.Dialling.TheVariants as dialling
+use Rattle.member_server.specs.Turns.{AtTurn}
+use Rattle.channel_turns.specs.declared.state.Dialling.{Dialling}
+use Rattle.channel_turns.specs.declared.state.Dialling.TheVariants as dialling
 use Rattle.member_server.specs.declared.state.Logon.{Logon}
 use Rattle.member_server.specs.declared.state.Logons.{Logons}
 use Rattle.member_server.specs.declared.state.Phase.{Phase}
 use Rattle.member_server.specs.declared.state.Phase.TheVariants as phase
 use Rattle.member_server.specs.declared.state.Running.{Running}
 use Rattle.member_server.specs.declared.state.Talk.{Talk}
-use Rattle.member_server.specs.declared.state.TurnTalk.{TurnTalk}
+use Rattle.channel_turns.specs.declared.state.TurnTalk.{TurnTalk}
 use Rattle.member_server.specs.Laws.{is_dialled}
 use Rattle.member_server.specs.Machine.{step_of}
 use Rattle.member_server.specs.State.{State as MemberState}
@@ -55,7 +55,6 @@ use Rattle.world_moves.specs.Links.{is_accepted_by, is_of}
 use Rattle.domain_world.specs.Claims.{info_asked}
 use Rattle.domain_world.specs.Past.{Coming, at_member, change_if, change_message, controller_of, first_of, is_sent_on, later_of, note_at, note_client, note_controller, note_member, note_messages, note_turn, note_turns, numbers_on, with_answer, with_call}
 use Rattle.channel_events.proofs.ListLaws.{all_weaker, got_append, got_last, no_some, some_is}
-use Rattle.channel_client.proofs.WholeLaws.{requesters_send_whole}
 use Rattle.step_notes.proofs.Members.KeptLogonLaws.{IfDialled, OfEach, each_found, each_so}
 use Rattle.step_notes.proofs.Members.RequestOrderLaws.{requests_first}
 use Rattle.world_moves.proofs.LinkFrameLaws.{actions_stay, heard_stays}
@@ -356,7 +355,7 @@ module _ (m : MemberState) (at : ℕ) (w : Coming) (piece : List ℕ) (s : State
             (sym (ap (λ (units : List (ServedUnit AtTurn TurnTalk)). units_if_taken answer units) none ∙ none_if_taken answer)) tt
         | inr dialled ↦
             turns_by controller answer refl dialled
-            (turns_ready requesters_send_whole (HasMessage now_messages) w.link controller m piece s.moment s.chances.left
+            (turns_ready (HasMessage now_messages) w.link controller m piece s.moment s.chances.left
             (ready_in b.messages now_messages w.link m.running (has_still at m w piece s member_after b) (λ running is. side.ranges at m running there is) kept))
       ]
 

@@ -20,15 +20,15 @@ use Rattle.domain_controller.specs.Hearing.{hear}
 use Rattle.domain_controller.specs.Machine.{Desk}
 use Rattle.domain_controller.specs.declared.hearing.Heard.{Heard}
 use Rattle.domain_controller.specs.declared.hearing.Heard.TheVariants as heard
-use Rattle.domain_controller.specs.declared.line.Line.{Line}
+use Rattle.controller_calls.specs.declared.line.Line.{Line}
 use Rattle.domain_controller.specs.declared.state.Talk.{Talk}
-use Rattle.member_server.specs.declared.state.AtTurn.{AtTurn}
-use Rattle.member_server.specs.declared.state.TurnTalk.{TurnTalk}
+use Rattle.member_server.specs.Turns.{AtTurn}
+use Rattle.channel_turns.specs.declared.state.TurnTalk.{TurnTalk}
 use Rattle.channel_events.specs.Marks.{Mark, Plain}
 use Rattle.step_notes.specs.ControllerNotes.{Where, answer_on, call_answer, channel_in, has_passed, heard_answer, judging_by, judging_of, opened_by, opened_mark, opening, passing, reply_mark, units_of_controller}
 use Rattle.step_notes.specs.Marking.{answered_marks, mark_if, turn_marks}
 use Rattle.step_notes.specs.MemberNotes.{asked_note, taken_note, taking_at, taking_note, turn_note, turn_units}
-use Rattle.step_notes.specs.Records.{Book, Judging, computer_named}
+use Rattle.step_notes.specs.Records.{Book, Judging, Network, computer_named}
 use Rattle.step_notes.specs.Served.{work_after}
 use Rattle.world_moves.specs.declared.bag.BagUnit.{BagUnit}
 use Rattle.world_moves.specs.declared.moves.Move.{Move}
@@ -89,12 +89,12 @@ passing_way (Some channel) j = reply_way j.unit channel j.number
 
 judging_way : (passed : Bool) (j : Judging) → IsReply (judging_by passed j).mark
 judging_way false j = tt
-judging_way true j = passing_way (channel_in j.controller (computer_named j.asked) j.computers) j
+judging_way true j = passing_way (channel_in j.controller (computer_named j.asked) j.checks) j
 
 call_way : (c : Call) (line : Line) (w : Where) (before : Desk) (after : Option Desk) → IsReply (call_answer c line w before after).mark
 call_way (call.Challenge c) line w before after = tt
 call_way (call.Authenticate c) line w before after = opening_way (opened_by w.controller c before) w line.call
-call_way (call.Logon c) line w before after = judging_way (has_passed (judging_of w line c before after).how) (judging_of w line c before after)
+call_way (call.Logon c) line w before after = judging_way (has_passed (judging_of w line (Network c) before after).how) (judging_of w line (Network c) before after)
 call_way (call.Logoff c) line w before after = tt
 
 heard_way : (what : Heard) (w : Where) (before : Desk) (after : Option Desk) → IsReply (heard_answer what w before after).mark

@@ -26,17 +26,18 @@ use Rattle.channel_client.specs.declared.state.Waiting.{Waiting}
 use Rattle.channel_client.proofs.EffectLaws.{steps_have_effects}
 use Rattle.channel_events.specs.Marks.{Calling, OneOf}
 use Rattle.channel_events.proofs.ListLaws.{one_weaker}
-use Rattle.member_server.specs.ChannelSteps.{ChannelSteps, ChannelStepsKnown, ComesCalmly, IsCalm, IsNextTurn, StepsIfTaken}
+use Rattle.member_server.specs.ChannelSteps.{ChannelSteps, ComesCalmly, IsCalm, IsNextTurn, StepsIfTaken}
 use Rattle.member_server.specs.Laws.{Asks, Doing, Loses, Starts, Takes, heard_if, heard_in, is_dialled, state_after}
 use Rattle.member_server.specs.Machine.{actions_in, by_event, bytes_by, bytes_on, event_part, halted_state, state_in, step_of, work_of}
 use Rattle.member_server.specs.Turns.{DialWork, next_turn, turn_by}
-use Rattle.member_server.specs.declared.state.Dialling.{Dialling}
-use Rattle.member_server.specs.declared.state.Dialling.TheVariants as dialling
+use Rattle.channel_turns.specs.declared.state.Dialling.{Dialling}
+use Rattle.channel_turns.specs.declared.state.Dialling.TheVariants as dialling
 use Rattle.member_server.specs.declared.state.Logon.{Logon}
 use Rattle.member_server.specs.declared.state.Logons.{Logons}
 use Rattle.member_server.specs.declared.state.Running.{Running}
-use Rattle.member_server.specs.declared.state.TurnTalk.{TurnTalk}
+use Rattle.channel_turns.specs.declared.state.TurnTalk.{TurnTalk}
 use Rattle.member_server.specs.declared.state.Work.{Work}
+use Rattle.member_server.proofs.ChannelStepLaws.{channel_steps}
 use Rattle.step_notes.specs.CallLogons.{AsksForKept, AsksUnlessStopped, waiting_for}
 use Rattle.step_notes.specs.ChannelNames.{standing_channel}
 use Rattle.step_notes.specs.MemberNotes.{LinkAt, is_turn_link, link_units, message_note, taken_link}
@@ -315,25 +316,25 @@ quiet_back part running left asks keeps pending logon after turn is there =
     let same : logon ≡ one.logon = each_found (Only pending.place one.logon) pending.place after.value.0.logons.asked logon there all.0 refl in
     some_logon (lookup same_number pending.place running.logons.asked) one.logon logon one.kept (sym same)
 
-quiet_out : ChannelStepsKnown → (units : List Sent) (messages : List MessageTaken) (controller member : ℕ) (Own : ℕ → Type 0) (r : Option Running) (what : Event) (now : ℕ) (left : List (List ℕ)) →
+quiet_out : (units : List Sent) (messages : List MessageTaken) (controller member : ℕ) (Own : ℕ → Type 0) (r : Option Running) (what : Event) (now : ℕ) (left : List (List ℕ)) →
     Dials Own what → IfDialledIn Own r → AsksUnlessStopped r → OutFor units messages controller member r →
     OutFor units messages controller member (step_of (record { running = r }) what now left).state.running
-quiet_out steps units messages controller member Own None what now left dials own asks out = tt
-quiet_out steps units messages controller member Own (Some running) what now left dials own asks out =
+quiet_out units messages controller member Own None what now left dials own asks out = tt
+quiet_out units messages controller member Own (Some running) what now left dials own asks out =
     out_by units messages controller member (event_part running what now left) running (by_event what running.dialling (work_of running) left) now left
-    (steps.other running what now left (not_bytes Own what running.dialling dials)) out
+    (channel_steps.other running what now left (not_bytes Own what running.dialling dials)) out
     (quiet_back (event_part running what now left) running left asks
     (λ at kept all. step_keeps (Only at kept) Any what (record { running = Some running }) now left (dials_so Own Any (λ number own. tt) what dials) (all, any_dialled Own running.dialling own)))
 
 -- a step at which no bytes come
-pub quiet_holds : ChannelStepsKnown → (links : List Route) (units : List Sent) (messages : List MessageTaken) (controller member : ℕ) (r : Option Running) (what : Event) (now : ℕ) (left : List (List ℕ)) →
+pub quiet_holds : (links : List Route) (units : List Sent) (messages : List MessageTaken) (controller member : ℕ) (r : Option Running) (what : Event) (now : ℕ) (left : List (List ℕ)) →
     Dials (λ number. IsDialledBy links member number) what → Opens what (λ number p. IsAcceptedBy links member number) → MemberHolds links units messages controller member r →
     MemberHolds links units messages controller member (step_of (record { running = r }) what now left).state.running
-quiet_holds steps links units messages controller member r what now left dials opens holds = record {
+quiet_holds links units messages controller member r what now left dials opens holds = record {
   asks = step_asks (record { running = r }) what now left holds.asks;
   kept = step_keeps (HasOne member messages) (λ number. IsDialledBy links member number) what (record { running = r }) now left dials holds.kept;
   accepts = step_known (λ number p. IsAcceptedBy links member number) what (record { running = r }) now left opens holds.accepts;
-  out = quiet_out steps units messages controller member (λ number. IsDialledBy links member number) r what now left dials
+  out = quiet_out units messages controller member (λ number. IsDialledBy links member number) r what now left dials
       (dialled_in (HasOne member messages) (λ number. IsDialledBy links member number) r holds.kept) holds.asks holds.out;
 }
 
@@ -388,13 +389,13 @@ bytes_back running number piece now left other asks pending logon after turn is 
     (bytes_lead pending one.logon running.dialling number piece (work_of running) left other (record { coherent = asks.coherent; turn = turn; kept = one.kept }))) in
     one.kept ∙ sym leads.kept ∙ there
 
-bytes_out : ChannelStepsKnown → (units : List Sent) (messages : List MessageTaken) (controller member : ℕ) (r : Option Running) (number : ℕ) (piece : List ℕ) (now : ℕ) (left : List (List ℕ)) →
+bytes_out : (units : List Sent) (messages : List MessageTaken) (controller member : ℕ) (r : Option Running) (number : ℕ) (piece : List ℕ) (now : ℕ) (left : List (List ℕ)) →
     IsOther r number → AsksUnlessStopped r → OutFor units messages controller member r →
     OutFor units messages controller member (step_of (record { running = r }) (event.Bytes number piece) now left).state.running
-bytes_out steps units messages controller member None number piece now left other asks out = tt
-bytes_out steps units messages controller member (Some running) number piece now left other asks out =
+bytes_out units messages controller member None number piece now left other asks out = tt
+bytes_out units messages controller member (Some running) number piece now left other asks out =
     out_by units messages controller member (event_part running (event.Bytes number piece) now left) running (by_event (event.Bytes number piece) running.dialling (work_of running) left) now left
-    (steps.other running (event.Bytes number piece) now left (heard_not running.dialling number piece other)) out (bytes_back running number piece now left other asks)
+    (channel_steps.other running (event.Bytes number piece) now left (heard_not running.dialling number piece other)) out (bytes_back running number piece now left other asks)
 
 -- what is kept is of the messages, with those that are written down then
 pub bytes_kept : (links : List Route) (messages : List MessageTaken) (w : LinkAt) (r : Option Running) (piece : List ℕ) (now : ℕ) (left : List (List ℕ)) →
@@ -419,11 +420,11 @@ bytes_accepts links w r piece now left accepts =
     (bytes_took may w (record { running = r }) piece now left accepts)
 
 -- a step at which bytes come on another link
-pub other_holds : ChannelStepsKnown → (links : List Route) (units : List Sent) (messages : List MessageTaken) (controller : ℕ) (w : LinkAt) (r : Option Running) (piece : List ℕ) (now : ℕ)
+pub other_holds : (links : List Route) (units : List Sent) (messages : List MessageTaken) (controller : ℕ) (w : LinkAt) (r : Option Running) (piece : List ℕ) (now : ℕ)
     (left : List (List ℕ)) → IsOther r w.link → MemberHolds links units messages controller w.member r →
     MemberHolds links units (messages ++ flat_map (message_note w) (link_units (record { running = r }) w.link piece now left)) controller w.member
     (step_of (record { running = r }) (event.Bytes w.link piece) now left).state.running
-other_holds steps links units messages controller w r piece now left other holds =
+other_holds links units messages controller w r piece now left other holds =
     let new : List MessageTaken = flat_map (message_note w) (link_units (record { running = r }) w.link piece now left) in
     record {
       asks = step_asks (record { running = r }) (event.Bytes w.link piece) now left holds.asks;
@@ -431,5 +432,5 @@ other_holds steps links units messages controller w r piece now left other holds
       accepts = bytes_accepts links w r piece now left holds.accepts;
       out = out_known units units messages (messages ++ new) controller w.member (step_of (record { running = r }) (event.Bytes w.link piece) now left).state.running
           (λ pending logon standing. one_before (IsOutIn units w.member pending logon standing) messages new)
-          (bytes_out steps units messages controller w.member r w.link piece now left other holds.asks holds.out);
+          (bytes_out units messages controller w.member r w.link piece now left other holds.asks holds.out);
     }

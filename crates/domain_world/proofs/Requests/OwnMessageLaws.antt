@@ -13,11 +13,11 @@ use Rattle.logon_client.specs.State.{State as ClientState}
 use Rattle.member_server.specs.Machine.{fresh_member, step_of}
 use Rattle.member_server.specs.State.{State as MemberState}
 use Rattle.member_server.specs.declared.plan.MemberPlan.{MemberPlan}
-use Rattle.member_server.specs.declared.state.AtTurn.{AtTurn}
+use Rattle.member_server.specs.Turns.{AtTurn}
 use Rattle.member_server.specs.declared.state.Logon.{Logon}
 use Rattle.member_server.specs.declared.state.Phase.{Phase}
 use Rattle.member_server.specs.declared.state.Running.{Running}
-use Rattle.member_server.specs.declared.state.TurnTalk.{TurnTalk}
+use Rattle.channel_turns.specs.declared.state.TurnTalk.{TurnTalk}
 use Rattle.channel_events.specs.Marks.{OneOf}
 use Rattle.step_notes.specs.CallLogons.{AsksUnlessStopped}
 use Rattle.step_notes.specs.MemberNotes.{LinkAt, link_of_place, link_units, message_note, taken_link, turn_units}

@@ -19,16 +19,18 @@ use Rattle.channel_client.specs.Effects.{Answers, Begins, Calls, Counts, Drops, 
 use Rattle.channel_client.specs.Machine.{ask_of, can_start, lose_of, needs_challenge, start_of, take_of}
 use Rattle.channel_client.specs.State.{Requester}
 use Rattle.channel_events.specs.Marks.{Calling, Mark, Opening, Plain}
-use Rattle.channel_events.specs.RequestSteps.{AfterTaking, IsFreshIf, IsSeen, IsSeenAfter, RequestersKeepCallsApart, drawn_if, seen_if, with_seen}
+use Rattle.channel_events.specs.RequestSteps.{AfterTaking, IsFreshIf, IsSeen, IsSeenAfter, drawn_if, seen_if, with_seen}
 use Rattle.channel_events.specs.Requests.{CallsAreApart, IsDrawn, Requests}
-use Rattle.member_server.specs.ChannelSteps.{ChannelSteps, ChannelStepsKnown, ComesCalmly, IsCalm, IsNextTurn, StepsIfTaken}
+use Rattle.channel_events.proofs.RequestStepLaws.{requesters_keep}
+use Rattle.member_server.specs.ChannelSteps.{ChannelSteps, ComesCalmly, IsCalm, IsNextTurn, StepsIfTaken}
 use Rattle.member_server.specs.Laws.{Asks, Doing, Loses, Starts, Takes, heard_in, state_after}
 use Rattle.member_server.specs.Machine.{actions_in, by_event, event_part, halted_state, state_in, step_of, work_of}
 use Rattle.member_server.specs.State.{State as MemberState}
 use Rattle.member_server.specs.Turns.{DialWork, timestamp_of}
-use Rattle.member_server.specs.declared.state.Dialling.TheVariants as dialling
+use Rattle.channel_turns.specs.declared.state.Dialling.TheVariants as dialling
 use Rattle.member_server.specs.declared.state.Running.{Running}
-use Rattle.member_server.specs.declared.state.TurnTalk.{TurnTalk}
+use Rattle.channel_turns.specs.declared.state.TurnTalk.{TurnTalk}
+use Rattle.member_server.proofs.ChannelStepLaws.{channel_steps}
 use Rattle.step_notes.specs.ChannelNames.{passed_note}
 use Rattle.step_notes.specs.EffectNotes.{IsNotedBy, opening_out_of}
 use Rattle.step_notes.specs.MemberNotes.{TurnNote, no_note, request_note, taking_note}
@@ -82,7 +84,7 @@ hidden : (hit : Bool) (v w : View) (old : Option View) (x : View) → seen_if hi
 hidden false v w old x is = is
 hidden true v w old x is = is
 
-module _ (keep : RequestersKeepCallsApart) (views : ℕ → Option View) (who controller : ℕ) where
+module _ (views : ℕ → Option View) (who controller : ℕ) where
   seen_so : (s : Requester) (marks : List Mark) (drawn : List (List ℕ)) (uses : ℕ) → uses + 2 < 2 ^ 32 → StandsApart views who controller s marks drawn uses →
       IsSeen (seen_with views who (view_of controller s) marks drawn uses) who controller s
   seen_so s marks drawn uses few stands = record {
@@ -126,13 +128,13 @@ module _ (keep : RequestersKeepCallsApart) (views : ℕ → Option View) (who co
   calmly (Asks info ∷ doings) s marks drawn uses calm few stands =
       calmly doings (ask_of s info).state marks drawn uses calm.1 few
       (again (view_of controller s) (ask_of s info).state marks drawn uses 0 uses (omega arith)
-      (keep.ask (seen_with views who (view_of controller s) marks drawn uses) who controller s info (seen_so s marks drawn uses few stands)))
+      (requesters_keep.ask (seen_with views who (view_of controller s) marks drawn uses) who controller s info (seen_so s marks drawn uses few stands)))
   calmly (Starts timestamp challenge ∷ doings) s marks drawn uses calm few stands = absurd calm.0
   calmly (Takes unit ∷ doings) s marks drawn uses calm few stands = absurd calm.0
   calmly (Loses ∷ doings) s marks drawn uses calm few stands =
       calmly doings (lose_of s).state marks drawn uses calm.1 few
       (again (view_of controller s) (lose_of s).state marks drawn uses 0 uses (omega arith)
-      (keep.lose (seen_with views who (view_of controller s) marks drawn uses) who controller s (seen_so s marks drawn uses few stands)))
+      (requesters_keep.lose (seen_with views who (view_of controller s) marks drawn uses) who controller s (seen_so s marks drawn uses few stands)))
 
   comes_calmly : (s t : Requester) (marks : List Mark) (drawn : List (List ℕ)) (uses : ℕ) → ComesCalmly s t → uses + 2 < 2 ^ 32 →
       StandsApart views who controller s marks drawn uses → StandsApart views who controller t marks drawn uses
@@ -205,7 +207,7 @@ module _ (keep : RequestersKeepCallsApart) (views : ℕ → Option View) (who co
       let t : Requester = (take_of s unit).state in
       by_effect s t marks more drawn uses stands (effect_of_take controller s unit) (taking_note (Some (take_of s unit)) controller s) (view_of controller s) (view_of controller t)
       (opening_out_of s) (opening_out_of t) (steps_are_noted.take controller s unit stands.coherent) placed
-      (λ some so. keep.take (seen_with views who (view_of controller s) some drawn uses) who controller s unit (seen_so s some drawn uses few so))
+      (λ some so. requesters_keep.take (seen_with views who (view_of controller s) some drawn uses) who controller s unit (seen_so s some drawn uses few so))
 
   -- ---- the next turn
 
@@ -215,7 +217,7 @@ module _ (keep : RequestersKeepCallsApart) (views : ℕ → Option View) (who co
   started s timestamp challenge needs marks drawn uses few can need fresh stands =
       subst (λ (b : Bool). StandsApart views who controller (start_of s timestamp challenge).state marks (drawn_if b challenge drawn) (uses + 1)) need
       (again (view_of controller s) (start_of s timestamp challenge).state marks (drawn_if (needs_challenge s.standing) challenge drawn) uses 1 (uses + 1) (omega arith)
-      (keep.start (seen_with views who (view_of controller s) marks drawn uses) who controller s timestamp challenge (seen_so s marks drawn uses few stands) can
+      (requesters_keep.start (seen_with views who (view_of controller s) marks drawn uses) who controller s timestamp challenge (seen_so s marks drawn uses few stands) can
       (subst (λ (b : Bool). IsFreshIf b challenge drawn) (sym need) fresh)))
 
   -- where these were left before the step, and those in front of `before` were drawn in it already
@@ -314,7 +316,7 @@ abbrev pub PlacedBy : Result (Part DialWork) StepRefused → TurnNote → List M
 PlacedBy (Err why) note more = NoCalls more
 PlacedBy (Ok part) note more = Placed note.sends note.mark more
 
-module _ (keep : RequestersKeepCallsApart) (views : ℕ → Option View) (who controller : ℕ) where
+module _ (views : ℕ → Option View) (who controller : ℕ) where
   -- the end was halted
   halted_so : (s : Requester) (marks : List Mark) (drawn more : List (List ℕ)) (uses : ℕ) → StandsApart views who controller s marks drawn uses →
       CallsAreApart (requests_after views who controller None marks (drawn ++ more) (uses + 1))
@@ -345,8 +347,8 @@ module _ (keep : RequestersKeepCallsApart) (views : ℕ → Option View) (who co
       let mid : Requester = steps.part.value.0.logons.channel in
       let rest : IsRest steps.part.left left = rests steps.part steps.is in
       running_so (record { logons = part.value.0.logons; links = part.value.0.links; dialling = part.value.1 }) marks (drawn ++ draws_between left part.left) (uses + 1)
-      (next_so keep views who controller now marks drawn left uses few (can_start mid.turn mid.waiting) (needs_challenge mid.standing) mid steps.part.left part.value.0.logons.channel part.left rest
-      steps.next refl refl differ (drawn_more keep views who controller mid marks drawn rest.front uses uses (omega arith) (so mid steps.mid)))
+      (next_so views who controller now marks drawn left uses few (can_start mid.turn mid.waiting) (needs_challenge mid.standing) mid steps.part.left part.value.0.logons.channel part.left rest
+      steps.next refl refl differ (drawn_more views who controller mid marks drawn rest.front uses uses (omega arith) (so mid steps.mid)))
 
   -- ---- where the requester stands before it
 
@@ -380,7 +382,7 @@ module _ (keep : RequestersKeepCallsApart) (views : ℕ → Option View) (who co
   other_by (Err why) running what now left marks drawn uses few steps stands differ = halted_so running.logons.channel marks drawn left uses stands
   other_by (Ok part) running what now left marks drawn uses few steps stands differ =
       part_apart (ComesCalmly running.logons.channel) now marks drawn left uses few (by_event what running.dialling (work_of running) left)
-      (λ t mid. comes_calmly keep views who controller running.logons.channel t marks drawn uses mid few stands) (rest_of running what left) part steps differ
+      (λ t mid. comes_calmly views who controller running.logons.channel t marks drawn uses mid few stands) (rest_of running what left) part steps differ
 
   stopped_so : (marks : List Mark) (drawn : List (List ℕ)) (uses : ℕ) → CallsAreApart (record { views = views; marks = marks; drawn = drawn; uses = uses }) →
       CallsAreApart (requests_after views who controller None marks (drawn ++ []) (uses + 1))
@@ -393,14 +395,14 @@ module _ (keep : RequestersKeepCallsApart) (views : ℕ → Option View) (who co
       }) a
 
   -- a step at which no whole unit comes on the link of the turn: one number is used at most
-  pub other_apart : ChannelStepsKnown → (r : Option Running) (what : Event) (now : ℕ) (left : List (List ℕ)) (marks : List Mark) (drawn : List (List ℕ)) (uses : ℕ) → uses + 2 < 2 ^ 32 →
+  pub other_apart : (r : Option Running) (what : Event) (now : ℕ) (left : List (List ℕ)) (marks : List Mark) (drawn : List (List ℕ)) (uses : ℕ) → uses + 2 < 2 ^ 32 →
       HearsNone r what → CoherentIf r → views who ≡ seen_running controller r → CallsAreApart (record { views = views; marks = marks; drawn = drawn; uses = uses }) →
       Differ (drawn ++ (step_of (record { running = r }) what now left).drawn) →
       CallsAreApart
       (requests_after views who controller (step_of (record { running = r }) what now left).state.running marks (drawn ++ (step_of (record { running = r }) what now left).drawn) (uses + 1))
-  other_apart steps None what now left marks drawn uses few none coherent at a differ = stopped_so marks drawn uses a
-  other_apart steps (Some running) what now left marks drawn uses few none coherent at a differ =
-      other_by (event_part running what now left) running what now left marks drawn uses few (steps.other running what now left none)
+  other_apart None what now left marks drawn uses few none coherent at a differ = stopped_so marks drawn uses a
+  other_apart (Some running) what now left marks drawn uses few none coherent at a differ =
+      other_by (event_part running what now left) running what now left marks drawn uses few (channel_steps.other running what now left none)
       (start_so running.logons.channel marks drawn uses coherent at a) differ
 
   -- ---- a whole unit comes on it
@@ -420,19 +422,19 @@ module _ (keep : RequestersKeepCallsApart) (views : ℕ → Option View) (who co
   whole_by (Ok part) running what unit now left marks more drawn uses few steps placed stands differ =
       let s : Requester = running.logons.channel in
       let taken : StandsApart views who controller (take_of s unit).state (marks ++ more) drawn (uses + 1) =
-      taken_so keep views who controller s unit marks more drawn uses (omega (arith, few)) placed stands in
+      taken_so views who controller s unit marks more drawn uses (omega (arith, few)) placed stands in
       used_more (requests_after views who controller (state_in part.value).running (marks ++ more) (drawn ++ draws_between left part.left) (uses + 1 + 1)) (uses + 2) (omega arith)
       (part_apart (ComesCalmly (take_of s unit).state) now (marks ++ more) drawn left (uses + 1) (omega (arith, few)) (by_event what running.dialling (work_of running) left)
-      (λ t mid. comes_calmly keep views who controller (take_of s unit).state t (marks ++ more) drawn (uses + 1) mid (omega (arith, few)) taken) (rest_of running what left) part steps differ)
+      (λ t mid. comes_calmly views who controller (take_of s unit).state t (marks ++ more) drawn (uses + 1) mid (omega (arith, few)) taken) (rest_of running what left) part steps differ)
 
   -- a step at which one does: two numbers are used at most
-  pub whole_apart : ChannelStepsKnown → (running : Running) (number : ℕ) (said : LinkState TurnTalk) (bytes : List ℕ) (frames : List RpcUnit) (unit : RpcUnit) (now : ℕ) (left : List (List ℕ))
+  pub whole_apart : (running : Running) (number : ℕ) (said : LinkState TurnTalk) (bytes : List ℕ) (frames : List RpcUnit) (unit : RpcUnit) (now : ℕ) (left : List (List ℕ))
       (marks more : List Mark) (drawn : List (List ℕ)) (uses : ℕ) → uses + 3 < 2 ^ 32 → running.dialling ≡ dialling.On number said → said.rest ≡ [] → said.talk.joiner ≡ None →
       IsHeard bytes frames unit → IsCoherent running.logons.channel → views who ≡ Some (view_of controller running.logons.channel) →
       PlacedBy (event_part running (event.Bytes number bytes) now left) (taking_note (Some (take_of running.logons.channel unit)) controller running.logons.channel) more →
       CallsAreApart (record { views = views; marks = marks; drawn = drawn; uses = uses }) →
       let step : Stepped MemberState = step_of (record { running = Some running }) (event.Bytes number bytes) now left in
       Differ (drawn ++ step.drawn) → CallsAreApart (requests_after views who controller step.state.running (marks ++ more) (drawn ++ step.drawn) (uses + 2))
-  whole_apart steps running number said bytes frames unit now left marks more drawn uses few on rest none heard coherent at placed a differ =
+  whole_apart running number said bytes frames unit now left marks more drawn uses few on rest none heard coherent at placed a differ =
       whole_by (event_part running (event.Bytes number bytes) now left) running (event.Bytes number bytes) unit now left marks more drawn uses few
-      (steps.whole running number said bytes frames unit now left on rest none heard) placed (start_so running.logons.channel marks drawn uses coherent at a) differ
+      (channel_steps.whole running number said bytes frames unit now left on rest none heard) placed (start_so running.logons.channel marks drawn uses coherent at a) differ

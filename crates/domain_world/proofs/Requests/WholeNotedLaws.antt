@@ -18,12 +18,11 @@ use Rattle.channel_events.specs.Marks.{Calling, Mark, Opened, Opening, Plain, Re
 use Rattle.channel_events.specs.Requests.{IsNoCall}
 use Rattle.channel_events.proofs.ListLaws.{got_behind}
 use Rattle.member_server.specs.Machine.{actions_in, at_turn, halted_state, state_in, work_of}
-use Rattle.member_server.specs.Turns.{DialWork, turn_server}
-use Rattle.member_server.specs.declared.state.AtTurn.{AtTurn}
-use Rattle.member_server.specs.declared.state.Dialling.{Dialling}
-use Rattle.member_server.specs.declared.state.Dialling.TheVariants as dialling
+use Rattle.member_server.specs.Turns.{AtTurn, DialWork, turn_server}
+use Rattle.channel_turns.specs.declared.state.Dialling.{Dialling}
+use Rattle.channel_turns.specs.declared.state.Dialling.TheVariants as dialling
 use Rattle.member_server.specs.declared.state.Running.{Running}
-use Rattle.member_server.specs.declared.state.TurnTalk.{TurnTalk}
+use Rattle.channel_turns.specs.declared.state.TurnTalk.{TurnTalk}
 use Rattle.step_notes.specs.CallLogons.{AreFirst, IsFirstBy}
 use Rattle.step_notes.specs.Marking.{mark_if, turn_marks}
 use Rattle.step_notes.specs.MemberNotes.{TurnNote, no_note, taking_at, taking_note, turn_note, turn_units_by, turn_units_in, turn_units_on}

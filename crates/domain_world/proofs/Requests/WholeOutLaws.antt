@@ -32,17 +32,17 @@ use Rattle.channel_client.specs.declared.state.Step.TheVariants as step
 use Rattle.channel_client.proofs.EffectLaws.{steps_have_effects}
 use Rattle.channel_events.specs.Marks.{Calling, OneOf}
 use Rattle.channel_events.proofs.ListLaws.{one_found, one_weaker, one_with}
-use Rattle.member_server.specs.ChannelSteps.{ChannelStepsKnown, ComesCalmly, StepsIfTaken}
+use Rattle.member_server.specs.ChannelSteps.{ComesCalmly, StepsIfTaken}
 use Rattle.member_server.specs.Machine.{actions_in, after_turn, at_turn, by_event, bytes_by, event_part, halted_state, serve_dialled, state_in, step_of, work_of}
-use Rattle.member_server.specs.Turns.{DialWork, dial_work_part, next_turn, take_by, turn_by}
-use Rattle.member_server.specs.declared.state.AtTurn.{AtTurn}
-use Rattle.member_server.specs.declared.state.Dialling.{Dialling}
-use Rattle.member_server.specs.declared.state.Dialling.TheVariants as dialling
+use Rattle.member_server.specs.Turns.{AtTurn, DialWork, dial_work_part, next_turn, take_by, turn_by, dial_for, with_requester}
+use Rattle.channel_turns.specs.declared.state.Dialling.{Dialling}
+use Rattle.channel_turns.specs.declared.state.Dialling.TheVariants as dialling
 use Rattle.member_server.specs.declared.state.Logon.{Logon}
 use Rattle.member_server.specs.declared.state.Logons.{Logons}
 use Rattle.member_server.specs.declared.state.Running.{Running}
-use Rattle.member_server.specs.declared.state.TurnTalk.{TurnTalk}
+use Rattle.channel_turns.specs.declared.state.TurnTalk.{TurnTalk}
 use Rattle.member_server.specs.declared.state.Work.{Work}
+use Rattle.member_server.proofs.ChannelStepLaws.{channel_steps}
 use Rattle.step_notes.specs.ChannelNames.{standing_channel}
 use Rattle.step_notes.specs.MemberNotes.{LinkAt, TurnNote, asked_note, link_of_logon, link_of_place, link_units, message_note, no_note, request_note, taking_note, timestamp_bound}
 use Rattle.step_notes.specs.Records.{MessageTaken, Sent}
@@ -128,7 +128,7 @@ module _ (controller : ℕ) (c : Requester) where
 next_same : (starts needs : Bool) (now : ℕ) (w : Work) (how : Dialling) (left : List (List ℕ)) (part : Part DialWork) → starts ≡ false → turn_by starts needs now w how left ≡ Ok part →
     part.value.0.logons ≡ w.logons
 next_same false needs now w how left part none is =
-    let same : record { value = (w, how); left = left } ≡ part = (let x = is in cc) in
+    let same : record { value = dial_for None (with_requester w w.logons.channel) how; left = left } ≡ part = (let x = is in cc) in
     sym (ap (λ (p : Part DialWork). p.value.0.logons) same)
 next_same true needs now w how left part none is = let x = none in cc
 
@@ -251,7 +251,7 @@ module _ (units more : List Sent) (grown : (k : ℕ) (unit : Sent) → slice_get
       (one_weaker (IsOutIn units member pending logon old) (IsOutIn more member pending logon new) messages
       (λ message is. out_more units more member pending logon old new message grown same is) one))
 
-  whole_out : ChannelStepsKnown → (part : Result (Part DialWork) StepRefused) (running : Running) (link : ℕ) (said : LinkState TurnTalk) (bytes : List ℕ) (frames : List RpcUnit) (unit : RpcUnit) (now : ℕ)
+  whole_out : (part : Result (Part DialWork) StepRefused) (running : Running) (link : ℕ) (said : LinkState TurnTalk) (bytes : List ℕ) (frames : List RpcUnit) (unit : RpcUnit) (now : ℕ)
       (left : List (List ℕ)) (Own : ℕ → Type 0) → running.dialling ≡ dialling.On link said → said.rest ≡ [] → said.talk.joiner ≡ None → IsHeard bytes frames unit →
       event_part running (event.Bytes link bytes) now left ≡ part → IsCoherent running.logons.channel → KeptIn (HasOne member messages) Own (Some running) →
       OutFor units messages controller member (Some running) →
@@ -259,8 +259,8 @@ module _ (units more : List Sent) (grown : (k : ℕ) (unit : Sent) → slice_get
       IsSentAs (taking_note (Some (take_of running.logons.channel unit)) controller running.logons.channel) number more) →
       OutFor more (noted (taking_note (Some (take_of running.logons.channel unit)) controller running.logons.channel) running.logons carried number after) controller member
       (step_by actions_in state_in halted_state left part).state.running
-  whole_out steps (Err why) running link said bytes frames unit now left Own on rest none heard is coherent kept out sent = tt
-  whole_out steps (Ok part) running link said bytes frames unit now left Own on rest none heard is coherent kept out sent = λ pending logon turn reply there.
+  whole_out (Err why) running link said bytes frames unit now left Own on rest none heard is coherent kept out sent = tt
+  whole_out (Ok part) running link said bytes frames unit now left Own on rest none heard is coherent kept out sent = λ pending logon turn reply there.
       let c : Requester = running.logons.channel in
       let t : Requester = (take_of c unit).state in
       let new : Requester = part.value.0.logons.channel in
@@ -268,7 +268,7 @@ module _ (units more : List Sent) (grown : (k : ℕ) (unit : Sent) → slice_get
       let w : Work = work_of running in
       let first : Result (Part DialWork) StepRefused = by_event (event.Bytes link bytes) running.dialling w left in
       let known : StepsIfTaken first (ComesCalmly t) now (Ok part) =
-      subst (λ (p : Result (Part DialWork) StepRefused). StepsIfTaken first (ComesCalmly t) now p) is (steps.whole running link said bytes frames unit now left on rest none heard) in
+      subst (λ (p : Result (Part DialWork) StepRefused). StepsIfTaken first (ComesCalmly t) now p) is (channel_steps.whole running link said bytes frames unit now left on rest none heard) in
       let so : OutSteps t first new pending = out_steps t first now new part.left pending question.Logon known turn reply in
       let same : taken_part link bytes unit w left ≡ Ok so.part = sym (whole_part running link said bytes frames unit left on rest none heard) ∙ so.is in
       let logons : so.part.value.0.logons ≡ (take_by (take_of c unit) None (at_turn link w)).0.work.logons = logons_of so.part (take_by (take_of c unit) None (at_turn link w)).0.work _ left same in
@@ -291,7 +291,7 @@ module _ (units more : List Sent) (grown : (k : ℕ) (unit : Sent) → slice_get
 -- ---- so it is of the member whose turn it is
 
 -- with what is written down of the unit
-pub whole_holds : ChannelStepsKnown → (links : List Route) (units more : List Sent) (messages : List MessageTaken) (controller : ℕ) (w : LinkAt) (running : Running) (said : LinkState TurnTalk)
+pub whole_holds : (links : List Route) (units more : List Sent) (messages : List MessageTaken) (controller : ℕ) (w : LinkAt) (running : Running) (said : LinkState TurnTalk)
     (bytes : List ℕ) (frames : List RpcUnit) (unit : RpcUnit) (now : ℕ) (left : List (List ℕ)) (carried number : Option ℕ) →
     ((k : ℕ) (one : Sent) → slice_get units k ≡ Some one → slice_get more k ≡ Some one) → running.dialling ≡ dialling.On w.link said → said.rest ≡ [] → said.talk.joiner ≡ None →
     IsHeard bytes frames unit →
@@ -302,7 +302,7 @@ pub whole_holds : ChannelStepsKnown → (links : List Route) (units more : List 
     (noted (taking_note (Some (take_of running.logons.channel unit)) controller running.logons.channel) running.logons carried number
     (messages ++ flat_map (message_note w) (link_units (record { running = Some running }) w.link bytes now left))) controller w.member
     (step_of (record { running = Some running }) (event.Bytes w.link bytes) now left).state.running
-whole_holds steps links units more messages controller w running said bytes frames unit now left carried number grown on rest none heard sent holds =
+whole_holds links units more messages controller w running said bytes frames unit now left carried number grown on rest none heard sent holds =
     let new : List MessageTaken = flat_map (message_note w) (link_units (record { running = Some running }) w.link bytes now left) in
     let note : TurnNote = taking_note (Some (take_of running.logons.channel unit)) controller running.logons.channel in
     let own : ℕ → Type 0 = λ number. IsDialledBy links w.member number in
@@ -313,7 +313,7 @@ whole_holds steps links units more messages controller w running said bytes fram
           (step_of (record { running = Some running }) (event.Bytes w.link bytes) now left).state.running
           (bytes_kept links messages w (Some running) bytes now left holds.accepts holds.kept);
       accepts = bytes_accepts links w (Some running) bytes now left holds.accepts;
-      out = whole_out units more grown messages (messages ++ new) (λ P one. one_before P messages new one) controller w.member carried number steps
+      out = whole_out units more grown messages (messages ++ new) (λ P one. one_before P messages new one) controller w.member carried number
           (event_part running (event.Bytes w.link bytes) now left) running w.link said bytes frames unit now left own on rest none heard refl holds.asks.coherent holds.kept holds.out sent;
     }
 

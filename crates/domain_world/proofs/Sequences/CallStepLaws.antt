@@ -16,10 +16,10 @@ use Rattle.member_server.specs.ChannelSteps.{IsNextTurn}
 use Rattle.member_server.specs.Dials.{IsDialledBy, IsWaiting, TurnSteps, dials_in}
 use Rattle.member_server.specs.Machine.{by_event, work_of}
 use Rattle.member_server.specs.Turns.{DialWork, timestamp_of}
-use Rattle.member_server.specs.declared.state.Dialling.{Dialling}
+use Rattle.channel_turns.specs.declared.state.Dialling.{Dialling}
 use Rattle.member_server.specs.declared.state.Running.{Running}
 use Rattle.step_notes.specs.MemberNotes.{turn_of}
-use Rattle.step_notes.specs.Records.{LogonTurn, OfMember}
+use Rattle.step_notes.specs.Records.{ChannelTurn, OfMember}
 use Rattle.step_notes.proofs.Members.RestLaws.{event_rest}
 use Rattle.world_moves.specs.declared.links.EndId.TheVariants.{Member}
 use Rattle.world_moves.specs.Acting.{Given, given_by}
@@ -34,8 +34,8 @@ use Rattle.domain_world.proofs.Sequences.SeedTurnLaws.{Turned, comes_so, drawn_s
 
 -- Its turns, with those that started in this move, and the calls of these. Where it dialled once in this move, and the
 -- dial waits, its turn is that one.
-pub record OwnCalls (Done : ℕ → Type 0) (marks : List Mark) (drawn : List (List ℕ)) (turns : List LogonTurn) (given : Given) (controller k : ℕ) (running : Running) : Type 0 where
-  pub own : List LogonTurn
+pub record OwnCalls (Done : ℕ → Type 0) (marks : List Mark) (drawn : List (List ℕ)) (turns : List ChannelTurn) (given : Given) (controller k : ℕ) (running : Running) : Type 0 where
+  pub own : List ChannelTurn
   pub none : given_dials k given ≡ 0 → own ≡ mine k turns
   pub one : given_dials k given ≡ 1 → IsWaiting running.dialling → own ≡ mine k turns ++ turn_of controller (OfMember k) running.logons.channel
   pub before : AreDrawn drawn own
@@ -43,7 +43,7 @@ pub record OwnCalls (Done : ℕ → Type 0) (marks : List Mark) (drawn : List (L
   pub calls : KnowsCalls Done marks own controller running.logons.channel
 
 -- more is written down and drawn, and more is answered
-pub own_grows : (Done Later : ℕ → Type 0) (so : (n : ℕ) → Done n → Later n) (marks later : List Mark) (drawn after : List (List ℕ)) (turns : List LogonTurn) (given more : Given) (controller k : ℕ) (running : Running) →
+pub own_grows : (Done Later : ℕ → Type 0) (so : (n : ℕ) → Done n → Later n) (marks later : List Mark) (drawn after : List (List ℕ)) (turns : List ChannelTurn) (given more : Given) (controller k : ℕ) (running : Running) →
     ((j : ℕ) (mark : Mark) → slice_get marks j ≡ Some mark → slice_get later j ≡ Some mark) →
     ((c : ChannelIdentity) → stands_in controller running.logons.channel.caller.computer running.logons.channel.standing ≡ Some c → (n number timestamp : ℕ) (d : ChannelIdentity) →
     slice_get later n ≡ Some (Calling d number timestamp) → d.client ≡ c.client → slice_get marks n ≡ Some (Calling d number timestamp)) →
@@ -59,8 +59,8 @@ own_grows Done Later so marks later drawn after turns given more controller k ru
 
 -- ---- a step
 
-record Next (Done : ℕ → Type 0) (marks : List Mark) (drawn : List (List ℕ)) (own : List LogonTurn) (controller k : ℕ) (new : Requester) (count : ℕ) : Type 0 where
-  turns : List LogonTurn
+record Next (Done : ℕ → Type 0) (marks : List Mark) (drawn : List (List ℕ)) (own : List ChannelTurn) (controller k : ℕ) (new : Requester) (count : ℕ) : Type 0 where
+  turns : List ChannelTurn
   none : count ≡ 0 → turns ≡ own
   one : 1 ≤ count → turns ≡ own ++ turn_of controller (OfMember k) new
   few : count ≤ 1
@@ -68,7 +68,7 @@ record Next (Done : ℕ → Type 0) (marks : List Mark) (drawn : List (List ℕ)
   turned : Turned (view_of controller new) turns drawn
   calls : KnowsCalls Done marks turns controller new
 
-module _ (Done : ℕ → Type 0) (marks : List Mark) (drawn : List (List ℕ)) (own : List LogonTurn) (controller k : ℕ) (before : AreDrawn drawn own) where
+module _ (Done : ℕ → Type 0) (marks : List Mark) (drawn : List (List ℕ)) (own : List ChannelTurn) (controller k : ℕ) (before : AreDrawn drawn own) where
   with_turn : (new : Requester) (count : ℕ) (later : List (List ℕ)) → count ≡ 1 → StillDrawn drawn later → Turned (view_of controller new) (own ++ turn_of controller (OfMember k) new) later →
       KnowsCalls Done marks (own ++ turn_of controller (OfMember k) new) controller new → Next Done marks later own controller k new count
   with_turn new count later one still turned calls = record {
@@ -122,8 +122,8 @@ module _ (Done : ℕ → Type 0) (marks : List Mark) (drawn : List (List ℕ)) (
       (start_knows Done marks own controller (OfMember k) (timestamp_of now) challenge mid can calls))
 
 -- what the event comes to is known, and the next turn may start
-pub step_calls : (Done : ℕ → Type 0) (marks : List Mark) (drawn : List (List ℕ)) (turns : List LogonTurn) (given : Given) (controller k : ℕ) (running : Running) (what : Event) (now : ℕ) (left : List (List ℕ))
-    (part : Part DialWork) (own : List LogonTurn) (steps : TurnSteps running.logons.channel (by_event what running.dialling (work_of running) left) now part) → AreDrawn drawn own →
+pub step_calls : (Done : ℕ → Type 0) (marks : List Mark) (drawn : List (List ℕ)) (turns : List ChannelTurn) (given : Given) (controller k : ℕ) (running : Running) (what : Event) (now : ℕ) (left : List (List ℕ))
+    (part : Part DialWork) (own : List ChannelTurn) (steps : TurnSteps running.logons.channel (by_event what running.dialling (work_of running) left) now part) → AreDrawn drawn own →
     (given_dials k given ≡ 0 → own ≡ mine k turns) →
     (dials_in part.value.0.actions ≡ 0 → given_dials k given ≡ 1 → IsWaiting part.value.1 → own ≡ mine k turns ++ turn_of controller (OfMember k) part.value.0.logons.channel) → IsCoherent running.logons.channel →
     Turned (view_of controller running.logons.channel) own drawn → KnowsCalls Done marks own controller steps.part.value.0.logons.channel → Differ (drawn ++ draws_between left part.left) →
@@ -150,7 +150,7 @@ step_calls Done marks drawn turns given controller k running what now left part 
             (let was : given_dials k given ≡ 1 = omega (arith, count, is, no_dials) in next.none no_dials ∙ still no_dials was waits)
         | inr some ↦
             (let no_given : given_dials k given ≡ 0 = omega (arith, count, is, some) in
-            next.one some ∙ ap (λ (l : List LogonTurn). l ++ turn_of controller (OfMember k) part.value.0.logons.channel) (none no_given))
+            next.one some ∙ ap (λ (l : List ChannelTurn). l ++ turn_of controller (OfMember k) part.value.0.logons.channel) (none no_given))
       ];
       before = next.before;
       turned = next.turned;

@@ -24,7 +24,7 @@ use Rattle.channel_client.proofs.EffectLaws.{steps_have_effects}
 use Rattle.channel_events.specs.Marks.{Mark, Calling}
 use Rattle.channel_events.proofs.ListLaws.{got_append, some_is}
 use Rattle.step_notes.specs.MemberNotes.{TurnNote, asked_note, request_note, taking_note, timestamp_bound}
-use Rattle.step_notes.specs.Records.{LogonTurn}
+use Rattle.step_notes.specs.Records.{ChannelTurn}
 use Rattle.step_notes.proofs.Members.TurnRequestLaws.{IsOfTurn, of_turn}
 use Rattle.domain_world.proofs.Requests.LooserLaws.{IsPlaced, NoCalls, Placed, calls_before}
 use Rattle.domain_world.proofs.Sequences.CallTurnLaws.{CallsMade, KnowsCalls, answered_knows, called_knows, calls_still, opened_knows}
@@ -65,7 +65,7 @@ waits_reply : (turn : Option Pending) (how : Standing) (number : ℕ) → asking
 waits_reply None how number asking = absurd (none_asked how 0 number asking)
 waits_reply (Some p) how number asking = waits_by p p.step how number refl asking
 
-module _ (Done Later : ℕ → Type 0) (so : (n : ℕ) → Done n → Later n) (marks more : List Mark) (own : List LogonTurn) (drawn : List (List ℕ)) (controller : ℕ) (s : Requester)
+module _ (Done Later : ℕ → Type 0) (so : (n : ℕ) → Done n → Later n) (marks more : List Mark) (own : List ChannelTurn) (drawn : List (List ℕ)) (controller : ℕ) (s : Requester)
     (turned : Turned (view_of controller s) own drawn)
     (fresh : (challenge : List ℕ) → (view_of controller s).opening ≡ Some challenge → (n number timestamp : ℕ) (d : ChannelIdentity) → slice_get marks n ≡ Some (Calling d number timestamp) → d.client ≡ challenge → ⊥)
     (knows : KnowsCalls Done marks own controller s) where

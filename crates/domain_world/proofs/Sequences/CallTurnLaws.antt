@@ -23,7 +23,7 @@ use Rattle.channel_events.proofs.ListLaws.{at_end, got_append, got_last, got_not
 use Rattle.member_server.specs.ChannelSteps.{IsCalm}
 use Rattle.member_server.specs.Laws.{Asks, Doing, Loses, Starts, Takes, state_after}
 use Rattle.step_notes.specs.MemberNotes.{timestamp_bound, turn_of}
-use Rattle.step_notes.specs.Records.{LogonTurn, RequesterId}
+use Rattle.step_notes.specs.Records.{ChannelTurn, RequesterId}
 use Rattle.domain_world.specs.Accepting.Sequences.{AreUnitsApart, stamps_of}
 use Rattle.domain_world.proofs.Requests.LooserLaws.{IsPlaced, calls_before, placed_as}
 use Rattle.domain_world.proofs.Sequences.Own.OwnTurnLaws.{stands_same}
@@ -57,7 +57,7 @@ abbrev pub AreFar : (ℕ → Type 0) → List Mark → ChannelIdentity → Optio
 AreFar Done marks c None bound made stamps = (stamps ≡ stamps_of made) × AllDone Done made
 AreFar Done marks c (Some p) bound made stamps = AreFarBy Done marks c p.number p.step bound made stamps
 
-pub record CallsMade (Done : ℕ → Type 0) (marks : List Mark) (own : List LogonTurn) (c : ChannelIdentity) (turn : Option Pending) : Type 0 where
+pub record CallsMade (Done : ℕ → Type 0) (marks : List Mark) (own : List ChannelTurn) (c : ChannelIdentity) (turn : Option Pending) : Type 0 where
   pub made : List (ℕ × ℕ)
   pub each : AllByRecursion (IsCalled marks c) made
   pub apart : AreUnitsApart made
@@ -65,12 +65,12 @@ pub record CallsMade (Done : ℕ → Type 0) (marks : List Mark) (own : List Log
   pub far : AreFar Done marks c turn (timestamp_bound (step_in turn)) made (stamps_on c own)
 
 -- of the channel that stands, if one does
-abbrev pub KnowsCalls : (ℕ → Type 0) → List Mark → List LogonTurn → ℕ → Requester → Type 0
+abbrev pub KnowsCalls : (ℕ → Type 0) → List Mark → List ChannelTurn → ℕ → Requester → Type 0
 KnowsCalls Done marks own controller s = (c : ChannelIdentity) → stands_in controller s.caller.computer s.standing ≡ Some c → CallsMade Done marks own c s.turn
 
 -- ---- units are written down that are no calls on the channel, and more are answered
 
-module _ (Done Later : ℕ → Type 0) (so : (n : ℕ) → Done n → Later n) (marks later : List Mark) (own : List LogonTurn) (c : ChannelIdentity)
+module _ (Done Later : ℕ → Type 0) (so : (n : ℕ) → Done n → Later n) (marks later : List Mark) (own : List ChannelTurn) (c : ChannelIdentity)
     (still : (k : ℕ) (mark : Mark) → slice_get marks k ≡ Some mark → slice_get later k ≡ Some mark)
     (new : (n number timestamp : ℕ) (d : ChannelIdentity) → slice_get later n ≡ Some (Calling d number timestamp) → d.client ≡ c.client → slice_get marks n ≡ Some (Calling d number timestamp)) where
   each_still : (made : List (ℕ × ℕ)) → AllByRecursion (IsCalled marks c) made → AllByRecursion (IsCalled later c) made
@@ -107,11 +107,7 @@ module _ (Done Later : ℕ → Type 0) (so : (n : ℕ) → Done n → Later n) (
 
 -- ---- a requester that stays so
 
-module _ (Done : ℕ → Type 0) (marks : List Mark) (own : List LogonTurn) (controller : ℕ) where
-  pub calls_same : (s t : Requester) → t.caller ≡ s.caller → t.standing ≡ s.standing → t.turn ≡ s.turn → KnowsCalls Done marks own controller s → KnowsCalls Done marks own controller t
-  calls_same s t caller standing turn knows = λ c is.
-      subst (λ (p : Option Pending). CallsMade Done marks own c p) (sym turn) (knows c (sym (stands_same controller s t caller standing) ∙ is))
-
+module _ (Done : ℕ → Type 0) (marks : List Mark) (own : List ChannelTurn) (controller : ℕ) where
   none_knows : (s : Requester) → ((c : ChannelIdentity) → stands_in controller s.caller.computer s.standing ≡ Some c → ⊥) → KnowsCalls Done marks own controller s
   none_knows s none = λ c is. absurd (none c is)
 
@@ -129,7 +125,7 @@ module _ (Done : ℕ → Type 0) (marks : List Mark) (own : List LogonTurn) (con
 
   -- ---- a turn starts
 
-  started_far : (c : ChannelIdentity) (turn : LogonTurn) → turn.channel ≡ c → CallsMade Done marks own c None → (number place : ℕ) (what : Call) → timestamp_bound (Some (step.Bind what)) ≡ turn.timestamp →
+  started_far : (c : ChannelIdentity) (turn : ChannelTurn) → turn.channel ≡ c → CallsMade Done marks own c None → (number place : ℕ) (what : Call) → timestamp_bound (Some (step.Bind what)) ≡ turn.timestamp →
       CallsMade Done marks (own ++ turn ∷ []) c (Some (record { number = number; place = place; step = step.Bind what }))
   started_far c turn on calls number place what is = record {
     made = calls.made;
@@ -165,7 +161,7 @@ got_within [] k mark there = absurd (got_nothing k mark there)
 got_within (first ∷ marks) zero mark there = omega arith
 got_within (first ∷ marks) (suc k) mark there = omega (arith, got_within marks k mark there)
 
-module _ (Done : ℕ → Type 0) (marks more : List Mark) (own : List LogonTurn) (c : ChannelIdentity) (number timestamp : ℕ) (placed : IsPlaced more (Calling c number timestamp)) where
+module _ (Done : ℕ → Type 0) (marks more : List Mark) (own : List ChannelTurn) (c : ChannelIdentity) (number timestamp : ℕ) (placed : IsPlaced more (Calling c number timestamp)) where
   abbrev at : ℕ
   at = length (marks ++ placed.front)
 
@@ -231,7 +227,7 @@ done_last : (Done : ℕ → Type 0) (made : List (ℕ × ℕ)) (last : ℕ × �
 done_last Done [] last all is = (is, tt)
 done_last Done (one ∷ made) last all is = (all.0, done_last Done made last all.1 is)
 
-pub answered_knows : (Done : ℕ → Type 0) (marks : List Mark) (own : List LogonTurn) (c : ChannelIdentity) (turn : Option Pending) (number place : ℕ) (q : Question) →
+pub answered_knows : (Done : ℕ → Type 0) (marks : List Mark) (own : List ChannelTurn) (c : ChannelIdentity) (turn : Option Pending) (number place : ℕ) (q : Question) →
     turn ≡ Some (record { number = number; place = place; step = step.Reply q }) → ((n timestamp : ℕ) → slice_get marks n ≡ Some (Calling c number timestamp) → Done n) →
     CallsMade Done marks own c turn → CallsMade Done marks own c None
 answered_knows Done marks own c turn number place q is done calls =
@@ -250,7 +246,7 @@ answered_knows Done marks own c turn number place q is done calls =
 
 -- ---- a channel opens
 
-pub opened_knows : (Done : ℕ → Type 0) (marks : List Mark) (own : List LogonTurn) (c : ChannelIdentity) → ((n number timestamp : ℕ) (d : ChannelIdentity) → slice_get marks n ≡ Some (Calling d number timestamp) → d.client ≡ c.client → ⊥) →
+pub opened_knows : (Done : ℕ → Type 0) (marks : List Mark) (own : List ChannelTurn) (c : ChannelIdentity) → ((n number timestamp : ℕ) (d : ChannelIdentity) → slice_get marks n ≡ Some (Calling d number timestamp) → d.client ≡ c.client → ⊥) →
     stamps_on c own ≡ [] → CallsMade Done marks own c None
 opened_knows Done marks own c none stamps =
     record { made = []; each = tt; apart = tt; every = λ n number timestamp d there same. absurd (none n number timestamp d there same); far = (stamps, tt) }

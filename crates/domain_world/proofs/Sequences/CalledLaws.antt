@@ -12,7 +12,7 @@ use Rattle.channel_events.proofs.ListLaws.{got_nothing, some_is}
 use Rattle.member_server.specs.State.{State as MemberState}
 use Rattle.member_server.specs.declared.state.Running.{Running}
 use Rattle.step_notes.specs.MemberNotes.{timestamp_bound}
-use Rattle.step_notes.specs.Records.{Book, LogonTurn, Sent, OfMember}
+use Rattle.step_notes.specs.Records.{Book, ChannelTurn, Sent, OfMember}
 use Rattle.world_moves.specs.declared.state.State.{State}
 use Rattle.domain_world.specs.Accepting.Sequences.{AreSoFar, CallsOfTurns, HasPassed, HavePassed, IsMadeOn, TurnsAreCalled}
 use Rattle.domain_world.specs.Claims.SharedSequences.{timestamps_on}
@@ -27,7 +27,7 @@ use Rattle.domain_world.proofs.Frames.RequesterLaws.{StandsAtMember, stands_at}
 use Rattle.channel_client.specs.declared.state.Step.TheVariants as step
 
 -- what is known of a member, if it runs
-abbrev pub KnowsIf : (ℕ → Type 0) → List Mark → List LogonTurn → ℕ → Option Running → Type 0
+abbrev pub KnowsIf : (ℕ → Type 0) → List Mark → List ChannelTurn → ℕ → Option Running → Type 0
 KnowsIf Done marks own controller None = Unit {0}
 KnowsIf Done marks own controller (Some running) = KnowsCalls Done marks own controller running.logons.channel
 
@@ -69,7 +69,7 @@ module _ (p : Past) (Done : ℕ → Type 0) (passed : (n : ℕ) → Done n → H
   so_far c None bound made stamps far = inl (far.0, have_passed made far.1)
   so_far c (Some pending) bound made stamps far = far_step c (Some pending) pending pending.number pending.step bound made stamps refl far
 
-  of_turns : (c : ChannelIdentity) (turn : Option Pending) (own : List LogonTurn) (timestamps : List ℕ) → stamps_on c own ≡ timestamps → CallsMade Done marks own c turn → CallsOfTurns p c turn timestamps
+  of_turns : (c : ChannelIdentity) (turn : Option Pending) (own : List ChannelTurn) (timestamps : List ℕ) → stamps_on c own ≡ timestamps → CallsMade Done marks own c turn → CallsOfTurns p c turn timestamps
   of_turns c turn own timestamps same calls = record {
     made = calls.made;
     each = made_each c calls.made calls.each;
@@ -83,7 +83,7 @@ module _ (p : Past) (Done : ℕ → Type 0) (passed : (n : ℕ) → Done n → H
       let stands : StandsAtMember p.world.state member channel o its.turn = stands_at p.world.state member channel o its in
       let running : Running = stands.running in
       let c : ℕ = controller_of member p.world.state in
-      let own : List LogonTurn = mine member p.book.turns in
+      let own : List ChannelTurn = mine member p.book.turns in
       let known : KnowsCalls Done marks own c running.logons.channel =
       subst (λ (r : Option Running). KnowsIf Done marks own c r) stands.runs (all member stands.state stands.at) in
       let open_channel : stands_in c running.logons.channel.caller.computer running.logons.channel.standing ≡ Some channel =

@@ -66,11 +66,6 @@ given_own k end (what ∷ actions) own = omega (arith, ap (λ (hit : Bool). coun
 pub is_itself : (k : ℕ) → is_member k (Member k) ≡ true
 is_itself k = (Decides-eqb k k).1 refl
 
-pub is_that : (k : ℕ) (end : EndId) → is_member k end ≡ true → end ≡ Member k
-is_that k (Controller at) is = absurd (let x = is in cc)
-is_that k (Member at) is = ap Member ((Decides-eqb at k).0 is)
-is_that k (Client at) is = absurd (let x = is in cc)
-
 -- ---- dials that wait
 
 pub waiting_append : (k : ℕ) (dials more : List WaitingDial) → waiting_dials k (dials ++ more) ≡ waiting_dials k dials + waiting_dials k more

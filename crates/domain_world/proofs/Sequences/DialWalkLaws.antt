@@ -8,7 +8,7 @@ use Rattle.outside.specs.declared.action.Action.{Action}
 use Rattle.outside.specs.declared.event.Event.TheVariants as event
 use Rattle.logon_client.specs.declared.plan.ClientPlan.{ClientPlan}
 use Rattle.member_server.specs.declared.plan.MemberPlan.{MemberPlan}
-use Rattle.step_notes.specs.Records.{LogonTurn}
+use Rattle.step_notes.specs.Records.{ChannelTurn}
 use Rattle.world_moves.specs.declared.links.EndId.{EndId}
 use Rattle.world_moves.specs.declared.links.EndId.TheVariants.{Client}
 use Rattle.world_moves.specs.declared.moves.Move.{Move}
@@ -27,38 +27,38 @@ use Rattle.world_moves.specs.declared.plan.Plan.{Plan}
 -- What is to hold: of whose dial is answered, and of what was given and isn't done yet; of the members' plans, the
 -- ends, the dials and the draws; and of what was given in this move, and the turns that are written down.
 abbrev pub DialFact : Type 1
-DialFact = Option EndId → Given → List MemberPlan → EndStates → List WaitingDial → Drawing → Given → List LogonTurn → Type 0
+DialFact = Option EndId → Given → List MemberPlan → EndStates → List WaitingDial → Drawing → Given → List ChannelTurn → Type 0
 
-abbrev pub AtState : DialFact → Option EndId → Given → State → Given → List LogonTurn → Type 0
+abbrev pub AtState : DialFact → Option EndId → Given → State → Given → List ChannelTurn → Type 0
 AtState Holds d rest s given turns = Holds d rest s.member_plans s.ends s.dials s.chances given turns
 
 -- an end has heard something, and its actions aren't done yet
-abbrev pub IsHeard : DialFact → Option EndId → Given → EndId → Heard → Given → List LogonTurn → Type 0
+abbrev pub IsHeard : DialFact → Option EndId → Given → EndId → Heard → Given → List ChannelTurn → Type 0
 IsHeard Holds d rest end heard given turns = AtState Holds d (given_by end heard.actions ++ rest) heard.state (given ++ given_by end heard.actions) turns
 
 pub record KeepsDials (Holds : DialFact) : Type 0 where
-  pub closes : (d : Option EndId) (rest : Given) (end : EndId) (link : ℕ) (s : State) (given : Given) (turns : List LogonTurn) → AtState Holds d rest s given turns →
+  pub closes : (d : Option EndId) (rest : Given) (end : EndId) (link : ℕ) (s : State) (given : Given) (turns : List ChannelTurn) → AtState Holds d rest s given turns →
       IsHeard Holds d rest end (hear end (event.Closed link) s) given turns
-  pub opens : (d : Option EndId) (end : EndId) (link : ℕ) (s : State) (given : Given) (turns : List LogonTurn) → AtState Holds d [] s given turns →
+  pub opens : (d : Option EndId) (end : EndId) (link : ℕ) (s : State) (given : Given) (turns : List ChannelTurn) → AtState Holds d [] s given turns →
       IsHeard Holds d [] end (hear end (event.Opened link) s) given turns
-  pub comes : (end : EndId) (link : ℕ) (piece : List ℕ) (s : State) (given : Given) (turns : List LogonTurn) → AtState Holds None [] s given turns →
+  pub comes : (end : EndId) (link : ℕ) (piece : List ℕ) (s : State) (given : Given) (turns : List ChannelTurn) → AtState Holds None [] s given turns →
       IsHeard Holds None [] end (hear end (event.Bytes link piece) s) given turns
   -- the dial of that end is answered, or fails
-  pub dialled : (end : EndId) (link : ℕ) (s : State) (given : Given) (turns : List LogonTurn) → AtState Holds (Some end) [] s given turns →
+  pub dialled : (end : EndId) (link : ℕ) (s : State) (given : Given) (turns : List ChannelTurn) → AtState Holds (Some end) [] s given turns →
       IsHeard Holds None [] end (hear end (event.Dialled link) s) given turns
-  pub fails : (end : EndId) (s : State) (given : Given) (turns : List LogonTurn) → AtState Holds (Some end) [] s given turns →
+  pub fails : (end : EndId) (s : State) (given : Given) (turns : List ChannelTurn) → AtState Holds (Some end) [] s given turns →
       IsHeard Holds None [] end (hear end event.DialFailed s) given turns
-  pub begins : (client : ℕ) (plan : ClientPlan) (s : State) (turns : List LogonTurn) → AtState Holds None [] s [] turns → IsHeard Holds None [] (Client client) (begun client plan s) [] turns
+  pub begins : (client : ℕ) (plan : ClientPlan) (s : State) (turns : List ChannelTurn) → AtState Holds None [] s [] turns → IsHeard Holds None [] (Client client) (begun client plan s) [] turns
   -- an action is done
-  pub acts : (d : Option EndId) (rest : Given) (end : EndId) (what : Action) (s : State) (given : Given) (turns : List LogonTurn) → AtState Holds d ((end, what) ∷ rest) s given turns →
+  pub acts : (d : Option EndId) (rest : Given) (end : EndId) (what : Action) (s : State) (given : Given) (turns : List ChannelTurn) → AtState Holds d ((end, what) ∷ rest) s given turns →
       AtState Holds d rest (perform_quietly end what s) given turns
   -- the first dial waits no more
-  pub first : (dial : WaitingDial) (s : State) (turns : List LogonTurn) → slice_get s.dials 0 ≡ Some dial → AtState Holds None [] s [] turns →
+  pub first : (dial : WaitingDial) (s : State) (turns : List ChannelTurn) → slice_get s.dials 0 ≡ Some dial → AtState Holds None [] s [] turns →
       AtState Holds (Some dial.end) [] (without_first s) [] turns
-  pub forgets : (end : EndId) (s : State) (turns : List LogonTurn) → AtState Holds None [] s [] turns → AtState Holds None [] (forget end s) [] turns
-  pub renews : (end : EndId) (s : State) (turns : List LogonTurn) → AtState Holds None [] s [] turns → AtState Holds None [] (renewed end (forget end s)) [] turns
+  pub forgets : (end : EndId) (s : State) (turns : List ChannelTurn) → AtState Holds None [] s [] turns → AtState Holds None [] (forget end s) [] turns
+  pub renews : (end : EndId) (s : State) (turns : List ChannelTurn) → AtState Holds None [] s [] turns → AtState Holds None [] (renewed end (forget end s)) [] turns
   -- the move is over
-  pub over : (s : State) (given : Given) (turns : List LogonTurn) → AtState Holds None [] s given turns → AtState Holds None [] s [] (turns ++ turns_in given s)
+  pub over : (s : State) (given : Given) (turns : List ChannelTurn) → AtState Holds None [] s given turns → AtState Holds None [] s [] (turns ++ turns_in given s)
 
 -- ---- a run
 
@@ -74,7 +74,7 @@ module _ (Holds : DialFact) (keeps : KeepsDials Holds) where
     fails = λ n at end s b none holds. keeps.fails end s [] b.turns holds;
     begins = λ n at client plan s b is none holds. keeps.begins client plan s b.turns holds;
     comes = λ n end w piece s given b side came bytes none holds.
-        subst (λ (turns : List LogonTurn). IsHeard Holds None [] end (hear end (event.Bytes w.link piece) s) given turns)
+        subst (λ (turns : List ChannelTurn). IsHeard Holds None [] end (hear end (event.Bytes w.link piece) s) given turns)
         (sym (bytes_turns end w piece s (hear_and_act end (event.Bytes w.link piece) s).state b)) (keeps.comes end w.link piece s given b.turns holds);
     reaches = λ n w s given b none holds. holds;
     acts = λ n p end what s given b work none holds. keeps.acts p.dial p.rest end what s given b.turns holds;

@@ -1,8 +1,6 @@
 -- At most one turn is out at each member after every run.
 -- It serves `members_have_one_turn_out`.
 use Rattle.std.proofs.Common.{◌≡◌, ℕ, ◌+◌, Bool, true, false, List, [], ◌∷◌, length, Option, None, refl, ap, subst, ◌∙◌, arith, if◌then◌else◌}
-use Rattle.member_server.specs.Dials.{TurnsAreDialled}
-use Rattle.member_server.specs.Laws.{AsksWhatWaits}
 use Rattle.member_server.specs.declared.state.Running.{Running}
 use Rattle.world_moves.specs.declared.links.EndId.{EndId}
 use Rattle.world_moves.specs.declared.links.EndId.TheVariants.{Controller, Member, Client}
@@ -39,10 +37,10 @@ dials_count k (dial ∷ dials) =
 
 -- ---- of every run
 
-pub one_turn : AsksWhatWaits → TurnsAreDialled → (plan : Plan) (moves : List Move) → OneTurnIsOut (past plan moves)
-one_turn asks dialled plan moves member m running there runs =
+pub one_turn : (plan : Plan) (moves : List Move) → OneTurnIsOut (past plan moves)
+one_turn plan moves member m running there runs =
     let s : State = (past plan moves).world.state in
-    let known : AtState TurnsKnown None [] s [] (past plan moves).book.turns = dials_after TurnsKnown (turns_keep asks dialled) plan moves (first_known asks plan) in
+    let known : AtState TurnsKnown None [] s [] (past plan moves).book.turns = dials_after TurnsKnown turns_keep plan moves (first_known plan) in
     let holds : TurnsHold None [] s.member_plans s.ends s.dials s.chances.drawn [] (past plan moves).book.turns = known (draws_differ plan moves) in
     let its : TurnsOf member (controller_of member s) None [] s.dials s.chances.drawn [] (past plan moves).book.turns running =
     subst (λ (r : Option Running). TurnsIf member (controller_of member s) None [] s.dials s.chances.drawn [] (past plan moves).book.turns r) runs (holds.members member m there) in

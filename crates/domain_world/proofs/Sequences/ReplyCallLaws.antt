@@ -1,33 +1,28 @@
 -- Each reply to a call answers one that was made on its channel, of that number, which passed then.
 -- It serves `replies_answer_calls`.
-use Rattle.std.proofs.Common.{◌≡◌, false, List, Some, refl, subst}
+use Rattle.std.proofs.Common.{◌≡◌, false, Some, refl, subst}
 use Rattle.channel_events.specs.Marks.{Mark}
 use Rattle.channel_events.proofs.ListLaws.{one_weaker}
 use Rattle.step_notes.specs.ControllerNotes.{has_passed}
 use Rattle.step_notes.specs.Records.{Judging}
 use Rattle.step_notes.specs.ReplySends.{IsReplyOfCall}
-use Rattle.world_moves.specs.declared.moves.Move.{Move}
-use Rattle.world_moves.specs.declared.plan.Plan.{Plan}
-use Rattle.world_moves.specs.Bag.{AreShortUnits, HaveBytes}
-use Rattle.world_moves.specs.Forms.{IsSchedule}
 use Rattle.domain_world.specs.Accepting.Sequences.{IsPassedIn, RepliesAnswerCalls}
 use Rattle.domain_world.specs.Accepting.Units.{UnitsAreHeard}
 use Rattle.domain_world.specs.Claims.Replies.{IsReplyOfOne}
 use Rattle.domain_world.specs.Past.{Past, past}
+use Rattle.domain_world.specs.Schedules.{OfSchedules}
 use Rattle.domain_world.proofs.Accepting.AnsweredLaws.{passed_of}
 use Rattle.domain_world.proofs.Accepting.CarriedLaws.{requested}
 use Rattle.domain_world.proofs.Accepting.ListPlaceLaws.{placed}
+use Rattle.domain_world.proofs.Accepting.ScheduleLaws.{units_heard}
 use Rattle.domain_world.proofs.Judgements.ReplyLaws.{replies_carry}
 use Rattle.domain_world.proofs.Judgements.UnclashedLaws.{passes_unclashed}
 use Rattle.domain_world.proofs.Requests.MarkWayLaws.{marks_have_their_way}
 
-pub replies_answer :
-    ((plan : Plan) (moves : List Move) → IsSchedule plan moves → AreShortUnits (past plan moves).world.state.bag → HaveBytes (past plan moves).world.state.bag → UnitsAreHeard (past plan moves)) →
-    (plan : Plan) (moves : List Move) → IsSchedule plan moves → AreShortUnits (past plan moves).world.state.bag → HaveBytes (past plan moves).world.state.bag →
-    (past plan moves).book.clash ≡ false → RepliesAnswerCalls (past plan moves)
-replies_answer heard plan moves schedule short bytes clear n unit one channel number request bag there mark =
+pub replies_answer : OfSchedules (λ plan moves. (past plan moves).book.clash ≡ false → RepliesAnswerCalls (past plan moves))
+replies_answer plan moves schedule short bytes clear n unit one channel number request bag there mark =
     let p : Past = past plan moves in
-    let all : UnitsAreHeard p = heard plan moves schedule short bytes in
+    let all : UnitsAreHeard p = units_heard plan moves schedule short bytes in
     let replied = subst (λ (m : Mark). IsReplyOfOne p.book.judged n unit.bytes m) mark (replies_carry plan moves n unit one bag there) in
     let found = placed (λ (j : Judging). (j.reply ≡ Some n) × IsReplyOfCall channel number request j unit.bytes) p.book.judged replied in
     let asked = requested p all.whole (marks_have_their_way plan moves) all.judged (passes_unclashed plan moves) (replies_carry plan moves) all.numbers clear found.place channel found.item request number

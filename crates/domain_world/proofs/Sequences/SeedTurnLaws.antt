@@ -30,26 +30,26 @@ use Rattle.channel_events.proofs.SameLaws.{itself, one_channel}
 use Rattle.member_server.specs.Dials.{ComesUnstarted, IsNoStart}
 use Rattle.member_server.specs.Laws.{Asks, Doing, Loses, Starts, Takes, state_after}
 use Rattle.step_notes.specs.MemberNotes.{turn_of}
-use Rattle.step_notes.specs.Records.{LogonTurn, RequesterId}
+use Rattle.step_notes.specs.Records.{ChannelTurn, RequesterId}
 
 -- ---- turns
 
 -- the timestamps of those on the channel, among the turns of one member
-abbrev pub on_channel : ChannelIdentity → LogonTurn → Bool
+abbrev pub on_channel : ChannelIdentity → ChannelTurn → Bool
 on_channel channel turn = same_channel turn.channel channel
 
-abbrev pub stamps_on : ChannelIdentity → List LogonTurn → List ℕ
-stamps_on channel turns = map (λ (turn : LogonTurn). turn.timestamp) (filter (on_channel channel) turns)
+abbrev pub stamps_on : ChannelIdentity → List ChannelTurn → List ℕ
+stamps_on channel turns = map (λ (turn : ChannelTurn). turn.timestamp) (filter (on_channel channel) turns)
 
 -- What is known of a requester and of the turns of its member: the challenges that it holds were drawn, no turn was on
 -- a channel that is only being opened, and the seed is that of the turns on the channel that stands.
-pub record Turned (v : View) (own : List LogonTurn) (drawn : List (List ℕ)) : Type 0 where
+pub record Turned (v : View) (own : List ChannelTurn) (drawn : List (List ℕ)) : Type 0 where
   pub held : (challenge : List ℕ) → Holds v challenge → IsDrawn challenge drawn
-  pub fresh : (challenge : List ℕ) → v.opening ≡ Some challenge → AllByRecursion (λ (turn : LogonTurn). turn.channel.client ≡ challenge → ⊥) own
+  pub fresh : (challenge : List ℕ) → v.opening ≡ Some challenge → AllByRecursion (λ (turn : ChannelTurn). turn.channel.client ≡ challenge → ⊥) own
   pub seed : (c : ChannelIdentity) → v.stands ≡ Some c → v.seed ≡ Some (channel_seed c (stamps_on c own))
 
 -- of another that is seen so, as far as it matters
-pub turned_alike : (u v : View) (own : List LogonTurn) (drawn : List (List ℕ)) → v.stands ≡ u.stands → v.seed ≡ u.seed → v.opening ≡ u.opening → Turned u own drawn → Turned v own drawn
+pub turned_alike : (u v : View) (own : List ChannelTurn) (drawn : List (List ℕ)) → v.stands ≡ u.stands → v.seed ≡ u.seed → v.opening ≡ u.opening → Turned u own drawn → Turned v own drawn
 turned_alike u v own drawn stands seed opening turned = record {
   held = λ challenge holds. turned.held challenge (record {
     how = elim holds.how [ inl is ↦ inl (sym opening ∙ is) | inr on ↦ inr (on.0, sym stands ∙ on.1, on.2) ];
@@ -67,11 +67,11 @@ drawn_last challenge [] = inl refl
 drawn_last challenge (first ∷ drawn) = inr (drawn_last challenge drawn)
 
 -- more was drawn
-pub turned_later : (v : View) (own : List LogonTurn) (drawn later : List (List ℕ)) → ((challenge : List ℕ) → IsDrawn challenge drawn → IsDrawn challenge later) → Turned v own drawn → Turned v own later
+pub turned_later : (v : View) (own : List ChannelTurn) (drawn later : List (List ℕ)) → ((challenge : List ℕ) → IsDrawn challenge drawn → IsDrawn challenge later) → Turned v own drawn → Turned v own later
 turned_later v own drawn later still turned = record { held = λ challenge holds. still challenge (turned.held challenge holds); fresh = turned.fresh; seed = turned.seed }
 
 -- nothing is held
-pub turned_blank : (v : View) (own : List LogonTurn) (drawn : List (List ℕ)) → v.stands ≡ None → v.opening ≡ None → Turned v own drawn
+pub turned_blank : (v : View) (own : List ChannelTurn) (drawn : List (List ℕ)) → v.stands ≡ None → v.opening ≡ None → Turned v own drawn
 turned_blank v own drawn stands opening = record {
   held = λ challenge holds.
       elim holds.how [
@@ -112,17 +112,17 @@ heard_unstarted controller (hearing.Reply q r) s = judged_unstarted controller (
 heard_unstarted controller (hearing.Drop cause) s = tt
 
 -- a channel that opens has no turn
-none_by : (hit : Bool) (c : ChannelIdentity) (turn : LogonTurn) (own : List LogonTurn) → same_channel turn.channel c ≡ hit → (turn.channel.client ≡ c.client → ⊥) → stamps_on c own ≡ [] →
+none_by : (hit : Bool) (c : ChannelIdentity) (turn : ChannelTurn) (own : List ChannelTurn) → same_channel turn.channel c ≡ hit → (turn.channel.client ≡ c.client → ⊥) → stamps_on c own ≡ [] →
     stamps_on c (turn ∷ own) ≡ []
 none_by true c turn own is differs none = absurd (differs (one_channel turn.channel c is).client)
 none_by false c turn own is differs none =
-    ap (λ (hit : Bool). map (λ (t : LogonTurn). t.timestamp) (if hit then turn ∷ filter (on_channel c) own else filter (on_channel c) own)) is ∙ none
+    ap (λ (hit : Bool). map (λ (t : ChannelTurn). t.timestamp) (if hit then turn ∷ filter (on_channel c) own else filter (on_channel c) own)) is ∙ none
 
-pub none_on : (c : ChannelIdentity) (own : List LogonTurn) → AllByRecursion (λ (turn : LogonTurn). turn.channel.client ≡ c.client → ⊥) own → stamps_on c own ≡ []
+pub none_on : (c : ChannelIdentity) (own : List ChannelTurn) → AllByRecursion (λ (turn : ChannelTurn). turn.channel.client ≡ c.client → ⊥) own → stamps_on c own ≡ []
 none_on c [] all = refl
 none_on c (turn ∷ own) all = none_by (same_channel turn.channel c) c turn own refl all.0 (none_on c own all.1)
 
-module _ (own : List LogonTurn) (drawn : List (List ℕ)) where
+module _ (own : List ChannelTurn) (drawn : List (List ℕ)) where
   opens_turned : (c : ChannelIdentity) (u v : View) → Changes (Opens c) u v → Turned u own drawn → Turned v own drawn
   opens_turned c u v change turned =
       let stands : v.stands ≡ Some c = ap (λ (w : View). w.stands) change.1 in
@@ -187,7 +187,7 @@ module _ (own : List LogonTurn) (drawn : List (List ℕ)) where
   -- ---- a turn starts
 
   -- an opening begins, with a challenge that wasn't drawn before
-  begins_turned : (client : List ℕ) (u v : View) → Changes (Begins client) u v → (IsDrawn client drawn → ⊥) → AllByRecursion (λ (turn : LogonTurn). IsDrawn turn.channel.client drawn) own →
+  begins_turned : (client : List ℕ) (u v : View) → Changes (Begins client) u v → (IsDrawn client drawn → ⊥) → AllByRecursion (λ (turn : ChannelTurn). IsDrawn turn.channel.client drawn) own →
       Turned v own (drawn ++ client ∷ [])
   begins_turned client u v change new before =
       let opening : v.opening ≡ Some client = ap (λ (w : View). w.opening) change.1 in
@@ -200,7 +200,7 @@ module _ (own : List LogonTurn) (drawn : List (List ℕ)) where
             ];
         fresh = λ challenge is.
             let same : client ≡ challenge = some_is client challenge (sym opening ∙ is) in
-            all_weaker (λ (turn : LogonTurn). IsDrawn turn.channel.client drawn) (λ (turn : LogonTurn). turn.channel.client ≡ challenge → ⊥) own
+            all_weaker (λ (turn : ChannelTurn). IsDrawn turn.channel.client drawn) (λ (turn : ChannelTurn). turn.channel.client ≡ challenge → ⊥) own
             (λ turn was at. new (subst (λ (x : List ℕ). IsDrawn x drawn) (at ∙ sym same) was)) before;
         seed = λ c is. absurd (let x : None ≡ Some c = sym stands ∙ is in cc);
       }
@@ -209,15 +209,15 @@ module _ (own : List LogonTurn) (drawn : List (List ℕ)) where
   moved_last [] timestamp = omega (arith, moved_one timestamp [], moved_none)
   moved_last (first ∷ stamps) timestamp = omega (arith, moved_one first (stamps ++ timestamp ∷ []), moved_one first stamps, moved_last stamps timestamp)
 
-  pub stamps_last : (c : ChannelIdentity) (turn : LogonTurn) → turn.channel ≡ c → stamps_on c (own ++ turn ∷ []) ≡ stamps_on c own ++ turn.timestamp ∷ []
+  pub stamps_last : (c : ChannelIdentity) (turn : ChannelTurn) → turn.channel ≡ c → stamps_on c (own ++ turn ∷ []) ≡ stamps_on c own ++ turn.timestamp ∷ []
   stamps_last c turn is =
       let hit : same_channel turn.channel c ≡ true = ap (λ (x : ChannelIdentity). same_channel x c) is ∙ itself c in
-      ap (λ (turns : List LogonTurn). map (λ (t : LogonTurn). t.timestamp) turns) (filter-append (on_channel c) own (turn ∷ []))
-      ∙ map-append (λ (t : LogonTurn). t.timestamp) (filter (on_channel c) own) (filter (on_channel c) (turn ∷ []))
-      ∙ ap (λ (b : Bool). stamps_on c own ++ map (λ (t : LogonTurn). t.timestamp) (if b then turn ∷ [] else [])) hit
+      ap (λ (turns : List ChannelTurn). map (λ (t : ChannelTurn). t.timestamp) turns) (filter-append (on_channel c) own (turn ∷ []))
+      ∙ map-append (λ (t : ChannelTurn). t.timestamp) (filter (on_channel c) own) (filter (on_channel c) (turn ∷ []))
+      ∙ ap (λ (b : Bool). stamps_on c own ++ map (λ (t : ChannelTurn). t.timestamp) (if b then turn ∷ [] else [])) hit
 
   -- a turn on the channel that stands
-  moves_turned : (turn : LogonTurn) (u v : View) → Changes (Moves turn.channel turn.timestamp) u v → u.opening ≡ None → Turned u own drawn → Turned v (own ++ turn ∷ []) drawn
+  moves_turned : (turn : ChannelTurn) (u v : View) → Changes (Moves turn.channel turn.timestamp) u v → u.opening ≡ None → Turned u own drawn → Turned v (own ++ turn ∷ []) drawn
   moves_turned turn u v change none turned =
       let c : ChannelIdentity = turn.channel in
       let opening : v.opening ≡ None = ap (λ (w : View). w.opening) change.4 ∙ none in
@@ -242,26 +242,26 @@ module _ (own : List LogonTurn) (drawn : List (List ℕ)) where
   -- where one can start, by how far the channel is
   start_by : (controller : ℕ) (who : RequesterId) (timestamp : ℕ) (challenge : List ℕ) (caller : Caller) (how : Standing) (logons : List Waiting) (place next : ℕ) (turn : Option Pending) →
       let s : Requester = record { caller = caller; standing = how; waiting = logons; next_place = place; next_call = next; turn = turn } in
-      can_start turn logons ≡ true → IsFreshIf (needs_challenge how) challenge drawn → AllByRecursion (λ (turn : LogonTurn). IsDrawn turn.channel.client drawn) own → IsCoherent s →
+      can_start turn logons ≡ true → IsFreshIf (needs_challenge how) challenge drawn → AllByRecursion (λ (turn : ChannelTurn). IsDrawn turn.channel.client drawn) own → IsCoherent s →
       Turned (view_of controller s) own drawn →
       Turned (view_of controller (start_of s timestamp challenge).state) (own ++ turn_of controller who (start_of s timestamp challenge).state) (drawn_if (needs_challenge how) challenge drawn)
   start_by controller who timestamp challenge caller how logons place next (Some pending) can new before coherent turned = absurd (let x = can in cc)
   start_by controller who timestamp challenge caller how [] place next None can new before coherent turned = absurd (let x = can in cc)
   start_by controller who timestamp challenge caller standing.Nothing (logon ∷ logons) place next None can new before coherent turned =
       let s : Requester = record { caller = caller; standing = standing.Nothing; waiting = logon ∷ logons; next_place = place; next_call = next; turn = None } in
-      subst (λ (all : List LogonTurn). Turned (view_of controller (start_of s timestamp challenge).state) all (drawn ++ challenge ∷ [])) (sym (append-nil own))
+      subst (λ (all : List ChannelTurn). Turned (view_of controller (start_of s timestamp challenge).state) all (drawn ++ challenge ∷ [])) (sym (append-nil own))
       (begins_turned challenge (view_of controller s) (view_of controller (start_of s timestamp challenge).state) (steps_have_effects.start controller s timestamp challenge coherent).0 new before)
   start_by controller who timestamp challenge caller (standing.Half client server) (logon ∷ logons) place next None can new before coherent turned =
       let s : Requester = record { caller = caller; standing = standing.Half client server; waiting = logon ∷ logons; next_place = place; next_call = next; turn = None } in
-      subst (λ (all : List LogonTurn). Turned (view_of controller (start_of s timestamp challenge).state) all drawn) (sym (append-nil own))
+      subst (λ (all : List ChannelTurn). Turned (view_of controller (start_of s timestamp challenge).state) all drawn) (sym (append-nil own))
       (changed Counts (view_of controller s) (view_of controller (start_of s timestamp challenge).state) tt (steps_have_effects.start controller s timestamp challenge coherent).0 turned)
   start_by controller who timestamp challenge caller (standing.Open o) (logon ∷ logons) place next None can new before coherent turned =
       let s : Requester = record { caller = caller; standing = standing.Open o; waiting = logon ∷ logons; next_place = place; next_call = next; turn = None } in
-      let turn : LogonTurn = record { requester = who; channel = channel_of controller caller.computer o; timestamp = timestamp } in
+      let turn : ChannelTurn = record { requester = who; channel = channel_of controller caller.computer o; timestamp = timestamp } in
       moves_turned turn (view_of controller s) (view_of controller (start_of s timestamp challenge).state) (steps_have_effects.start controller s timestamp challenge coherent).0 refl turned
 
   pub starts_so : (controller : ℕ) (who : RequesterId) (timestamp : ℕ) (challenge : List ℕ) (needs : Bool) (s : Requester) → can_start s.turn s.waiting ≡ true → needs_challenge s.standing ≡ needs →
-      IsFreshIf needs challenge drawn → AllByRecursion (λ (turn : LogonTurn). IsDrawn turn.channel.client drawn) own → IsCoherent s → Turned (view_of controller s) own drawn →
+      IsFreshIf needs challenge drawn → AllByRecursion (λ (turn : ChannelTurn). IsDrawn turn.channel.client drawn) own → IsCoherent s → Turned (view_of controller s) own drawn →
       Turned (view_of controller (start_of s timestamp challenge).state) (own ++ turn_of controller who (start_of s timestamp challenge).state) (drawn_if needs challenge drawn)
   starts_so controller who timestamp challenge needs s can need new before coherent turned =
       subst

@@ -18,12 +18,10 @@ use Rattle.channel_events.specs.Seeds.{channel_seed, client_credential}
 use Rattle.channel_events.proofs.ChannelSeedLaws.{same_credential}
 use Rattle.channel_events.proofs.ListLaws.{moved_none, moved_one, one_weaker, one_with, some_is}
 use Rattle.channel_events.proofs.SameLaws.{one_channel, same_back}
-use Rattle.member_server.specs.Dials.{TurnsAreDialled}
-use Rattle.member_server.specs.Laws.{AsksWhatWaits}
 use Rattle.step_notes.specs.ControllerNotes.{has_passed}
 use Rattle.step_notes.specs.Judged.{passed_channel}
 use Rattle.step_notes.specs.Marking.{is_channel, mark_channel, sent_channel}
-use Rattle.step_notes.specs.Records.{JudgedCall, Judging, Network, Sent, given_in, network_in, timestamp_in}
+use Rattle.step_notes.specs.Records.{Judging, Sent}
 use Rattle.world_moves.specs.Draws.{DrawsDiffer}
 use Rattle.step_notes.specs.ReplySends.{IsReplyOfCall}
 use Rattle.domain_world.specs.Claims.Replies.{IsReplyOfOne}
@@ -31,7 +29,7 @@ use Rattle.domain_world.specs.Accepting.Answered.{AnswersAreHeard, IsAnsweredIn,
 use Rattle.domain_world.proofs.Judgements.ReplyLaws.{replies_carry}
 use Rattle.domain_world.proofs.Judgements.UnclashedLaws.{passes_unclashed}
 use Rattle.domain_world.proofs.Requests.MarkWayLaws.{marks_have_their_way}
-use Rattle.domain_world.specs.Accepting.Carried.{IsAsMarked, IsJudgedAsCarried, IsNoLogon, IsPlain, IsWholeAsMarked, JudgedAsCarried, MarkedUnitsAreWhole, call_carried}
+use Rattle.domain_world.specs.Accepting.Carried.{IsAsMarked, IsJudgedAsCarried, IsNotJudged, IsPlain, IsWholeAsMarked, JudgedAsCarried, MarkedUnitsAreWhole, call_carried}
 use Rattle.domain_world.specs.Accepting.Sequences.{HavePassed, CallsAreStamped, CallsOfTurns, HasPassed, IsMadeOn, IsPassedIn, SequencesFollow, TakenCallsPass, TurnsAreCalled, stamps_of}
 use Rattle.domain_world.specs.Claims.{IsClear, moved_on, passed_on, same_unit, judged_timestamp}
 use Rattle.domain_world.specs.Claims.SharedSequences.{IsBeforeTurn, Keeps, SequencesAreOwn, SequencesAreShared, any_foreign, is_foreign, timestamps_on}
@@ -84,10 +82,6 @@ both_so true true is also = refl
 both_so false other is also = absurd (let x = is in cc)
 both_so true false is also = absurd (let x = also in cc)
 
--- the authenticator of a call is the one that stands in it
-given_there : (asked : JudgedCall) → given_in asked ≡ (network_in asked).authenticator
-given_there (Network c) = refl
-
 module _ (past : Past) (known : IsProved past) (heard : AnswersAreHeard past) (clear : IsClear past.book) (units : MarkedUnitsAreWhole past) (judged : JudgedAsCarried past)
     (stamped : CallsAreStamped past) (channel : ChannelIdentity) (turn : Option Pending) (timestamps : List ℕ) (calls : CallsOfTurns past channel turn timestamps)
     (own : any_foreign channel past.book.judged ≡ false) where
@@ -99,27 +93,27 @@ module _ (past : Past) (known : IsProved past) (heard : AnswersAreHeard past) (c
   abbrev IsItsUnit : ℕ → Judging → Type 0
   IsItsUnit n j = OneOf (λ (one : ℕ × ℕ). (one.0 ≡ n) × (one.1 ≡ judged_timestamp j)) calls.made
 
-  -- a unit that carries a Logon call was made for none, or as one
-  no_logon : (n : ℕ) (j : Judging) (sent : Sent) (mark : Mark) → IsJudgedAsCarried past j n → slice_get past.book.sent n ≡ Some sent → sent.mark ≡ mark → (IsPlain mark → ⊥) →
-      ((unit : RpcUnit) → IsAsMarked mark unit → IsNoLogon unit) → ⊥
-  no_logon n j sent mark carried there is marked never =
+  -- a unit that carries a call which is judged was made for none, or as one
+  no_call : (n : ℕ) (j : Judging) (sent : Sent) (mark : Mark) → IsJudgedAsCarried past j n → slice_get past.book.sent n ≡ Some sent → sent.mark ≡ mark → (IsPlain mark → ⊥) →
+      ((unit : RpcUnit) → IsAsMarked mark unit → IsNotJudged unit) → ⊥
+  no_call n j sent mark carried there is marked never =
       let whole : IsWholeAsMarked sent.mark carried.carrier.bytes = units n carried.carrier sent carried.there there (λ plain. marked (subst IsPlain is plain)) in
       let same : whole.whole.unit ≡ carried.whole.unit = one_unit carried.carrier.bytes whole.whole carried.whole in
-      never whole.whole.unit (subst (λ (m : Mark). IsAsMarked m whole.whole.unit) is whole.marked) (network_in j.asked) (ap (λ (u : RpcUnit). call_carried u.body) same ∙ carried.carried)
+      never whole.whole.unit (subst (λ (m : Mark). IsAsMarked m whole.whole.unit) is whole.marked) j.asked (ap (λ (u : RpcUnit). call_carried u.body) same ∙ carried.carried)
 
   by_mark : (mark : Mark) (n : ℕ) (j : Judging) (sent : Sent) (named : ChannelIdentity) → IsJudgedAsCarried past j n → slice_get past.book.sent n ≡ Some sent → sent.mark ≡ mark →
       mark_channel mark ≡ Some named → named.client ≡ channel.client → IsItsUnit n j
   by_mark Plain n j sent named carried there is made client = absurd (let x = made in cc)
   by_mark (Opening other number) n j sent named carried there is made client =
-      absurd (no_logon n j sent (Opening other number) carried there is (λ plain. plain) (λ unit marked. marked))
+      absurd (no_call n j sent (Opening other number) carried there is (λ plain. plain) (λ unit marked. marked))
   by_mark (Opened other number request) n j sent named carried there is made client =
-      absurd (no_logon n j sent (Opened other number request) carried there is (λ plain. plain) (λ unit marked. marked.0))
+      absurd (no_call n j sent (Opened other number request) carried there is (λ plain. plain) (λ unit marked. marked.0))
   by_mark (ReplyTo other number request) n j sent named carried there is made client =
-      absurd (no_logon n j sent (ReplyTo other number request) carried there is (λ plain. plain) (λ unit marked. marked.0))
+      absurd (no_call n j sent (ReplyTo other number request) carried there is (λ plain. plain) (λ unit marked. marked.0))
   by_mark (Calling other number timestamp) n j sent named carried there is made client =
       let same : other.client ≡ channel.client = ap (λ (c : ChannelIdentity). c.client) (some_is other named made) ∙ client in
       let stamp : judged_timestamp j ≡ timestamp =
-      ap timestamp_in (given_there j.asked) ∙ stamped n carried.carrier sent other number timestamp (network_in j.asked) carried.there there is carried.whole carried.carried in
+      stamped n carried.carrier sent other number timestamp j.asked carried.there there is carried.whole carried.carried in
       one_with (λ (one : ℕ × ℕ). IsMadeOn past channel one.0 one.1) (λ (one : ℕ × ℕ). one.0 ≡ n) (λ (one : ℕ × ℕ). (one.0 ≡ n) × (one.1 ≡ judged_timestamp j)) calls.made
       (λ one on at. (
         at,
@@ -266,10 +260,10 @@ sequence_shared p known heard clear units judged stamped called own left follow 
 }
 
 -- of every run
-pub sequences_follow : AsksWhatWaits → TurnsAreDialled → SequencesFollow
-sequences_follow asks dialled plan moves heard stamped called clear =
+pub sequences_follow : SequencesFollow
+sequences_follow plan moves heard stamped called clear =
     let differ : DrawsDiffer (past plan moves).world = draws_differ plan moves in
-    sequence_shared (past plan moves) (is_proved plan moves differ) (heard_in plan moves heard differ) clear heard.whole heard.judged stamped called (sequences_own asks dialled plan moves)
+    sequence_shared (past plan moves) (is_proved plan moves differ) (heard_in plan moves heard differ) clear heard.whole heard.judged stamped called (sequences_own plan moves)
     (past plan moves).world.state.chances.left (seeds_kept plan moves)
 
 -- ---- a call whose answer was taken

@@ -1,6 +1,5 @@
--- In every schedule a unit that was made as a call on a channel carries the Logon call that has the timestamp which is
--- written down.
--- It serves `sequences_are_shared`.
+-- In every schedule a unit that was made as a call on a channel carries the call that has the timestamp which is
+-- written down. It serves `sequences_are_shared`.
 use Rattle.std.proofs.Common.{◌≡◌, ℕ, List, Some, Result, Ok, Err, sym, ap, subst, ◌∙◌, arith}
 use Rattle.wire_base.specs.Numbers.{AreBytes}
 use Rattle.rpc_units.specs.declared.unit.Unit.{Unit as RpcUnit}
@@ -14,15 +13,12 @@ use Rattle.logon_stubs.specs.declared.refused.StubRefused.{StubRefused}
 use Rattle.logon_stubs.proofs.CallLaws.{call_of-IsCall}
 use Rattle.channel_events.specs.Marks.{Mark, Calling}
 use Rattle.channel_events.proofs.ListLaws.{some_is}
-use Rattle.step_notes.specs.Records.{timestamp_in}
+use Rattle.step_notes.specs.Records.{JudgedCall, Network, given_in, timestamp_in}
 use Rattle.world_moves.specs.declared.bag.BagUnit.{BagUnit}
-use Rattle.world_moves.specs.declared.moves.Move.{Move}
-use Rattle.world_moves.specs.declared.plan.Plan.{Plan}
-use Rattle.world_moves.specs.Bag.{AreShortUnits, HaveBytes}
-use Rattle.world_moves.specs.Forms.{IsSchedule}
-use Rattle.domain_world.specs.Accepting.Carried.{call_carried, call_read}
+use Rattle.domain_world.specs.Accepting.Carried.{call_carried, call_judged, call_read}
 use Rattle.domain_world.specs.Accepting.Sequences.{CallsAreStamped}
 use Rattle.domain_world.specs.Past.{past}
+use Rattle.domain_world.specs.Schedules.{OfSchedules}
 use Rattle.domain_world.proofs.Accepting.CarriedLaws.{logon_is, one_whole}
 use Rattle.domain_world.proofs.Accepting.Heard.HeardUnitLaws.{heard_stub}
 use Rattle.domain_world.proofs.Accepting.Heard.MarkSentLaws.{IsCallSent, IsStampedCall}
@@ -48,9 +44,12 @@ stamp_of (call.Logoff own) timestamp c stamped are is = absurd (no_logoff (writt
 stamp_of (call.Challenge own) timestamp c stamped are is = absurd stamped
 stamp_of (call.Authenticate own) timestamp c stamped are is = absurd stamped
 
-pub calls_stamped : (plan : Plan) (moves : List Move) → IsSchedule plan moves → AreShortUnits (past plan moves).world.state.bag → HaveBytes (past plan moves).world.state.bag →
-    CallsAreStamped (past plan moves)
-calls_stamped plan moves is short bytes n unit one channel number timestamp c there noted mark whole carried =
+stamp_is : (what : Call) (timestamp : ℕ) (asked : JudgedCall) → IsStampedCall what timestamp → AreBytes (written_call what) →
+    call_read (call_of (opnum_of_call what) (written_call what)) ≡ Some (call_judged asked) → timestamp_in (given_in asked) ≡ timestamp
+stamp_is what timestamp (Network c) stamped are is = stamp_of what timestamp c stamped are is
+
+pub calls_stamped : OfSchedules (λ plan moves. CallsAreStamped (past plan moves))
+calls_stamped plan moves is short bytes n unit one channel number timestamp asked there noted mark whole carried =
     let bag : List BagUnit = (past plan moves).world.state.bag in
     let has : HasBytes plan moves = has_bytes plan moves is short bytes in
     let had : IsOfUnit OfMark tt bag n one.mark = marks_fit plan moves is short bytes n one noted in
@@ -60,5 +59,5 @@ calls_stamped plan moves is short bytes n unit one channel number timestamp c th
     let sent : IsCallSent number timestamp unit.bytes = (fits (λ plain. plain)).1 in
     let request : RpcUnit = request_of number 0 (opnum_of_call sent.what) (written_call sent.what) in
     let is_request : whole.unit ≡ request = one_whole unit.bytes whole.frames sent.frames whole.unit request whole.heard sent.heard in
-    stamp_of sent.what timestamp c sent.stamped (heard_stub unit.bytes sent.frames request (bytes_in bag has.bytes n unit there) sent.heard)
+    stamp_is sent.what timestamp asked sent.stamped (heard_stub unit.bytes sent.frames request (bytes_in bag has.bytes n unit there) sent.heard)
     (ap (λ (u : RpcUnit). call_carried u.body) (sym is_request) ∙ carried)

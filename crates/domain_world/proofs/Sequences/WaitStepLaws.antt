@@ -10,20 +10,20 @@ use Rattle.rpc_units.specs.Stream.{cut_stream}
 use Rattle.end_links.specs.Links.{LinkState}
 use Rattle.end_links.specs.Serving.{ServedPart, served_cut}
 use Rattle.channel_client.specs.Machine.{can_start}
-use Rattle.member_server.specs.Dials.{IsDialledBy, IsNoAnswer, IsWaiting, StaysOut, StaysOutIfTaken, TurnSteps, TurnsAreDialled, dials_in}
+use Rattle.member_server.specs.Dials.{IsDialledBy, IsNoAnswer, IsWaiting, StaysOut, StaysOutIfTaken, TurnSteps, dials_in}
 use Rattle.member_server.specs.Laws.{IsInOrder, is_dialled}
 use Rattle.member_server.specs.Machine.{after_turn, after_units, at_turn, by_event, bytes_by, bytes_on_link, close_turn, event_part, keep_turn, work_of}
 use Rattle.member_server.specs.Outcomes.{at_link, without_link}
-use Rattle.member_server.specs.Turns.{DialWork, turn_server}
+use Rattle.member_server.specs.Turns.{AtTurn, DialWork, turn_server}
 use Rattle.member_server.specs.Units.{link_server}
 use Rattle.member_server.specs.declared.state.AtLink.{AtLink}
-use Rattle.member_server.specs.declared.state.AtTurn.{AtTurn}
-use Rattle.member_server.specs.declared.state.Dialling.{Dialling}
-use Rattle.member_server.specs.declared.state.Dialling.TheVariants as dialling
+use Rattle.channel_turns.specs.declared.state.Dialling.{Dialling}
+use Rattle.channel_turns.specs.declared.state.Dialling.TheVariants as dialling
 use Rattle.member_server.specs.declared.state.Running.{Running}
 use Rattle.member_server.specs.declared.state.Talk.{Talk}
-use Rattle.member_server.specs.declared.state.TurnTalk.{TurnTalk}
+use Rattle.channel_turns.specs.declared.state.TurnTalk.{TurnTalk}
 use Rattle.member_server.specs.declared.state.Work.{Work}
+use Rattle.member_server.proofs.DialLaws.{turns_dialled}
 use Rattle.step_notes.specs.MemberNotes.{turn_of}
 use Rattle.step_notes.specs.Records.{OfMember}
 use Rattle.domain_world.proofs.Sequences.Own.OwnTurnLaws.{turn_same, waits_dialled}
@@ -120,10 +120,10 @@ answer_or (event.Dialled link) P first later = later (λ none. none)
 answer_or event.DialFailed P first later = later (λ none. none)
 answer_or event.Stop P first later = first tt
 
-pub same_turn : TurnsAreDialled → (controller k : ℕ) (running : Running) (what : Event) (now : ℕ) (left : List (List ℕ)) (after : Part DialWork) → event_part running what now left ≡ Ok after →
+pub same_turn : (controller k : ℕ) (running : Running) (what : Event) (now : ℕ) (left : List (List ℕ)) (after : Part DialWork) → event_part running what now left ≡ Ok after →
     TurnSteps running.logons.channel (by_event what running.dialling (work_of running) left) now after → IsInOrder (is_dialled running.dialling) running.logons → dials_in after.value.0.actions ≡ 0 →
     IsWaiting after.value.1 → IsWaiting running.dialling × (turn_of controller (OfMember k) after.value.0.logons.channel ≡ turn_of controller (OfMember k) running.logons.channel)
-same_turn dialled controller k running what now left after is steps order none waits =
+same_turn controller k running what now left after is steps order none waits =
     let first : Result (Part DialWork) StepRefused = by_event what running.dialling (work_of running) left in
     let mid = steps.part.value.0.logons.channel in
     let left_so : IsWaiting steps.part.value.1 = subst IsWaiting (as_left (can_start mid.turn mid.waiting) steps.part.value.1 after.value steps.dials none) waits in
@@ -132,7 +132,7 @@ same_turn dialled controller k running what now left after is steps order none w
     (λ quiet. (
       was,
       same_by controller k running (event_part running what now left) after is
-          (dialled.waits running what now left was quiet (subst (λ (b : Bool). IsInOrder b running.logons) (waits_dialled running.dialling was) order)),
+          (turns_dialled.waits running what now left was quiet (subst (λ (b : Bool). IsInOrder b running.logons) (waits_dialled running.dialling was) order)),
     ))
     (λ answers. absurd (never_after first steps.part steps.is (answer_not what running.dialling (work_of running) left answers) left_so)))
     (λ never. absurd (never_after first steps.part steps.is (event_not what running.dialling (work_of running) left never) left_so))

@@ -6,6 +6,7 @@ use Rattle.std.specs.List.{AllByRecursion}
 use Rattle.channel_keys.specs.Hidden.{crypt_key}
 use Rattle.authenticators.specs.Channels.{ChannelIdentity, channel_key}
 use Rattle.outside.specs.declared.action.Outcome.{Outcome}
+use Rattle.logon_stubs.specs.declared.calls.LogonCall.{LogonCall}
 use Rattle.logon_stubs.specs.declared.info.SamInfo.{SamInfo}
 use Rattle.logon_stubs.specs.declared.info.Verdict.{Verdict}
 use Rattle.logon_stubs.specs.declared.info.Verdict.TheVariants.{Granted, Status}
@@ -15,7 +16,7 @@ use Rattle.member_server.specs.Turns.{ending_of}
 use Rattle.channel_events.specs.Marks.{Mark, OneOf, Plain, Opening, Opened, Calling, ReplyTo}
 use Rattle.step_notes.specs.Judged.{passed_channel}
 use Rattle.step_notes.specs.Marking.{clashes}
-use Rattle.step_notes.specs.Records.{ChallengeSent, Judging, MessageMade, MessageTaken, OutcomeTold, Sent, network_in}
+use Rattle.step_notes.specs.Records.{ChallengeSent, IfNetwork, Judging, MessageMade, MessageTaken, Network, OutcomeTold, Sent}
 use Rattle.step_notes.specs.ReplySends.{IsReplyOfCall, verdict_passed}
 use Rattle.world_moves.specs.declared.bag.BagUnit.{BagUnit}
 use Rattle.world_moves.specs.Counting.{is_in}
@@ -55,11 +56,13 @@ UnitsAreHeardAlike past =
     AllByRecursion (λ (one : Judging). AllByRecursion (λ (other : Judging). (unit : ℕ) → one.unit ≡ Some unit → other.unit ≡ Some unit →
     one.asked ≡ other.asked) past.book.judged) past.book.judged
 
--- what was judged asks what the message asks, with its place as the identity of the logon (MS-NRPC 2.2.1.4.15), at
--- level 3
+-- what was judged is a network logon that asks what the message asks, with its place as the identity of the logon
+-- (MS-NRPC 2.2.1.4.15), at level 3
 pub record AsksForIt (message : MessageTaken) (j : Judging) : Type 0 where
-  pub info : (network_in j.asked).info ≡ record (info_asked message) { logon_id = message.place }
-  pub level : (network_in j.asked).validation ≡ 3
+  pub call : LogonCall
+  pub is : j.asked ≡ Network call
+  pub info : call.info ≡ record (info_asked message) { logon_id = message.place }
+  pub level : call.validation ≡ 3
 
 -- so it is of each call that came in the unit which carries the Logon call of a message
 abbrev pub CallsAskForMessages : Past → Type 0
@@ -92,13 +95,17 @@ abbrev pub verdict_read : List ℕ → Verdict → Verdict
 verdict_read key (Granted info) = Granted (record info { key = crypt_key key (crypt_key key info.key) })
 verdict_read key (Status status) = Status status
 
-abbrev pub outcome_read : ChannelIdentity → Judging → MessageTaken → Outcome
-outcome_read channel j message = outcome_of (ending_of (verdict_read (channel_key channel) (verdict_passed j))) message.logon
+abbrev pub outcome_read : ChannelIdentity → Judging → MessageTaken → LogonCall → Outcome
+outcome_read channel j message c = outcome_of (ending_of (verdict_read (channel_key channel) (verdict_passed j c))) message.logon
+
+-- the outcome is that of the network logon that was judged
+abbrev pub IsOutcomeRead : ChannelIdentity → Judging → MessageTaken → Outcome → Type 0
+IsOutcomeRead channel j message how = IfNetwork (λ (c : LogonCall). how ≡ outcome_read channel j message c) j.asked
 
 pub record IsToldAsRead (channel : ChannelIdentity) (message : MessageTaken) (j : Judging) (told : OutcomeTold) : Type 0 where
   pub link : told.link ≡ message.link
   pub member : told.member ≡ message.member
-  pub outcome : told.outcome ≡ outcome_read channel j message
+  pub outcome : IsOutcomeRead channel j message told.outcome
 
 -- where there was no clash, the outcome of each message whose answer was taken is told, and is that of the reply
 abbrev pub AnswersAreTold : Past → Type 0
@@ -117,7 +124,7 @@ pub record IsLetInAsRead (past : Past) (told : OutcomeTold) (message : MessageTa
   pub reply : message.reply ≡ Some unit
   pub outcome : (carrier : BagUnit) (sent : Sent) (channel : ChannelIdentity) (number request place : ℕ) (j : Judging) →
       slice_get past.world.state.bag unit ≡ Some carrier → slice_get past.book.sent unit ≡ Some sent → slice_get past.book.judged place ≡ Some j →
-      sent.mark ≡ ReplyTo channel number request → IsReplyOfCall channel number request j carrier.bytes → told.outcome ≡ outcome_read channel j message
+      sent.mark ≡ ReplyTo channel number request → IsReplyOfCall channel number request j carrier.bytes → IsOutcomeRead channel j message told.outcome
 
 abbrev pub LetsInAsRead : Past → Type 0
 LetsInAsRead past =

@@ -21,7 +21,7 @@ use Rattle.logon_stubs.specs.declared.refused.StubRefused.{StubRefused}
 use Rattle.end_links.specs.Sending.{request_of}
 use Rattle.channel_events.specs.Marks.{Mark, Plain, Opening, Opened, Calling, ReplyTo}
 use Rattle.step_notes.specs.Marking.{sent_channel}
-use Rattle.step_notes.specs.Records.{Judging, MessageTaken, Sent, network_in}
+use Rattle.step_notes.specs.Records.{JudgedCall, Judging, MessageTaken, Network, Sent}
 use Rattle.world_moves.specs.declared.bag.BagUnit.{BagUnit}
 use Rattle.domain_world.specs.Accepting.Answered.{AnswersAreToCalls, CallsAskForMessages, MarksHaveTheirWay, PassesAreUnclashed, UnitsAreHeardAlike}
 use Rattle.domain_world.specs.Claims.{HasController, info_asked}
@@ -39,15 +39,19 @@ abbrev pub call_carried : Body → Option Call
 call_carried (Request hint context opnum stub) = call_read (call_of opnum stub)
 call_carried _ = None
 
+-- a call that is judged, as it is read
+abbrev pub call_judged : JudgedCall → Call
+call_judged (Network c) = call.Logon c
+
 -- the bytes are those of one whole unit
 pub record IsWholeUnit (bytes : List ℕ) : Type 0 where
   pub frames : List RpcUnit
   pub unit : RpcUnit
   pub heard : IsHeard bytes frames unit
 
--- it isn't a Logon call
-abbrev pub IsNoLogon : RpcUnit → Type 0
-IsNoLogon unit = (c : LogonCall) → call_carried unit.body ≡ Some (call.Logon c) → ⊥
+-- it isn't a call that is judged
+abbrev pub IsNotJudged : RpcUnit → Type 0
+IsNotJudged unit = (asked : JudgedCall) → call_carried unit.body ≡ Some (call_judged asked) → ⊥
 
 -- it can't be read as the reply to a Logon call that has an authenticator
 abbrev pub IsNoAnswer : RpcUnit → Type 0
@@ -56,10 +60,10 @@ IsNoAnswer unit = (r : LogonReply) (given : Authenticator) → reply_of 2 (stub_
 -- by what a unit was made for
 abbrev pub IsAsMarked : Mark → RpcUnit → Type 0
 IsAsMarked Plain unit = Unit {0}
-IsAsMarked (Opening channel number) unit = IsNoLogon unit
-IsAsMarked (Opened channel number request) unit = IsNoLogon unit × IsNoAnswer unit
+IsAsMarked (Opening channel number) unit = IsNotJudged unit
+IsAsMarked (Opened channel number request) unit = IsNotJudged unit × IsNoAnswer unit
 IsAsMarked (Calling channel number timestamp) unit = unit.call ≡ number
-IsAsMarked (ReplyTo channel number request) unit = IsNoLogon unit × (unit.call ≡ number)
+IsAsMarked (ReplyTo channel number request) unit = IsNotJudged unit × (unit.call ≡ number)
 
 abbrev pub IsPlain : Mark → Type 0
 IsPlain Plain = Unit {0}
@@ -83,7 +87,7 @@ pub record IsJudgedAsCarried (past : Past) (j : Judging) (n : ℕ) : Type 0 wher
   pub there : slice_get past.world.state.bag n ≡ Some carrier
   pub whole : IsWholeUnit carrier.bytes
   pub number : j.number ≡ whole.unit.call
-  pub carried : call_carried whole.unit.body ≡ Some (call.Logon (network_in j.asked))
+  pub carried : call_carried whole.unit.body ≡ Some (call_judged j.asked)
 
 abbrev pub JudgedAsCarried : Past → Type 0
 JudgedAsCarried past = AllByRecursion (λ (j : Judging). (n : ℕ) → j.unit ≡ Some n → IsJudgedAsCarried past j n) past.book.judged

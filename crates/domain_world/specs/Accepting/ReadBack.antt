@@ -8,6 +8,7 @@ use Rattle.outside.specs.declared.action.Outcome.{Outcome}
 use Rattle.rpc_units.specs.Joining.{stub_of}
 use Rattle.logon_stubs.specs.Calls.{reply_of}
 use Rattle.logon_stubs.specs.Status.{access_denied}
+use Rattle.logon_stubs.specs.declared.calls.LogonCall.{LogonCall}
 use Rattle.logon_stubs.specs.declared.calls.LogonReply.{LogonReply}
 use Rattle.logon_stubs.specs.declared.calls.Reply.TheVariants as reply
 use Rattle.logon_stubs.specs.declared.info.Verdict.{Verdict}
@@ -18,7 +19,7 @@ use Rattle.member_server.specs.Outcomes.{outcome_of}
 use Rattle.member_server.specs.Turns.{ending_of}
 use Rattle.channel_events.specs.Marks.{OneOf, ReplyTo}
 use Rattle.step_notes.specs.Marking.{sent_channel}
-use Rattle.step_notes.specs.Records.{Judging, MessageTaken, OutcomeTold, Sent}
+use Rattle.step_notes.specs.Records.{IfNetwork, Judging, MessageTaken, OutcomeTold, Sent}
 use Rattle.step_notes.specs.ReplySends.{IsReplyOfCall, reply_passed}
 use Rattle.world_moves.specs.declared.bag.BagUnit.{BagUnit}
 use Rattle.world_moves.specs.Counting.{is_in}
@@ -26,14 +27,15 @@ use Rattle.domain_world.specs.Accepting.Answered.{AnswersAreTold, LetsInAsRead}
 use Rattle.domain_world.specs.Accepting.Carried.{AnswersAreInTurn, IsWholeUnit}
 use Rattle.domain_world.specs.Past.{Past}
 
--- a unit that is the reply to a call that was judged in the run, and that passed, is read as the reply that its
+-- a unit that is the reply to a Logon call that was judged in the run, and that passed, is read as the reply that its
 -- controller made; a call that wasn't judged there could have names out of their ranges, which are written alike
 abbrev pub RepliesAreReadBack : Past → Type 0
 RepliesAreReadBack past =
     (n : ℕ) (unit : BagUnit) (one : Sent) → slice_get past.world.state.bag n ≡ Some unit → slice_get past.book.sent n ≡ Some one →
     (channel : ChannelIdentity) (number request place : ℕ) (j : Judging) → slice_get past.book.judged place ≡ Some j → one.mark ≡ ReplyTo channel number request →
     (is : IsReplyOfCall channel number request j unit.bytes) →
-    (whole : IsWholeUnit unit.bytes) → reply_of 2 (stub_of whole.unit.body) ≡ Ok (reply_passed j is.carries.next.channel is.carries.next.given)
+    (whole : IsWholeUnit unit.bytes) →
+    IfNetwork (λ (c : LogonCall). reply_of 2 (stub_of whole.unit.body) ≡ Ok (reply_passed j c is.carries.next.channel is.carries.next.given)) j.asked
 
 -- The outcome is what the member read in that unit, on a channel that stood, by the logon of a message; and the unit
 -- was made for that channel.

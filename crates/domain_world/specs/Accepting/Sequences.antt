@@ -6,14 +6,12 @@ use Rattle.authenticators.specs.Channels.{ChannelIdentity, SameChannel}
 use Rattle.authenticators.specs.SecureChannels.{SecureChannelState}
 use Rattle.channel_client.specs.declared.state.Pending.{Pending}
 use Rattle.channel_events.specs.Marks.{Calling, OneOf, ReplyTo}
-use Rattle.logon_stubs.specs.declared.calls.Call.TheVariants as call
-use Rattle.logon_stubs.specs.declared.calls.LogonCall.{LogonCall}
 use Rattle.step_notes.specs.ControllerNotes.{has_passed}
-use Rattle.step_notes.specs.Records.{Judging, MessageTaken, RequesterId, Sent, timestamp_in}
+use Rattle.step_notes.specs.Records.{JudgedCall, Judging, MessageTaken, RequesterId, Sent, given_in, timestamp_in}
 use Rattle.world_moves.specs.declared.bag.BagUnit.{BagUnit}
 use Rattle.world_moves.specs.declared.moves.Move.{Move}
 use Rattle.world_moves.specs.declared.plan.Plan.{Plan}
-use Rattle.domain_world.specs.Accepting.Carried.{IsTakenInTurn, IsWholeUnit, call_carried}
+use Rattle.domain_world.specs.Accepting.Carried.{IsTakenInTurn, IsWholeUnit, call_carried, call_judged}
 use Rattle.domain_world.specs.Accepting.Units.{UnitsAreHeard}
 use Rattle.domain_world.specs.Claims.{IsClear}
 use Rattle.domain_world.specs.Claims.SharedSequences.{SequencesAreShared, Stands, timestamps_on}
@@ -24,9 +22,9 @@ use Rattle.domain_world.specs.Past.{Past, past}
 -- a unit that was made as a call carries one with that timestamp
 abbrev pub CallsAreStamped : Past → Type 0
 CallsAreStamped past =
-    (n : ℕ) (unit : BagUnit) (one : Sent) (channel : ChannelIdentity) (number timestamp : ℕ) (c : LogonCall) → slice_get past.world.state.bag n ≡ Some unit →
+    (n : ℕ) (unit : BagUnit) (one : Sent) (channel : ChannelIdentity) (number timestamp : ℕ) (asked : JudgedCall) → slice_get past.world.state.bag n ≡ Some unit →
     slice_get past.book.sent n ≡ Some one → one.mark ≡ Calling channel number timestamp → (whole : IsWholeUnit unit.bytes) →
-    call_carried whole.unit.body ≡ Some (call.Logon c) → timestamp_in c.authenticator ≡ timestamp
+    call_carried whole.unit.body ≡ Some (call_judged asked) → timestamp_in (given_in asked) ≡ timestamp
 
 -- ---- the calls of turns
 

@@ -9,10 +9,10 @@ use Rattle.end_links.specs.Sending.{joined_frames}
 use Rattle.end_links.specs.Serving.{ServedUnit}
 use Rattle.member_server.specs.Machine.{step_of}
 use Rattle.member_server.specs.State.{State as MemberState}
-use Rattle.member_server.specs.declared.state.AtTurn.{AtTurn}
+use Rattle.member_server.specs.Turns.{AtTurn}
 use Rattle.member_server.specs.declared.state.Logon.{Logon}
 use Rattle.member_server.specs.declared.state.Running.{Running}
-use Rattle.member_server.specs.declared.state.TurnTalk.{TurnTalk}
+use Rattle.channel_turns.specs.declared.state.TurnTalk.{TurnTalk}
 use Rattle.channel_events.specs.Marks.{Mark, OneOf}
 use Rattle.step_notes.specs.CallLogons.{AreForLogon, AsksUnlessStopped, IfCalling, IsForItsLogon, info_at}
 use Rattle.step_notes.specs.ChannelNames.{sends_in}

@@ -11,13 +11,14 @@ use Rattle.domain_controller.specs.State.{State as ControllerState}
 use Rattle.logon_client.specs.declared.plan.AuthKind.{AuthKind}
 use Rattle.logon_client.specs.declared.plan.AuthKind.TheVariants.{V1, V1Ess, V2}
 use Rattle.logon_client.specs.declared.plan.ClientPlan.{ClientPlan}
+use Rattle.logon_stubs.specs.declared.calls.LogonCall.{LogonCall}
 use Rattle.logon_stubs.specs.declared.info.NetworkInfo.{NetworkInfo}
 use Rattle.member_server.specs.declared.plan.MemberPlan.{MemberPlan}
 use Rattle.outside.specs.declared.action.Judged.TheVariants as judged
 use Rattle.outside.specs.declared.action.Outcome.TheVariants as outcome
 use Rattle.sam_logon.specs.MayLogOn.{MayLogOn}
 use Rattle.channel_events.specs.Marks.{OneOf}
-use Rattle.step_notes.specs.Records.{Judging, OutcomeTold, network_in}
+use Rattle.step_notes.specs.Records.{IfNetwork, Judging, OutcomeTold}
 use Rattle.world_moves.specs.declared.links.EndId.TheVariants.{Controller, Member}
 use Rattle.world_moves.specs.declared.links.Route.TheVariants.{ToMember}
 use Rattle.world_moves.specs.declared.moves.Move.{Move}
@@ -148,15 +149,17 @@ pub record Succeeds (run : Past) (moves : List Move) (client : ℕ) (can : CanSu
       × (told.member ≡ can.member)
       × (told.outcome ≡ outcome.In can.table.domain can.account.name key)) run.book.told
 
--- it is a schedule; the moves start clients one at a time, each once at most; and no session base key travels as zeros,
--- of the calls that passed with status 0: a refused one has no key
+-- no session base key travels as zeros, of the Logon calls that passed with status 0: a refused one has no key
+abbrev pub NoKeyIsLost : Judging → Type 0
+NoKeyIsLost j = j.how ≡ Some (judged.Passed 0) → IfNetwork (λ (c : LogonCall). TravelsAsZeros j c.info → ⊥) j.asked
+
+-- it is a schedule; the moves start clients one at a time, each once at most; and no key is lost so
 pub record ComesOneAtATime (run : Past) (moves : List Move) : Type 0 where
   pub schedule : IsSchedule run.plan moves
   pub plain : AllByRecursion IsPlainMove moves
   pub once : AllPairs (λ (one other : ℕ). one ≢ other) (started_in moves (length run.plan.clients))
   pub quiet : OneAtATime moves (first_world run.plan)
-  pub keys : AllByRecursion (λ (j : Judging). j.how ≡ Some (judged.Passed 0) → TravelsAsZeros j (network_in j.asked).info → ⊥)
-      run.book.judged
+  pub keys : AllByRecursion NoKeyIsLost run.book.judged
 
 -- Completeness, of the run over these moves: each client that is started and can succeed does.
 abbrev pub EachSucceeds : Past → List Move → Type 0

@@ -1,19 +1,19 @@
 -- How often a Logon call raises an account's count of bad passwords (this project's own choice).
 use Rattle.std.specs.Prelude.{ℕ, ◌≡◌, ◌<◌, true, Some, slice_get}
 use Rattle.account_table.specs.declared.account.Account.{Account}
-use Rattle.domain_controller.specs.Machine.{judge_info}
 use Rattle.step_notes.specs.ControllerNotes.{has_passed}
-use Rattle.step_notes.specs.Records.{Judging, network_in}
+use Rattle.step_notes.specs.Records.{Judging}
+use Rattle.domain_world.specs.Claims.Tables.{left_by}
 use Rattle.domain_world.specs.Past.{Past}
 
--- The call passed, and by its verdict the count of some account grew.
+-- The call passed, and by what is left of it the count of some account grew.
 pub record RaisesCount (j : Judging) : Type 0 where
   pub passed : has_passed j.how ≡ true
   pub place : ℕ
   pub before : Account
   pub after : Account
   pub was : slice_get j.table.accounts place ≡ Some before
-  pub is : slice_get (judge_info j.table j.name j.moment (network_in j.asked).info (network_in j.asked).validation).table.accounts place ≡ Some after
+  pub is : slice_get (left_by j).accounts place ≡ Some after
   pub grew : before.bad_count < after.bad_count
 
 -- Each Logon call that an end made raises a count at most once: of the judgings of calls that one unit of the bag

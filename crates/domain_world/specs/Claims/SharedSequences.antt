@@ -15,7 +15,7 @@ use Rattle.member_server.specs.Dials.{IsWaiting}
 use Rattle.member_server.specs.Laws.{is_dialled}
 use Rattle.member_server.specs.State.{State as MemberState}
 use Rattle.member_server.specs.declared.state.Running.{Running as MemberRunning}
-use Rattle.step_notes.specs.Records.{Judging, LogonTurn, RequesterId, same_requester}
+use Rattle.step_notes.specs.Records.{Judging, ChannelTurn, RequesterId, same_requester}
 use Rattle.world_moves.specs.declared.links.EndId.TheVariants.{Member}
 use Rattle.world_moves.specs.declared.state.State.{State}
 use Rattle.world_moves.specs.declared.state.WaitingDial.{WaitingDial}
@@ -47,12 +47,12 @@ OneTurnIsOut past =
 -- ---- the side of who asks
 
 -- the turn is one of that requester on that channel
-abbrev pub is_turn_on : RequesterId → ChannelIdentity → LogonTurn → Bool
+abbrev pub is_turn_on : RequesterId → ChannelIdentity → ChannelTurn → Bool
 is_turn_on who channel turn = same_requester turn.requester who && same_channel turn.channel channel
 
 -- the timestamps of its turns on the channel, in order
-abbrev pub timestamps_on : RequesterId → ChannelIdentity → List LogonTurn → List ℕ
-timestamps_on who channel turns = map (λ (turn : LogonTurn). turn.timestamp) (filter (is_turn_on who channel) turns)
+abbrev pub timestamps_on : RequesterId → ChannelIdentity → List ChannelTurn → List ℕ
+timestamps_on who channel turns = map (λ (turn : ChannelTurn). turn.timestamp) (filter (is_turn_on who channel) turns)
 
 -- a turn is out, and this is the seed before its timestamp, the last one
 pub record IsBeforeTurn (turn : Option Pending) (seed : List ℕ) (channel : ChannelIdentity) (timestamps : List ℕ) : Type 0 where
@@ -92,7 +92,7 @@ any_foreign channel judgings = list_any (λ (j : Judging). is_foreign channel j.
 
 -- ---- the claim
 
--- The seed of a requester's open channel is the client's credential moved by the timestamps of its Logon turns on that
+-- The seed of a requester's open channel is the client's credential moved by the timestamps of its turns on that
 -- channel, each plus one: the first part of the claim, which speaks of the requester alone.
 abbrev pub SequenceIsOwn : Past → RequesterId → Type 0
 SequenceIsOwn past who =

@@ -1,21 +1,27 @@
 -- How the accounts of a controller change in a run: by the verdicts on the Logon calls that passed there, one after
 -- another, and by nothing else (MS-NRPC 3.5.4.5.3; that counts of bad passwords are kept is this project's own choice).
 -- So nobody is locked out but by calls that passed, and a restart of a controller leaves its accounts as they are.
-use Rattle.std.specs.Prelude.{ℕ, ◌≡◌, ◌==◌, Bool, true, false, List, [], ◌∷◌, Some, slice_get}
+use Rattle.std.specs.Prelude.{ℕ, ◌≡◌, ◌==◌, Bool, true, false, List, [], ◌∷◌, Option, Some, None, slice_get}
+use Rattle.authenticators.specs.SecureChannels.{SecureChannelState}
 use Rattle.account_table.specs.AccountTable.{AccountTable}
-use Rattle.domain_controller.specs.Machine.{judge_info}
 use Rattle.domain_controller.specs.State.{State as ControllerState}
 use Rattle.step_notes.specs.ControllerNotes.{has_passed}
-use Rattle.step_notes.specs.Records.{Judging, network_in}
+use Rattle.step_notes.specs.Records.{Judging}
+use Rattle.step_notes.specs.ReplySends.{done_on}
 use Rattle.world_moves.specs.declared.plan.Plan.{Plan}
 use Rattle.domain_world.specs.Past.{Past}
 
--- the accounts behind a judged call; the argument: whether it passed
+-- the accounts behind a call that passed, by the channel that it is checked on: those that are left of it
+abbrev pub left_on : Option SecureChannelState → Judging → AccountTable
+left_on None j = j.table
+left_on (Some channel) j = (done_on j channel).table
+
+-- the argument: whether it passed
 abbrev pub left_if : Bool → Judging → AccountTable
 left_if false j = j.table
-left_if true j = (judge_info j.table j.name j.moment (network_in j.asked).info (network_in j.asked).validation).table
+left_if true j = left_on j.checks j
 
--- those that its verdict leaves, where it passed, and else those before it
+-- those behind a call that passed, and else those before it
 abbrev pub left_by : Judging → AccountTable
 left_by j = left_if (has_passed j.how) j
 

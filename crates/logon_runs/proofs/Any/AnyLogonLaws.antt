@@ -21,8 +21,7 @@ use Rattle.world_moves.specs.World.{IsPlan, first_controllers, first_ends, first
 use Rattle.logon_runs.specs.AnyLogons.{AreBelow, HasServers, LogonRests, LogonsRest}
 use Rattle.logon_runs.specs.First.ExampleLogon.{ann}
 use Rattle.logon_runs.specs.Seen.Others.{IsStepOn}
-use Rattle.logon_runs.specs.Passing.{HasEnough}
-use Rattle.logon_runs.specs.Rests.{AtRest, moved_by}
+use Rattle.logon_runs.specs.Rests.{AtRest, HasEnough, moved_by}
 use Rattle.logon_runs.specs.Seen.Staying.{HasSameEnds}
 use Rattle.logon_runs.specs.Seen.WaitingUnits.{waiting}
 use Rattle.logon_runs.specs.Any.AnyStarts.{AreThree, IsReachedOrNot}

@@ -20,17 +20,16 @@ use Rattle.world_moves.specs.Moving.{act, end_of_peer, onward, route_to, start}
 use Rattle.world_moves.specs.World.{IsPlan, first_ends, first_world}
 use Rattle.logon_runs.specs.AnyLogons.{AreBelow, DrawsUpTo, LogonRests}
 use Rattle.logon_runs.specs.Seen.Others.{AreAmong, IsDialAmong, IsRoutedAmong, IsStepOn, OthersStay}
-use Rattle.logon_runs.specs.Passing.{HasEnough}
+use Rattle.logon_runs.specs.Rests.{AtRest, HasEnough, moved_by, three_in}
 use Rattle.logon_runs.specs.Phases.{Acked, Answers, Binds, BindsBefore, BindsHeld, Calls, Challenged, Coming, Dials, DialsBefore, DialsHeld, DrawsFew, Echoed, Echoes, Granted, Halved, HasThree, LogonPhase, Named, Proved, Third, scene_of}
-use Rattle.logon_runs.specs.Rests.{AtRest, moved_by, three_in}
 use Rattle.logon_runs.specs.Seen.Staying.{HasSameEnds}
 use Rattle.logon_runs.specs.Seen.WaitingUnits.{waiting}
 use Rattle.logon_runs.specs.Any.AnyPhases.{AnyPhase, Away, IsAble, IsAnywhere, IsDone, IsHeard, IsLetIn, IsOnward, Judged, On, Told, any_scene}
 use Rattle.logon_runs.specs.Any.AnyStarts.{AreThree, HasStarted, IsReachedOrNot, coming_from}
 use Rattle.logon_runs.specs.Any.GrantRests.{HasSettled, judged_rest}
-use Rattle.logon_runs.proofs.ComeInLaws.{links_among, turn_among}
+use Rattle.logon_runs.proofs.AmongLaws.{away_among, away_dials, links_among, no_dial_among, turn_among}
 use Rattle.logon_runs.proofs.Seen.OtherLaws.{others_are_left}
-use Rattle.logon_runs.proofs.PassingLaws.{away_among, away_dials, enough_after, no_dial_among, none_drawn, three_from}
+use Rattle.logon_runs.proofs.EnoughLaws.{enough_after, none_drawn, three_from}
 use Rattle.logon_runs.proofs.Seen.StayingLaws.{both_same, ends_stay, reach_still, starts_same}
 use Rattle.logon_runs.proofs.Any.AnyBeginLaws.{any_logons_start}
 use Rattle.logon_runs.proofs.Any.AnyPhaseLaws.{any_phases_go_on}

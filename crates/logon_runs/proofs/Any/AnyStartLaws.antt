@@ -20,9 +20,8 @@ use Rattle.logon_steps.proofs.GrantingLaws.{logons_are_granted}
 use Rattle.logon_steps.proofs.MemoCallLaws.{memo_calls_go}
 use Rattle.logon_steps.proofs.TellingLaws.{logons_are_short}
 use Rattle.logon_runs.specs.Seen.LinkScenes.{its_link, unit_up}
-use Rattle.logon_runs.specs.LogonRuns.{asked_at}
+use Rattle.logon_runs.specs.Runs.{Asked, asked_at, message_for}
 use Rattle.logon_runs.specs.Phases.{Acked, Aim, Answers, Binds, BindsBefore, BindsHeld, Calls, Challenged, Coming, Dials, DialsBefore, DialsHeld, Echoed, Echoes, First, Granted, Halved, HasThree, IsAnswering, LogonPhase, Named, Proved, Third, TurnAt, WhoAsked, call_for, key_at, own, scene_of, standing_for, terms_at, turn_before, waits_for, with_its_controller}
-use Rattle.logon_runs.specs.Runs.{Asked, message_for}
 use Rattle.logon_runs.specs.Scenes.{Shows}
 use Rattle.logon_runs.specs.Failing.TurnedAway.{AwayPhase, Faulted, Refused, Unheard, away_scene}
 use Rattle.logon_runs.specs.Seen.TurnScenes.{Turn}

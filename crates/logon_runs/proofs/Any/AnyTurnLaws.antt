@@ -32,7 +32,7 @@ use Rattle.channel_client.specs.Machine.{after, auth_call, challenge_call, judge
 use Rattle.domain_controller.specs.Machine.{channel_for}
 use Rattle.domain_controller.specs.State.{State as ControllerState}
 use Rattle.domain_controller.specs.Whole.{InRangeTable}
-use Rattle.domain_controller.specs.declared.state.Computers.{Computers}
+use Rattle.controller_calls.specs.declared.state.Computers.{Computers}
 use Rattle.domain_controller.specs.declared.state.Running.{Running}
 use Rattle.logon_client.specs.Machine.{fault_outcome}
 use Rattle.member_server.specs.Turns.{timestamp_of}

@@ -29,8 +29,7 @@ use Rattle.member_server.specs.declared.plan.MemberPlan.{MemberPlan}
 use Rattle.member_server.specs.declared.outcomes.Ending.{Ending}
 use Rattle.member_server.specs.declared.outcomes.Ending.TheVariants as ending
 use Rattle.member_server.specs.declared.state.AtLink.{AtLink}
-use Rattle.member_server.specs.declared.state.AtTurn.{AtTurn}
-use Rattle.member_server.specs.declared.state.Dialling.TheVariants as dialling
+use Rattle.channel_turns.specs.declared.state.Dialling.TheVariants as dialling
 use Rattle.member_server.specs.declared.state.Logon.{Logon}
 use Rattle.member_server.specs.declared.state.Logons.{Logons}
 use Rattle.member_server.specs.declared.state.Phase.{Phase}
@@ -40,7 +39,7 @@ use Rattle.member_server.specs.declared.state.Work.{Work}
 use Rattle.member_server.specs.Machine.{actions_in, at_turn, halted_state, keep_turn, state_in}
 use Rattle.member_server.specs.Outcomes.{after_served, at_link, end_found, end_logon, outcome_of, phase_after, reach_link, reach_in_map, reach_waiting, waiting_if}
 use Rattle.member_server.specs.Requests.{body_out, unit_out}
-use Rattle.member_server.specs.Turns.{next_turn, take_by}
+use Rattle.member_server.specs.Turns.{AtTurn, next_turn, take_by}
 use Rattle.member_server.specs.Units.{serve_held, then_held}
 use Rattle.member_server.specs.Work.{Served, drawless, send_unit, stay}
 use Rattle.logon_steps.specs.Asking.{at_rest}

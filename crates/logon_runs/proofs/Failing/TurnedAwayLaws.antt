@@ -38,7 +38,7 @@ use Rattle.channel_client.specs.declared.state.Step.TheVariants as step
 use Rattle.channel_client.specs.Machine.{after, judge, judge_awaited, judge_logon, judge_status, level_asked}
 use Rattle.domain_controller.specs.Machine.{status_of}
 use Rattle.domain_controller.specs.Whole.{InRangeTable}
-use Rattle.domain_controller.specs.declared.state.Computers.{Computers}
+use Rattle.controller_calls.specs.declared.state.Computers.{Computers}
 use Rattle.domain_controller.proofs.WholeParts.{judged_table}
 use Rattle.logon_client.specs.Machine.{fault_outcome}
 use Rattle.world_moves.specs.declared.links.EndId.TheVariants.{Member}

@@ -5,7 +5,7 @@ use Rattle.memo_stubs.specs.Memo.{written_echo_reply, written_echo_request}
 use Rattle.memo_stubs.proofs.MemoLaws.{reply_stub, request_stub}
 use Rattle.account_table.specs.AccountTable.{AccountTable}
 use Rattle.account_table.specs.declared.account.Account.{Account}
-use Rattle.domain_controller.specs.declared.state.Computers.{Computers}
+use Rattle.controller_calls.specs.declared.state.Computers.{Computers}
 use Rattle.logon_client.specs.Machine as steps
 use Rattle.world_moves.specs.declared.links.Route.{Route}
 use Rattle.world_moves.specs.declared.links.Route.TheVariants.{ToController}
@@ -13,8 +13,7 @@ use Rattle.logon_steps.specs.MemoCalls.{ReplyGoes, RequestGoes}
 use Rattle.logon_steps.proofs.ClientStepLaws.{echo_are, echo_length}
 use Rattle.logon_steps.proofs.MemoCallLaws.{memo_calls_go}
 use Rattle.logon_runs.specs.Seen.LinkScenes.{IsJoined, Meeting, joined}
-use Rattle.logon_runs.specs.Runs.{Asked, goes}
-use Rattle.logon_runs.specs.LogonRuns.{asked_at}
+use Rattle.logon_runs.specs.Runs.{Asked, asked_at, goes}
 use Rattle.logon_runs.specs.First.FirstTraces.{FirstLogonSeen}
 use Rattle.logon_runs.specs.First.FirstLogonRuns.{FirstLogonsRun, after_first, first_turns}
 use Rattle.logon_runs.proofs.First.FirstLogonTraceLaws.{first_logons_are_seen}

@@ -16,13 +16,12 @@ use Rattle.logon_steps.specs.MemoCalls.{ReplyGoes, RequestGoes}
 use Rattle.logon_steps.proofs.MemoCallLaws.{memo_calls_go}
 use Rattle.logon_runs.specs.Seen.AskScenes.{with_controller}
 use Rattle.logon_runs.specs.Seen.LinkScenes.{Meeting, joined}
-use Rattle.logon_runs.specs.Runs.{Asked, hidden, on_for, sam_for}
-use Rattle.logon_runs.specs.LogonRuns.{asked_at, meets, starts}
+use Rattle.logon_runs.specs.Runs.{Asked, asked_at, hidden, meets, on_for, sam_for, starts}
 use Rattle.logon_runs.specs.First.FirstRuns.{opens_as}
 use Rattle.logon_runs.specs.First.FirstTraces.{FirstLogonsAreSeen}
 use Rattle.logon_runs.proofs.First.FirstTraceLaws.{first_turns_are_seen}
 use Rattle.logon_runs.proofs.Seen.LinkSceneLaws.{meetings_are_seen}
-use Rattle.logon_runs.proofs.LogonRunLaws.{meets_same}
+use Rattle.logon_runs.proofs.RunLaws.{meets_same}
 use Rattle.logon_runs.proofs.Seen.StayingLaws.{reach_still, starts_same}
 use Rattle.logon_runs.proofs.First.FirstRunLaws.{first_turns_run}
 use Rattle.logon_runs.proofs.Seen.StartLaws.{starts_are_seen}

@@ -10,7 +10,7 @@ use Rattle.account_table.specs.AccountTable.{AccountTable}
 use Rattle.channel_client.specs.declared.state.Standing.{Standing}
 use Rattle.channel_client.specs.declared.state.Standing.TheVariants as standing
 use Rattle.channel_client.specs.Machine.{after}
-use Rattle.domain_controller.specs.declared.state.Computers.{Computers}
+use Rattle.controller_calls.specs.declared.state.Computers.{Computers}
 use Rattle.member_server.specs.Turns.{timestamp_of}
 use Rattle.logon_steps.specs.Granting.{cleared}
 use Rattle.logon_steps.specs.Answering.{moved}

@@ -15,7 +15,7 @@ use Rattle.channel_client.specs.declared.state.Standing.{Standing}
 use Rattle.channel_client.specs.declared.state.Standing.TheVariants as standing
 use Rattle.channel_client.specs.declared.state.Step.TheVariants as step
 use Rattle.channel_client.specs.Machine.{after, auth_call, challenge_call, logon_call, offered_flags, server_credential}
-use Rattle.domain_controller.specs.declared.state.Computers.{Computers}
+use Rattle.controller_calls.specs.declared.state.Computers.{Computers}
 use Rattle.member_server.specs.Messages.{info_of}
 use Rattle.member_server.specs.Turns.{timestamp_of}
 use Rattle.world_moves.specs.declared.state.State.{State}

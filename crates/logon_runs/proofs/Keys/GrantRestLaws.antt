@@ -28,10 +28,9 @@ use Rattle.logon_runs.specs.Scenes.{Shows}
 use Rattle.logon_runs.specs.Failing.TurnedAway.{Settled, settled_in}
 use Rattle.logon_runs.specs.Seen.TurnScenes.{Turn}
 use Rattle.logon_runs.specs.Seen.WaitingUnits.{waiting}
-use Rattle.logon_runs.proofs.ComeInLaws.{turn_among}
+use Rattle.logon_runs.proofs.AmongLaws.{no_dial_among, turn_among}
 use Rattle.logon_runs.proofs.Keys.LetInLaws.{grants_go_on}
 use Rattle.logon_runs.proofs.Seen.OtherLaws.{others_are_left}
-use Rattle.logon_runs.proofs.PassingLaws.{no_dial_among}
 use Rattle.logon_runs.proofs.RunLaws.{between_still}
 use Rattle.logon_runs.proofs.Seen.TwoLinkLaws.{turns_have_links}
 

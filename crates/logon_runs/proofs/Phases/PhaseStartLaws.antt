@@ -17,10 +17,9 @@ use Rattle.logon_steps.proofs.GrantingLaws.{logons_are_granted}
 use Rattle.logon_steps.proofs.MemoCallLaws.{memo_calls_go}
 use Rattle.logon_steps.proofs.TellingLaws.{logons_are_short}
 use Rattle.logon_runs.specs.Seen.LinkScenes.{its_link, unit_up}
-use Rattle.logon_runs.specs.LogonRuns.{asked_at}
+use Rattle.logon_runs.specs.Runs.{Asked, StandsInStep, asked_at}
 use Rattle.logon_runs.specs.Phases.{DrawsFew, Aim, ComesSoFar, NotYet, Progress, Coming, First, Fits, HasThree, IsAimed, IsAnswering, IsReady, IsTurning, IsKnown, LogonPhase, Third, TurnAt, WhoAsked, call_for, key_at, own, scene_of, standing_for, terms_at, progress_of, turn_before, waits_for, with_its_controller}
 use Rattle.logon_runs.specs.Phases.{Acked, Answers, Binds, BindsBefore, BindsHeld, Calls, Challenged, Dials, DialsBefore, DialsHeld, Echoed, Echoes, Granted, Halved, Named, Proved}
-use Rattle.logon_runs.specs.Runs.{Asked, StandsInStep}
 use Rattle.logon_runs.specs.Scenes.{Scene, Shows}
 use Rattle.logon_runs.specs.Seen.TurnScenes.{Turn}
 use Rattle.logon_runs.proofs.Seen.AskSceneLaws.{logons_are_seen}

@@ -23,7 +23,7 @@ use Rattle.channel_client.specs.declared.state.Step.TheVariants as step
 use Rattle.channel_client.specs.Machine.{after, auth_call, logon_call, offered_flags, question_of, server_credential}
 use Rattle.domain_controller.specs.Hearing.{first_talk}
 use Rattle.domain_controller.specs.Step.{LinkMap}
-use Rattle.domain_controller.specs.declared.state.Computers.{Computers}
+use Rattle.controller_calls.specs.declared.state.Computers.{Computers}
 use Rattle.member_server.specs.Machine.{step_of as member_step_of}
 use Rattle.member_server.specs.Turns.{timestamp_of}
 use Rattle.world_moves.specs.declared.bag.BagUnit.{BagUnit}

@@ -22,7 +22,7 @@ use Rattle.channel_client.specs.declared.state.Step.TheVariants as step
 use Rattle.channel_client.specs.Machine.{after, judge, offered_flags}
 use Rattle.domain_controller.specs.Machine.{account_for}
 use Rattle.domain_controller.specs.Whole.{InRangeTable}
-use Rattle.domain_controller.specs.declared.state.Computers.{Computers}
+use Rattle.controller_calls.specs.declared.state.Computers.{Computers}
 use Rattle.logon_client.specs.Plans.{CanLogOn}
 use Rattle.logon_client.specs.declared.outcome.ClientOutcome.{ClientOutcome}
 use Rattle.world_moves.specs.declared.links.EndId.TheVariants.{Controller, Member}

@@ -23,7 +23,7 @@ use Rattle.channel_client.specs.declared.state.Standing.TheVariants as standing
 use Rattle.channel_client.specs.Machine.{auth_call, challenge_call, judge, logon_call, offered_flags}
 use Rattle.domain_controller.specs.Step.{step_of}
 use Rattle.domain_controller.specs.Whole.{InRangeTable}
-use Rattle.domain_controller.specs.declared.state.Computers.{Computers}
+use Rattle.controller_calls.specs.declared.state.Computers.{Computers}
 use Rattle.logon_steps.specs.ControllerTurns.{controller_at, reply_bytes, turn_link}
 use Rattle.logon_steps.specs.Turning.{IsTurnCall, IsTurnReply, turn_request}
 use Rattle.logon_runs.specs.Any.GrantRests.{HasShortName}

@@ -7,7 +7,7 @@ use Rattle.authenticators.specs.SecureChannels.{SecureChannelState}
 use Rattle.logon_stubs.specs.declared.info.SamInfo.{SamInfo}
 use Rattle.account_table.specs.AccountTable.{AccountTable}
 use Rattle.account_table.specs.declared.account.Account.{Account}
-use Rattle.domain_controller.specs.declared.state.Computers.{Computers}
+use Rattle.controller_calls.specs.declared.state.Computers.{Computers}
 use Rattle.logon_client.specs.State.{State as ClientState}
 use Rattle.logon_client.specs.declared.outcome.ClientOutcome.TheVariants.{In}
 use Rattle.member_server.specs.Outcomes.{name_in}
@@ -24,9 +24,8 @@ use Rattle.logon_steps.specs.MemberAnswers.{sam_shown}
 use Rattle.logon_runs.specs.Seen.AskScenes.{with_controller}
 use Rattle.logon_runs.specs.Grants.{KeyArrives}
 use Rattle.logon_runs.specs.Seen.LinkScenes.{Meeting, joined, rest_scene}
-use Rattle.logon_runs.specs.Runs.{Asked, goes, hidden, sam_for, with_moved}
+use Rattle.logon_runs.specs.Runs.{Asked, asked_at, goes, hidden, meets, sam_for, with_moved}
 use Rattle.logon_runs.specs.First.FirstRuns.{IsToBeOpened, channel_as, opened_at, opens_as, rested_first, turned}
-use Rattle.logon_runs.specs.LogonRuns.{asked_at, meets}
 use Rattle.logon_runs.specs.Scenes.{Shows}
 
 -- after the three turns that follow

@@ -17,7 +17,7 @@ use Rattle.channel_client.specs.Machine.{after, auth_call, challenge_call, logon
 use Rattle.channel_client.specs.declared.state.Standing.TheVariants as standing
 use Rattle.channel_client.specs.declared.state.Step.TheVariants as step
 use Rattle.domain_controller.specs.Hearing.{first_talk}
-use Rattle.domain_controller.specs.declared.state.Computers.{Computers}
+use Rattle.controller_calls.specs.declared.state.Computers.{Computers}
 use Rattle.logon_client.specs.Answering.{bind_for}
 use Rattle.logon_client.specs.State.{State as ClientState}
 use Rattle.logon_client.specs.declared.state.Phase.{Phase as ClientPhase}
@@ -46,8 +46,7 @@ use Rattle.logon_runs.specs.Seen.AskScenes.{turn_of, with_controller}
 use Rattle.logon_runs.specs.First.FirstLogonRuns.{ComesInFirst, after_first, first_turns}
 use Rattle.logon_runs.specs.First.FirstRuns.{IsToBeOpened, channel_as, opened_at, opens_as, turned, with_pair}
 use Rattle.logon_runs.specs.Seen.LinkScenes.{Meeting, its_link, joined, meeting_scene, rest_scene, unit_down, unit_up}
-use Rattle.logon_runs.specs.LogonRuns.{asked_at, meets, starts}
-use Rattle.logon_runs.specs.Runs.{Asked, connects, goes, hidden, info_asked, message_for, on_for, sam_for, with_moved}
+use Rattle.logon_runs.specs.Runs.{Asked, asked_at, connects, goes, hidden, info_asked, meets, message_for, on_for, sam_for, starts, with_moved}
 use Rattle.logon_runs.specs.Scenes.{Shows}
 use Rattle.logon_runs.specs.Seen.TurnScenes.{Turn, dial_scene, next_turn, turn_scene, unit_back, unit_there, with_accounts}
 

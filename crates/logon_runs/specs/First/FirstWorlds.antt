@@ -10,7 +10,7 @@ use Rattle.account_table.specs.declared.account.Kind.TheVariants.{Workstation}
 use Rattle.sam_logon.specs.MayLogOn.{MayLogOn}
 use Rattle.channel_client.specs.declared.state.Standing.TheVariants as standing
 use Rattle.domain_controller.specs.Step.{first_state}
-use Rattle.domain_controller.specs.declared.state.Computers.{Computers}
+use Rattle.controller_calls.specs.declared.state.Computers.{Computers}
 use Rattle.logon_client.specs.declared.outcome.ClientOutcome.TheVariants.{In}
 use Rattle.logon_client.specs.declared.plan.ClientPlan.{ClientPlan}
 use Rattle.member_server.specs.declared.plan.MemberPlan.{MemberPlan}
@@ -31,8 +31,7 @@ use Rattle.logon_runs.specs.First.FirstRuns.{opens_as}
 use Rattle.logon_runs.specs.First.FirstTraces.{FirstLogonSeen}
 use Rattle.logon_runs.specs.Grants.{KeyArrives}
 use Rattle.logon_runs.specs.Seen.LinkScenes.{Meeting, joined, rest_scene}
-use Rattle.logon_runs.specs.LogonRuns.{asked_at}
-use Rattle.logon_runs.specs.Runs.{Asked}
+use Rattle.logon_runs.specs.Runs.{Asked, asked_at}
 use Rattle.logon_runs.specs.Scenes.{Shows}
 
 -- ---- the moves

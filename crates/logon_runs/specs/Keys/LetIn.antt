@@ -17,7 +17,7 @@ use Rattle.channel_client.specs.declared.state.Standing.{Standing}
 use Rattle.channel_client.specs.declared.state.Standing.TheVariants as standing
 use Rattle.channel_client.specs.declared.state.Step.TheVariants as step
 use Rattle.channel_client.specs.Machine.{judge}
-use Rattle.domain_controller.specs.declared.state.Computers.{Computers}
+use Rattle.controller_calls.specs.declared.state.Computers.{Computers}
 use Rattle.logon_client.specs.declared.outcome.ClientOutcome.{ClientOutcome}
 use Rattle.logon_client.specs.declared.state.Phase.TheVariants as client_phase
 use Rattle.logon_client.specs.declared.state.Question.{Question}

@@ -18,7 +18,7 @@ use Rattle.channel_client.specs.declared.state.Step.{Step}
 use Rattle.channel_client.specs.declared.state.Step.TheVariants as step
 use Rattle.channel_client.specs.Machine.{after, challenge_call, logon_call}
 use Rattle.domain_controller.specs.Step.{LinkMap}
-use Rattle.domain_controller.specs.declared.state.Computers.{Computers}
+use Rattle.controller_calls.specs.declared.state.Computers.{Computers}
 use Rattle.logon_client.specs.declared.state.Phase.{Phase as ClientPhase}
 use Rattle.logon_client.specs.Plans.{CanLogOn}
 use Rattle.member_server.specs.declared.state.LoggedOn.{LoggedOn}

@@ -27,7 +27,7 @@ use Rattle.logon_client.specs.Plans.{CanLogOn}
 use Rattle.logon_client.specs.Securing.{send_call}
 use Rattle.logon_client.specs.State.{State as ClientState}
 use Rattle.member_server.specs.declared.plan.MemberPlan.{MemberPlan}
-use Rattle.member_server.specs.declared.state.Dialling.TheVariants as dialling
+use Rattle.channel_turns.specs.declared.state.Dialling.TheVariants as dialling
 use Rattle.member_server.specs.declared.state.LoggedOn.{LoggedOn}
 use Rattle.member_server.specs.declared.state.Talk.{Talk}
 use Rattle.member_server.specs.Requests.{talk_in}

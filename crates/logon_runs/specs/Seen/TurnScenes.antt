@@ -29,7 +29,7 @@ use Rattle.channel_client.specs.declared.state.Step.TheVariants as step
 use Rattle.channel_client.specs.Machine.{after, auth_call, logon_call, offered_flags, question_of, server_credential}
 use Rattle.domain_controller.specs.Hearing.{first_talk}
 use Rattle.domain_controller.specs.Step.{LinkMap, step_of as controller_step_of}
-use Rattle.domain_controller.specs.declared.state.Computers.{Computers}
+use Rattle.controller_calls.specs.declared.state.Computers.{Computers}
 use Rattle.logon_client.specs.State.{State as ClientState}
 use Rattle.member_server.specs.declared.plan.MemberPlan.{MemberPlan}
 use Rattle.member_server.specs.declared.state.Logon.{Logon}

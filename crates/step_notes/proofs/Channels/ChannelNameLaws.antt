@@ -54,15 +54,15 @@ use Rattle.domain_controller.specs.Hearing.{hear as hear_unit}
 use Rattle.domain_controller.specs.Machine.{Desk, account_for, answer_authenticate, answer_challenge, answer_logon, by_call, by_heard, channel_for, desk, draw_challenge, grant_flags, judge_account, judge_channel, judge_offer, judge_pair, judge_return as return_logon, open_channel, put_channel, put_pair_if, send_reply, take_channel, take_pair}
 use Rattle.domain_controller.specs.declared.hearing.Heard.{Heard}
 use Rattle.domain_controller.specs.declared.hearing.Heard.TheVariants as heard
-use Rattle.domain_controller.specs.declared.line.Line.{Line}
-use Rattle.domain_controller.specs.declared.state.Computers.{Computers}
-use Rattle.domain_controller.specs.declared.state.ChallengePair.{ChallengePair}
+use Rattle.controller_calls.specs.declared.line.Line.{Line}
+use Rattle.controller_calls.specs.declared.state.Computers.{Computers}
+use Rattle.controller_calls.specs.declared.state.ChallengePair.{ChallengePair}
 use Rattle.domain_controller.specs.declared.state.Talk.{Talk}
-use Rattle.domain_controller.specs.declared.state.Work.{Work}
+use Rattle.controller_calls.specs.declared.state.Work.{Work}
 use Rattle.channel_events.specs.Marks.{Calling, Opening}
 use Rattle.channel_events.proofs.SameLaws.{same_self}
 use Rattle.step_notes.specs.ChannelNames.{AreFramesOf, CallsAreNamedAlike, ChallengesAreShared, ChannelsAreNamedAlike, ChannelsStandAsAsked, ExchangesHaveNoClash, Expects, HasChannel, IsOfOther, OpeningsAreNamedAlike, OwnUnitsAreNoClash, StandsOrGoes, WillAsk, WillCall, WillOpen, frames_sent, opened_call, opened_unit, channel_marked, passed_note, place_answered, standing_channel}
-use Rattle.step_notes.specs.ControllerNotes.{Answered, identity_by, channel_in, has_passed, judging_by, opened_account, opened_by, opened_if, opened_offer, opened_pair, opening, passing}
+use Rattle.step_notes.specs.ControllerNotes.{Answered, identity_by, channel_in, checked_on, has_passed, judging_by, opened_account, opened_by, opened_if, opened_offer, opened_pair, opening, passing}
 use Rattle.step_notes.specs.Marking.{clashes, is_channel}
 use Rattle.step_notes.specs.MemberNotes.{TurnNote, asked_note, half_channel, request_note, taking_note, timestamp_bound}
 use Rattle.step_notes.specs.Records.{Judging, Sent, computer_named, timestamp_in}
@@ -658,13 +658,14 @@ part_has (Ok part) channel later has is = subst (λ (d : Desk). HasChannel d.wor
 
 -- ---- a call passes on it
 
-passes_named : (j : Judging) (channel : ChannelIdentity) → j.controller ≡ channel.controller → computer_named j.asked ≡ Some channel.computer → HasChannel j.computers channel → has_passed j.how ≡ true →
-    judging_by (has_passed j.how) j ≡ passing (Some channel) j
-passes_named j channel at names has passed =
+passes_named : (j : Judging) (computers : Computers) (channel : ChannelIdentity) → j.checks ≡ checked_on (computer_named j.asked) computers → j.controller ≡ channel.controller → computer_named j.asked ≡ Some channel.computer →
+    HasChannel computers channel → has_passed j.how ≡ true → judging_by (has_passed j.how) j ≡ passing (Some channel) j
+passes_named j computers channel checks at names has passed =
+    let stands : j.checks ≡ Some has.state = checks ∙ ap (λ (name : Option (List ℕ)). checked_on name computers) names ∙ has.kept in
     ap (λ (so : Bool). judging_by so j) passed
     ∙ ap (λ (c : Option ChannelIdentity). passing c j)
-    (ap₂ (λ (controller : ℕ) (computer : Option (List ℕ)). channel_in controller computer j.computers) at names
-    ∙ ap (identity_by channel.controller channel.computer) has.kept ∙ ap Some has.is)
+    (ap₂ (λ (controller : ℕ) (computer : Option (List ℕ)). channel_in controller computer j.checks) at names
+    ∙ ap (identity_by channel.controller channel.computer) stands ∙ ap Some has.is)
 
 pub calls : CallsAreNamedAlike
 calls = record {
@@ -675,7 +676,7 @@ calls = record {
   keeps = λ controller name now link bytes before later talk left channel has other is.
       part_has (by_heard (hear_unit link bytes talk) link name now before left) channel later
       (heard_has (hear_unit link bytes talk) controller link name now before left channel has other) is;
-  passes = λ j channel at names has passed. passes_named j channel at names has passed;
+  passes = λ j computers channel checks at names has passed. passes_named j computers channel checks at names has passed;
   takes = λ controller s unit place is. answer_acts (hear s.turn unit s.next_call) controller s place is;
 }
 
@@ -714,8 +715,8 @@ exchanges = record {
       ∙ own_passes (half_channel w.controller s client server) w.unit sent is;
   opened = λ controller s unit client server number sent half taken_so is.
       opened_clear controller s _ client server number sent half (opened_acts (hear s.turn unit s.next_call) controller s taken_so) is;
-  calling = λ j channel sent at names has passed is.
-      ap (λ (one : Answered). clashes one.checked j.unit sent) (passes_named j channel at names has passed) ∙ passing_clear j channel sent is;
+  calling = λ j computers channel sent checks at names has passed is.
+      ap (λ (one : Answered). clashes one.checked j.unit sent) (passes_named j computers channel checks at names has passed) ∙ passing_clear j channel sent is;
   answered = λ controller s unit place channel number sent stands took is.
       answered_clear controller s _ place channel number sent stands (answer_acts (hear s.turn unit s.next_call) controller s place took) is;
 }

@@ -55,20 +55,19 @@ use Rattle.domain_controller.specs.State.{State as ControllerState}
 use Rattle.domain_controller.specs.Step.{LinkMap, StepPart, after_units, first_desk, halted, serve_on, start_turn, state_after, step_on}
 use Rattle.domain_controller.specs.declared.hearing.Heard.{Heard}
 use Rattle.domain_controller.specs.declared.hearing.Heard.TheVariants as heard
-use Rattle.domain_controller.specs.declared.line.Line.{Line}
-use Rattle.domain_controller.specs.declared.state.ChallengePair.{ChallengePair}
+use Rattle.controller_calls.specs.declared.line.Line.{Line}
+use Rattle.controller_calls.specs.declared.state.ChallengePair.{ChallengePair}
 use Rattle.domain_controller.specs.declared.state.Running.{Running}
 use Rattle.domain_controller.specs.declared.state.Talk.{Talk}
-use Rattle.domain_controller.specs.declared.state.Work.{Work}
-use Rattle.member_server.specs.Turns.{TurnServed, do_taken, turn_by_join, turn_server, turn_unit, with_requester, with_work}
-use Rattle.member_server.specs.declared.state.AtTurn.{AtTurn}
-use Rattle.member_server.specs.declared.state.TurnTalk.{TurnTalk}
+use Rattle.controller_calls.specs.declared.state.Work.{Work}
+use Rattle.member_server.specs.Turns.{AtTurn, TurnServed, do_taken, turn_by_join, turn_server, turn_unit, with_requester, with_work}
+use Rattle.channel_turns.specs.declared.state.TurnTalk.{TurnTalk}
 use Rattle.channel_events.specs.Marks.{Mark}
 use Rattle.step_notes.specs.ChannelNames.{IsMarkedBy, UnitsHaveTheirMarks, link_sent, links_sent, turn_served}
 use Rattle.step_notes.specs.ControllerNotes.{Answered, Where, answer_on, call_answer, channel_in, has_passed, heard_answer, judging_by, judging_of, opened_by, opening, passing, units_at, units_by}
 use Rattle.step_notes.specs.Marking.{answered_marks, mark_if}
 use Rattle.step_notes.specs.MemberNotes.{asked_note, taken_note, taking_joined, taking_note, taking_read, turn_note}
-use Rattle.step_notes.specs.Records.{Judging, computer_named}
+use Rattle.step_notes.specs.Records.{Judging, Network, computer_named}
 use Rattle.step_notes.specs.Served.{talk_after, units_if_taken, work_after}
 use Rattle.step_notes.proofs.ServedLaws.{StaysNoted, served_mapped}
 
@@ -222,12 +221,12 @@ passing_sends (Some channel) j = refl
 
 judging_sends : (passed : Bool) (j : Judging) → (judging_by passed j).sends ≡ true
 judging_sends false j = refl
-judging_sends true j = passing_sends (channel_in j.controller (computer_named j.asked) j.computers) j
+judging_sends true j = passing_sends (channel_in j.controller (computer_named j.asked) j.checks) j
 
 call_sends : (c : Call) (line : Line) (w : Where) (before : Desk) (after : Option Desk) → (call_answer c line w before after).sends ≡ true
 call_sends (call.Challenge c) line w before after = refl
 call_sends (call.Authenticate c) line w before after = opening_sends (opened_by w.controller c before) w line.call
-call_sends (call.Logon c) line w before after = judging_sends (has_passed (judging_of w line c before after).how) (judging_of w line c before after)
+call_sends (call.Logon c) line w before after = judging_sends (has_passed (judging_of w line (Network c) before after).how) (judging_of w line (Network c) before after)
 call_sends (call.Logoff c) line w before after = refl
 
 -- the link, once for each mark

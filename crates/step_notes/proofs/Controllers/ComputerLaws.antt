@@ -6,7 +6,7 @@ use Rattle.wire_base.specs.Names.{same_name}
 use Rattle.wire_base.proofs.NameLaws.{IsSameness-same_name}
 use Rattle.logon_stubs.specs.declared.info.NetworkInfo.{NetworkInfo}
 use Rattle.domain_controller.specs.Machine.{Desk, judge_return}
-use Rattle.domain_controller.specs.declared.line.Line.{Line}
+use Rattle.controller_calls.specs.declared.line.Line.{Line}
 
 -- ---- tests
 

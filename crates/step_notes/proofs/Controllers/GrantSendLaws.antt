@@ -14,11 +14,11 @@ use Rattle.sam_logon.specs.Granting.{granting_reply, sam_info_of}
 use Rattle.channel_keys.specs.Hidden.{crypt_key}
 use Rattle.authenticators.specs.SecureChannels.{key_of_channel}
 use Rattle.domain_controller.specs.Machine.{Desk, status_of}
-use Rattle.domain_controller.specs.declared.line.Line.{Line}
+use Rattle.controller_calls.specs.declared.line.Line.{Line}
 use Rattle.step_notes.specs.ControllerNotes.{Where, has_passed, judged_in, judging_of, new_actions}
 use Rattle.step_notes.specs.GrantSends.{GrantsCarryTheirKey, IsSentAsGranted, actions_granting}
 use Rattle.step_notes.specs.Judged.{base_key_asked, hash_in}
-use Rattle.step_notes.specs.Records.{Judging}
+use Rattle.step_notes.specs.Records.{Judging, Network}
 use Rattle.step_notes.specs.ReplySends.{verdict_passed}
 use Rattle.step_notes.proofs.Controllers.GrantVerdictLaws.{IsServedGrant, served_grant}
 use Rattle.step_notes.proofs.Controllers.JudgedStepLaws.{same_status}
@@ -31,13 +31,13 @@ unfolding sam_info_of
 granted_actions line key credential level table name account base now = refl
 
 -- what is sent where the call passed is what is sent where it is granted, if it was told so
-granted_so : (w : Where) (line : Line) (c : LogonCall) (d after : Desk) → IsSentAsPassed (judging_of w line c d (Some after)) line (new_actions (Some after) d) →
-    (judging_of w line c d (Some after)).how ≡ Some (judged.Passed 0) → IsSentAsGranted (judging_of w line c d (Some after)) line (new_actions (Some after) d)
+granted_so : (w : Where) (line : Line) (c : LogonCall) (d after : Desk) → IsSentAsPassed (judging_of w line (Network c) d (Some after)) c line (new_actions (Some after) d) →
+    (judging_of w line (Network c) d (Some after)).how ≡ Some (judged.Passed 0) → IsSentAsGranted (judging_of w line (Network c) d (Some after)) c line (new_actions (Some after) d)
 granted_so w line c d after sent is =
-    let j : Judging = judging_of w line c d (Some after) in
+    let j : Judging = judging_of w line (Network c) d (Some after) in
     let key : List ℕ = key_of_channel sent.next.channel in
-    let status : status_of (verdict_passed j) ≡ 0 = same_status _ 0 (sym (ap judged_in sent.actions) ∙ is) in
-    let served : IsServedGrant d.table w.name w.moment c.info c.validation (verdict_passed j) = served_grant d.table w.name w.moment c.info c.validation status in
+    let status : status_of (verdict_passed j c) ≡ 0 = same_status _ 0 (sym (ap judged_in sent.actions) ∙ is) in
+    let served : IsServedGrant d.table w.name w.moment c.info c.validation (verdict_passed j c) = served_grant d.table w.name w.moment c.info c.validation status in
     let account : Account = served.grant.account in
     let returned : Authenticator = record { credential = return_of key sent.next.channel.seed sent.next.given.timestamp; timestamp = 0 } in
     let base : base_key_of account.hash c.info.user c.info.domain c.info.nt ≡ base_key_asked j c.info =
@@ -55,6 +55,6 @@ granted_so w line c d after sent is =
 pub grants_carry_their_key : GrantsCarryTheirKey
 grants_carry_their_key w line c d after is how =
     granted_so w line c d after
-    (subst (λ (one : Desk). has_passed (judging_of w line c d (Some one)).how ≡ true → IsSentAsPassed (judging_of w line c d (Some one)) line (new_actions (Some one) d)) (sym is)
+    (subst (λ (one : Desk). has_passed (judging_of w line (Network c) d (Some one)).how ≡ true → IsSentAsPassed (judging_of w line (Network c) d (Some one)) c line (new_actions (Some one) d)) (sym is)
     (passed_sends w line c d) (ap has_passed how))
     how

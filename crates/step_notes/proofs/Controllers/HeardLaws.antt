@@ -21,7 +21,7 @@ use Rattle.domain_controller.specs.Hearing.{bound_talk, hear, hear_bound, hear_c
 use Rattle.domain_controller.specs.Machine.{Desk, by_call, by_heard, controller_server, draw_challenge}
 use Rattle.domain_controller.specs.declared.hearing.Heard.{Heard}
 use Rattle.domain_controller.specs.declared.hearing.Heard.TheVariants as heard
-use Rattle.domain_controller.specs.declared.line.Line.{Line}
+use Rattle.controller_calls.specs.declared.line.Line.{Line}
 use Rattle.domain_controller.specs.declared.state.Talk.{Talk}
 use Rattle.step_notes.specs.HeardWhole.{ControllersHearWhole, IsCallOf, LeavesNothingOpen, call_carried, call_read}
 

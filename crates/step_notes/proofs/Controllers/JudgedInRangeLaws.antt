@@ -1,22 +1,27 @@
 -- For the law `passed_replies_are_read`: a walk over the units of a piece, of which each leaves the ranges
 -- (`SendsAreWhole` of domain_controller).
-use Rattle.std.proofs.Common.{◌<◌, ◌^◌, ◌++◌, ℕ, Bool, true, false, List, map, Option, Some, None, Result, Ok, Err, subst}
+use Rattle.std.proofs.Common.{◌≡◌, ◌≤◌, ◌<◌, ◌^◌, ◌++◌, ℕ, Bool, true, false, List, length, map, Option, Some, None, Result, Ok, Err, refl, sym, ap, ◌∙◌, subst}
 use Rattle.std.specs.List.{AllByRecursion}
 use Rattle.wire_base.specs.Maps.{lookup, same_number}
 use Rattle.wire_base.specs.Names.{IsName}
+use Rattle.wire_base.specs.declared.authenticator.Authenticator.{Authenticator}
 use Rattle.authenticators.specs.Channels.{ChannelIdentity}
-use Rattle.authenticators.specs.SecureChannels.{key_of_channel}
+use Rattle.authenticators.specs.SecureChannels.{SecureChannelState, key_of_channel}
+use Rattle.authenticators.specs.Sequences.{return_of}
 use Rattle.outside.specs.declared.action.Action.{Action}
 use Rattle.outside.specs.declared.action.StepRefused.{StepRefused}
 use Rattle.rpc_units.specs.declared.unit.Unit.{Unit as RpcUnit}
 use Rattle.rpc_units.specs.Calls.{IsHeard, bytes_of_call}
+use Rattle.rpc_units.specs.Joining.{stub_of}
 use Rattle.rpc_units.specs.Stream.{cut_stream}
 use Rattle.logon_stubs.specs.Parts.{IfThere}
-use Rattle.logon_stubs.specs.declared.calls.Reply.{Reply}
+use Rattle.logon_stubs.specs.Calls.{reply_of}
+use Rattle.logon_stubs.specs.declared.calls.LogonCall.{LogonCall}
 use Rattle.logon_stubs.specs.Writing.{written_reply}
 use Rattle.end_links.specs.Links.{LinkState}
 use Rattle.end_links.specs.Sending.{response_of}
 use Rattle.end_links.specs.Serving.{ServedUnit, served_units}
+use Rattle.controller_calls.specs.Calls.{done_by}
 use Rattle.domain_controller.specs.Hearing.{hear}
 use Rattle.domain_controller.specs.Machine.{Desk, controller_server}
 use Rattle.domain_controller.specs.ReadBack.{IsReadBack}
@@ -29,10 +34,11 @@ use Rattle.domain_controller.specs.declared.state.Talk.{Talk}
 use Rattle.domain_controller.proofs.ReadBackLaws.{replies_are_read_back}
 use Rattle.domain_controller.proofs.WholeLaws.{found_link, sends_are_whole}
 use Rattle.step_notes.specs.ControllerNotes.{Answered, Where, answer_on, channel_in, has_passed, heard_answer, judging_by, judging_of, opened_by, opening, passing, units_at, units_by, units_of_controller}
-use Rattle.step_notes.specs.JudgedInRange.{IsJudgedInRange, IsReadAsMade, PassedRepliesAreRead}
-use Rattle.step_notes.specs.Records.{Judging, computer_named, network_in}
-use Rattle.step_notes.specs.ReplySends.{IsItsReply, reply_passed, standing_at}
+use Rattle.step_notes.specs.JudgedInRange.{HasLevel, IsJudgedInRange, IsReadAsMade, PassedRepliesAreRead}
+use Rattle.step_notes.specs.Records.{JudgedCall, Judging, Network, computer_named}
+use Rattle.step_notes.specs.ReplySends.{IsItsReply, reply_passed, reply_stub, standing_at, stub_passed}
 use Rattle.step_notes.specs.Served.{units_if_taken, work_after}
+use Rattle.step_notes.proofs.Controllers.JudgedCallLaws.{if_network, of_network}
 use Rattle.step_notes.proofs.ServedLaws.{all_mapped, served_such}
 use Rattle.outside.specs.declared.event.Event.TheVariants as event
 use Rattle.logon_stubs.specs.declared.calls.Call.TheVariants as call
@@ -53,7 +59,7 @@ passing_fits (Some channel) j is = is
 
 judging_fits : (passed : Bool) (j : Judging) → IsJudgedInRange j → AnswerFits (judging_by passed j)
 judging_fits false j is = is
-judging_fits true j is = passing_fits (channel_in j.controller (computer_named j.asked) j.computers) j is
+judging_fits true j is = passing_fits (channel_in j.controller (computer_named j.asked) j.checks) j is
 
 answer_fits : (what : Heard) (w : Where) (before : Desk) (after : Option Desk) → IsName w.name → w.moment < 2 ^ 64 → InRangeTable before.table → AnswerFits (heard_answer what w before after)
 answer_fits (heard.Close cause) w before after name moment table = tt
@@ -62,7 +68,7 @@ answer_fits (heard.Waits talk) w before after name moment table = tt
 answer_fits (heard.Asked line (call.Challenge c) talk) w before after name moment table = tt
 answer_fits (heard.Asked line (call.Authenticate c) talk) w before after name moment table = opening_fits (opened_by w.controller c before) w line.call
 answer_fits (heard.Asked line (call.Logon c) talk) w before after name moment table =
-    let j : Judging = judging_of w line c before after in
+    let j : Judging = judging_of w line (Network c) before after in
     judging_fits (has_passed j.how) j (record { table = table; name = name; moment = moment })
 answer_fits (heard.Asked line (call.Logoff c) talk) w before after name moment table = tt
 
@@ -110,18 +116,32 @@ judgings_in_range c at controller unit link piece now left is moment eight =
 
 -- ---- a reply is read
 
-reply_read : (j : Judging) (bytes : List ℕ) (is : IsItsReply j bytes) (frames : List RpcUnit) (unit : RpcUnit) → IsJudgedInRange j → (network_in j.asked).validation < 2 ^ 16 → IsHeard bytes frames unit →
-    IsReadAsMade j bytes is unit
-reply_read j bytes is frames unit range small heard =
-    let key : List ℕ = key_of_channel is.next.channel in
-    let answer : Reply = reply_passed j is.next.channel is.next.given in
-    let back : IsReadBack answer =
-    replies_are_read_back.passed j.table j.name j.moment (network_in j.asked).info (network_in j.asked).validation key is.next.channel.seed is.next.given.timestamp range.table range.name range.moment small in
-    let moved : IsHeard (bytes_of_call (response_of j.number is.context (written_reply answer)) is.limit) frames unit = subst (λ (b : List ℕ). IsHeard b frames unit) is.frames heard in
-    record {
-      unit_is = replies_are_read_back.alone j.number is.context is.limit (written_reply answer) frames unit back.few moved;
-      read = replies_are_read_back.reads j.number is.context is.limit answer frames unit back moved;
-    }
+-- its stub is that of the reply to that network logon
+stub_is : (j : Judging) (c : LogonCall) (channel : SecureChannelState) (given : Authenticator) → j.asked ≡ Network c → stub_passed j channel given ≡ written_reply (reply_passed j c channel given)
+stub_is j c channel given is =
+    let key : List ℕ = key_of_channel channel in
+    ap (λ (asked : JudgedCall). reply_stub asked key (return_of key channel.seed given.timestamp) (done_by asked channel j.name j.table j.moment)) is
+
+module _ (j : Judging) (bytes : List ℕ) (is : IsItsReply j bytes) (frames : List RpcUnit) (unit : RpcUnit) (range : IsJudgedInRange j) (heard : IsHeard bytes frames unit) where
+  abbrev stub : List ℕ
+  stub = stub_passed j is.next.channel is.next.given
+
+  back_of : (c : LogonCall) → c.validation < 2 ^ 16 → IsReadBack (reply_passed j c is.next.channel is.next.given)
+  back_of c small =
+      replies_are_read_back.passed j.table j.name j.moment c.info c.validation (key_of_channel is.next.channel) is.next.channel.seed is.next.given.timestamp range.table range.name range.moment small
+
+  few_bytes : (asked : JudgedCall) → j.asked ≡ asked → HasLevel asked → length stub ≤ 28015
+  few_bytes (Network c) asks small = subst (λ (s : List ℕ). length s ≤ 28015) (sym (stub_is j c is.next.channel is.next.given asks)) (back_of c small).few
+
+  reply_read : HasLevel j.asked → IsReadAsMade j bytes is unit
+  reply_read small = record {
+    unit_is = replies_are_read_back.alone j.number is.context is.limit stub frames unit (few_bytes j.asked refl small) (subst (λ (b : List ℕ). IsHeard b frames unit) is.frames heard);
+    read = if_network (λ (c : LogonCall). reply_of 2 (stub_of unit.body) ≡ Ok (reply_passed j c is.next.channel is.next.given)) j.asked
+        (λ c asks.
+        replies_are_read_back.reads j.number is.context is.limit (reply_passed j c is.next.channel is.next.given) frames unit
+        (back_of c (of_network (λ (call : LogonCall). call.validation < 2 ^ 16) j.asked c asks small))
+        (subst (λ (b : List ℕ). IsHeard b frames unit) (is.frames ∙ ap (λ (s : List ℕ). bytes_of_call (response_of j.number is.context s) is.limit) (stub_is j c is.next.channel is.next.given asks)) heard));
+  }
 
 pub replies_are_read : PassedRepliesAreRead
-replies_are_read = record { judged = judgings_in_range; read = reply_read }
+replies_are_read = record { judged = judgings_in_range; read = λ j bytes is frames unit range small heard. reply_read j bytes is frames unit range heard small }

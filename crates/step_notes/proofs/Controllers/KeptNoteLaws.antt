@@ -18,10 +18,10 @@ use Rattle.logon_stubs.specs.declared.info.NetworkInfo.{NetworkInfo}
 use Rattle.account_table.specs.LookUps.{knows_in}
 use Rattle.account_table.specs.declared.account.Account.{Account}
 use Rattle.domain_controller.specs.Machine.{Desk, account_for, answer_logon, channel_for, desk, judge_account, judge_channel, judge_offer, judge_pair, open_channel, put_channel, put_pair_if, take_channel, take_pair}
-use Rattle.domain_controller.specs.declared.line.Line.{Line}
-use Rattle.domain_controller.specs.declared.state.Computers.{Computers}
-use Rattle.domain_controller.specs.declared.state.ChallengePair.{ChallengePair}
-use Rattle.domain_controller.specs.declared.state.Work.{Work}
+use Rattle.controller_calls.specs.declared.line.Line.{Line}
+use Rattle.controller_calls.specs.declared.state.Computers.{Computers}
+use Rattle.controller_calls.specs.declared.state.ChallengePair.{ChallengePair}
+use Rattle.controller_calls.specs.declared.state.Work.{Work}
 use Rattle.step_notes.specs.ControllerNotes.{identity_by, opened_account, opened_if, opened_offer, opened_pair}
 use Rattle.step_notes.specs.KeptNotes.{Accepts, CallsAreKept, IsKeptBy, KeepsNoMore, WaitsIfKnown, server_in, waits_in}
 use Rattle.channel_events.proofs.ListLaws.{no_some, not_both, some_is}

@@ -16,12 +16,14 @@ use Rattle.logon_stubs.specs.Writing.{written_reply}
 use Rattle.end_links.specs.Sending.{response_of}
 use Rattle.authenticators.specs.Sequences.{return_of}
 use Rattle.authenticators.specs.SecureChannels.{SecureChannelState, channel_by, key_of_channel, passes_on, return_by}
-use Rattle.domain_controller.specs.Laws.{IsNext, is_passed}
+use Rattle.domain_controller.specs.Laws.{is_passed}
 use Rattle.domain_controller.specs.Machine.{Desk, answer_logon, desk, judge_channel, judge_return, put_channel, status_of, take_channel}
-use Rattle.domain_controller.specs.declared.line.Line.{Line}
-use Rattle.step_notes.specs.ControllerNotes.{Where, has_passed, judged_in, judging_of, new_actions}
-use Rattle.step_notes.specs.Records.{Judging, computer_named, given_in, network_in}
-use Rattle.step_notes.specs.ReplySends.{reply_with, verdict_passed}
+use Rattle.domain_controller.specs.ReadBack.{passed_reply}
+use Rattle.controller_calls.specs.declared.line.Line.{Line}
+use Rattle.step_notes.specs.ControllerNotes.{Where, checked_on, has_passed, judged_in, judging_of, new_actions}
+use Rattle.step_notes.specs.Judged.{IsNextOn}
+use Rattle.step_notes.specs.Records.{Judging, Network, given_in}
+use Rattle.step_notes.specs.ReplySends.{verdict_passed}
 use Rattle.step_notes.proofs.Controllers.JudgedStepLaws.{told_first}
 
 -- the actions behind those before
@@ -37,20 +39,19 @@ not_refused old how other none is = absurd (let never : false ≡ true = sym non
 abbrev pub actions_passing : Line → List ℕ → List ℕ → ℕ → Verdict → List Action
 actions_passing line key credential validation verdict =
     action.Judged (judged.Passed (status_of verdict))
-    ∷ action.Send line.link (bytes_of_call (response_of line.call line.context (written_reply (reply_with key credential validation verdict))) line.limit)
+    ∷ action.Send line.link (bytes_of_call (response_of line.call line.context (written_reply (passed_reply key credential validation verdict))) line.limit)
     ∷ []
 
--- the step at which the call passed did no more and no less than that, on the channel of the computer that the call
--- names
-pub record IsSentAsPassed (j : Judging) (line : Line) (new : List Action) : Type 0 where
-  pub next : IsNext j.computers (computer_named j.asked) (given_in j.asked)
+-- the step at which the call passed did no more and no less than that, on the channel that the call is checked on
+pub record IsSentAsPassed (j : Judging) (c : LogonCall) (line : Line) (new : List Action) : Type 0 where
+  pub next : IsNextOn j.checks (given_in j.asked)
   pub actions : new
-      ≡ actions_passing line (key_of_channel next.channel) (return_of (key_of_channel next.channel) next.channel.seed next.given.timestamp) (network_in j.asked).validation (verdict_passed j)
+      ≡ actions_passing line (key_of_channel next.channel) (return_of (key_of_channel next.channel) next.channel.seed next.given.timestamp) c.validation (verdict_passed j c)
 
 -- where the call passed, that is what was sent
 abbrev pub SendsIfPassed : Where → Line → LogonCall → Desk → Desk → Type 0
 SendsIfPassed w line c d after =
-    has_passed (judging_of w line c d (Some after)).how ≡ true → IsSentAsPassed (judging_of w line c d (Some after)) line (new_actions (Some after) d)
+    has_passed (judging_of w line (Network c) d (Some after)).how ≡ true → IsSentAsPassed (judging_of w line (Network c) d (Some after)) c line (new_actions (Some after) d)
 
 module _ (w : Where) (line : Line) (c : LogonCall) (d : Desk) where
   pass_sends : (passes : Bool) (computer : List ℕ) (given : Authenticator) (channel moved : SecureChannelState) → c.computer ≡ Some computer → c.authenticator ≡ Some given →
@@ -59,12 +60,10 @@ module _ (w : Where) (line : Line) (c : LogonCall) (d : Desk) where
   pass_sends false computer given channel moved named there stands passes is = absurd (not_refused d.work.actions judged.Barred _ refl is)
   pass_sends true computer given channel moved named there stands passes is = record {
     next = record {
-      computer = computer;
-      given = given;
       channel = channel;
-      named = named;
+      given = given;
+      stands = ap (λ (name : Option (List ℕ)). checked_on name d.work.computers) named ∙ stands;
       there = there;
-      stands = stands;
       passes = (bytes_eq-Decides _ _).0 passes;
     };
     actions = dropped d.work.actions _ _;

@@ -27,15 +27,15 @@ use Rattle.domain_controller.specs.Machine.{Desk, account_for, answer_challenge,
 use Rattle.domain_controller.specs.State.{State as ControllerState}
 use Rattle.domain_controller.specs.Step.{LinkMap, StepPart, after_units, first_desk, halted, serve_on, start_turn, state_after, step_on}
 use Rattle.domain_controller.specs.declared.hearing.Heard.{Heard}
-use Rattle.domain_controller.specs.declared.line.Line.{Line}
-use Rattle.domain_controller.specs.declared.state.ChallengePair.{ChallengePair}
+use Rattle.controller_calls.specs.declared.line.Line.{Line}
+use Rattle.controller_calls.specs.declared.state.ChallengePair.{ChallengePair}
 use Rattle.domain_controller.specs.declared.state.Running.{Running}
 use Rattle.domain_controller.specs.declared.state.Talk.{Talk}
-use Rattle.domain_controller.specs.declared.state.Work.{Work}
+use Rattle.controller_calls.specs.declared.state.Work.{Work}
 use Rattle.step_notes.specs.ChannelNames.{sends_in, sent_by}
 use Rattle.step_notes.specs.ControllerNotes.{Answered, Where, answer_on, channel_in, identity_by, has_passed, heard_answer, judged_in, judging_by, judging_of, logon_answer, new_actions, opened_account, opened_if, opened_mark, opened_offer, opened_pair, opening, passing, plain, reply_mark, units_at, units_by}
 use Rattle.step_notes.specs.Judged.{channel_if}
-use Rattle.step_notes.specs.Records.{Judging, computer_named}
+use Rattle.step_notes.specs.Records.{Judging, Network, computer_named}
 use Rattle.step_notes.specs.ReplySends.{AreSentFor, CarriesReply, IsItsReply, IsOpeningReply, IsSentIf, RepliesAreSentAsJudged, standing_at}
 use Rattle.step_notes.specs.Served.{units_if_taken, work_after}
 use Rattle.step_notes.proofs.Controllers.JudgedStepLaws.{Told, by_names}
@@ -82,9 +82,6 @@ record SendsOne (old all : List Action) : Type 0 where
 sends_after : (old between : List Action) (link : ℕ) (bytes : List ℕ) → between ≡ old → SendsOne old (between ++ action.Send link bytes ∷ [])
 sends_after old between link bytes same =
     record { bytes = bytes; is = one_more between link bytes ∙ ap (λ (actions : List Action). sends_in actions ++ bytes ∷ []) same }
-
-sends_one : (old : List Action) (link : ℕ) (bytes : List ℕ) → SendsOne old (old ++ action.Send link bytes ∷ [])
-sends_one old link bytes = sends_after old old link bytes refl
 
 pair_actions : (knows : Bool) (computer : List ℕ) (pair : ChallengePair) (work : Work) → (put_pair_if knows computer pair work).actions ≡ work.actions
 pair_actions false computer pair work = refl
@@ -168,18 +165,18 @@ passing_sent (Some channel) j bytes is passed carries = (reply_carries j.unit ch
 
 judging_sent : (passed : Bool) (j : Judging) (bytes : List ℕ) → has_passed j.how ≡ passed → (has_passed j.how ≡ true → IsItsReply j bytes) → AreSentFor (judging_by passed j ∷ []) (bytes ∷ [])
 judging_sent false j bytes is carries = (tt, tt)
-judging_sent true j bytes is carries = passing_sent (channel_in j.controller (computer_named j.asked) j.computers) j bytes refl is (carries is)
+judging_sent true j bytes is carries = passing_sent (channel_in j.controller (computer_named j.asked) j.checks) j bytes refl is (carries is)
 
 same_sent : (how other : Judged) (link at : ℕ) (bytes more : List ℕ) → action.Judged how ∷ action.Send link bytes ∷ [] ≡ action.Judged other ∷ action.Send at more ∷ [] → bytes ≡ more
 same_sent how other link at bytes more is = cc
 
 logon_sent : (w : Where) (line : Line) (c : LogonCall) (d : Desk) →
-    IsSentBeside d.work.actions (logon_answer (judging_of w line c d (Some (answer_logon c.computer c.authenticator w.name w.moment line c.info c.validation d))) ∷ [])
+    IsSentBeside d.work.actions (logon_answer (judging_of w line (Network c) d (Some (answer_logon c.computer c.authenticator w.name w.moment line c.info c.validation d))) ∷ [])
     (answer_logon c.computer c.authenticator w.name w.moment line c.info c.validation d).work.actions
 logon_sent w line c d =
     let after : Desk = answer_logon c.computer c.authenticator w.name w.moment line c.info c.validation d in
-    let j : Judging = judging_of w line c d (Some after) in
-    let told : Told d.work.actions after.work.actions d.work.computers c.computer c.authenticator = by_names c.computer c.authenticator c w.name w.moment line d refl refl in
+    let j : Judging = judging_of w line (Network c) d (Some after) in
+    let told : Told d.work.actions after.work.actions j.checks c.authenticator = by_names c.computer c.authenticator c w.name w.moment line d in
     let two : new_actions (Some after) d ≡ action.Judged told.how ∷ action.Send told.link told.answer ∷ [] =
     ap (λ (all : List Action). drop (length d.work.actions) all) told.is ∙ dropped d.work.actions (action.Judged told.how) (action.Send told.link told.answer) in
     record {
@@ -188,7 +185,7 @@ logon_sent w line c d =
           ∙ one_more (d.work.actions ++ action.Judged told.how ∷ []) told.link told.answer
           ∙ ap (λ (sent : List (List ℕ)). sent ++ told.answer ∷ []) (none_more d.work.actions (action.Judged told.how) refl);
       each = judging_sent (has_passed j.how) j told.answer refl (λ passed.
-          let sent : IsSentAsPassed j line (new_actions (Some after) d) = passed_sends w line c d passed in
+          let sent : IsSentAsPassed j c line (new_actions (Some after) d) = passed_sends w line c d passed in
           record {
             next = sent.next;
             how = ap judged_in sent.actions;

@@ -53,17 +53,16 @@ use Rattle.member_server.specs.declared.outcomes.Ending.{Ending}
 use Rattle.member_server.specs.declared.outcomes.Ending.TheVariants as ending
 use Rattle.member_server.specs.declared.plan.MemberPlan.{MemberPlan}
 use Rattle.member_server.specs.declared.state.AtLink.{AtLink}
-use Rattle.member_server.specs.declared.state.AtTurn.{AtTurn}
 use Rattle.member_server.specs.declared.state.Bound.{Bound}
-use Rattle.member_server.specs.declared.state.Dialling.{Dialling}
-use Rattle.member_server.specs.declared.state.Dialling.TheVariants as dialling
+use Rattle.channel_turns.specs.declared.state.Dialling.{Dialling}
+use Rattle.channel_turns.specs.declared.state.Dialling.TheVariants as dialling
 use Rattle.member_server.specs.declared.state.Logon.{Logon}
 use Rattle.member_server.specs.declared.state.Logons.{Logons}
 use Rattle.member_server.specs.declared.state.Phase.{Phase}
 use Rattle.member_server.specs.declared.state.Phase.TheVariants as phase
 use Rattle.member_server.specs.declared.state.Running.{Running}
 use Rattle.member_server.specs.declared.state.Talk.{Talk}
-use Rattle.member_server.specs.declared.state.TurnTalk.{TurnTalk}
+use Rattle.channel_turns.specs.declared.state.TurnTalk.{TurnTalk}
 use Rattle.member_server.specs.declared.state.Work.{Work}
 use Rattle.member_server.specs.Laws.{is_dialled}
 use Rattle.rpc_units.specs.Numbers.{ntlm_provider}
@@ -71,7 +70,7 @@ use Rattle.member_server.specs.Machine.{actions_in, after_turn, after_units, ans
 use Rattle.member_server.specs.Messages.{ask_by, info_of, is_fit, take_auth3, take_message, take_trailer, wait_by, with_channel, with_logon}
 use Rattle.member_server.specs.Outcomes.{after_link, at_link, end_found, end_logon, keep_link, phase_after, reach_link, tell_outcome, reach_in_map, reach_waiting, waiting_at, without_link, without_logon}
 use Rattle.member_server.specs.State.{State as MemberState}
-use Rattle.member_server.specs.Turns.{DialWork, TurnServed, break_turn, dial_for, do_taken, lose_turn, next_turn, tell_turn_closed, timestamp_of, turn_by, turn_by_join, turn_server, turn_unit, with_requester, with_work}
+use Rattle.member_server.specs.Turns.{AtTurn, DialWork, TurnServed, break_turn, dial_for, do_taken, lose_turn, next_turn, tell_turn_closed, timestamp_of, turn_by, turn_by_join, turn_server, turn_unit, with_requester, with_work}
 use Rattle.member_server.specs.Units.{body_challenged, bound_unit, first_unit, is_fresh, link_server, serve_held, unit_by, unit_challenged}
 use Rattle.member_server.specs.Work.{Served}
 use Rattle.step_notes.specs.CallLogons.{AsksForKept, AsksUnlessStopped, HasSecret, IsOfCaller, IsStampedStep, waiting_for}
@@ -84,10 +83,6 @@ use Rattle.step_notes.proofs.Members.UnservedLaws.{ended_serves}
 asked_own : (full : Bool) (s : Requester) (info : NetworkInfo) → IsOfCaller s → IsOfCaller (ask_channel full s info).state
 asked_own true s info own = own
 asked_own false s info own = record { secret = own.secret; stamped = own.stamped }
-
-asked_caller : (full : Bool) (s : Requester) (info : NetworkInfo) → (ask_channel full s info).state.caller ≡ s.caller
-asked_caller true s info = refl
-asked_caller false s info = refl
 
 begun_own : (how : Standing) (caller : Caller) (info : NetworkInfo) (timestamp : ℕ) (challenge : List ℕ) → HasSecret caller.secret how →
     HasSecret caller.secret (begin_with how caller info timestamp challenge).standing

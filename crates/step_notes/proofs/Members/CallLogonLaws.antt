@@ -35,12 +35,11 @@ use Rattle.channel_client.specs.Effects.{IsForFirst, MatchesStep, seed_in, step_
 use Rattle.channel_client.specs.Machine.{act, hear, judge, logon_call, place_of, question_of, settle, wait_for}
 use Rattle.channel_client.specs.State.{Requester}
 use Rattle.member_server.specs.declared.plan.MemberPlan.{MemberPlan}
-use Rattle.member_server.specs.declared.state.AtTurn.{AtTurn}
 use Rattle.member_server.specs.declared.state.Running.{Running}
-use Rattle.member_server.specs.declared.state.TurnTalk.{TurnTalk}
+use Rattle.channel_turns.specs.declared.state.TurnTalk.{TurnTalk}
 use Rattle.member_server.specs.Laws.{is_dialled}
 use Rattle.member_server.specs.Machine.{at_turn, caller_of, work_of}
-use Rattle.member_server.specs.Turns.{do_taken, turn_by_join, turn_server, turn_unit}
+use Rattle.member_server.specs.Turns.{AtTurn, do_taken, turn_by_join, turn_server, turn_unit}
 use Rattle.step_notes.specs.CallLogons.{AsksForKept, AsksUnlessStopped, CallsCarryTheirLogon, CarriesItsLogon, CarriesNoted, HasSecret, IsForItsLogon, IsStamped, IsStampedStep, call_for, info_at}
 use Rattle.step_notes.specs.ChannelNames.{AreFramesOf}
 use Rattle.step_notes.specs.MemberNotes.{asked_note, taken_note, taking_joined, taking_note, taking_read, timestamp_bound}

@@ -41,24 +41,23 @@ use Rattle.channel_client.specs.Machine.{ask_of, can_start, lose_of, needs_chall
 use Rattle.member_server.specs.declared.outcomes.Ending.{Ending}
 use Rattle.member_server.specs.declared.outcomes.Ending.TheVariants as ending
 use Rattle.member_server.specs.declared.state.AtLink.{AtLink}
-use Rattle.member_server.specs.declared.state.AtTurn.{AtTurn}
 use Rattle.member_server.specs.declared.state.Bound.{Bound}
-use Rattle.member_server.specs.declared.state.Dialling.{Dialling}
-use Rattle.member_server.specs.declared.state.Dialling.TheVariants as dialling
+use Rattle.channel_turns.specs.declared.state.Dialling.{Dialling}
+use Rattle.channel_turns.specs.declared.state.Dialling.TheVariants as dialling
 use Rattle.member_server.specs.declared.state.Logon.{Logon}
 use Rattle.member_server.specs.declared.state.Logons.{Logons}
 use Rattle.member_server.specs.declared.state.Phase.{Phase}
 use Rattle.member_server.specs.declared.state.Phase.TheVariants as phase
 use Rattle.member_server.specs.declared.state.Running.{Running}
 use Rattle.member_server.specs.declared.state.Talk.{Talk}
-use Rattle.member_server.specs.declared.state.TurnTalk.{TurnTalk}
+use Rattle.channel_turns.specs.declared.state.TurnTalk.{TurnTalk}
 use Rattle.member_server.specs.declared.state.Work.{Work}
 use Rattle.rpc_units.specs.Numbers.{ntlm_provider}
 use Rattle.member_server.specs.Machine.{actions_in, after_turn, after_units, answer_dial, at_turn, by_event, bytes_by, bytes_on, bytes_on_link, close_link, close_turn, event_part, fail_dial, halted_state, keep_turn, open_by, serve_dialled, state_in, step_of, step_on, work_of}
 use Rattle.member_server.specs.Messages.{ask_by, info_of, is_fit, take_auth3, take_message, take_trailer, wait_by, with_channel}
 use Rattle.member_server.specs.Outcomes.{after_link, at_link, end_found, end_logon, keep_link, phase_after, reach_link, tell_outcome, reach_in_map, reach_waiting, waiting_at, without_link, without_logon}
 use Rattle.member_server.specs.State.{State as MemberState}
-use Rattle.member_server.specs.Turns.{DialWork, break_turn, dial_for, do_taken, ending_of, lose_turn, next_turn, tell_turn_closed, timestamp_of, turn_by, turn_by_join, turn_server, turn_unit, with_requester, with_work}
+use Rattle.member_server.specs.Turns.{AtTurn, DialWork, break_turn, dial_for, do_taken, ending_of, lose_turn, next_turn, tell_turn_closed, timestamp_of, turn_by, turn_by_join, turn_server, turn_unit, with_requester, with_work}
 use Rattle.member_server.specs.Units.{body_challenged, bound_unit, first_unit, is_fresh, link_server, serve_held, unit_by, unit_challenged}
 use Rattle.member_server.specs.Work.{Served}
 use Rattle.channel_events.specs.Marks.{OneOf}

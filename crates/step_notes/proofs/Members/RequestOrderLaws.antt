@@ -30,19 +30,18 @@ use Rattle.channel_client.specs.State.{Requester}
 use Rattle.member_server.specs.declared.outcomes.Ending.{Ending}
 use Rattle.member_server.specs.declared.outcomes.Ending.TheVariants as ending
 use Rattle.member_server.specs.declared.state.AtLink.{AtLink}
-use Rattle.member_server.specs.declared.state.AtTurn.{AtTurn}
 use Rattle.member_server.specs.declared.state.Bound.{Bound}
-use Rattle.member_server.specs.declared.state.Dialling.{Dialling}
-use Rattle.member_server.specs.declared.state.Dialling.TheVariants as dialling
+use Rattle.channel_turns.specs.declared.state.Dialling.{Dialling}
+use Rattle.channel_turns.specs.declared.state.Dialling.TheVariants as dialling
 use Rattle.member_server.specs.declared.state.Logon.{Logon}
 use Rattle.member_server.specs.declared.state.Running.{Running}
 use Rattle.member_server.specs.declared.state.Talk.{Talk}
-use Rattle.member_server.specs.declared.state.TurnTalk.{TurnTalk}
+use Rattle.channel_turns.specs.declared.state.TurnTalk.{TurnTalk}
 use Rattle.member_server.specs.declared.state.Work.{Work}
 use Rattle.member_server.specs.Machine.{actions_in, after_turn, at_turn, bytes_by, bytes_on, halted_state, state_in, step_on, work_of}
 use Rattle.member_server.specs.Outcomes.{after_link, at_link, end_found, end_logon, keep_link, phase_after, reach_link, tell_outcome, reach_in_map, reach_waiting, waiting_at, without_link, without_logon}
 use Rattle.member_server.specs.State.{State as MemberState}
-use Rattle.member_server.specs.Turns.{DialWork, TurnServed, break_turn, dial_for, do_taken, ending_of, lose_turn, next_turn, tell_turn_closed, timestamp_of, turn_by, turn_by_join, turn_server, turn_unit, with_requester}
+use Rattle.member_server.specs.Turns.{AtTurn, DialWork, TurnServed, break_turn, dial_for, do_taken, ending_of, lose_turn, next_turn, tell_turn_closed, timestamp_of, turn_by, turn_by_join, turn_server, turn_unit, with_requester}
 use Rattle.member_server.specs.Units.{serve_held}
 use Rattle.member_server.specs.Work.{Served}
 use Rattle.step_notes.specs.CallLogons.{AreFirst, IsFirstBy, RequestsComeFirst}

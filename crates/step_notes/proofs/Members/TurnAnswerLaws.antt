@@ -19,15 +19,14 @@ use Rattle.channel_client.specs.declared.hearing.Hearing.{Hearing}
 use Rattle.channel_client.specs.declared.hearing.Hearing.TheVariants as hearing
 use Rattle.channel_client.specs.declared.judging.Judgement.{Judgement}
 use Rattle.channel_client.specs.declared.judging.Judgement.TheVariants as judgement
-use Rattle.member_server.specs.declared.state.AtTurn.{AtTurn}
-use Rattle.member_server.specs.declared.state.Dialling.{Dialling}
-use Rattle.member_server.specs.declared.state.Dialling.TheVariants as dialling
+use Rattle.channel_turns.specs.declared.state.Dialling.{Dialling}
+use Rattle.channel_turns.specs.declared.state.Dialling.TheVariants as dialling
 use Rattle.member_server.specs.declared.state.Logon.{Logon}
 use Rattle.member_server.specs.declared.state.Running.{Running}
-use Rattle.member_server.specs.declared.state.TurnTalk.{TurnTalk}
+use Rattle.channel_turns.specs.declared.state.TurnTalk.{TurnTalk}
 use Rattle.member_server.specs.Laws.{Takes, heard_from, heard_if, state_after, then_whole, whole_by, whole_units}
 use Rattle.member_server.specs.Machine.{at_turn, work_of}
-use Rattle.member_server.specs.Turns.{do_taken, turn_by_join, turn_server, turn_talk, turn_unit, with_requester, with_work}
+use Rattle.member_server.specs.Turns.{AtTurn, do_taken, turn_by_join, turn_server, turn_talk, turn_unit, with_requester, with_work}
 use Rattle.channel_events.specs.Marks.{OneOf}
 use Rattle.step_notes.specs.MemberNotes.{TurnNote, taken_note, taking_joined, taking_note, taking_read, turn_note, turn_units_by, turn_units_on}
 

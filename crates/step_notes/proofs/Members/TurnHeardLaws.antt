@@ -8,9 +8,8 @@ use Rattle.rpc_units.specs.Writing.{written}
 use Rattle.rpc_units.specs.declared.refused.JoinRefused.{JoinRefused}
 use Rattle.rpc_units.specs.declared.unit.Unit.{Unit as RpcUnit}
 use Rattle.end_links.specs.Serving.{ServedPart, served_by, served_cut, then_open, then_talk, ServedUnit, served_units, units_on, units_then}
-use Rattle.member_server.specs.Turns.{take_by, turn_by_join, turn_server, turn_talk, turn_unit}
-use Rattle.member_server.specs.declared.state.AtTurn.{AtTurn}
-use Rattle.member_server.specs.declared.state.TurnTalk.{TurnTalk}
+use Rattle.member_server.specs.Turns.{AtTurn, take_by, turn_by_join, turn_server, turn_talk, turn_unit}
+use Rattle.channel_turns.specs.declared.state.TurnTalk.{TurnTalk}
 use Rattle.step_notes.specs.MemberNotes.{taking_joined, taking_read}
 use Rattle.step_notes.specs.TakenWhole.{MembersTakeWhole, TakesWhole}
 use Rattle.step_notes.proofs.Controllers.HeardLaws.{AreRead, each_read, none_open}

@@ -23,9 +23,8 @@ use Rattle.channel_client.specs.declared.state.Step.{Step}
 use Rattle.channel_client.specs.declared.state.Step.TheVariants as step
 use Rattle.channel_client.specs.Effects.{IsForFirst}
 use Rattle.channel_client.specs.Machine.{hear, hear_ack, hear_body, hear_by, hear_reply, hear_stub, is_accepting, opnum_asked, place_of, question_of, wait_for}
-use Rattle.member_server.specs.declared.state.AtTurn.{AtTurn}
 use Rattle.member_server.specs.declared.state.Logon.{Logon}
-use Rattle.member_server.specs.Turns.{do_taken}
+use Rattle.member_server.specs.Turns.{AtTurn, do_taken}
 use Rattle.step_notes.specs.CallLogons.{info_at, waiting_for}
 use Rattle.step_notes.proofs.Channels.ChannelNameLaws.{bound_at}
 use Rattle.step_notes.proofs.Members.CallKeptLaws.{at_channel}

@@ -1,7 +1,8 @@
 use Rattle.std.proofs.Common.{arith}
 use Rattle.end_links.proofs.BoundLaws.{piece_few}
 use Rattle.account_table.specs.Changes.{with_changes}
-use Rattle.domain_controller.specs.Machine.{desk, at_desk, controller_server}
+use Rattle.controller_calls.specs.Desk.{desk, at_desk}
+use Rattle.domain_controller.specs.Machine.{controller_server}
 use Rattle.domain_controller.proofs.RestLaws.{server_few}
 use Rattle.domain_controller.proofs.serving.serve_piece.Goals as goal
 

@@ -1,6 +1,6 @@
 use Rattle.account_table.specs.Changes.{with_changes}
 use Rattle.domain_controller.specs.Hearing.{hear}
-use Rattle.domain_controller.specs.Machine.{desk}
+use Rattle.controller_calls.specs.Desk.{desk}
 use Rattle.domain_controller.proofs.RestLaws.{heard_rest}
 use Rattle.domain_controller.proofs.serving.serve_unit.Goals as goal
 

@@ -4,7 +4,8 @@ use Rattle.outside.proofs.DrawLaws.{DrawsSome-trans}
 use Rattle.rpc_units.specs.Stream.{Cut, cut_stream}
 use Rattle.end_links.proofs.ServingLaws.{serve_more, unit_done, unit_failed}
 use Rattle.account_table.specs.Changes.{with_changes}
-use Rattle.domain_controller.specs.Machine.{desk, controller_server}
+use Rattle.controller_calls.specs.Desk.{desk}
+use Rattle.domain_controller.specs.Machine.{controller_server}
 use Rattle.domain_controller.proofs.RestLaws.{server_leaves}
 use Rattle.domain_controller.proofs.serving.serve_units.Goals as goal
 

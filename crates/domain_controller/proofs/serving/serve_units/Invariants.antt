@@ -4,7 +4,8 @@ use Rattle.outside.specs.Drawing.{DrawsSome}
 use Rattle.rpc_units.specs.Stream.{cut_stream}
 use Rattle.end_links.specs.Serving.{served_cut}
 use Rattle.account_table.specs.Changes.{with_changes}
-use Rattle.domain_controller.specs.Machine.{desk, controller_server}
+use Rattle.controller_calls.specs.Desk.{desk}
+use Rattle.domain_controller.specs.Machine.{controller_server}
 use Rattle.domain_controller.proofs.serving.serve_units.Given as goal
 
 abbrev pub invariant-units : goal.invariant-units

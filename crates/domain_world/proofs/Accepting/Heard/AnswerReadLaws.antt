@@ -50,18 +50,17 @@ use Rattle.channel_client.specs.declared.state.Waiting.{Waiting}
 use Rattle.member_server.specs.Laws.{heard_if, heard_in, then_whole, whole_by, whole_units}
 use Rattle.member_server.specs.Machine.{after_turn, at_turn, by_event, bytes_by, event_part, keep_turn, serve_dialled, work_of}
 use Rattle.member_server.specs.Outcomes.{after_link, at_link, end_found, end_logon, keep_link, outcome_of, phase_after, reach_link, tell_outcome, reach_in_map, reach_waiting, waiting_at, without_link, without_logon}
-use Rattle.member_server.specs.Turns.{DialWork, dial_work_part, dial_by, dial_for, do_taken, ending_of, next_turn, take_by, tell_turn_closed, timestamp_of, turn_by, with_requester, with_work}
+use Rattle.member_server.specs.Turns.{AtTurn, DialWork, dial_work_part, dial_by, dial_for, do_taken, ending_of, next_turn, take_by, tell_turn_closed, timestamp_of, turn_by, with_requester, with_work}
 use Rattle.member_server.specs.Units.{serve_held}
 use Rattle.member_server.specs.declared.outcomes.Ending.{Ending}
 use Rattle.member_server.specs.declared.state.AtLink.{AtLink}
-use Rattle.member_server.specs.declared.state.AtTurn.{AtTurn}
 use Rattle.member_server.specs.declared.state.Bound.{Bound}
-use Rattle.member_server.specs.declared.state.Dialling.{Dialling}
-use Rattle.member_server.specs.declared.state.Dialling.TheVariants as dialling
+use Rattle.channel_turns.specs.declared.state.Dialling.{Dialling}
+use Rattle.channel_turns.specs.declared.state.Dialling.TheVariants as dialling
 use Rattle.member_server.specs.declared.state.Logon.{Logon}
 use Rattle.member_server.specs.declared.state.Running.{Running}
 use Rattle.member_server.specs.declared.state.Talk.{Talk}
-use Rattle.member_server.specs.declared.state.TurnTalk.{TurnTalk}
+use Rattle.channel_turns.specs.declared.state.TurnTalk.{TurnTalk}
 use Rattle.member_server.specs.declared.state.Work.{Work}
 use Rattle.member_server.specs.Work.{Served}
 use Rattle.channel_events.specs.Marks.{OneOf}
@@ -180,9 +179,6 @@ settled_answer (judgement.Drop cause) c place verdict Is is answers pending turn
 module _ (c : Requester) (unit : RpcUnit) (place : ℕ) (verdict : Verdict) where
   abbrev Acts : Hearing → Type 0
   Acts h = (act h c).taken ≡ taken.Answer place verdict → IsAnswerOf c unit place verdict
-
-  dropped : (h : Hearing) (cause : _) → h ≡ hearing.Drop cause → Acts h
-  dropped h cause is acts = let never : taken.Dropped _ cause ≡ taken.Answer place verdict = sym (ap (λ (h : Hearing). (act h c).taken) is) ∙ acts in absurd (let x = never in cc)
 
   ack_acts : (accepts : Bool) (s : Step) (receive : ℕ) → Acts (hear_ack accepts s receive c.next_call)
   ack_acts false s receive acts = let x = acts in cc

@@ -13,7 +13,7 @@ use Rattle.domain_controller.specs.Step.{step_of}
 use Rattle.domain_controller.specs.declared.state.Talk.{Talk}
 use Rattle.step_notes.specs.ControllerNotes.{Answered, Where, answer_on, units_by, units_of_controller}
 use Rattle.step_notes.specs.JudgedInRange.{IsJudgedInRange}
-use Rattle.step_notes.specs.Records.{Book, Judging, network_in}
+use Rattle.step_notes.specs.Records.{Book, Judging}
 use Rattle.step_notes.specs.Served.{work_after}
 use Rattle.step_notes.proofs.Controllers.JudgedInRangeLaws.{replies_are_read}
 use Rattle.domain_controller.specs.Hearing.{hear as hear_unit}
@@ -32,6 +32,7 @@ use Rattle.domain_world.specs.Accepting.Carried.{IsJudgedAsCarried, JudgedAsCarr
 use Rattle.domain_world.specs.Accepting.ReadBack.{RepliesAreReadBack}
 use Rattle.domain_world.specs.Past.{Coming, answers_of, at_controller, judged_of, note_at, note_controller, numbers_on, Past, past}
 use Rattle.channel_events.proofs.ListLaws.{got_nothing}
+use Rattle.domain_world.specs.Schedules.{OfSchedules}
 use Rattle.domain_world.proofs.Accepting.Heard.JudgedUnitLaws.{AllHeardSo, AnyAction, CarriedIf, HeardSo, IsCarriedCall, IsJudgedWell, IsWholeCarried, JudgedFact, JudgedStand, acts_stand, answer_holds, any_actions, any_heard, running_so, settled_stand, unit_so, whole_carried}
 use Rattle.domain_world.proofs.Accepting.ListPlaceLaws.{all_at}
 use Rattle.domain_world.proofs.Accepting.Quiet.QuietStepLaws.{ControllerIsQuiet, QuietAction, QuietFact, QuietState}
@@ -57,13 +58,13 @@ both_all A B C so (answer ∷ answers) one other = (both_if A B C so answer.judg
 
 -- the call came so, if it came in a unit of the bag
 abbrev IsCarriedBy : List BagUnit → Judging → Type 0
-IsCarriedBy bag j = CarriedIf bag j.unit j.number (network_in j.asked)
+IsCarriedBy bag j = CarriedIf bag j.unit j.number j.asked
 
 served_carried : (bag : List BagUnit) (w : Where) (link : ℕ) (units : List (ServedUnit Desk Talk)) → AllHeardSo (CarriedIf bag w.unit) link units →
     AllByRecursion (λ (one : Answered). HoldsIf (IsCarriedBy bag) one.judging) (map (answer_on link w) units)
 served_carried bag w link [] all = tt
 served_carried bag w link (unit ∷ units) all = (
-  answer_holds (IsCarriedBy bag) (CarriedIf bag w.unit) (hear_unit link unit.bytes unit.talk) w unit.work (work_after unit.part) (λ line c is. is) all.0,
+  answer_holds (IsCarriedBy bag) (CarriedIf bag w.unit) (hear_unit link unit.bytes unit.talk) w unit.work (work_after unit.part) (λ line asked is. is) all.0,
   served_carried bag w link units all.1,
 )
 
@@ -72,10 +73,10 @@ units_so : (unit : Option ℕ) (c : ControllerState) (at : ℕ) (s : State) (w :
     IsAtSide s.links w.link w.back (Controller at) → CameFrom unit s w piece → AreBytes piece →
     AllHeardSo (CarriedIf s.bag w.unit) w.link (units_by c.running w.link piece c s.moment s.chances.left)
 units_so None c at s w piece is quiet stand own side came bytes =
-    any_heard (CarriedIf s.bag w.unit) w.link (units_by c.running w.link piece c s.moment s.chances.left) (λ number logon n there. absurd (let never = sym is ∙ there in cc))
+    any_heard (CarriedIf s.bag w.unit) w.link (units_by c.running w.link piece c s.moment s.chances.left) (λ number asked n there. absurd (let never = sym is ∙ there in cc))
 units_so (Some number) c at s w piece is quiet stand own side came bytes =
     let whole : IsWholeCarried s number w piece = whole_carried s number at w piece quiet.bag stand.kinds side came in
-    running_so c s w piece number whole (CarriedIf s.bag w.unit) (λ n logon numbered carries. unit_so s number w piece whole is bytes n logon numbered carries) c.running own.well
+    running_so c s w piece number whole (CarriedIf s.bag w.unit) (λ n asked numbered carries. unit_so s number w piece whole is bytes n asked numbered carries) c.running own.well
 
 module _ (at : ℕ) (w : Coming) (piece : List ℕ) (s after : State) (quiet : QuietState s) where
   controller_stand : (found : Option ControllerState) (js : List Judging) (b : Book) → b.judged ≡ js → slice_get s.ends.controllers at ≡ found → JudgedStand s.bag js →
@@ -151,23 +152,21 @@ carried_as : (past : Past) (js : List Judging) → AllByRecursion (IsJudgedWell 
 carried_as past [] all = tt
 carried_as past (j ∷ js) all = (
   (λ n came.
-      let its : IsCarriedCall past.world.state.bag j.number (network_in j.asked) n = all.0.carried n came in
+      let its : IsCarriedCall past.world.state.bag j.number j.asked n = all.0.carried n came in
       record { carrier = its.carrier; there = its.there; whole = its.whole; number = its.number_is; carried = its.carried }),
   carried_as past js all.1,
 )
 
 -- each call that was judged is that of the unit in which it came
-pub judged_as_carried : (plan : Plan) (moves : List Move) → IsSchedule plan moves → AreShortUnits (past plan moves).world.state.bag → HaveBytes (past plan moves).world.state.bag →
-    JudgedAsCarried (past plan moves)
+pub judged_as_carried : OfSchedules (λ plan moves. JudgedAsCarried (past plan moves))
 judged_as_carried plan moves is short bytes = carried_as (past plan moves) (past plan moves).book.judged (judged_stand plan moves is short bytes).judged
 
 -- ---- replies
 
 -- a reply to a call that passed is read as it was made
-pub replies_back : (plan : Plan) (moves : List Move) → IsSchedule plan moves → AreShortUnits (past plan moves).world.state.bag → HaveBytes (past plan moves).world.state.bag →
-    RepliesAreReadBack (past plan moves)
+pub replies_back : OfSchedules (λ plan moves. RepliesAreReadBack (past plan moves))
 replies_back plan moves is short bytes n unit one there noted channel number request place j judged mark reply whole =
     let well : IsJudgedWell (past plan moves).world.state.bag j =
     all_at (IsJudgedWell (past plan moves).world.state.bag) (past plan moves).book.judged place j (judged_stand plan moves is short bytes).judged judged in
-    let call : IsCarriedCall (past plan moves).world.state.bag j.number (network_in j.asked) request = well.carried request reply.came in
+    let call : IsCarriedCall (past plan moves).world.state.bag j.number j.asked request = well.carried request reply.came in
     (replies_are_read.read j unit.bytes reply.carries whole.frames whole.unit well.range call.level whole.heard).read

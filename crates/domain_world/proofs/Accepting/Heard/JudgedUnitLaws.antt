@@ -1,4 +1,4 @@
--- In every schedule each Logon call that a controller judged, and that came in a unit of the bag, is the call which
+-- In every schedule each call that a controller judged, and that came in a unit of the bag, is the call which
 -- that unit carries, whole; and each is judged in ranges. It serves `calls_are_judged_as_carried`,
 -- `replies_are_read_back` and `marked_units_are_whole`.
 use Rattle.std.proofs.Common.{◌≡◌, ℕ, ◌<◌, ◌^◌, Bool, true, false, List, [], ◌∷◌, ◌++◌, inl, inr, Option, Some, None, Result, Ok, Err, slice_get, refl, sym, ap, subst, ◌∙◌}
@@ -26,14 +26,15 @@ use Rattle.domain_controller.specs.State.{State as ControllerState}
 use Rattle.domain_controller.specs.Step.{first_desk}
 use Rattle.domain_controller.specs.declared.hearing.Heard.{Heard as HeardUnit}
 use Rattle.domain_controller.specs.declared.hearing.Heard.TheVariants as heard
-use Rattle.domain_controller.specs.declared.line.Line.{Line}
+use Rattle.controller_calls.specs.declared.line.Line.{Line}
 use Rattle.domain_controller.specs.declared.state.Running.{Running}
 use Rattle.domain_controller.specs.declared.state.Talk.{Talk}
 use Rattle.step_notes.specs.ControllerNotes.{Where, has_passed, heard_answer, judging_of, opened_by, units_at, units_by}
 use Rattle.step_notes.specs.HeardWhole.{IsCallOf, call_carried as carried_there, call_read as read_there}
-use Rattle.step_notes.specs.JudgedInRange.{IsJudgedInRange}
-use Rattle.step_notes.specs.Records.{Judging, network_in}
+use Rattle.step_notes.specs.JudgedInRange.{HasLevel, IsJudgedInRange}
+use Rattle.step_notes.specs.Records.{JudgedCall, Judging, Network}
 use Rattle.step_notes.proofs.Controllers.HeardLaws.{controllers_hear}
+use Rattle.step_notes.proofs.Controllers.JudgedCallLaws.{if_network}
 use Rattle.world_moves.specs.declared.bag.BagUnit.{BagUnit}
 use Rattle.world_moves.specs.declared.links.EndId.{EndId}
 use Rattle.world_moves.specs.declared.links.EndId.TheVariants.{Controller}
@@ -45,7 +46,7 @@ use Rattle.world_moves.specs.declared.state.State.{State}
 use Rattle.world_moves.specs.Acting.{bag_unit, perform_quietly, send_on}
 use Rattle.world_moves.specs.Bag.{settle_at}
 use Rattle.world_moves.specs.Links.{is_accepted_by, kind_of}
-use Rattle.domain_world.specs.Accepting.Carried.{IsWholeUnit, call_carried, call_read}
+use Rattle.domain_world.specs.Accepting.Carried.{IsWholeUnit, call_carried, call_judged, call_read}
 use Rattle.domain_world.specs.Accepting.Runs.{IsOfMember}
 use Rattle.domain_world.specs.Past.{Coming}
 use Rattle.channel_events.proofs.ListLaws.{at_end, got_append, some_is}
@@ -61,21 +62,21 @@ use Rattle.domain_world.proofs.Judgements.JudgedLaws.{HoldsIf, judging_holds, op
 
 -- ---- what is to hold
 
--- the call is that of a unit of the bag, with its number, and asks for a level of 16 bits
-pub record IsCarriedCall (bag : List BagUnit) (number : ℕ) (logon : LogonCall) (n : ℕ) : Type 0 where
+-- the call is that of a unit of the bag, with its number, and a level that it asks for has 16 bits
+pub record IsCarriedCall (bag : List BagUnit) (number : ℕ) (asked : JudgedCall) (n : ℕ) : Type 0 where
   pub carrier : BagUnit
   pub there : slice_get bag n ≡ Some carrier
   pub whole : IsWholeUnit carrier.bytes
   pub number_is : number ≡ whole.unit.call
-  pub carried : call_carried whole.unit.body ≡ Some (call.Logon logon)
-  pub level : logon.validation < 2 ^ 16
+  pub carried : call_carried whole.unit.body ≡ Some (call_judged asked)
+  pub level : HasLevel asked
 
 -- it came in that unit of the bag, if it came in one
-abbrev pub CarriedIf : List BagUnit → Option ℕ → ℕ → LogonCall → Type 0
-CarriedIf bag unit number logon = (n : ℕ) → unit ≡ Some n → IsCarriedCall bag number logon n
+abbrev pub CarriedIf : List BagUnit → Option ℕ → ℕ → JudgedCall → Type 0
+CarriedIf bag unit number asked = (n : ℕ) → unit ≡ Some n → IsCarriedCall bag number asked n
 
 pub record IsJudgedWell (bag : List BagUnit) (j : Judging) : Type 0 where
-  pub carried : CarriedIf bag j.unit j.number (network_in j.asked)
+  pub carried : CarriedIf bag j.unit j.number j.asked
   pub range : IsJudgedInRange j
 
 -- no unit of the bag is a stranger's
@@ -99,8 +100,8 @@ any_actions end links (what ∷ actions) = (tt, any_actions end links actions)
 
 -- ---- the units of the bag stay
 
-carried_still : (old bag : List BagUnit) (number : ℕ) (logon : LogonCall) (n : ℕ) → StillHas old bag → IsCarriedCall old number logon n → IsCarriedCall bag number logon n
-carried_still old bag number logon n still is =
+carried_still : (old bag : List BagUnit) (number : ℕ) (asked : JudgedCall) (n : ℕ) → StillHas old bag → IsCarriedCall old number asked n → IsCarriedCall bag number asked n
+carried_still old bag number asked n still is =
     let now : IsStill is.carrier bag n = still n is.carrier is.there in
     record {
       carrier = now.now;
@@ -114,7 +115,7 @@ carried_still old bag number logon n still is =
 pub all_still : (old bag : List BagUnit) (js : List Judging) → StillHas old bag → AllByRecursion (IsJudgedWell old) js → AllByRecursion (IsJudgedWell bag) js
 all_still old bag [] still all = tt
 all_still old bag (j ∷ js) still all =
-    (record { carried = λ n is. carried_still old bag j.number (network_in j.asked) n still (all.0.carried n is); range = all.0.range }, all_still old bag js still all.1)
+    (record { carried = λ n is. carried_still old bag j.number j.asked n still (all.0.carried n is); range = all.0.range }, all_still old bag js still all.1)
 
 none_strange : (old bag : List BagUnit) → ((n : ℕ) (unit : BagUnit) → slice_get bag n ≡ Some unit → (before : BagUnit) × (slice_get old n ≡ Some before) × (unit.kind ≡ before.kind)) → NoStrangers old →
     NoStrangers bag
@@ -198,56 +199,56 @@ whole_carried s number at w piece whole none side came =
 
 -- ---- what a controller hears then
 
--- each Logon call that is heard is so
-abbrev pub HeardSo : (ℕ → LogonCall → Type 0) → HeardUnit → Type 0
+-- each call that is heard, and is judged, is so
+abbrev pub HeardSo : (ℕ → JudgedCall → Type 0) → HeardUnit → Type 0
 HeardSo So (heard.Close cause) = Unit {0}
 HeardSo So (heard.Answer bytes talk) = Unit {0}
 HeardSo So (heard.Waits talk) = Unit {0}
 HeardSo So (heard.Asked line (call.Challenge c) talk) = Unit {0}
 HeardSo So (heard.Asked line (call.Authenticate c) talk) = Unit {0}
-HeardSo So (heard.Asked line (call.Logon c) talk) = So line.call c
+HeardSo So (heard.Asked line (call.Logon c) talk) = So line.call (Network c)
 HeardSo So (heard.Asked line (call.Logoff c) talk) = Unit {0}
 
-heard_all : (So : ℕ → LogonCall → Type 0) (what : HeardUnit) → ((number : ℕ) (c : LogonCall) → So number c) → HeardSo So what
+heard_all : (So : ℕ → JudgedCall → Type 0) (what : HeardUnit) → ((number : ℕ) (asked : JudgedCall) → So number asked) → HeardSo So what
 heard_all So (heard.Close cause) all = tt
 heard_all So (heard.Answer bytes talk) all = tt
 heard_all So (heard.Waits talk) all = tt
 heard_all So (heard.Asked line (call.Challenge c) talk) all = tt
 heard_all So (heard.Asked line (call.Authenticate c) talk) all = tt
-heard_all So (heard.Asked line (call.Logon c) talk) all = all line.call c
+heard_all So (heard.Asked line (call.Logon c) talk) all = all line.call (Network c)
 heard_all So (heard.Asked line (call.Logoff c) talk) all = tt
 
-heard_of : (So : ℕ → LogonCall → Type 0) (unit : RpcUnit) (what : HeardUnit) →
-    ((number : ℕ) (c : LogonCall) → number ≡ unit.call → carried_there unit.body ≡ Some (call.Logon c) → So number c) → IsCallOf unit what → HeardSo So what
+heard_of : (So : ℕ → JudgedCall → Type 0) (unit : RpcUnit) (what : HeardUnit) →
+    ((number : ℕ) (asked : JudgedCall) → number ≡ unit.call → carried_there unit.body ≡ Some (call_judged asked) → So number asked) → IsCallOf unit what → HeardSo So what
 heard_of So unit (heard.Close cause) so is = tt
 heard_of So unit (heard.Answer bytes talk) so is = tt
 heard_of So unit (heard.Waits talk) so is = tt
 heard_of So unit (heard.Asked line (call.Challenge c) talk) so is = tt
 heard_of So unit (heard.Asked line (call.Authenticate c) talk) so is = tt
-heard_of So unit (heard.Asked line (call.Logon c) talk) so is = so line.call c is.0 is.1
+heard_of So unit (heard.Asked line (call.Logon c) talk) so is = so line.call (Network c) is.0 is.1
 heard_of So unit (heard.Asked line (call.Logoff c) talk) so is = tt
 
-pub answer_holds : (Fits : Judging → Type 0) (So : ℕ → LogonCall → Type 0) (what : HeardUnit) (w : Where) (d : Desk) (after : Option Desk) →
-    ((line : Line) (c : LogonCall) → So line.call c → Fits (judging_of w line c d after)) → HeardSo So what → HoldsIf Fits (heard_answer what w d after).judging
+pub answer_holds : (Fits : Judging → Type 0) (So : ℕ → JudgedCall → Type 0) (what : HeardUnit) (w : Where) (d : Desk) (after : Option Desk) →
+    ((line : Line) (asked : JudgedCall) → So line.call asked → Fits (judging_of w line asked d after)) → HeardSo So what → HoldsIf Fits (heard_answer what w d after).judging
 answer_holds Fits So (heard.Close cause) w d after fits is = tt
 answer_holds Fits So (heard.Answer bytes talk) w d after fits is = tt
 answer_holds Fits So (heard.Waits talk) w d after fits is = tt
 answer_holds Fits So (heard.Asked line (call.Challenge c) talk) w d after fits is = tt
 answer_holds Fits So (heard.Asked line (call.Authenticate c) talk) w d after fits is = opening_holds Fits (opened_by w.controller c d) w line.call
 answer_holds Fits So (heard.Asked line (call.Logon c) talk) w d after fits is =
-    judging_holds Fits (has_passed (judging_of w line c d after).how) (judging_of w line c d after) (fits line c is)
+    judging_holds Fits (has_passed (judging_of w line (Network c) d after).how) (judging_of w line (Network c) d after) (fits line (Network c) is)
 answer_holds Fits So (heard.Asked line (call.Logoff c) talk) w d after fits is = tt
 
 -- of all units that are served
-abbrev pub AllHeardSo : (ℕ → LogonCall → Type 0) → ℕ → List (ServedUnit Desk Talk) → Type 0
+abbrev pub AllHeardSo : (ℕ → JudgedCall → Type 0) → ℕ → List (ServedUnit Desk Talk) → Type 0
 AllHeardSo So link units = AllByRecursion (λ (served : ServedUnit Desk Talk). HeardSo So (hear_unit link served.bytes served.talk)) units
 
-pub any_heard : (So : ℕ → LogonCall → Type 0) (link : ℕ) (units : List (ServedUnit Desk Talk)) → ((number : ℕ) (c : LogonCall) → So number c) → AllHeardSo So link units
+pub any_heard : (So : ℕ → JudgedCall → Type 0) (link : ℕ) (units : List (ServedUnit Desk Talk)) → ((number : ℕ) (asked : JudgedCall) → So number asked) → AllHeardSo So link units
 any_heard So link [] all = tt
 any_heard So link (served ∷ units) all = (heard_all So (hear_unit link served.bytes served.talk) all, any_heard So link units all)
 
-each_heard : (So : ℕ → LogonCall → Type 0) (link : ℕ) (unit : RpcUnit) (units : List (ServedUnit Desk Talk)) →
-    ((number : ℕ) (c : LogonCall) → number ≡ unit.call → carried_there unit.body ≡ Some (call.Logon c) → So number c) →
+each_heard : (So : ℕ → JudgedCall → Type 0) (link : ℕ) (unit : RpcUnit) (units : List (ServedUnit Desk Talk)) →
+    ((number : ℕ) (asked : JudgedCall) → number ≡ unit.call → carried_there unit.body ≡ Some (call_judged asked) → So number asked) →
     AllByRecursion (λ (served : ServedUnit Desk Talk). IsCallOf unit (hear_unit link served.bytes served.talk)) units → AllHeardSo So link units
 each_heard So link unit [] so all = tt
 each_heard So link unit (served ∷ units) so all = (heard_of So unit (hear_unit link served.bytes served.talk) so all.0, each_heard So link unit units so all.1)
@@ -267,21 +268,24 @@ same_carried Auth3 = refl
 same_carried (Fault hint context status) = refl
 
 -- the call of a whole unit of the bag is carried by it
-pub unit_so : (s : State) (number : ℕ) (w : Coming) (piece : List ℕ) (is : IsWholeCarried s number w piece) → w.unit ≡ Some number → AreBytes piece → (n : ℕ) (c : LogonCall) →
-    n ≡ is.send.unit.call → carried_there is.send.unit.body ≡ Some (call.Logon c) → CarriedIf s.bag w.unit n c
-unit_so s number w piece is came bytes n c numbered carries other there =
+pub unit_so : (s : State) (number : ℕ) (w : Coming) (piece : List ℕ) (is : IsWholeCarried s number w piece) → w.unit ≡ Some number → AreBytes piece → (n : ℕ) (asked : JudgedCall) →
+    n ≡ is.send.unit.call → carried_there is.send.unit.body ≡ Some (call_judged asked) → CarriedIf s.bag w.unit n asked
+unit_so s number w piece is came bytes n asked numbered carries other there =
     let same : number ≡ other = some_is number other (sym came ∙ there) in
-    subst (λ (m : ℕ). IsCarriedCall s.bag n c m) same (record {
+    subst (λ (m : ℕ). IsCarriedCall s.bag n asked m) same (record {
       carrier = is.unit;
       there = is.there;
       whole = record { frames = is.send.frames; unit = is.send.unit; heard = is.send.heard };
       number_is = numbered;
       carried = sym (same_carried is.send.unit.body) ∙ carries;
-      level = heard_level is.unit.bytes is.send.frames is.send.unit c (subst AreBytes (sym is.same) bytes) is.send.heard carries;
+      level = if_network (λ (c : LogonCall). c.validation < 2 ^ 16) asked
+          (λ c kind.
+          heard_level is.unit.bytes is.send.frames is.send.unit c (subst AreBytes (sym is.same) bytes) is.send.heard
+          (carries ∙ ap (λ (a : JudgedCall). Some (call_judged a)) kind));
     })
 
 module _ (c : ControllerState) (s : State) (w : Coming) (piece : List ℕ) (number : ℕ) (is : IsWholeCarried s number w piece)
-    (So : ℕ → LogonCall → Type 0) (so : (n : ℕ) (logon : LogonCall) → n ≡ is.send.unit.call → carried_there is.send.unit.body ≡ Some (call.Logon logon) → So n logon) where
+    (So : ℕ → JudgedCall → Type 0) (so : (n : ℕ) (asked : JudgedCall) → n ≡ is.send.unit.call → carried_there is.send.unit.body ≡ Some (call_judged asked) → So n asked) where
   link_so : (found : Option (LinkState Talk)) (running : Running) →
       ((link : LinkState Talk) → found ≡ Some link → ListensWell (IsOfMember s.links) (IsMade s.links) w.link link) →
       AllHeardSo So w.link (units_at found w.link piece c running s.moment s.chances.left)

@@ -29,11 +29,12 @@ use Rattle.end_links.specs.Sending.{request_of}
 use Rattle.logon_stubs.specs.Calls.{opnum_of_call}
 use Rattle.logon_stubs.specs.Writing.{written_call}
 use Rattle.channel_client.specs.Whole.{InRangeRequester}
+use Rattle.domain_world.specs.Schedules.{OfSchedules}
 use Rattle.domain_world.proofs.Accepting.CarriedLaws.{one_whole}
 use Rattle.channel_events.specs.Marks.{Mark, Plain, Opening, Opened, Calling, ReplyTo}
 use Rattle.step_notes.specs.JudgedInRange.{IsReadAsMade}
 use Rattle.step_notes.specs.MemberNotes.{turn_units}
-use Rattle.step_notes.specs.Records.{Book, Judging, Sent, network_in}
+use Rattle.step_notes.specs.Records.{Book, Judging, Network, Sent}
 use Rattle.step_notes.specs.ReplySends.{IsOpeningReply, IsReplyOfCall}
 use Rattle.step_notes.proofs.Controllers.JudgedInRangeLaws.{replies_are_read}
 use Rattle.world_moves.specs.declared.bag.BagUnit.{BagUnit}
@@ -52,7 +53,7 @@ use Rattle.world_moves.specs.Ends.{controller_step, member_step}
 use Rattle.world_moves.specs.Forms.{IsSchedule}
 use Rattle.world_moves.specs.Links.{kind_of, same_kind}
 use Rattle.world_moves.proofs.LinkFrameLaws.{IsOnLink, actions_stay, heard_stays}
-use Rattle.domain_world.specs.Accepting.Carried.{IsAsMarked, IsNoAnswer, IsPlain, MarkedUnitsAreWhole, call_carried}
+use Rattle.domain_world.specs.Accepting.Carried.{IsAsMarked, IsNoAnswer, IsNotJudged, IsPlain, MarkedUnitsAreWhole, call_judged}
 use Rattle.domain_world.specs.Claims.Replies.{IsReplyOfOne}
 use Rattle.domain_world.specs.Past.{Coming, at_controller, controller_of, marks_of, note_at, note_client, note_controller, note_given, note_member, note_messages, note_turns, numbers_on, past, sent_at}
 use Rattle.channel_events.proofs.ListLaws.{got_append, got_nothing, some_is}
@@ -230,16 +231,15 @@ marks_keep = record {
 
 -- ---- what a whole unit of those bytes is
 
--- it carries no Logon call, nor an answer to one
-opening_no_logon : (number : ℕ) (bytes : List ℕ) (frames : List RpcUnit) (unit : RpcUnit) (c : LogonCall) → AreBytes bytes → IsHeard bytes frames unit → IsRequestSent number 15 bytes →
-    call_carried unit.body ≡ Some (call.Logon c) → ⊥
-opening_no_logon number bytes frames unit c are heard sent carries =
+-- it carries no call that is judged, nor an answer to one
+opening_no_call : (number : ℕ) (bytes : List ℕ) (frames : List RpcUnit) (unit : RpcUnit) → AreBytes bytes → IsHeard bytes frames unit → IsRequestSent number 15 bytes → IsNotJudged unit
+opening_no_call number bytes frames unit are heard sent (Network c) carries =
     let of : IsOfRequest number 15 unit = of_request number 15 sent.limit sent.stub bytes frames unit sent.small sent.known are sent.is heard in
     opens_no_logon unit c (heard_stub bytes frames unit are heard) of.body (same_carried unit.body ∙ carries)
 
-reply_no_logon : (unit : RpcUnit) (number context : ℕ) (stub : List ℕ) (c : LogonCall) → unit ≡ heard_reply number context stub → call_carried unit.body ≡ Some (call.Logon c) → ⊥
-reply_no_logon unit number context stub c is carries =
-    reply_no_call unit (number % 2 ^ 32) (context % 2 ^ 16) stub (call.Logon c) is (same_carried unit.body ∙ carries)
+reply_not_judged : (unit : RpcUnit) (number context : ℕ) (stub : List ℕ) → unit ≡ heard_reply number context stub → IsNotJudged unit
+reply_not_judged unit number context stub is asked carries =
+    reply_no_call unit (number % 2 ^ 32) (context % 2 ^ 16) stub (call_judged asked) is (same_carried unit.body ∙ carries)
 
 opened_is : (bytes : List ℕ) (frames : List RpcUnit) (unit : RpcUnit) (opens : IsOpeningReply bytes) → IsHeard bytes frames unit →
     unit ≡ heard_reply opens.number opens.context (written_reply (opened_reply (cred_of opens.key opens.server) opens.offered))
@@ -263,20 +263,20 @@ module _ (bag : List BagUnit) (js : List Judging) (stand : JudgedStand bag js) (
       let j : Judging = one.item in
       let its : IsReplyOfCall channel number request j bytes = one.is.1 in
       let well : IsJudgedWell bag j = all_at (IsJudgedWell bag) js one.place j stand.judged one.there in
-      let carried : IsCarriedCall bag j.number (network_in j.asked) request = well.carried request its.came in
+      let carried : IsCarriedCall bag j.number j.asked request = well.carried request its.came in
       let made : IsReadAsMade j bytes its.carries unit = replies_are_read.read j bytes its.carries frames unit well.range carried.level heard in
       let small : j.number < 2 ^ 32 =
       subst (λ (k : ℕ). k < 2 ^ 32) (sym carried.number_is) (number_fits carried.carrier.bytes carried.whole.frames carried.whole.unit carried.whole.heard) in
       let same : j.number % 2 ^ 32 ≡ j.number = omega (arith, small) in (
-        (λ c carries. reply_no_logon unit j.number its.carries.context _ c made.unit_is carries),
+        reply_not_judged unit j.number its.carries.context _ made.unit_is,
         ap (λ (u : RpcUnit). u.call) made.unit_is ∙ same ∙ its.call,
       )
 
   as_marked : (mark : Mark) → CarriesMark mark bytes → IsReplyOfOne js n bytes mark → IsAsMarked mark unit
   as_marked Plain sent replied = tt
-  as_marked (Opening channel number) sent replied = λ c carries. opening_no_logon number bytes frames unit c are heard sent carries
+  as_marked (Opening channel number) sent replied = opening_no_call number bytes frames unit are heard sent
   as_marked (Opened channel number request) sent replied = (
-    (λ c carries. reply_no_logon unit sent.number sent.context _ c (opened_is bytes frames unit sent heard) carries),
+    reply_not_judged unit sent.number sent.context _ (opened_is bytes frames unit sent heard),
     opened_no_answer bytes frames unit sent heard,
   )
   as_marked (Calling channel number timestamp) sent replied =
@@ -298,8 +298,7 @@ module _ (plan : Plan) (moves : List Move) (is : IsSchedule plan moves) (short :
   after_quiet = let ran : HoldsAfterRun QuietFact plan moves = run_keeps QuietFact QuietAction quiet_keeps plan moves has (quiet_first plan is.forms) in ran.holds
 
 -- each unit that was made for a channel is whole, and what its mark says
-pub marked_whole : (plan : Plan) (moves : List Move) → IsSchedule plan moves → AreShortUnits (past plan moves).world.state.bag → HaveBytes (past plan moves).world.state.bag →
-    MarkedUnitsAreWhole (past plan moves)
+pub marked_whole : OfSchedules (λ plan moves. MarkedUnitsAreWhole (past plan moves))
 marked_whole plan moves is short bytes n unit one there noted not =
     let bag : List BagUnit = (past plan moves).world.state.bag in
     let has : HasBytes plan moves = has_bytes plan moves is short bytes in

@@ -12,6 +12,7 @@ use Rattle.rpc_units.specs.Joining.{stub_of}
 use Rattle.logon_stubs.specs.Calls.{reply_of}
 use Rattle.logon_stubs.specs.Status.{access_denied}
 use Rattle.logon_stubs.specs.Structures.{has_extra}
+use Rattle.logon_stubs.specs.declared.calls.LogonCall.{LogonCall}
 use Rattle.logon_stubs.specs.declared.calls.LogonReply.{LogonReply}
 use Rattle.logon_stubs.specs.declared.calls.Reply.{Reply}
 use Rattle.logon_stubs.specs.declared.calls.Reply.TheVariants as reply
@@ -23,22 +24,22 @@ use Rattle.sam_logon.specs.Granting.{at_level, with_extra_if}
 use Rattle.channel_client.specs.Machine.{judge_awaited, judge_level, judge_logon, judge_status, level_asked}
 use Rattle.channel_client.specs.declared.judging.Judgement.TheVariants as judgement
 use Rattle.channel_client.specs.declared.state.Standing.TheVariants as standing
-use Rattle.domain_controller.specs.Laws.{IsNext}
 use Rattle.domain_controller.specs.Machine.{info_of, reply_info, status_of}
 use Rattle.member_server.specs.Outcomes.{outcome_of}
 use Rattle.member_server.specs.Turns.{ending_of}
 use Rattle.channel_events.specs.Marks.{OneOf, ReplyTo}
-use Rattle.step_notes.specs.ControllerNotes.{identity_by, channel_in, has_passed}
-use Rattle.step_notes.specs.Judged.{channel_if, passed_channel}
+use Rattle.step_notes.specs.Judged.{IsNextOn}
 use Rattle.step_notes.specs.Marking.{mark_channel}
-use Rattle.step_notes.specs.Records.{Judging, MessageTaken, OutcomeTold, Sent, computer_named, given_in, network_in}
-use Rattle.step_notes.specs.ReplySends.{IsReplyOfCall, verdict_passed}
+use Rattle.step_notes.specs.Records.{Judging, MessageTaken, OutcomeTold, Sent, computer_named, given_in}
+use Rattle.step_notes.specs.ReplySends.{IsReplyOfCall, reply_passed, verdict_passed}
+use Rattle.step_notes.proofs.Controllers.JudgedCallLaws.{network_so}
 use Rattle.world_moves.specs.declared.bag.BagUnit.{BagUnit}
 use Rattle.world_moves.specs.Counting.{is_in}
-use Rattle.domain_world.specs.Accepting.Answered.{IsLetInAsRead, IsToldAsRead, outcome_read, verdict_read}
+use Rattle.domain_world.specs.Accepting.Answered.{IsLetInAsRead, IsOutcomeRead, IsToldAsRead, outcome_read, verdict_read}
 use Rattle.domain_world.specs.Accepting.ReadBack.{IsLetInInTurn, IsReadIn, IsToldInTurn, OutcomesAreReadBack, RepliesAreReadBack, TurnsAreTold, TurnsLetIn}
 use Rattle.domain_world.specs.Past.{Past}
 use Rattle.channel_events.proofs.ListLaws.{all_weaker, one_weaker, some_is}
+use Rattle.domain_world.proofs.Judgements.MovedLaws.{IsFound, passed_in}
 
 -- ---- a reply that a member takes as an answer
 
@@ -97,28 +98,29 @@ reply_is found one other is also = cc
 module _ (past : Past) (back : RepliesAreReadBack past) where
   -- the unit as the member read it, and the judging that it answers
   read_of : (message : MessageTaken) (u : ℕ) (result : Outcome) (read : IsReadIn past message u result) (channel : ChannelIdentity) (number request place : ℕ) (j : Judging) →
-      slice_get past.book.judged place ≡ Some j → read.sent.mark ≡ ReplyTo channel number request → IsReplyOfCall channel number request j read.carrier.bytes → result ≡ outcome_read channel j message
+      slice_get past.book.judged place ≡ Some j → read.sent.mark ≡ ReplyTo channel number request → IsReplyOfCall channel number request j read.carrier.bytes → IsOutcomeRead channel j message result
   read_of message u result read channel number request place j judged mark reply =
-      let next : IsNext j.computers (computer_named j.asked) (given_in j.asked) = reply.carries.next in
-      let found : passed_channel j ≡ Some (channel_of j.controller next.computer next.channel) =
-      ap (λ (how : _). channel_if (has_passed how) j) reply.carries.how ∙ ap (λ (name : Option (List ℕ)). channel_in j.controller name j.computers) next.named
-      ∙ ap (λ (c : Option SecureChannelState). identity_by j.controller next.computer c) next.stands in
-      let its : channel_of j.controller next.computer next.channel ≡ channel = some_is (channel_of j.controller next.computer next.channel) channel (sym found ∙ reply.passed) in
-      let key : key_of_channel next.channel ≡ channel_key channel = ap channel_key its in
+      let next : IsNextOn j.checks (given_in j.asked) = reply.carries.next in
+      let found : IsFound j.controller (computer_named j.asked) j.checks channel = passed_in j channel reply.passed in
+      let its : next.channel ≡ found.state = some_is next.channel found.state (sym next.stands ∙ found.stands) in
+      let key : key_of_channel next.channel ≡ channel_key channel = ap key_of_channel its ∙ ap channel_key found.is in
       let named : read.named ≡ channel = some_is read.named channel (sym read.made ∙ ap mark_channel mark) in
       let stood : key_of_channel read.stood ≡ key_of_channel next.channel =
       read.key ∙ sym (channel_key-same read.named read.channel read.same) ∙ ap channel_key named ∙ sym key in
-      let same = reply_is (reply_of 2 (stub_of read.whole.unit.body)) read.read _ read.reads (back u read.carrier read.sent read.there read.noted channel number request place j judged mark reply read.whole) in
-      let verdict : read.verdict ≡ verdict_read (key_of_channel next.channel) (verdict_passed j) =
-      read_as (status_of (verdict_passed j) == access_denied) (verdict_passed j) (key_of_channel next.channel) _ (network_in j.asked).validation read.stood read.later read.verdict stood
+      network_so (λ (c : LogonCall). reply_of 2 (stub_of read.whole.unit.body) ≡ Ok (reply_passed j c next.channel next.given)) (λ (c : LogonCall). result ≡ outcome_read channel j message c) j.asked
+      (λ c made.
+      let same = reply_is (reply_of 2 (stub_of read.whole.unit.body)) read.read _ read.reads made in
+      let verdict : read.verdict ≡ verdict_read (key_of_channel next.channel) (verdict_passed j c) =
+      read_as (status_of (verdict_passed j c) == access_denied) (verdict_passed j c) (key_of_channel next.channel) _ c.validation read.stood read.later read.verdict stood
       (subst (λ (r : LogonReply). judge_logon (r.status == access_denied) (standing.Open read.stood) r.returned r.status r.level r.info ≡ judgement.Answer read.later read.verdict)
       same read.judged) in
-      read.is ∙ ap (λ (v : Verdict). outcome_of (ending_of v) message.logon) (verdict ∙ ap (λ (k : List ℕ). verdict_read k (verdict_passed j)) key)
+      read.is ∙ ap (λ (v : Verdict). outcome_of (ending_of v) message.logon) (verdict ∙ ap (λ (k : List ℕ). verdict_read k (verdict_passed j c)) key))
+      (back u read.carrier read.sent read.there read.noted channel number request place j judged mark reply read.whole)
 
   -- whichever unit and mark are meant, they are those
   outcome_is : (message : MessageTaken) (u : ℕ) (result : Outcome) → IsReadIn past message u result → (carrier : BagUnit) (sent : Sent) (channel : ChannelIdentity) (number request place : ℕ)
       (j : Judging) → slice_get past.world.state.bag u ≡ Some carrier → slice_get past.book.sent u ≡ Some sent → slice_get past.book.judged place ≡ Some j → sent.mark ≡ ReplyTo channel number request →
-      IsReplyOfCall channel number request j carrier.bytes → result ≡ outcome_read channel j message
+      IsReplyOfCall channel number request j carrier.bytes → IsOutcomeRead channel j message result
   outcome_is message u result read carrier sent channel number request place j there noted judged mark reply =
       let one : carrier ≡ read.carrier = some_is carrier read.carrier (sym there ∙ read.there) in
       let same : sent ≡ read.sent = some_is sent read.sent (sym noted ∙ read.noted) in

@@ -22,7 +22,7 @@ use Rattle.member_server.specs.Turns.{DialWork}
 use Rattle.member_server.specs.Units.{bound_unit, first_unit, is_fresh, link_server, unit_by}
 use Rattle.member_server.specs.Work.{Served}
 use Rattle.member_server.specs.declared.state.AtLink.{AtLink}
-use Rattle.member_server.specs.declared.state.Dialling.{Dialling}
+use Rattle.channel_turns.specs.declared.state.Dialling.{Dialling}
 use Rattle.member_server.specs.declared.state.Phase.{Phase}
 use Rattle.member_server.specs.declared.state.Phase.TheVariants as phase
 use Rattle.member_server.specs.declared.state.Running.{Running}

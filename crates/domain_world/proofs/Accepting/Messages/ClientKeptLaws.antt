@@ -25,9 +25,10 @@ use Rattle.logon_client.specs.declared.state.Terms.{Terms}
 use Rattle.logon_client.proofs.SendLaws.{AtUnlessStopped, client_sends}
 use Rattle.channel_events.specs.Marks.{OneOf}
 use Rattle.channel_events.proofs.ListLaws.{no_some, one_weaker}
-use Rattle.step_notes.specs.ChannelNames.{ClientsWriteDownWhatTheySend, IsKeptOf, IsKeyOf, IsSameKey, key_in_outcome, key_in_running, key_on}
+use Rattle.step_notes.specs.ChannelNames.{IsKeptOf, IsKeyOf, IsSameKey, key_in_outcome, key_in_running, key_on}
 use Rattle.step_notes.specs.ClientNotes.{ClientAt}
 use Rattle.step_notes.specs.Records.{MessageMade}
+use Rattle.step_notes.proofs.ClientNoteLaws.{clients_write_down}
 use Rattle.world_moves.specs.declared.links.Route.{Route}
 use Rattle.world_moves.specs.declared.moves.Move.{Move}
 use Rattle.world_moves.specs.declared.plan.Plan.{Plan}
@@ -135,7 +136,7 @@ halts : (s : ClientState) (left : List (List ℕ)) (part : Result (Part After) S
 halts s left (Err refused) why is = refl
 halts s left (Ok part) why is = absurd cc
 
-module _ (law : ClientsWriteDownWhatTheySend) (made : List MessageMade) (w : ClientAt) (piece : List ℕ) (now : ℕ) (left : List (List ℕ)) where
+module _ (made : List MessageMade) (w : ClientAt) (piece : List ℕ) (now : ℕ) (left : List (List ℕ)) where
   abbrev stepped : ClientState → ClientState
   stepped c = (step_of c (event.Bytes w.link piece) now left).state
 
@@ -168,7 +169,7 @@ module _ (law : ClientsWriteDownWhatTheySend) (made : List MessageMade) (w : Cli
 
     bound_of : own.talk.phase ≡ Bound → (actions : List Action) → (step_of here (event.Bytes w.link piece) now left).answer ≡ Ok actions → Holds here
     bound_of bound actions is =
-        let down = law.answers here (record { task = task; standing = On own }) own w.link piece now left actions w (record { none = refl; runs = refl; stands = refl }) bound is in
+        let down = clients_write_down.answers here (record { task = task; standing = On own }) own w.link piece now left actions w (record { none = refl; runs = refl; stands = refl }) bound is in
         record {
           keeps = λ link key its.
               subst (λ (n : ℕ). OneOf (IsMadeOn w.client n key) (made ++ news here)) (sym (link_is link key its))
@@ -181,7 +182,7 @@ module _ (law : ClientsWriteDownWhatTheySend) (made : List MessageMade) (w : Cli
     asked_of : (terms : Terms) (question : Question) → own.talk.phase ≡ Asked terms question → (actions : List Action) →
         (step_of here (event.Bytes w.link piece) now left).answer ≡ Ok actions → AreOfMade made w.client here → Holds here
     asked_of terms question asked actions is of =
-        let down = law.later here (record { task = task; standing = On own }) own w.link piece now left actions w terms question (record { none = refl; runs = refl; stands = refl }) asked is in
+        let down = clients_write_down.later here (record { task = task; standing = On own }) own w.link piece now left actions w terms question (record { none = refl; runs = refl; stands = refl }) asked is in
         let before : OneOf (IsMadeOn w.client own.talk.link terms.key) (made ++ news here) =
         one_earlier (IsMadeOn w.client own.talk.link terms.key) made (news here)
         (of.keeps own.talk.link terms.key (record { running = record { task = task; standing = On own }; own = own; terms = terms; question = question; runs = refl; stands = refl; asked = asked; is_link = refl; is_key = refl })) in
@@ -224,10 +225,10 @@ OfMade links made k c = AreOfMade made k c
 abbrev AnyMade : MadeFact
 AnyMade links made = Unit {0}
 
-of_made_keeps : ClientsWriteDownWhatTheySend → (plans : List ClientPlan) → KeepsClients plans OfMade AnyMade
-of_made_keeps law plans = record {
+of_made_keeps : (plans : List ClientPlan) → KeepsClients plans OfMade AnyMade
+of_made_keeps plans = record {
   hears = λ links made k c what now left meets of. quiet_of links made k now left what c.running c.outcome meets of;
-  comes = λ links made w c piece now left of any. (client_comes law made w piece now left c.running c.outcome of, tt);
+  comes = λ links made w c piece now left of any. (client_comes made w piece now left c.running c.outcome of, tt);
   more = λ links made more k c of. more_made made more k c of;
   opens = λ links route made k c of. of;
   made_opens = λ links route made any. tt;
@@ -236,9 +237,9 @@ of_made_keeps law plans = record {
 }
 
 -- in every run a key that a client keeps is that of a message that is written down
-pub clients_written : ClientsWriteDownWhatTheySend → (plan : Plan) (moves : List Move) → ClientsAreWrittenDown (past plan moves)
-clients_written law plan moves =
-    let kept = clients_after plan moves OfMade AnyMade (of_made_keeps law plan.clients) tt in
+pub clients_written : (plan : Plan) (moves : List Move) → ClientsAreWrittenDown (past plan moves)
+clients_written plan moves =
+    let kept = clients_after plan moves OfMade AnyMade (of_made_keeps plan.clients) tt in
     record {
       keys = λ client c running link terms question at runs stands asked.
           (kept.each client c at).keeps link.talk.link terms.key

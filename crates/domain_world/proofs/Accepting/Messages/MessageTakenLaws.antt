@@ -17,11 +17,11 @@ use Rattle.ntlm_flags.specs.Flags.{agreed_flags}
 use Rattle.member_server.specs.Machine.{fresh_member, step_of}
 use Rattle.member_server.specs.State.{State as MemberState}
 use Rattle.member_server.specs.declared.state.AtLink.{AtLink}
-use Rattle.member_server.specs.declared.state.AtTurn.{AtTurn}
+use Rattle.member_server.specs.Turns.{AtTurn}
 use Rattle.member_server.specs.declared.state.Phase.{Phase}
 use Rattle.member_server.specs.declared.state.Phase.TheVariants as phase
 use Rattle.member_server.specs.declared.state.Talk.{Talk}
-use Rattle.member_server.specs.declared.state.TurnTalk.{TurnTalk}
+use Rattle.channel_turns.specs.declared.state.TurnTalk.{TurnTalk}
 use Rattle.channel_events.specs.Marks.{OneOf}
 use Rattle.step_notes.specs.MemberNotes.{LinkAt, TurnNote, challenge_note, link_of_place, link_units, message_note, taken_link, turn_units}
 use Rattle.step_notes.specs.Records.{Book, ChallengeSent, MessageTaken, blank}

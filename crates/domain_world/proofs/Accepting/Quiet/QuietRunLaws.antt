@@ -7,14 +7,14 @@ use Rattle.domain_controller.specs.declared.state.Running.{Running as Controller
 use Rattle.logon_client.specs.declared.state.Running.{Running as ClientRunning}
 use Rattle.logon_client.specs.declared.state.ClientLink.{ClientLink}
 use Rattle.logon_client.specs.declared.state.ClientLink.TheVariants.{Idle, Dialling as Waiting, On}
-use Rattle.member_server.specs.declared.state.Dialling.{Dialling}
-use Rattle.member_server.specs.declared.state.Dialling.TheVariants as dialling
-use Rattle.world_moves.specs.Bag.{AreShortUnits, HaveBytes}
-use Rattle.world_moves.specs.Forms.{HasMoveForm, IsByte, IsSchedule}
+use Rattle.channel_turns.specs.declared.state.Dialling.{Dialling}
+use Rattle.channel_turns.specs.declared.state.Dialling.TheVariants as dialling
+use Rattle.world_moves.specs.Forms.{HasMoveForm, IsByte}
 use Rattle.world_moves.specs.declared.moves.Move.{Move}
 use Rattle.world_moves.specs.declared.moves.Move.TheVariants as move
 use Rattle.domain_world.specs.Accepting.Runs.{IsQuiet, IsQuietLink, IsQuietTurn}
 use Rattle.domain_world.specs.Past.{past}
+use Rattle.domain_world.specs.Schedules.{OfSchedules}
 use Rattle.domain_world.proofs.Accepting.Quiet.QuietStepLaws.{ClientIsQuiet, ControllerIsQuiet, IsClients, IsMade, MemberIsQuiet, Meets, QuietAction, QuietFact, QuietState, StandsQuiet, WholeBag, WholeIfCarried, end_steps, with_bag}
 use Rattle.domain_world.proofs.Frames.LeftLaws.{first_left_blocks}
 use Rattle.domain_world.proofs.Frames.StepFrameLaws.{HoldsAfterRun, run_keeps}
@@ -433,7 +433,7 @@ handed (move.Restart number ∷ moves) forms = (tt, handed moves (All-tail HasMo
 handed (move.Tick more ∷ moves) forms = (tt, handed moves (All-tail HasMoveForm (move.Tick more) moves forms))
 
 -- what is known of the units of a world, of a schedule
-pub has_bytes : (plan : Plan) (moves : List Move) → IsSchedule plan moves → AreShortUnits (past plan moves).world.state.bag → HaveBytes (past plan moves).world.state.bag → HasBytes plan moves
+pub has_bytes : OfSchedules HasBytes
 has_bytes plan moves is short bytes = record { short = short; bytes = bytes; handed = handed moves is.move_forms }
 
 quiet_turn : (links : List Route) (k : ℕ) (how : Dialling) → IfOn (IsDialledBy links k) how → IsQuietTurn how
@@ -460,8 +460,7 @@ is_quiet s quiet = record {
   members = λ k m running there is. quiet_running s.links k m.running running is (quiet.members k m there);
 }
 
-pub stands_quiet : (plan : Plan) (moves : List Move) → IsSchedule plan moves → AreShortUnits (past plan moves).world.state.bag → HaveBytes (past plan moves).world.state.bag →
-    IsQuiet (past plan moves).world.state
+pub stands_quiet : OfSchedules (λ plan moves. IsQuiet (past plan moves).world.state)
 stands_quiet plan moves is short bytes =
     let ran : HoldsAfterRun QuietFact plan moves = run_keeps QuietFact QuietAction quiet_keeps plan moves (has_bytes plan moves is short bytes) (quiet_first plan is.forms) in
     is_quiet (past plan moves).world.state ran.holds

@@ -10,7 +10,6 @@ use Rattle.outside.specs.declared.event.Event.TheVariants as event
 use Rattle.domain_controller.specs.State.{State as ControllerState}
 use Rattle.logon_client.specs.State.{State as ClientState}
 use Rattle.logon_client.specs.declared.plan.ClientPlan.{ClientPlan}
-use Rattle.member_server.specs.Laws.{LetsInTheGranted}
 use Rattle.member_server.specs.Machine.{fresh_member}
 use Rattle.member_server.specs.State.{State as MemberState}
 use Rattle.member_server.specs.declared.plan.MemberPlan.{MemberPlan}
@@ -44,9 +43,8 @@ use Rattle.domain_world.proofs.Accepting.Turns.TurnSideLaws.{TurnSide, member_co
 use Rattle.domain_world.proofs.Challenges.MessageApartLaws.{links_in, messages_apart}
 use Rattle.domain_world.proofs.Frames.ComingLaws.{CameFrom, StillHas, kept_same, kept_settled}
 use Rattle.domain_world.proofs.Frames.OpenMadeLaws.{IsAtSide}
-use Rattle.domain_world.proofs.Frames.StepFrameLaws.{AnyAction, all_any, ActionFact, BothFacts, BothFine, HasHeard, HoldsAfterRun, Keeps, NoFact, RunFact, join, run_keeps, with_side}
+use Rattle.domain_world.proofs.Frames.StepFrameLaws.{AnyAction, all_any, HasHeard, Keeps, RunFact}
 use Rattle.domain_world.proofs.Frames.EndFrameLaws.{IsCalm}
-use Rattle.domain_world.proofs.Frames.PlacedLaws.{HasBytes}
 
 -- ---- what is to hold
 
@@ -89,13 +87,13 @@ action_plans end (action.Judged how) s = refl
 
 -- ---- through all moves
 
-module _ (law : LetsInTheGranted) (plan : Plan) where
+module _ (plan : Plan) where
   quietly : (n : ℕ) (end : EndId) (what : Event) (s : State) (given : Given) (b : Book) → Dials Any what → TurnsHold plan n s given b → HasHeard (TurnsHold plan) AnyAction (n + 1) end (hear end what s) given b
   quietly n end what s given b dials holds = record {
     holds = (
       holds.0,
       λ unclashed apart marks.
-          quiet_hears law plan end what s given b dials (holds.1 unclashed apart (marks_before s (hear end what s).state b b (hear_grows end what s b b (λ k one there. there)) marks)),
+          quiet_hears plan end what s given b dials (holds.1 unclashed apart (marks_before s (hear end what s).state b b (hear_grows end what s b b (λ k one there. there)) marks)),
     );
     fine = all_any (hear end what s).actions;
   }
@@ -192,7 +190,7 @@ module _ (law : LetsInTheGranted) (plan : Plan) where
   member_hears (Some m) at n w piece s after given b there came side rests holds =
       let t : Heard = heard_by (member_step (Some m) at (event.Bytes w.link piece) s.moment s.ends s.chances) s in
       record {
-        holds = (holds.0, λ unclashed apart marks. member_comes law plan at w piece s after given b rests m there came side holds.0 unclashed apart marks holds.1);
+        holds = (holds.0, λ unclashed apart marks. member_comes plan at w piece s after given b rests m there came side holds.0 unclashed apart marks holds.1);
         fine = all_any t.actions;
       }
 
@@ -290,13 +288,3 @@ turns_of n plan moves holds =
           one_weaker (λ (message : MessageTaken). IsLetInInTurn (past_at plan s b) told message) (λ (message : MessageTaken). IsLetInInTurn p told message) b.messages
           (let_in_stays plan v p.world b b grows told) (known is)) (facts unclashed).let_in;
     }
-
--- Beside any fact that is kept and gives what they rest on, they hold after a run.
-pub turns_heard : LetsInTheGranted → (A : RunFact) (F : ActionFact) → Keeps NoFact A F → (plan : Plan) → ((n : ℕ) (s : State) (given : Given) (b : Book) → A n s given b → TurnSide plan s b) →
-    (moves : List Move) → HasBytes plan moves → A 0 (first_world plan).state [] blank → TurnsAreHeard (past plan moves)
-turns_heard law A F keeps plan gives moves has first =
-    let both : Keeps NoFact (BothFacts A (TurnsHold plan)) (BothFine F AnyAction) =
-    join A (TurnsHold plan) F AnyAction keeps (with_side (TurnsRestOn plan) A (TurnsHold plan) AnyAction gives (turns_keep law plan)) in
-    let after : HoldsAfterRun (BothFacts A (TurnsHold plan)) plan moves =
-    run_keeps (BothFacts A (TurnsHold plan)) (BothFine F AnyAction) both plan moves has (first, turns_begin plan) in
-    turns_of after.steps plan moves after.holds.1

@@ -10,14 +10,14 @@ use Rattle.end_links.specs.Serving.{ServedUnit}
 use Rattle.domain_controller.specs.Hearing.{hear}
 use Rattle.domain_controller.specs.Machine.{Desk}
 use Rattle.domain_controller.specs.declared.hearing.Heard.{Heard}
-use Rattle.domain_controller.specs.declared.line.Line.{Line}
-use Rattle.domain_controller.specs.declared.state.Computers.{Computers}
+use Rattle.controller_calls.specs.declared.line.Line.{Line}
+use Rattle.controller_calls.specs.declared.state.Computers.{Computers}
 use Rattle.domain_controller.specs.declared.state.Talk.{Talk}
 use Rattle.channel_events.specs.Marks.{Mark, Plain, Opening, Opened, Calling, ReplyTo}
 use Rattle.channel_events.proofs.ListLaws.{all_weaker, got_nothing, some_is}
 use Rattle.step_notes.specs.ControllerNotes.{Where, answer_on, call_answer, identity_by, channel_in, has_passed, heard_answer, judging_by, judging_of, opened_by, opened_mark, opening, passing, reply_mark, units_of_controller}
 use Rattle.step_notes.specs.Marking.{answered_marks, mark_channel, turn_marks}
-use Rattle.step_notes.specs.Records.{Book, Judging, computer_named}
+use Rattle.step_notes.specs.Records.{Book, Judging, Network, computer_named}
 use Rattle.step_notes.specs.Served.{work_after}
 use Rattle.world_moves.specs.declared.bag.BagUnit.{BagUnit}
 use Rattle.world_moves.specs.declared.moves.Move.{Move}
@@ -58,9 +58,9 @@ module _ (count : ℕ) where
   by_known controller computer None few = tt
   by_known controller computer (Some c) few = few
 
-  in_known : (controller : ℕ) (computer : Option (List ℕ)) (computers : Computers) → controller < count → IfChannel (channel_in controller computer computers)
-  in_known controller None computers few = tt
-  in_known controller (Some computer) computers few = by_known controller computer _ few
+  in_known : (controller : ℕ) (computer : Option (List ℕ)) (checks : Option SecureChannelState) → controller < count → IfChannel (channel_in controller computer checks)
+  in_known controller None checks few = tt
+  in_known controller (Some computer) checks few = by_known controller computer checks few
 
   opened_known : (unit : Option ℕ) (channel : ChannelIdentity) (number : ℕ) → channel.controller < count → IsKnownMark (opened_mark unit channel number)
   opened_known None channel number few = tt
@@ -80,12 +80,12 @@ module _ (count : ℕ) where
 
   judging_known : (passed : Bool) (j : Judging) → j.controller < count → IsKnownMark (judging_by passed j).mark
   judging_known false j few = tt
-  judging_known true j few = passing_known (channel_in j.controller (computer_named j.asked) j.computers) j (in_known j.controller (computer_named j.asked) j.computers few)
+  judging_known true j few = passing_known (channel_in j.controller (computer_named j.asked) j.checks) j (in_known j.controller (computer_named j.asked) j.checks few)
 
   call_known : (c : Call) (line : Line) (w : Where) (before : Desk) (after : Option Desk) → w.controller < count → IsKnownMark (call_answer c line w before after).mark
   call_known (call.Challenge c) line w before after few = tt
   call_known (call.Authenticate c) line w before after few = opening_known (opened_by w.controller c before) w line.call (by_known w.controller c.computer _ few)
-  call_known (call.Logon c) line w before after few = judging_known (has_passed (judging_of w line c before after).how) (judging_of w line c before after) few
+  call_known (call.Logon c) line w before after few = judging_known (has_passed (judging_of w line (Network c) before after).how) (judging_of w line (Network c) before after) few
   call_known (call.Logoff c) line w before after few = tt
 
   heard_known : (what : Heard) (w : Where) (before : Desk) (after : Option Desk) → w.controller < count → IsKnownMark (heard_answer what w before after).mark

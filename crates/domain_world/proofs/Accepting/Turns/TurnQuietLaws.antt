@@ -16,12 +16,13 @@ use Rattle.outside.specs.declared.event.Event.TheVariants as event
 use Rattle.domain_controller.specs.State.{State as ControllerState}
 use Rattle.logon_client.specs.State.{State as ClientState}
 use Rattle.logon_client.specs.declared.plan.ClientPlan.{ClientPlan}
-use Rattle.member_server.specs.Laws.{IsGranted, IsTold, LetsInTheGranted, heard_in}
+use Rattle.member_server.specs.Laws.{IsGranted, IsTold, heard_in}
 use Rattle.member_server.specs.Machine.{fresh_member, step_of, step_on}
 use Rattle.member_server.specs.State.{State as MemberState}
 use Rattle.member_server.specs.declared.plan.MemberPlan.{MemberPlan}
-use Rattle.member_server.specs.declared.state.Dialling.{Dialling}
+use Rattle.channel_turns.specs.declared.state.Dialling.{Dialling}
 use Rattle.member_server.specs.declared.state.Running.{Running}
+use Rattle.member_server.proofs.KeptLaws.{lets_in_the_granted}
 use Rattle.step_notes.specs.Records.{Book, MessageTaken, OutcomeTold, Sent}
 use Rattle.channel_events.specs.Marks.{OneOf, Plain}
 use Rattle.channel_events.proofs.ListLaws.{all_weaker, got_append, one_weaker}
@@ -96,11 +97,11 @@ answer_silent Fact at running what (Err why) none told = tt
 answer_silent Fact at running what (Ok actions) none told =
     granted_known Fact at running what (λ link how granted. absurd (none_whole granted.earlier granted.unit granted.later (sym none ∙ granted.hears))) actions told
 
-pub member_silent : LetsInTheGranted → (Fact : OutcomeTold → Type 0) (r : Option Running) (m : MemberState) (at : ℕ) (what : Event) (now : ℕ) (left : List (List ℕ)) → m.running ≡ r → IsSilent r what →
+pub member_silent : (Fact : OutcomeTold → Type 0) (r : Option Running) (m : MemberState) (at : ℕ) (what : Event) (now : ℕ) (left : List (List ℕ)) → m.running ≡ r → IsSilent r what →
     AllByRecursion (λ (one : OutcomeTold). is_in one.outcome ≡ true → Fact one) (told_in (given_by (Member at) (actions_by (step_of m what now left).answer)) 0)
-member_silent law Fact None m at what now left is none =
+member_silent Fact None m at what now left is none =
     subst (λ (r : Option Running). AllByRecursion (λ (one : OutcomeTold). is_in one.outcome ≡ true → Fact one) (told_in (given_by (Member at) (actions_by (step_on r m what now left).answer)) 0)) (sym is) tt
-member_silent law Fact (Some running) m at what now left is none = answer_silent Fact at running what (step_of m what now left).answer none (law.told m running what now left is)
+member_silent Fact (Some running) m at what now left is none = answer_silent Fact at running what (step_of m what now left).answer none (lets_in_the_granted.told m running what now left is)
 
 calm_heard : (Own : ℕ → Type 0) (what : Event) (how : Dialling) → Dials Own what → heard_in what how ≡ []
 calm_heard Own (event.Opened link) how dials = refl
@@ -176,7 +177,7 @@ pub free_put : (members : List MemberState) (at : ℕ) (new : MemberState) (mess
 free_put members at new messages free kept k m there =
     each_put (λ (n : ℕ) (x : MemberState). KeptIn (HasFree n messages) Any x.running) members at new (λ j item differs is. free j item is) kept k m there
 
-module _ (law : LetsInTheGranted) (plan : Plan) where
+module _ (plan : Plan) where
   member_hears : (found : Option MemberState) (at : ℕ) (what : Event) (s : State) (given : Given) (b : Book) → slice_get s.ends.members at ≡ found → Dials Any what →
       TurnFacts plan s b b.messages (told_yet given b) →
       let t = heard_by (member_step found at what s.moment s.ends s.chances) s in SameEnds s.ends t.state.ends → TurnFacts plan t.state b b.messages (told_yet (given ++ given_by (Member at) t.actions) b)
@@ -185,7 +186,7 @@ module _ (law : LetsInTheGranted) (plan : Plan) where
   member_hears (Some m) at what s given b is dials facts same =
       let t : Heard = heard_by (member_step (Some m) at what s.moment s.ends s.chances) s in
       member_heard plan s t.state b b given (given_by (Member at) t.actions) (record { bag = kept_same s.bag; sent = λ k one there. there; ends = same }) refl
-      (member_silent law (λ (one : OutcomeTold). OneOf (λ (message : MessageTaken). IsLetInInTurn (past_at plan t.state b) one message) b.messages) m.running m at what s.moment s.chances.left refl
+      (member_silent (λ (one : OutcomeTold). OneOf (λ (message : MessageTaken). IsLetInInTurn (past_at plan t.state b) one message) b.messages) m.running m at what s.moment s.chances.left refl
       (calm_silent Any m.running what dials))
       (free_put s.ends.members at (step_of m what s.moment s.chances.left).state b.messages facts.free
       (step_keeps (HasFree at b.messages) Any what m s.moment s.chances.left dials (facts.free at m is)))

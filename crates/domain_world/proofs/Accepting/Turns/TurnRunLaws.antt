@@ -6,10 +6,6 @@ use Rattle.outside.specs.declared.action.Action.{Action}
 use Rattle.outside.specs.declared.action.Action.TheVariants.{Keep, Send, Dial, Close, Told, Judged}
 use Rattle.outside.specs.declared.event.Event.TheVariants as event
 use Rattle.outside.proofs.CounterLaws.{challenges_from-distinct, challenges_from-none}
-use Rattle.channel_events.specs.RequestSteps.{RequestersKeepCallsApart}
-use Rattle.channel_events.specs.Requests.{CallsStayApart}
-use Rattle.member_server.specs.ChannelSteps.{ChannelStepsKnown}
-use Rattle.member_server.specs.Laws.{LetsInTheGranted}
 use Rattle.member_server.specs.declared.state.Logon.{Logon}
 use Rattle.member_server.specs.declared.state.Running.{Running}
 use Rattle.step_notes.specs.ChannelNames.{standing_channel}
@@ -24,7 +20,6 @@ use Rattle.world_moves.specs.declared.plan.Plan.{Plan}
 use Rattle.world_moves.specs.declared.state.State.{State}
 use Rattle.world_moves.specs.Acting.{Given, bag_unit, hear, perform_quietly, send_on}
 use Rattle.world_moves.specs.Moving.{begun, with_link}
-use Rattle.world_moves.specs.Bag.{AreShortUnits, HaveBytes}
 use Rattle.world_moves.specs.Forms.{IsSchedule}
 use Rattle.world_moves.specs.Links.{acceptor_of, is_accepted_by, kind_of}
 use Rattle.world_moves.specs.World.{first_world}
@@ -32,6 +27,7 @@ use Rattle.domain_world.specs.Accepting.ReadBack.{TurnsAreHeard}
 use Rattle.domain_world.specs.Accepting.Runs.{AskedIsOut, IsOut}
 use Rattle.domain_world.specs.Past.{controller_of, past}
 use Rattle.channel_events.proofs.ListLaws.{one_weaker}
+use Rattle.domain_world.specs.Schedules.{OfSchedules}
 use Rattle.domain_world.proofs.Accepting.LetInStepLaws.{IsDialledBy}
 use Rattle.domain_world.proofs.Accepting.Quiet.QuietRunLaws.{has_bytes, is_quiet, quiet_first, quiet_keeps}
 use Rattle.domain_world.proofs.Accepting.Quiet.QuietStepLaws.{QuietAction, QuietFact}
@@ -41,7 +37,7 @@ use Rattle.domain_world.proofs.Frames.DrawnRunLaws.{all_of, end_all, given_all}
 use Rattle.domain_world.proofs.Frames.StepFrameLaws.{ActionFact, AnyAction, BothFacts, BothFine, HoldsAfterRun, Keeps, NoFact, RunFact, WhileFew, all_any, join, run_keeps, while_few, with_side}
 use Rattle.domain_world.proofs.Requests.CallFrameLaws.{CallsKept, QuietSide, calls_keep, first_calls, out_of}
 use Rattle.domain_world.proofs.Requests.CallHoldsLaws.{CallsHold, differ_front}
-use Rattle.domain_world.proofs.Requests.CallStepLaws.{CallLaws, most_steps}
+use Rattle.domain_world.proofs.Requests.CallStepLaws.{most_steps}
 use Rattle.domain_world.proofs.Requests.OutStepLaws.{HasOne, IsOutIn, OutFor}
 use Rattle.domain_world.proofs.Requests.StepApartLaws.{Differ}
 
@@ -102,10 +98,10 @@ abbrev pub KnownAction : ActionFact
 KnownAction = BothFine (BothFine QuietAction AnyAction) AnyAction
 
 -- it is kept
-pub known_keep : CallLaws → (plan : Plan) → Keeps NoFact (Known plan) KnownAction
-known_keep laws plan =
+pub known_keep : (plan : Plan) → Keeps NoFact (Known plan) KnownAction
+known_keep plan =
     join (BothFacts QuietFact CallsKept) (DrawnOf plan) (BothFine QuietAction AnyAction) AnyAction
-    (join QuietFact CallsKept QuietAction AnyAction quiet_keeps (with_side QuietSide QuietFact CallsKept AnyAction (λ n s given b quiet. is_quiet s quiet) (calls_keep laws)))
+    (join QuietFact CallsKept QuietAction AnyAction quiet_keeps (with_side QuietSide QuietFact CallsKept AnyAction (λ n s given b quiet. is_quiet s quiet) calls_keep))
     (with_side NoFact (BothFacts QuietFact CallsKept) (DrawnOf plan) AnyAction (λ n s given b known. tt) (drawn_keep plan))
 
 -- a call that is out is that of its message
@@ -141,11 +137,11 @@ TurnSide plan = BothFacts (Known plan) (WhileFew most_steps (TurnsHold plan))
 abbrev pub TurnAction : ActionFact
 TurnAction = BothFine KnownAction AnyAction
 
-pub side_keeps : LetsInTheGranted → CallLaws → (plan : Plan) → Keeps NoFact (TurnSide plan) TurnAction
-side_keeps law laws plan =
-    join (Known plan) (WhileFew most_steps (TurnsHold plan)) KnownAction AnyAction (known_keep laws plan)
+pub side_keeps : (plan : Plan) → Keeps NoFact (TurnSide plan) TurnAction
+side_keeps plan =
+    join (Known plan) (WhileFew most_steps (TurnsHold plan)) KnownAction AnyAction (known_keep plan)
     (with_side (WhileFew most_steps (TurnsRestOn plan)) (Known plan) (WhileFew most_steps (TurnsHold plan)) AnyAction (rests_on plan)
-    (while_few most_steps (TurnsRestOn plan) (TurnsHold plan) (turns_keep law plan)))
+    (while_few most_steps (TurnsRestOn plan) (TurnsHold plan) (turns_keep plan)))
 
 -- at first
 pub side_first : (plan : Plan) (moves : List Move) → IsSchedule plan moves → TurnSide plan 0 (first_world plan).state [] blank
@@ -154,10 +150,8 @@ side_first plan moves schedule = (
   λ few. turns_begin plan,
 )
 
-pub turns_run : LetsInTheGranted → RequestersKeepCallsApart → CallsStayApart ℕ → ChannelStepsKnown → (plan : Plan) (moves : List Move) → IsSchedule plan moves →
-    AreShortUnits (past plan moves).world.state.bag → HaveBytes (past plan moves).world.state.bag → TurnsAreHeard (past plan moves)
-turns_run law requesters events steps plan moves schedule short bytes =
-    let laws : CallLaws = record { keep = requesters; events = events; steps = steps } in
+pub turns_run : OfSchedules (λ plan moves. TurnsAreHeard (past plan moves))
+turns_run plan moves schedule short bytes =
     let after : HoldsAfterRun (TurnSide plan) plan moves =
-    run_keeps (TurnSide plan) TurnAction (side_keeps law laws plan) plan moves (has_bytes plan moves schedule short bytes) (side_first plan moves schedule) in
+    run_keeps (TurnSide plan) TurnAction (side_keeps plan) plan moves (has_bytes plan moves schedule short bytes) (side_first plan moves schedule) in
     turns_of after.steps plan moves (after.holds.1 (omega (arith, after.few, schedule.few)))

@@ -14,18 +14,18 @@ use Rattle.rpc_units.specs.Calls.{IsHeard}
 use Rattle.end_links.specs.Links.{LinkState}
 use Rattle.end_links.specs.Serving.{ServedUnit}
 use Rattle.channel_client.specs.Machine.{take_of}
-use Rattle.member_server.specs.Laws.{IsTold, LetsInTheGranted, heard_if, heard_in}
+use Rattle.member_server.specs.Laws.{IsTold, heard_if, heard_in}
 use Rattle.member_server.specs.Machine.{actions_in, event_part, halted_state, state_in, step_of}
 use Rattle.member_server.specs.State.{State as MemberState}
-use Rattle.member_server.specs.Turns.{DialWork}
+use Rattle.member_server.specs.Turns.{AtTurn, DialWork}
 use Rattle.member_server.specs.declared.plan.MemberPlan.{MemberPlan}
-use Rattle.member_server.specs.declared.state.AtTurn.{AtTurn}
-use Rattle.member_server.specs.declared.state.Dialling.{Dialling}
-use Rattle.member_server.specs.declared.state.Dialling.TheVariants as dialling
+use Rattle.channel_turns.specs.declared.state.Dialling.{Dialling}
+use Rattle.channel_turns.specs.declared.state.Dialling.TheVariants as dialling
 use Rattle.member_server.specs.declared.state.Logon.{Logon}
 use Rattle.member_server.specs.declared.state.Phase.{Phase}
 use Rattle.member_server.specs.declared.state.Running.{Running}
-use Rattle.member_server.specs.declared.state.TurnTalk.{TurnTalk}
+use Rattle.channel_turns.specs.declared.state.TurnTalk.{TurnTalk}
+use Rattle.member_server.proofs.KeptLaws.{lets_in_the_granted}
 use Rattle.channel_events.specs.Marks.{OneOf}
 use Rattle.channel_events.proofs.ListLaws.{all_weaker, got_append, one_weaker, some_is}
 use Rattle.step_notes.specs.CallLogons.{AsksUnlessStopped}
@@ -136,7 +136,7 @@ part_cases (Err why) = inr (why, refl)
 
 -- ---- bytes come at a member
 
-module _ (law : LetsInTheGranted) (plan : Plan) (k : ℕ) (w : Coming) (piece : List ℕ) (s after : State) (given : Given) (b : Book) where
+module _ (plan : Plan) (k : ℕ) (w : Coming) (piece : List ℕ) (s after : State) (given : Given) (b : Book) where
   abbrev pub what : Event
   what = event.Bytes w.link piece
 
@@ -238,7 +238,7 @@ module _ (law : LetsInTheGranted) (plan : Plan) (k : ℕ) (w : Coming) (piece : 
   other_comes r other facts =
       without_units r
       (ap (λ (units : List (ServedUnit AtTurn TurnTalk)). units_if_taken (stepped r).answer units) (other_units r w.link piece s.chances.left other) ∙ none_if_taken (stepped r).answer)
-      (member_silent law (λ (one : OutcomeTold). OneOf (λ (message : MessageTaken). IsLetInInTurn (past_at plan (heard r).state (book_after r)) one message) (messages_in r)) r (member r) k what s.moment
+      (member_silent (λ (one : OutcomeTold). OneOf (λ (message : MessageTaken). IsLetInInTurn (past_at plan (heard r).state (book_after r)) one message) (messages_in r)) r (member r) k what s.moment
       s.chances.left refl (other_silent r w.link piece other)) facts
 
   -- ---- the link of the turn
@@ -331,7 +331,7 @@ module _ (law : LetsInTheGranted) (plan : Plan) (k : ℕ) (w : Coming) (piece : 
             (side.out k (member run) running pending logon there refl turn asked kept);
         done = is;
         lets_in = subst (λ (part : Result (Part DialWork) StepRefused). AllByRecursion (IsTold running what) (actions_by (answer_to part))) is
-            (law.told (member run) running what s.moment s.chances.left refl);
+            (lets_in_the_granted.told (member run) running what s.moment s.chances.left refl);
         after = λ m found. elim (set_cases s.ends.members k k (stepped run).state m found) [
           | inl here ↦ ap (λ (x : MemberState). x.running) (sym here.1)
               ∙ ap (λ (part : Result (Part DialWork) StepRefused). (step_by actions_in state_in halted_state s.chances.left part).state.running) is

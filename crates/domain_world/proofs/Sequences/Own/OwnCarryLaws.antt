@@ -9,13 +9,14 @@ use Rattle.outside.specs.declared.event.Event.TheVariants as event
 use Rattle.channel_events.specs.Marks.{Mark}
 use Rattle.domain_controller.specs.State.{State as ControllerState}
 use Rattle.logon_client.specs.declared.plan.ClientPlan.{ClientPlan}
-use Rattle.member_server.specs.Laws.{AsksWhatWaits, heard_in}
+use Rattle.member_server.specs.Laws.{heard_in}
 use Rattle.member_server.specs.Machine.{fresh_member}
 use Rattle.member_server.specs.State.{State as MemberState}
 use Rattle.member_server.specs.declared.plan.MemberPlan.{MemberPlan}
-use Rattle.member_server.specs.declared.state.Dialling.{Dialling}
+use Rattle.channel_turns.specs.declared.state.Dialling.{Dialling}
 use Rattle.member_server.specs.declared.state.Running.{Running}
-use Rattle.step_notes.specs.Records.{Book, LogonTurn, Sent, blank}
+use Rattle.member_server.proofs.AskedLaws.{asks_what_waits}
+use Rattle.step_notes.specs.Records.{Book, ChannelTurn, Sent, blank}
 use Rattle.world_moves.specs.declared.links.EndId.{EndId}
 use Rattle.world_moves.specs.declared.links.EndId.TheVariants.{Controller, Member, Client}
 use Rattle.world_moves.specs.declared.plan.Plan.{Plan}
@@ -100,75 +101,74 @@ module _ (plan : Plan) where
 
   -- ---- an end is made anew
 
-  module _ (asks : AsksWhatWaits) where
-    fresh_own : (Done : ℕ → Type 0) (marks : List Mark) (drawn : List (List ℕ)) (turns : List LogonTurn) (given : Given) (controller k : ℕ) (own : MemberPlan) → AreDrawn drawn turns →
-        MemberOwn Done marks drawn turns given controller k (fresh_member own).running
-    fresh_own Done marks drawn turns given controller k own before = (
-      asks.fresh own,
-      record {
-        own = mine k turns;
-        none = λ none. refl;
-        one = λ one waits. absurd waits;
-        before = mine_drawn k drawn turns before;
-        turned = turned_blank _ _ drawn refl refl;
-        calls = λ c is. absurd (let x = is in cc);
-      },
-    )
+  fresh_own : (Done : ℕ → Type 0) (marks : List Mark) (drawn : List (List ℕ)) (turns : List ChannelTurn) (given : Given) (controller k : ℕ) (own : MemberPlan) → AreDrawn drawn turns →
+      MemberOwn Done marks drawn turns given controller k (fresh_member own).running
+  fresh_own Done marks drawn turns given controller k own before = (
+    asks_what_waits.fresh own,
+    record {
+      own = mine k turns;
+      none = λ none. refl;
+      one = λ one waits. absurd waits;
+      before = mine_drawn k drawn turns before;
+      turned = turned_blank _ _ drawn refl refl;
+      calls = λ c is. absurd (let x = is in cc);
+    },
+  )
 
-    module _ (s : State) (given : Given) (b : Book) where
-      others_same : (ends : EndStates) → ends.members ≡ s.ends.members → SameEnds s.ends ends → OwnFacts plan s given b → OwnFacts plan (record s { ends = ends }) given b
-      others_same ends members same old =
-          all_stay plan s (record s { ends = ends }) b b given given refl (record { bag = kept_same s.bag; sent = λ k one there. there; ends = same }) (λ challenge was. was) refl members (λ k. refl)
-          (λ n number timestamp e there. there) old
+  module _ (s : State) (given : Given) (b : Book) where
+    others_same : (ends : EndStates) → ends.members ≡ s.ends.members → SameEnds s.ends ends → OwnFacts plan s given b → OwnFacts plan (record s { ends = ends }) given b
+    others_same ends members same old =
+        all_stay plan s (record s { ends = ends }) b b given given refl (record { bag = kept_same s.bag; sent = λ k one there. there; ends = same }) (λ challenge was. was) refl members (λ k. refl)
+        (λ n number timestamp e there. there) old
 
-      controller_anew : (found : Option ControllerState) (at : ℕ) → SameEnds s.ends (renew_controller found at s.ends) → OwnFacts plan s given b →
-          OwnFacts plan (record s { ends = renew_controller found at s.ends }) given b
-      controller_anew None at same old = others_same s.ends refl same old
-      controller_anew (Some c) at same old = others_same (renew_controller (Some c) at s.ends) refl same old
+    controller_anew : (found : Option ControllerState) (at : ℕ) → SameEnds s.ends (renew_controller found at s.ends) → OwnFacts plan s given b →
+        OwnFacts plan (record s { ends = renew_controller found at s.ends }) given b
+    controller_anew None at same old = others_same s.ends refl same old
+    controller_anew (Some c) at same old = others_same (renew_controller (Some c) at s.ends) refl same old
 
-      client_anew : (found : Option ClientPlan) (at : ℕ) → SameEnds s.ends (renew_client found at s.ends) → OwnFacts plan s given b → OwnFacts plan (record s { ends = renew_client found at s.ends }) given b
-      client_anew None at same old = others_same s.ends refl same old
-      client_anew (Some own) at same old = others_same (renew_client (Some own) at s.ends) refl same old
+    client_anew : (found : Option ClientPlan) (at : ℕ) → SameEnds s.ends (renew_client found at s.ends) → OwnFacts plan s given b → OwnFacts plan (record s { ends = renew_client found at s.ends }) given b
+    client_anew None at same old = others_same s.ends refl same old
+    client_anew (Some own) at same old = others_same (renew_client (Some own) at s.ends) refl same old
 
-      member_anew : (found : Option MemberPlan) (at : ℕ) → SameEnds s.ends (renew_member found at s.ends) → OwnFacts plan s given b → OwnFacts plan (record s { ends = renew_member found at s.ends }) given b
-      member_anew None at same old = others_same s.ends refl same old
-      member_anew (Some own) at same old =
-          let t : State = record s { ends = renew_member (Some own) at s.ends } in
-          let grows : GrowsTo s t b b = record { bag = kept_same s.bag; sent = λ k one there. there; ends = same } in
-          record {
-            before = old.before;
-            members = λ k m there.
-                elim (set_cases s.ends.members at k (fresh_member own) m there) [
-                  | inl here ↦
-                      subst (λ (x : MemberState). MemberOwn (IsTakenFor (past_at plan t b)) (marks_in b.sent) s.chances.drawn b.turns given (controller_of k t) k x.running) here.1
-                      (fresh_own (IsTakenFor (past_at plan t b)) (marks_in b.sent) s.chances.drawn b.turns given (controller_of k t) k own old.before)
-                  | inr other ↦
-                      one_stays plan s t b b given given refl grows (λ challenge was. was) refl k m.running refl
-                      (on_any plan s t b b given given refl grows (λ challenge was. was) refl k m.running (λ n number timestamp e is. is)) (old.members k m other.1)
-                ];
-          }
-
-      end_anew : (end : EndId) → OwnFacts plan s given b → OwnFacts plan (renewed end s) given b
-      end_anew (Controller at) old = controller_anew (slice_get s.ends.controllers at) at (renew_same (Controller at) s) old
-      end_anew (Member at) old = member_anew (slice_get s.member_plans at) at (renew_same (Member at) s) old
-      end_anew (Client at) old = client_anew (slice_get s.client_plans at) at (renew_same (Client at) s) old
-
-    pub own_anew : (n : ℕ) (end : EndId) (s : State) (given : Given) (b : Book) → OwnHolds plan n s given b → OwnHolds plan n (renewed end s) given b
-    own_anew n end s given b known few unclashed apart marks differ =
-        end_anew s given b end
-        (known few unclashed apart (marks_before s (renewed end s) b b (record { bag = kept_same s.bag; sent = λ k one there. there; ends = renew_same end s }) marks) (same_draws end differ))
-      where
-        same_draws : (one : EndId) → Differ (renewed one s).chances.drawn → Differ s.chances.drawn
-        same_draws one is = is
-
-    -- at first
-    pub first_own : OwnHolds plan 0 (first_world plan).state [] blank
-    first_own few unclashed apart marks differ =
-        let s : State = (first_world plan).state in
+    member_anew : (found : Option MemberPlan) (at : ℕ) → SameEnds s.ends (renew_member found at s.ends) → OwnFacts plan s given b → OwnFacts plan (record s { ends = renew_member found at s.ends }) given b
+    member_anew None at same old = others_same s.ends refl same old
+    member_anew (Some own) at same old =
+        let t : State = record s { ends = renew_member (Some own) at s.ends } in
+        let grows : GrowsTo s t b b = record { bag = kept_same s.bag; sent = λ k one there. there; ends = same } in
         record {
-          before = tt;
+          before = old.before;
           members = λ k m there.
-              (let found = got_map fresh_member plan.members k m there in
-              subst (λ (x : MemberState). MemberOwn (IsTakenFor (past_at plan s blank)) [] s.chances.drawn [] [] (controller_of k s) k x.running) found.2
-              (fresh_own (IsTakenFor (past_at plan s blank)) [] s.chances.drawn [] [] (controller_of k s) k found.0 tt));
+              elim (set_cases s.ends.members at k (fresh_member own) m there) [
+                | inl here ↦
+                    subst (λ (x : MemberState). MemberOwn (IsTakenFor (past_at plan t b)) (marks_in b.sent) s.chances.drawn b.turns given (controller_of k t) k x.running) here.1
+                    (fresh_own (IsTakenFor (past_at plan t b)) (marks_in b.sent) s.chances.drawn b.turns given (controller_of k t) k own old.before)
+                | inr other ↦
+                    one_stays plan s t b b given given refl grows (λ challenge was. was) refl k m.running refl
+                    (on_any plan s t b b given given refl grows (λ challenge was. was) refl k m.running (λ n number timestamp e is. is)) (old.members k m other.1)
+              ];
         }
+
+    end_anew : (end : EndId) → OwnFacts plan s given b → OwnFacts plan (renewed end s) given b
+    end_anew (Controller at) old = controller_anew (slice_get s.ends.controllers at) at (renew_same (Controller at) s) old
+    end_anew (Member at) old = member_anew (slice_get s.member_plans at) at (renew_same (Member at) s) old
+    end_anew (Client at) old = client_anew (slice_get s.client_plans at) at (renew_same (Client at) s) old
+
+  pub own_anew : (n : ℕ) (end : EndId) (s : State) (given : Given) (b : Book) → OwnHolds plan n s given b → OwnHolds plan n (renewed end s) given b
+  own_anew n end s given b known few unclashed apart marks differ =
+      end_anew s given b end
+      (known few unclashed apart (marks_before s (renewed end s) b b (record { bag = kept_same s.bag; sent = λ k one there. there; ends = renew_same end s }) marks) (same_draws end differ))
+    where
+      same_draws : (one : EndId) → Differ (renewed one s).chances.drawn → Differ s.chances.drawn
+      same_draws one is = is
+
+  -- at first
+  pub first_own : OwnHolds plan 0 (first_world plan).state [] blank
+  first_own few unclashed apart marks differ =
+      let s : State = (first_world plan).state in
+      record {
+        before = tt;
+        members = λ k m there.
+            (let found = got_map fresh_member plan.members k m there in
+            subst (λ (x : MemberState). MemberOwn (IsTakenFor (past_at plan s blank)) [] s.chances.drawn [] [] (controller_of k s) k x.running) found.2
+            (fresh_own (IsTakenFor (past_at plan s blank)) [] s.chances.drawn [] [] (controller_of k s) k found.0 tt));
+      }

@@ -13,14 +13,12 @@ use Rattle.logon_client.specs.State.{State as ClientState}
 use Rattle.channel_client.specs.Effects.{view_of}
 use Rattle.channel_events.specs.Requests.{IsDrawn}
 use Rattle.channel_events.proofs.ListLaws.{all_weaker}
-use Rattle.member_server.specs.Dials.{TurnsAreDialled}
-use Rattle.member_server.specs.Laws.{AsksWhatWaits}
 use Rattle.member_server.specs.Machine.{step_of}
 use Rattle.member_server.specs.State.{State as MemberState}
 use Rattle.member_server.specs.declared.plan.MemberPlan.{MemberPlan}
 use Rattle.member_server.specs.declared.state.Running.{Running}
 use Rattle.step_notes.specs.MemberNotes.{turn_of}
-use Rattle.step_notes.specs.Records.{LogonTurn, OfMember, same_requester}
+use Rattle.step_notes.specs.Records.{ChannelTurn, OfMember, same_requester}
 use Rattle.world_moves.specs.declared.links.EndId.{EndId}
 use Rattle.world_moves.specs.declared.links.EndId.TheVariants.{Controller, Member, Client}
 use Rattle.world_moves.specs.declared.state.State.{State}
@@ -38,7 +36,7 @@ use Rattle.domain_world.proofs.Sequences.SeedTurnLaws.{Turned, drawn_still, turn
 
 -- ---- what is known
 
-pub record TurnsHold (d : Option EndId) (rest : Given) (plans : List MemberPlan) (ends : EndStates) (dials : List WaitingDial) (drawn : List (List ℕ)) (given : Given) (turns : List LogonTurn) : Type 0 where
+pub record TurnsHold (d : Option EndId) (rest : Given) (plans : List MemberPlan) (ends : EndStates) (dials : List WaitingDial) (drawn : List (List ℕ)) (given : Given) (turns : List ChannelTurn) : Type 0 where
   pub before : AreDrawn drawn turns
   pub members : (k : ℕ) (m : MemberState) → slice_get ends.members k ≡ Some m → TurnsIf k (controller_of_plan (slice_get plans k) ends) d rest dials drawn given turns m.running
 
@@ -46,12 +44,12 @@ pub record TurnsHold (d : Option EndId) (rest : Given) (plans : List MemberPlan)
 abbrev pub TurnsKnown : DialFact
 TurnsKnown d rest plans ends dials chances given turns = Differ chances.drawn → TurnsHold d rest plans ends dials chances.drawn given turns
 
-mine_one : (hit : Bool) (k : ℕ) (drawn : List (List ℕ)) (turn : LogonTurn) (turns : List LogonTurn) → AreDrawn drawn (turn ∷ turns) → AreDrawn drawn (mine k turns) →
+mine_one : (hit : Bool) (k : ℕ) (drawn : List (List ℕ)) (turn : ChannelTurn) (turns : List ChannelTurn) → AreDrawn drawn (turn ∷ turns) → AreDrawn drawn (mine k turns) →
     AreDrawn drawn (if hit then turn ∷ mine k turns else mine k turns)
 mine_one true k drawn turn turns all later = (all.0, later)
 mine_one false k drawn turn turns all later = later
 
-pub mine_drawn : (k : ℕ) (drawn : List (List ℕ)) (turns : List LogonTurn) → AreDrawn drawn turns → AreDrawn drawn (mine k turns)
+pub mine_drawn : (k : ℕ) (drawn : List (List ℕ)) (turns : List ChannelTurn) → AreDrawn drawn turns → AreDrawn drawn (mine k turns)
 mine_drawn k drawn [] all = tt
 mine_drawn k drawn (turn ∷ turns) all = mine_one (same_requester turn.requester (OfMember k)) k drawn turn turns all (mine_drawn k drawn turns all.1)
 
@@ -59,13 +57,13 @@ mine_drawn k drawn (turn ∷ turns) all = mine_one (same_requester turn.requeste
 abbrev pub StillDrawn : List (List ℕ) → List (List ℕ) → Type 0
 StillDrawn drawn later = (challenge : List ℕ) → IsDrawn challenge drawn → IsDrawn challenge later
 
-pub still_drawn : (drawn later : List (List ℕ)) (turns : List LogonTurn) → StillDrawn drawn later → AreDrawn drawn turns → AreDrawn later turns
+pub still_drawn : (drawn later : List (List ℕ)) (turns : List ChannelTurn) → StillDrawn drawn later → AreDrawn drawn turns → AreDrawn later turns
 still_drawn drawn later turns still all =
-    all_weaker (λ (turn : LogonTurn). IsDrawn turn.channel.client drawn) (λ (turn : LogonTurn). IsDrawn turn.channel.client later) turns (λ turn is. still turn.channel.client is) all
+    all_weaker (λ (turn : ChannelTurn). IsDrawn turn.channel.client drawn) (λ (turn : ChannelTurn). IsDrawn turn.channel.client later) turns (λ turn is. still turn.channel.client is) all
 
 -- ---- of a member that takes no step
 
-pub same_turns : (k controller : ℕ) (d e : Option EndId) (rest more : Given) (dials waiting : List WaitingDial) (drawn later : List (List ℕ)) (given after : Given) (turns : List LogonTurn) (r : Option Running) →
+pub same_turns : (k controller : ℕ) (d e : Option EndId) (rest more : Given) (dials waiting : List WaitingDial) (drawn later : List (List ℕ)) (given after : Given) (turns : List ChannelTurn) (r : Option Running) →
     dials_out k e more waiting ≤ dials_out k d rest dials → answered_dials k e ≤ answered_dials k d → given_dials k after ≡ given_dials k given → StillDrawn drawn later →
     TurnsIf k controller d rest dials drawn given turns r → TurnsIf k controller e more waiting later after turns r
 same_turns k controller d e rest more dials waiting drawn later given after turns None out answered same still old = tt
@@ -87,7 +85,7 @@ answers_less k end what d later rest answers = elim answers [
 
 -- ---- an event
 
-module _ (plans : List MemberPlan) (ends : EndStates) (dials : List WaitingDial) (d later : Option EndId) (rest given : Given) (turns : List LogonTurn)
+module _ (plans : List MemberPlan) (ends : EndStates) (dials : List WaitingDial) (d later : Option EndId) (rest given : Given) (turns : List ChannelTurn)
     (less : (k : ℕ) → answered_dials k later ≤ answered_dials k d) where
   abbrev Before : List (List ℕ) → Type 0
   Before drawn = TurnsHold d rest plans ends dials drawn given turns
@@ -144,10 +142,10 @@ module _ (plans : List MemberPlan) (ends : EndStates) (dials : List WaitingDial)
       by false is = refl
       by true is = absurd (differs (sym ((Decides-eqb at k).0 is)))
 
-  member_hears : AsksWhatWaits → TurnsAreDialled → (found : Option MemberState) (at : ℕ) (what : Event) (now : ℕ) (chances : Drawing) → slice_get ends.members at ≡ found →
+  member_hears : (found : Option MemberState) (at : ℕ) (what : Event) (now : ℕ) (chances : Drawing) → slice_get ends.members at ≡ found →
       Answers (Member at) what d later rest → (Differ chances.drawn → Before chances.drawn) → Heard (Member at) (member_step found at what now ends chances)
-  member_hears asks dialled None at what now chances is answers known differ = nothing_heard (Member at) chances.drawn (known differ)
-  member_hears asks dialled (Some m) at what now chances is answers known differ =
+  member_hears None at what now chances is answers known differ = nothing_heard (Member at) chances.drawn (known differ)
+  member_hears (Some m) at what now chances is answers known differ =
       let step = step_of m what now chances.left in
       let after : List (List ℕ) = chances.drawn ++ step.drawn in
       let actions : List Action = actions_by step.answer in
@@ -168,7 +166,7 @@ module _ (plans : List MemberPlan) (ends : EndStates) (dials : List WaitingDial)
                   (λ (j : ℕ).
                   TurnsIf j (controller_of_plan (slice_get plans j) ends) later (given_by (Member at) actions ++ rest) dials after (given ++ given_by (Member at) actions) turns
                   step.state.running) (sym here.0)
-                  (own_step asks dialled at (controller_of_plan (slice_get plans at) ends) turns m.running what now chances.left d later rest dials chances.drawn given answers
+                  (own_step at (controller_of_plan (slice_get plans at) ends) turns m.running what now chances.left d later rest dials chances.drawn given answers
                   (holds.members at m is) (mine_drawn at chances.drawn turns holds.before) differ))
               | inr other ↦
                   one_other k (controller_of_plan (slice_get plans k) ends) (Member at) actions chances.drawn after one.running
@@ -177,20 +175,20 @@ module _ (plans : List MemberPlan) (ends : EndStates) (dials : List WaitingDial)
       }
 
 -- an end hears something
-pub hear_holds : AsksWhatWaits → TurnsAreDialled → (d later : Option EndId) (rest : Given) (end : EndId) (what : Event) (s : State) (given : Given) (turns : List LogonTurn) →
+pub hear_holds : (d later : Option EndId) (rest : Given) (end : EndId) (what : Event) (s : State) (given : Given) (turns : List ChannelTurn) →
     Answers end what d later rest → TurnsKnown d rest s.member_plans s.ends s.dials s.chances given turns →
     let heard = hear end what s in
     TurnsKnown later (given_by end heard.actions ++ rest) heard.state.member_plans heard.state.ends heard.state.dials heard.state.chances (given ++ given_by end heard.actions) turns
-hear_holds asks dialled d later rest (Controller at) what s given turns answers known =
+hear_holds d later rest (Controller at) what s given turns answers known =
     controller_hears s.member_plans s.ends s.dials d later rest given turns (λ k. answers_less k (Controller at) what d later rest answers) (slice_get s.ends.controllers at) at what s.moment s.chances known
-hear_holds asks dialled d later rest (Client at) what s given turns answers known =
+hear_holds d later rest (Client at) what s given turns answers known =
     client_hears s.member_plans s.ends s.dials d later rest given turns (λ k. answers_less k (Client at) what d later rest answers) (slice_get s.ends.clients at) at what s.moment s.chances known
-hear_holds asks dialled d later rest (Member at) what s given turns answers known =
-    member_hears s.member_plans s.ends s.dials d later rest given turns (λ k. answers_less k (Member at) what d later rest answers) asks dialled (slice_get s.ends.members at) at what s.moment s.chances
+hear_holds d later rest (Member at) what s given turns answers known =
+    member_hears s.member_plans s.ends s.dials d later rest given turns (λ k. answers_less k (Member at) what d later rest answers) (slice_get s.ends.members at) at what s.moment s.chances
     refl answers known
 
 -- a client begins
-pub begin_holds : (client : ℕ) (state : ClientState) (actions : List Action) (plans : List MemberPlan) (ends : EndStates) (dials : List WaitingDial) (chances : Drawing) (turns : List LogonTurn) →
+pub begin_holds : (client : ℕ) (state : ClientState) (actions : List Action) (plans : List MemberPlan) (ends : EndStates) (dials : List WaitingDial) (chances : Drawing) (turns : List ChannelTurn) →
     TurnsKnown None [] plans ends dials chances [] turns →
     TurnsKnown None (given_by (Client client) actions ++ []) plans (with_client client state ends) dials chances (given_by (Client client) actions) turns
 begin_holds client state actions plans ends dials chances turns known differ =

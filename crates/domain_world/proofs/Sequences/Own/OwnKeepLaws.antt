@@ -9,9 +9,6 @@ use Rattle.outside.specs.declared.event.Event.TheVariants as event
 use Rattle.channel_events.specs.Marks.{Mark, Calling, Plain}
 use Rattle.domain_controller.specs.State.{State as ControllerState}
 use Rattle.logon_client.specs.State.{State as ClientState}
-use Rattle.member_server.specs.ChannelSteps.{ChannelStepsKnown}
-use Rattle.member_server.specs.Dials.{TurnsAreDialled}
-use Rattle.member_server.specs.Laws.{AsksWhatWaits}
 use Rattle.member_server.specs.Machine.{step_of}
 use Rattle.member_server.specs.State.{State as MemberState}
 use Rattle.member_server.specs.declared.state.Running.{Running}
@@ -90,7 +87,7 @@ HearsNoUnit (Controller at) what s = Unit {0}
 HearsNoUnit (Client at) what s = Unit {0}
 HearsNoUnit (Member at) what s = HearsIf (slice_get s.ends.members at) what
 
-module _ (dialled : TurnsAreDialled) (steps : ChannelStepsKnown) (asks : AsksWhatWaits) (plan : Plan) where
+module _ (plan : Plan) where
   end_hears : (end : EndId) (what : Event) (s : State) (given : Given) (b : Book) → HearsNoUnit end what s → (Differ s.chances.drawn → OwnFacts plan s given b) →
       Differ (hear end what s).state.chances.drawn → OwnFacts plan (hear end what s).state (given ++ given_by end (hear end what s).actions) b
   end_hears (Controller at) what s given b none known differ =
@@ -108,7 +105,7 @@ module _ (dialled : TurnsAreDialled) (steps : ChannelStepsKnown) (asks : AsksWha
       (λ k. omega (arith, given_append k given (given_by (Client at) actions), given_other k (Client at) actions refl)) (λ n number timestamp e there. there)
       (known (draws_before s.chances (hear (Client at) what s).state.chances on differ))
   end_hears (Member at) what s given b none known differ =
-      member_hears dialled steps asks plan s given b (slice_get s.ends.members at) at what refl none (hear_grows (Member at) what s b b (λ k one there. there)) known differ
+      member_hears plan s given b (slice_get s.ends.members at) at what refl none (hear_grows (Member at) what s b b (λ k one there. there)) known differ
 
   -- an end takes a step in which no whole unit comes on the link of a turn
   pub own_hears : (n : ℕ) (end : EndId) (what : Event) (s : State) (given : Given) (b : Book) → HearsNoUnit end what s → OwnHolds plan n s given b →

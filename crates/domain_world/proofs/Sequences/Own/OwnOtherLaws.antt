@@ -6,13 +6,10 @@ use Rattle.outside.specs.declared.event.Event.TheVariants as event
 use Rattle.end_links.specs.Serving.{ServedUnit}
 use Rattle.channel_events.specs.Marks.{Mark, Calling}
 use Rattle.channel_events.proofs.ListLaws.{got_append}
-use Rattle.member_server.specs.ChannelSteps.{ChannelStepsKnown}
-use Rattle.member_server.specs.Dials.{TurnsAreDialled}
-use Rattle.member_server.specs.Laws.{AsksWhatWaits}
 use Rattle.member_server.specs.Machine.{step_of}
 use Rattle.member_server.specs.State.{State as MemberState}
-use Rattle.member_server.specs.declared.state.AtTurn.{AtTurn}
-use Rattle.member_server.specs.declared.state.TurnTalk.{TurnTalk}
+use Rattle.member_server.specs.Turns.{AtTurn}
+use Rattle.channel_turns.specs.declared.state.TurnTalk.{TurnTalk}
 use Rattle.step_notes.specs.Marking.{turn_marks}
 use Rattle.step_notes.specs.MemberNotes.{link_units, message_note, turn_note, turn_units}
 use Rattle.step_notes.specs.Records.{Book, MessageTaken}
@@ -58,11 +55,11 @@ module _ (plan : Plan) (n at : ℕ) (w : Coming) (piece : List ℕ) (s t after :
       (subst (λ (all : List Mark). slice_get all k ≡ Some (Calling e number timestamp)) (marks_append b.sent (map (sent_at w.at) new)) there)) holds)
 
 -- no unit comes on the link of its turn
-pub other_comes : TurnsAreDialled → ChannelStepsKnown → AsksWhatWaits → (plan : Plan) (n at : ℕ) (w : Coming) (piece : List ℕ) (s after : State) (given : Given) (b : Book) (m : MemberState) →
+pub other_comes : (plan : Plan) (n at : ℕ) (w : Coming) (piece : List ℕ) (s after : State) (given : Given) (b : Book) (m : MemberState) →
     slice_get s.ends.members at ≡ Some m → IsOther m.running w.link → OwnHolds plan n s given b →
     OwnHolds plan (n + 1) (hear (Member at) (event.Bytes w.link piece) s).state (given ++ given_by (Member at) (hear (Member at) (event.Bytes w.link piece) s).actions)
     (note_member (Some m) at w piece s after b)
-other_comes dialled steps asks plan n at w piece s after given b m is other holds =
+other_comes plan n at w piece s after given b m is other holds =
     let what : Event = event.Bytes w.link piece in
     other_noted plan (n + 1) at w piece s (hear (Member at) what s).state after (given ++ given_by (Member at) (hear (Member at) what s).actions) b m other
-    (own_hears dialled steps asks plan n (Member at) what s given b (subst (λ (found : Option MemberState). HearsIf found what) (sym is) (other_none m.running w.link piece other)) holds)
+    (own_hears plan n (Member at) what s given b (subst (λ (found : Option MemberState). HearsIf found what) (sym is) (other_none m.running w.link piece other)) holds)

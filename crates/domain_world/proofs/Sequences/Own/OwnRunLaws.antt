@@ -23,14 +23,13 @@ use Rattle.channel_client.specs.declared.state.Step.TheVariants as step
 use Rattle.channel_events.specs.Seeds.{channel_seed}
 use Rattle.channel_events.proofs.ListLaws.{some_is}
 use Rattle.logon_stubs.specs.declared.calls.Call.TheVariants as call
-use Rattle.member_server.specs.Dials.{TurnsAreDialled}
-use Rattle.member_server.specs.Laws.{AsksWhatWaits}
 use Rattle.member_server.specs.Machine.{fresh_member}
 use Rattle.member_server.specs.State.{State as MemberState}
 use Rattle.member_server.specs.declared.plan.MemberPlan.{MemberPlan}
 use Rattle.member_server.specs.declared.state.Running.{Running}
+use Rattle.member_server.proofs.AskedLaws.{asks_what_waits}
 use Rattle.step_notes.specs.MemberNotes.{stamped, turn_by, turn_in, turn_of}
-use Rattle.step_notes.specs.Records.{LogonTurn, OfMember, same_requester}
+use Rattle.step_notes.specs.Records.{ChannelTurn, OfMember, same_requester}
 use Rattle.world_moves.specs.declared.links.EndId.{EndId}
 use Rattle.world_moves.specs.declared.links.EndId.TheVariants.{Controller, Member, Client}
 use Rattle.world_moves.specs.declared.moves.Move.{Move}
@@ -65,7 +64,7 @@ first_of_dials [] dial is = absurd (let x = is in cc)
 first_of_dials (first ∷ dials) dial is = let same : first ≡ dial = some_is first dial is in ap (λ (one : WaitingDial). one ∷ dials) same
 
 -- of a member that takes no step, where nothing was given: as many dials are out, or fewer
-fewer_out : (k controller : ℕ) (d later : Option EndId) (dials waiting : List WaitingDial) (drawn : List (List ℕ)) (turns : List LogonTurn) (r : Option Running) →
+fewer_out : (k controller : ℕ) (d later : Option EndId) (dials waiting : List WaitingDial) (drawn : List (List ℕ)) (turns : List ChannelTurn) (r : Option Running) →
     dials_out k later [] waiting ≤ dials_out k d [] dials → TurnsIf k controller d [] dials drawn [] turns r → TurnsIf k controller later [] waiting drawn [] turns r
 fewer_out k controller d later dials waiting drawn turns None few old = tt
 fewer_out k controller d later dials waiting drawn turns (Some running) few old = record {
@@ -77,7 +76,7 @@ fewer_out k controller d later dials waiting drawn turns (Some running) few old 
   turned = old.turned;
 }
 
-first_holds : (dial : WaitingDial) (s : State) (turns : List LogonTurn) → slice_get s.dials 0 ≡ Some dial → TurnsKnown None [] s.member_plans s.ends s.dials s.chances [] turns →
+first_holds : (dial : WaitingDial) (s : State) (turns : List ChannelTurn) → slice_get s.dials 0 ≡ Some dial → TurnsKnown None [] s.member_plans s.ends s.dials s.chances [] turns →
     TurnsKnown (Some dial.end) [] s.member_plans s.ends (drop 1 s.dials) s.chances [] turns
 first_holds dial s turns is known differ =
     let holds = known differ in
@@ -88,7 +87,7 @@ first_holds dial s turns is known differ =
           fewer_out k (controller_of_plan (slice_get s.member_plans k) s.ends) None (Some dial.end) s.dials (drop 1 s.dials) s.chances.drawn turns m.running (omega (arith, count)) (holds.members k m there);
     }
 
-forgets_hold : (end : EndId) (s : State) (turns : List LogonTurn) → TurnsKnown None [] s.member_plans s.ends s.dials s.chances [] turns →
+forgets_hold : (end : EndId) (s : State) (turns : List ChannelTurn) → TurnsKnown None [] s.member_plans s.ends s.dials s.chances [] turns →
     TurnsKnown None [] s.member_plans s.ends (filter (is_of_other end) s.dials) s.chances [] turns
 forgets_hold end s turns known differ =
     let holds = known differ in
@@ -101,13 +100,13 @@ forgets_hold end s turns known differ =
 
 -- ---- an end is made anew
 
-module _ (asks : AsksWhatWaits) (plans : List MemberPlan) (ends : EndStates) (dials : List WaitingDial) (drawn : List (List ℕ)) (turns : List LogonTurn) where
+module _ (plans : List MemberPlan) (ends : EndStates) (dials : List WaitingDial) (drawn : List (List ℕ)) (turns : List ChannelTurn) where
   abbrev Now : EndStates → List WaitingDial → Type 0
   Now now waiting = TurnsHold None [] plans now waiting drawn [] turns
 
   anew : (k controller : ℕ) (plan : MemberPlan) (waiting : List WaitingDial) → waiting_dials k waiting ≡ 0 → TurnsIf k controller None [] waiting drawn [] turns (fresh_member plan).running
   anew k controller plan waiting none = record {
-    order = asks.fresh plan;
+    order = asks_what_waits.fresh plan;
     out_once = omega (arith, none);
     out_waits = λ some. absurd (omega (arith, none, some));
     given_once = omega arith;
@@ -154,25 +153,25 @@ module _ (asks : AsksWhatWaits) (plans : List MemberPlan) (ends : EndStates) (di
         ]);
   }
 
-renews_hold : AsksWhatWaits → (end : EndId) (s : State) (turns : List LogonTurn) → TurnsKnown None [] s.member_plans s.ends s.dials s.chances [] turns →
+renews_hold : (end : EndId) (s : State) (turns : List ChannelTurn) → TurnsKnown None [] s.member_plans s.ends s.dials s.chances [] turns →
     TurnsKnown None [] s.member_plans (renew end (forget end s)) (filter (is_of_other end) s.dials) s.chances [] turns
-renews_hold asks (Controller at) s turns known differ =
-    controller_renewed asks s.member_plans s.ends (filter (is_of_other (Controller at)) s.dials) s.chances.drawn turns (slice_get s.ends.controllers at) at (forgets_hold (Controller at) s turns known differ)
-renews_hold asks (Client at) s turns known differ =
-    client_renewed asks s.member_plans s.ends (filter (is_of_other (Client at)) s.dials) s.chances.drawn turns (slice_get s.client_plans at) at (forgets_hold (Client at) s turns known differ)
-renews_hold asks (Member at) s turns known differ =
-    member_renewed asks s.member_plans s.ends (filter (is_of_other (Member at)) s.dials) s.chances.drawn turns (slice_get s.member_plans at) at (gone_all at s.dials)
+renews_hold (Controller at) s turns known differ =
+    controller_renewed s.member_plans s.ends (filter (is_of_other (Controller at)) s.dials) s.chances.drawn turns (slice_get s.ends.controllers at) at (forgets_hold (Controller at) s turns known differ)
+renews_hold (Client at) s turns known differ =
+    client_renewed s.member_plans s.ends (filter (is_of_other (Client at)) s.dials) s.chances.drawn turns (slice_get s.client_plans at) at (forgets_hold (Client at) s turns known differ)
+renews_hold (Member at) s turns known differ =
+    member_renewed s.member_plans s.ends (filter (is_of_other (Member at)) s.dials) s.chances.drawn turns (slice_get s.member_plans at) at (gone_all at s.dials)
     (forgets_hold (Member at) s turns known differ)
 
 -- ---- the turns of a move are written down
 
-times_more : (a b : ℕ) (turns : List LogonTurn) → times (a + b) turns ≡ times a turns ++ times b turns
+times_more : (a b : ℕ) (turns : List ChannelTurn) → times (a + b) turns ≡ times a turns ++ times b turns
 times_more zero b turns = let same : 0 + b ≡ b = omega arith in ap (λ (n : ℕ). times n turns) same
 times_more (suc a) b turns =
     let same : suc a + b ≡ suc (a + b) = omega arith in
-    ap (λ (n : ℕ). times n turns) same ∙ ap (λ (all : List LogonTurn). turns ++ all) (times_more a b turns) ∙ sym (append_assoc turns (times a turns) (times b turns))
+    ap (λ (n : ℕ). times n turns) same ∙ ap (λ (all : List ChannelTurn). turns ++ all) (times_more a b turns) ∙ sym (append_assoc turns (times a turns) (times b turns))
 
-abbrev kept_if : Bool → List LogonTurn → List LogonTurn
+abbrev kept_if : Bool → List ChannelTurn → List ChannelTurn
 kept_if false turns = []
 kept_if true turns = turns
 
@@ -203,7 +202,7 @@ in_mine hit k j controller (Some running) is =
 
 module _ (s : State) where
   -- the turn of a member, as it is read after the move
-  abbrev turn_now : ℕ → List LogonTurn
+  abbrev turn_now : ℕ → List ChannelTurn
   turn_now j = turn_in (controller_of j s) j (running_in (slice_get s.ends.members j))
 
   dial_mine : (hit : Bool) (k j : ℕ) (peer : List ℕ) → (j == k) ≡ hit → mine k (turn_now j) ≡ times (counted hit (Dial peer)) (turn_now k)
@@ -228,14 +227,14 @@ module _ (s : State) where
   pub all_mine : (k : ℕ) (given : Given) → mine k (turns_in given s) ≡ times (given_dials k given) (turn_now k)
   all_mine k [] = refl
   all_mine k (one ∷ given) =
-      filter-append (λ (turn : LogonTurn). same_requester turn.requester (OfMember k)) (turns_by one.0 one.1 s) (turns_in given s)
-      ∙ ap (λ (l : List LogonTurn). l ++ mine k (turns_in given s)) (one_mine k one.0 one.1)
-      ∙ ap (λ (l : List LogonTurn). times (counted (is_member k one.0) one.1) (turn_now k) ++ l) (all_mine k given)
+      filter-append (λ (turn : ChannelTurn). same_requester turn.requester (OfMember k)) (turns_by one.0 one.1 s) (turns_in given s)
+      ∙ ap (λ (l : List ChannelTurn). l ++ mine k (turns_in given s)) (one_mine k one.0 one.1)
+      ∙ ap (λ (l : List ChannelTurn). times (counted (is_member k one.0) one.1) (turn_now k) ++ l) (all_mine k given)
       ∙ sym (times_more (counted (is_member k one.0) one.1) (given_dials k given) (turn_now k))
 
   -- ---- they were on channels whose client's challenge was drawn
 
-  module _ (given : Given) (turns : List LogonTurn) (holds : TurnsHold None [] s.member_plans s.ends s.dials s.chances.drawn given turns) where
+  module _ (given : Given) (turns : List ChannelTurn) (holds : TurnsHold None [] s.member_plans s.ends s.dials s.chances.drawn given turns) where
     running_drawn : (j : ℕ) (r : Option Running) → TurnsIf j (controller_of j s) None [] s.dials s.chances.drawn given turns r → AreDrawn s.chances.drawn (turn_in (controller_of j s) j r)
     running_drawn j None known = tt
     running_drawn j (Some running) known = turn_drawn (controller_of j s) (OfMember j) running.logons.channel _ s.chances.drawn known.turned
@@ -264,21 +263,21 @@ module _ (s : State) where
         TurnsIf k (controller_of k s) None [] s.dials s.chances.drawn given turns r → TurnsIf k (controller_of k s) None [] s.dials s.chances.drawn [] (turns ++ turns_in given s) r
     member_over k m None there runs old = tt
     member_over k m (Some running) there runs old =
-        let turn : List LogonTurn = turn_of (controller_of k s) (OfMember k) running.logons.channel in
+        let turn : List ChannelTurn = turn_of (controller_of k s) (OfMember k) running.logons.channel in
         let same : turn_now k ≡ turn =
         ap (λ (found : Option MemberState). turn_in (controller_of k s) k (running_in found)) there ∙ ap (λ (x : Option Running). turn_in (controller_of k s) k x) runs in
         let all : mine k (turns ++ turns_in given s) ++ [] ≡ mine k turns ++ times (given_dials k given) turn =
         append-nil (mine k (turns ++ turns_in given s))
-        ∙ filter-append (λ (one : LogonTurn). same_requester one.requester (OfMember k)) turns (turns_in given s)
-        ∙ ap (λ (l : List LogonTurn). mine k turns ++ l) (all_mine k given)
-        ∙ ap (λ (l : List LogonTurn). mine k turns ++ times (given_dials k given) l) same in
+        ∙ filter-append (λ (one : ChannelTurn). same_requester one.requester (OfMember k)) turns (turns_in given s)
+        ∙ ap (λ (l : List ChannelTurn). mine k turns ++ l) (all_mine k given)
+        ∙ ap (λ (l : List ChannelTurn). mine k turns ++ times (given_dials k given) l) same in
         record {
           order = old.order;
           out_once = old.out_once;
           out_waits = old.out_waits;
           given_once = omega arith;
           given_waits = λ some. absurd (omega (arith, some));
-          turned = subst (λ (l : List LogonTurn). Turned (view_of (controller_of k s) running.logons.channel) l s.chances.drawn) (sym all) old.turned;
+          turned = subst (λ (l : List ChannelTurn). Turned (view_of (controller_of k s) running.logons.channel) l s.chances.drawn) (sym all) old.turned;
         }
 
     pub hold_over : TurnsHold None [] s.member_plans s.ends s.dials s.chances.drawn [] (turns ++ turns_in given s)
@@ -311,7 +310,7 @@ module _ (P : List MemberPlan → EndStates → Drawing → Type 0) where
   quiet_parts end (Told link outcome) s is = is
   quiet_parts end (Judged how) s is = is
 
-acts_hold : (d : Option EndId) (rest : Given) (end : EndId) (what : Action) (s : State) (given : Given) (turns : List LogonTurn) →
+acts_hold : (d : Option EndId) (rest : Given) (end : EndId) (what : Action) (s : State) (given : Given) (turns : List ChannelTurn) →
     AtState TurnsKnown d ((end, what) ∷ rest) s given turns → AtState TurnsKnown d rest (perform_quietly end what s) given turns
 acts_hold d rest end what s given turns known =
     quiet_parts (λ plans ends chances. TurnsKnown d rest plans ends (perform_quietly end what s).dials chances given turns) end what s
@@ -326,50 +325,50 @@ acts_hold d rest end what s given turns known =
 
 -- ---- through a run
 
-pub turns_keep : AsksWhatWaits → TurnsAreDialled → KeepsDials TurnsKnown
-turns_keep asks dialled = record {
-  closes = λ d rest end link s given turns known. hear_holds asks dialled d d rest end (event.Closed link) s given turns (inl (tt, refl)) known;
-  opens = λ d end link s given turns known. hear_holds asks dialled d d [] end (event.Opened link) s given turns (inl (tt, refl)) known;
-  comes = λ end link piece s given turns known. hear_holds asks dialled None None [] end (event.Bytes link piece) s given turns (inl (tt, refl)) known;
-  dialled = λ end link s given turns known. hear_holds asks dialled (Some end) None [] end (event.Dialled link) s given turns (inr (refl, refl, refl)) known;
-  fails = λ end s given turns known. hear_holds asks dialled (Some end) None [] end event.DialFailed s given turns (inr (refl, refl, refl)) known;
+pub turns_keep : KeepsDials TurnsKnown
+turns_keep = record {
+  closes = λ d rest end link s given turns known. hear_holds d d rest end (event.Closed link) s given turns (inl (tt, refl)) known;
+  opens = λ d end link s given turns known. hear_holds d d [] end (event.Opened link) s given turns (inl (tt, refl)) known;
+  comes = λ end link piece s given turns known. hear_holds None None [] end (event.Bytes link piece) s given turns (inl (tt, refl)) known;
+  dialled = λ end link s given turns known. hear_holds (Some end) None [] end (event.Dialled link) s given turns (inr (refl, refl, refl)) known;
+  fails = λ end s given turns known. hear_holds (Some end) None [] end event.DialFailed s given turns (inr (refl, refl, refl)) known;
   begins = λ client plan s turns known.
       begin_holds client (begin_of (fresh_client plan)).state (begin_of (fresh_client plan)).actions s.member_plans s.ends s.dials s.chances turns known;
   acts = λ d rest end what s given turns known. acts_hold d rest end what s given turns known;
   first = λ dial s turns is known. first_holds dial s turns is known;
   forgets = λ end s turns known. forgets_hold end s turns known;
-  renews = λ end s turns known. renews_hold asks end s turns known;
+  renews = λ end s turns known. renews_hold end s turns known;
   over = λ s given turns known differ. hold_over s given turns (known differ);
 }
 
 -- at first
-pub first_known : AsksWhatWaits → (plan : Plan) → AtState TurnsKnown None [] (first_world plan).state [] []
-first_known asks plan differ =
+pub first_known : (plan : Plan) → AtState TurnsKnown None [] (first_world plan).state [] []
+first_known plan differ =
     let s : State = (first_world plan).state in
     record {
       before = tt;
       members = λ k m there.
           let found = got_map fresh_member plan.members k m there in
           subst (λ (x : MemberState). TurnsIf k (controller_of k s) None [] [] s.chances.drawn [] [] x.running) found.2
-          (anew asks s.member_plans s.ends [] s.chances.drawn [] k (controller_of k s) found.0 [] refl);
+          (anew s.member_plans s.ends [] s.chances.drawn [] k (controller_of k s) found.0 [] refl);
     }
 
 -- ---- the claim
 
-and_filter : (one other : LogonTurn → Bool) (turns : List LogonTurn) → filter (λ (turn : LogonTurn). one turn && other turn) turns ≡ filter other (filter one turns)
+and_filter : (one other : ChannelTurn → Bool) (turns : List ChannelTurn) → filter (λ (turn : ChannelTurn). one turn && other turn) turns ≡ filter other (filter one turns)
 and_filter one other [] = refl
-and_filter one other (turn ∷ turns) = and_one (one turn) turn (filter one turns) (filter (λ (t : LogonTurn). one t && other t) turns) (and_filter one other turns)
+and_filter one other (turn ∷ turns) = and_one (one turn) turn (filter one turns) (filter (λ (t : ChannelTurn). one t && other t) turns) (and_filter one other turns)
   where
-    and_one : (hit : Bool) (turn : LogonTurn) (first both : List LogonTurn) → both ≡ filter other first →
+    and_one : (hit : Bool) (turn : ChannelTurn) (first both : List ChannelTurn) → both ≡ filter other first →
         (if hit && other turn then turn ∷ both else both) ≡ filter other (if hit then turn ∷ first else first)
-    and_one true turn first both is = ap (λ (l : List LogonTurn). if other turn then turn ∷ l else l) is
+    and_one true turn first both is = ap (λ (l : List ChannelTurn). if other turn then turn ∷ l else l) is
     and_one false turn first both is = is
 
 -- the timestamps of a member's turns on a channel
-pub own_stamps : (k : ℕ) (channel : ChannelIdentity) (turns : List LogonTurn) → stamps_on channel (mine k turns) ≡ timestamps_on (OfMember k) channel turns
-own_stamps k channel turns = ap (λ (l : List LogonTurn). map (λ (turn : LogonTurn). turn.timestamp) l) (sym (and_filter (λ (turn : LogonTurn). same_requester turn.requester (OfMember k)) (on_channel channel) turns))
+pub own_stamps : (k : ℕ) (channel : ChannelIdentity) (turns : List ChannelTurn) → stamps_on channel (mine k turns) ≡ timestamps_on (OfMember k) channel turns
+own_stamps k channel turns = ap (λ (l : List ChannelTurn). map (λ (turn : ChannelTurn). turn.timestamp) l) (sym (and_filter (λ (turn : ChannelTurn). same_requester turn.requester (OfMember k)) (on_channel channel) turns))
 
-own_seed : (s : State) (k : ℕ) (channel : ChannelIdentity) (o : SecureChannelState) (turns : List LogonTurn) → TurnsHold None [] s.member_plans s.ends s.dials s.chances.drawn [] turns →
+own_seed : (s : State) (k : ℕ) (channel : ChannelIdentity) (o : SecureChannelState) (turns : List ChannelTurn) → TurnsHold None [] s.member_plans s.ends s.dials s.chances.drawn [] turns →
     Stands s (OfMember k) channel o → o.seed ≡ channel_seed channel (timestamps_on (OfMember k) channel turns)
 own_seed s k channel o turns holds its =
     let c : ℕ = controller_of k s in
@@ -381,11 +380,11 @@ own_seed s k channel o turns holds its =
     ap (λ (how : Standing). stands_in c running.logons.channel.caller.computer how) stands.open_so ∙ ap Some (sym stands.is) in
     let seed : Some o.seed ≡ Some (channel_seed channel (stamps_on channel (mine k turns ++ []))) = sym (ap seed_in stands.open_so) ∙ known.turned.seed channel open_channel in
     some_is o.seed (channel_seed channel (stamps_on channel (mine k turns ++ []))) seed
-    ∙ ap (λ (l : List LogonTurn). channel_seed channel (stamps_on channel l)) (append-nil (mine k turns))
+    ∙ ap (λ (l : List ChannelTurn). channel_seed channel (stamps_on channel l)) (append-nil (mine k turns))
     ∙ ap (channel_seed channel) (own_stamps k channel turns)
 
-pub sequences_own : AsksWhatWaits → TurnsAreDialled → (plan : Plan) (moves : List Move) → SequencesAreOwn (past plan moves)
-sequences_own asks dialled plan moves (OfMember member) channel o stands =
+pub sequences_own : (plan : Plan) (moves : List Move) → SequencesAreOwn (past plan moves)
+sequences_own plan moves (OfMember member) channel o stands =
     let known : AtState TurnsKnown None [] (past plan moves).world.state [] (past plan moves).book.turns =
-    dials_after TurnsKnown (turns_keep asks dialled) plan moves (first_known asks plan) in
+    dials_after TurnsKnown turns_keep plan moves (first_known plan) in
     own_seed (past plan moves).world.state member channel o (past plan moves).book.turns (known (draws_differ plan moves)) stands

@@ -7,14 +7,13 @@ use Rattle.outside.specs.declared.event.Event.{Event}
 use Rattle.authenticators.specs.Channels.{ChannelIdentity}
 use Rattle.channel_client.specs.Effects.{stands_in}
 use Rattle.channel_events.specs.Marks.{Mark, Calling}
-use Rattle.member_server.specs.ChannelSteps.{ChannelStepsKnown}
-use Rattle.member_server.specs.Dials.{TurnsAreDialled}
-use Rattle.member_server.specs.Laws.{AsksWhatWaits, InOrderUnlessStopped}
+use Rattle.member_server.specs.Laws.{InOrderUnlessStopped}
 use Rattle.member_server.specs.Machine.{step_of}
 use Rattle.member_server.specs.State.{State as MemberState}
 use Rattle.member_server.specs.declared.plan.MemberPlan.{MemberPlan}
 use Rattle.member_server.specs.declared.state.Running.{Running}
-use Rattle.step_notes.specs.Records.{Book, LogonTurn, Sent}
+use Rattle.member_server.proofs.AskedLaws.{asks_what_waits}
+use Rattle.step_notes.specs.Records.{Book, ChannelTurn, Sent}
 use Rattle.world_moves.specs.declared.links.EndId.TheVariants.{Member}
 use Rattle.world_moves.specs.declared.plan.Plan.{Plan}
 use Rattle.world_moves.specs.declared.state.State.{State}
@@ -37,7 +36,7 @@ use Rattle.domain_world.proofs.Sequences.SeedTurnLaws.{drawn_still}
 
 -- ---- what is known
 
-abbrev pub MemberOwn : (ℕ → Type 0) → List Mark → List (List ℕ) → List LogonTurn → Given → ℕ → ℕ → Option Running → Type 0
+abbrev pub MemberOwn : (ℕ → Type 0) → List Mark → List (List ℕ) → List ChannelTurn → Given → ℕ → ℕ → Option Running → Type 0
 MemberOwn Done marks drawn turns given controller k r = InOrderUnlessStopped r × OwnIf Done marks drawn turns given controller k r
 
 -- The turns that are written down were on channels whose client's challenge was drawn; and so much is known of each
@@ -87,14 +86,14 @@ module _ (plan : Plan) (s t : State) (b d : Book) (given more : Given) (plans : 
   one_stays k None count new old = (tt, tt)
   one_stays k (Some running) count new old = (
     old.0,
-    subst (λ (all : List LogonTurn). OwnCalls (IsTakenFor (past_at plan t d)) (marks_in d.sent) t.chances.drawn all more (controller_of k t) k running) (sym turns)
+    subst (λ (all : List ChannelTurn). OwnCalls (IsTakenFor (past_at plan t d)) (marks_in d.sent) t.chances.drawn all more (controller_of k t) k running) (sym turns)
         (subst (λ (c : ℕ). OwnCalls (IsTakenFor (past_at plan t d)) (marks_in d.sent) t.chances.drawn b.turns more c k running) (sym (controller_kept k s t plans grows.ends))
         (own_grows (IsTakenFor (past_at plan s b)) (IsTakenFor (past_at plan t d)) (taken_for_stays plan s t b d grows) (marks_in b.sent) (marks_in d.sent) s.chances.drawn t.chances.drawn b.turns given
         more (controller_of k s) k running (marks_still b.sent d.sent grows.sent) new count drawn old.1)),
   )
 
   pub before_stays : AreDrawn s.chances.drawn b.turns → AreDrawn t.chances.drawn d.turns
-  before_stays all = subst (λ (ts : List LogonTurn). AreDrawn t.chances.drawn ts) (sym turns) (still_drawn s.chances.drawn t.chances.drawn b.turns drawn all)
+  before_stays all = subst (λ (ts : List ChannelTurn). AreDrawn t.chances.drawn ts) (sym turns) (still_drawn s.chances.drawn t.chances.drawn b.turns drawn all)
 
   pub on_any : (k : ℕ) (r : Option Running) → NoNewCalls (marks_in b.sent) (marks_in d.sent) → OnStanding (NoNewOn (marks_in b.sent) (marks_in d.sent)) (controller_of k s) r
   on_any k None none = tt
@@ -122,7 +121,7 @@ abbrev pub HearsIf : Option MemberState → Event → Type 0
 HearsIf None what = Unit {0}
 HearsIf (Some m) what = HearsNone m.running what
 
-module _ (dialled : TurnsAreDialled) (steps : ChannelStepsKnown) (asks : AsksWhatWaits) (plan : Plan) (s : State) (given : Given) (b : Book) where
+module _ (plan : Plan) (s : State) (given : Given) (b : Book) where
   -- one that runs, on the link of whose turn no whole unit comes
   quiet_own : (at controller : ℕ) (r : Option Running) (what : Event) → HearsNone r what →
       MemberOwn (IsTakenFor (past_at plan s b)) (marks_in b.sent) s.chances.drawn b.turns given controller at r →
@@ -131,8 +130,8 @@ module _ (dialled : TurnsAreDialled) (steps : ChannelStepsKnown) (asks : AsksWha
       MemberOwn (IsTakenFor (past_at plan s b)) (marks_in b.sent) (s.chances.drawn ++ step.drawn) b.turns (given ++ given_by (Member at) (actions_by step.answer)) controller at step.state.running
   quiet_own at controller None what none old differ = (tt, tt)
   quiet_own at controller (Some running) what none old differ = (
-    asks.keeps (record { running = Some running }) running what s.moment s.chances.left refl old.0,
-    own_quiet dialled steps (IsTakenFor (past_at plan s b)) (marks_in b.sent) s.chances.drawn b.turns given controller at running what s.moment s.chances.left none old.0 old.1 differ,
+    asks_what_waits.keeps (record { running = Some running }) running what s.moment s.chances.left refl old.0,
+    own_quiet (IsTakenFor (past_at plan s b)) (marks_in b.sent) s.chances.drawn b.turns given controller at running what s.moment s.chances.left none old.0 old.1 differ,
   )
 
   abbrev HeardBy : Option MemberState → ℕ → Event → Heard

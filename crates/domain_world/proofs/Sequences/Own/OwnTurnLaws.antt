@@ -19,19 +19,21 @@ use Rattle.channel_client.specs.declared.state.Standing.{Standing}
 use Rattle.channel_events.specs.Requests.{IsDrawn}
 use Rattle.channel_events.proofs.ListLaws.{one_last}
 use Rattle.member_server.specs.ChannelSteps.{IsNextTurn}
-use Rattle.member_server.specs.Dials.{IsDialledBy, IsNoAnswer, IsWaiting, StaysOutIfTaken, TurnStepsIfTaken, TurnsAreDialled, dials_in}
-use Rattle.member_server.specs.Laws.{AsksWhatWaits, InOrderUnlessStopped, IsInOrder, is_dialled}
+use Rattle.member_server.specs.Dials.{IsDialledBy, IsNoAnswer, IsWaiting, StaysOutIfTaken, TurnStepsIfTaken, dials_in}
+use Rattle.member_server.specs.Laws.{InOrderUnlessStopped, IsInOrder, is_dialled}
 use Rattle.member_server.specs.Machine.{actions_in, by_event, event_part, halted_state, state_in, step_of, work_of}
 use Rattle.member_server.specs.Turns.{DialWork, timestamp_of}
-use Rattle.member_server.specs.declared.state.Dialling.{Dialling}
-use Rattle.member_server.specs.declared.state.Dialling.TheVariants as dialling
+use Rattle.channel_turns.specs.declared.state.Dialling.{Dialling}
+use Rattle.channel_turns.specs.declared.state.Dialling.TheVariants as dialling
 use Rattle.member_server.specs.declared.state.Running.{Running}
+use Rattle.member_server.proofs.AskedLaws.{asks_what_waits}
+use Rattle.member_server.proofs.DialLaws.{turns_dialled}
 use Rattle.wire_base.specs.declared.authenticator.Authenticator.{Authenticator}
 use Rattle.channel_client.specs.declared.state.Step.{Step}
 use Rattle.channel_client.specs.declared.state.Step.TheVariants as step
 use Rattle.logon_stubs.specs.declared.calls.Call.TheVariants as call
 use Rattle.step_notes.specs.MemberNotes.{stamped, turn_by, turn_of}
-use Rattle.step_notes.specs.Records.{LogonTurn, OfMember, RequesterId, same_requester}
+use Rattle.step_notes.specs.Records.{ChannelTurn, OfMember, RequesterId, same_requester}
 use Rattle.step_notes.proofs.Members.RestLaws.{event_rest}
 use Rattle.world_moves.specs.declared.links.EndId.{EndId}
 use Rattle.world_moves.specs.declared.links.EndId.TheVariants.{Member}
@@ -44,18 +46,18 @@ use Rattle.domain_world.proofs.Sequences.SeedTurnLaws.{Turned, comes_so, drawn_s
 
 -- ---- the turns of a member
 
-abbrev pub mine : ℕ → List LogonTurn → List LogonTurn
-mine k turns = filter (λ (turn : LogonTurn). same_requester turn.requester (OfMember k)) turns
+abbrev pub mine : ℕ → List ChannelTurn → List ChannelTurn
+mine k turns = filter (λ (turn : ChannelTurn). same_requester turn.requester (OfMember k)) turns
 
 -- so often
-abbrev pub times : ℕ → List LogonTurn → List LogonTurn
+abbrev pub times : ℕ → List ChannelTurn → List ChannelTurn
 times zero turns = []
 times (suc n) turns = turns ++ times n turns
 
 -- ---- what is known of a member that runs: of the dial of its turn, and of its turns, where the one that started in
 -- this move isn't written down yet
 
-pub record TurnsOf (k controller : ℕ) (d : Option EndId) (rest : Given) (dials : List WaitingDial) (drawn : List (List ℕ)) (given : Given) (turns : List LogonTurn) (running : Running) : Type 0 where
+pub record TurnsOf (k controller : ℕ) (d : Option EndId) (rest : Given) (dials : List WaitingDial) (drawn : List (List ℕ)) (given : Given) (turns : List ChannelTurn) (running : Running) : Type 0 where
   pub order : IsInOrder (is_dialled running.dialling) running.logons
   -- one dial is out at most, and the turn waits for it then
   pub out_once : dials_out k d rest dials ≤ 1
@@ -65,13 +67,13 @@ pub record TurnsOf (k controller : ℕ) (d : Option EndId) (rest : Given) (dials
   pub given_waits : 1 ≤ given_dials k given → IsWaiting running.dialling × (answered_dials k d ≡ 0)
   pub turned : Turned (view_of controller running.logons.channel) (mine k turns ++ times (given_dials k given) (turn_of controller (OfMember k) running.logons.channel)) drawn
 
-abbrev pub TurnsIf : ℕ → ℕ → Option EndId → Given → List WaitingDial → List (List ℕ) → Given → List LogonTurn → Option Running → Type 0
+abbrev pub TurnsIf : ℕ → ℕ → Option EndId → Given → List WaitingDial → List (List ℕ) → Given → List ChannelTurn → Option Running → Type 0
 TurnsIf k controller d rest dials drawn given turns None = Unit {0}
 TurnsIf k controller d rest dials drawn given turns (Some running) = TurnsOf k controller d rest dials drawn given turns running
 
 -- the turns were on channels whose client's challenge was drawn
-abbrev pub AreDrawn : List (List ℕ) → List LogonTurn → Type 0
-AreDrawn drawn turns = AllByRecursion (λ (turn : LogonTurn). IsDrawn turn.channel.client drawn) turns
+abbrev pub AreDrawn : List (List ℕ) → List ChannelTurn → Type 0
+AreDrawn drawn turns = AllByRecursion (λ (turn : ChannelTurn). IsDrawn turn.channel.client drawn) turns
 
 -- ---- numbers
 
@@ -80,11 +82,11 @@ none_or_one zero few = inl refl
 none_or_one (suc zero) few = inr refl
 none_or_one (suc (suc n)) few = absurd (omega (arith, few))
 
-pub no_times : (n : ℕ) (turns all : List LogonTurn) → n ≡ 0 → all ++ times n turns ≡ all
+pub no_times : (n : ℕ) (turns all : List ChannelTurn) → n ≡ 0 → all ++ times n turns ≡ all
 no_times n turns all none = ap (λ (m : ℕ). all ++ times m turns) none ∙ append-nil all
 
-pub one_time : (n : ℕ) (turns all : List LogonTurn) → n ≡ 1 → all ++ times n turns ≡ all ++ turns
-one_time n turns all one = ap (λ (m : ℕ). all ++ times m turns) one ∙ ap (λ (l : List LogonTurn). all ++ l) (append-nil turns)
+pub one_time : (n : ℕ) (turns all : List ChannelTurn) → n ≡ 1 → all ++ times n turns ≡ all ++ turns
+one_time n turns all one = ap (λ (m : ℕ). all ++ times m turns) one ∙ ap (λ (l : List ChannelTurn). all ++ l) (append-nil turns)
 
 pub one_drawn : (drawn left before after : List (List ℕ)) (rest : IsRest before left) (challenge : List ℕ) → before ≡ challenge ∷ after →
     drawn ++ draws_between left after ≡ (drawn ++ rest.front) ++ challenge ∷ []
@@ -97,7 +99,7 @@ pub drawn_between : (one : List ℕ) (drawn front : List (List ℕ)) (challenge 
 drawn_between one [] front challenge is = elim is [ inl here ↦ one_last (λ (x : List ℕ). x ≡ one) front challenge here | inr never ↦ absurd never ]
 drawn_between one (first ∷ drawn) front challenge is = elim is [ inl here ↦ inl here | inr later ↦ inr (drawn_between one drawn front challenge later) ]
 
-pub both_drawn : (drawn : List (List ℕ)) (one other : List LogonTurn) → AreDrawn drawn one → AreDrawn drawn other → AreDrawn drawn (one ++ other)
+pub both_drawn : (drawn : List (List ℕ)) (one other : List ChannelTurn) → AreDrawn drawn one → AreDrawn drawn other → AreDrawn drawn (one ++ other)
 both_drawn drawn [] other first later = later
 both_drawn drawn (turn ∷ one) other first later = (first.0, both_drawn drawn one other first.1 later)
 
@@ -115,26 +117,26 @@ by_drawn drawn who (Some (step.Bind (call.Logoff c))) channel so = tt
 by_drawn drawn who (Some (step.Reply q)) channel so = tt
 
 -- the turn that is out was on a channel whose client's challenge was drawn
-pub turn_drawn : (controller : ℕ) (who : RequesterId) (s : Requester) (own : List LogonTurn) (drawn : List (List ℕ)) → Turned (view_of controller s) own drawn → AreDrawn drawn (turn_of controller who s)
+pub turn_drawn : (controller : ℕ) (who : RequesterId) (s : Requester) (own : List ChannelTurn) (drawn : List (List ℕ)) → Turned (view_of controller s) own drawn → AreDrawn drawn (turn_of controller who s)
 turn_drawn controller who s own drawn turned =
     by_drawn drawn who (step_in s.turn) (stands_in controller s.caller.computer s.standing) (λ c is. turned.held c.client (record { how = inr (c, is, refl) }))
 
 -- ---- a step in which a turn may start
 
 -- what is known once the event came and a turn started, or none
-record HasStarted (k controller : ℕ) (drawn : List (List ℕ)) (turns : List LogonTurn) (new : Requester) (how : Dialling) (count : ℕ) : Type 0 where
+record HasStarted (k controller : ℕ) (drawn : List (List ℕ)) (turns : List ChannelTurn) (new : Requester) (how : Dialling) (count : ℕ) : Type 0 where
   few : count ≤ 1
   waits : 1 ≤ count → IsWaiting how
   turned : Turned (view_of controller new) (mine k turns ++ times count (turn_of controller (OfMember k) new)) drawn
 
-module _ (k controller : ℕ) (drawn : List (List ℕ)) (turns : List LogonTurn) (before : AreDrawn drawn (mine k turns)) where
+module _ (k controller : ℕ) (drawn : List (List ℕ)) (turns : List ChannelTurn) (before : AreDrawn drawn (mine k turns)) where
   unstarted : (mid new : Requester) (how : Dialling) (count : ℕ) (after : List (List ℕ)) → new ≡ mid → count ≡ 0 → Turned (view_of controller mid) (mine k turns) drawn →
       HasStarted k controller (drawn ++ after) turns new how count
   unstarted mid new how count after same none turned = record {
     few = omega (arith, none);
     waits = λ one. absurd (omega (arith, none, one));
     turned = turned_later (view_of controller new) (mine k turns ++ times count (turn_of controller (OfMember k) new)) drawn (drawn ++ after) (λ challenge is. drawn_still challenge drawn after is)
-        (subst (λ (all : List LogonTurn). Turned (view_of controller new) all drawn) (sym (no_times count (turn_of controller (OfMember k) new) (mine k turns) none))
+        (subst (λ (all : List ChannelTurn). Turned (view_of controller new) all drawn) (sym (no_times count (turn_of controller (OfMember k) new) (mine k turns) none))
         (subst (λ (x : Requester). Turned (view_of controller x) (mine k turns) drawn) (sym same) turned));
   }
 
@@ -143,7 +145,7 @@ module _ (k controller : ℕ) (drawn : List (List ℕ)) (turns : List LogonTurn)
   with_start new how count later one waits turned = record {
     few = omega (arith, one);
     waits = λ some. waits;
-    turned = subst (λ (all : List LogonTurn). Turned (view_of controller new) all later) (sym (one_time count (turn_of controller (OfMember k) new) (mine k turns) one)) turned;
+    turned = subst (λ (all : List ChannelTurn). Turned (view_of controller new) all later) (sym (one_time count (turn_of controller (OfMember k) new) (mine k turns) one)) turned;
   }
 
   started : (starts needs : Bool) (now : ℕ) (mid : Requester) (left rest_left : List (List ℕ)) (new : Requester) (after : List (List ℕ)) (how : Dialling) (dial_work : DialWork) →
@@ -218,7 +220,7 @@ opening_same : (old new : Requester) → new.standing ≡ old.standing → new.t
 opening_same old new standing turn =
     ap (λ (how : Standing). opening_in how (step_in new.turn)) standing ∙ ap (λ (t : Option Pending). opening_in old.standing (step_in t)) turn
 
-module _ (k controller : ℕ) (turns : List LogonTurn) where
+module _ (k controller : ℕ) (turns : List ChannelTurn) where
   waits_by : (part : Result (Part DialWork) StepRefused) (running : Running) (left : List (List ℕ)) (d : Option EndId) (rest : Given) (dials : List WaitingDial) (drawn : List (List ℕ)) (given : Given) →
       StaysOutIfTaken running.logons.channel running.dialling part → InOrderUnlessStopped (step_by actions_in state_in halted_state left part).state.running →
       TurnsOf k controller d rest dials drawn given turns running →
@@ -234,17 +236,17 @@ module _ (k controller : ℕ) (turns : List LogonTurn) where
       let count : given_dials k (given_by (Member k) actions) ≡ 0 = given_own k (Member k) actions (is_itself k) ∙ stays.none in
       let given_after : given_dials k (given ++ given_by (Member k) actions) ≡ given_dials k given = omega (arith, given_append k given (given_by (Member k) actions), count) in
       let rest_after : given_dials k (given_by (Member k) actions ++ rest) ≡ given_dials k rest = omega (arith, given_append k (given_by (Member k) actions) rest, count) in
-      let own : List LogonTurn = mine k turns ++ times (given_dials k given) (turn_of controller (OfMember k) before) in
+      let own : List ChannelTurn = mine k turns ++ times (given_dials k given) (turn_of controller (OfMember k) before) in
       let same : mine k turns ++ times (given_dials k (given ++ given_by (Member k) actions)) (turn_of controller (OfMember k) new) ≡ own =
       ap (λ (n : ℕ). mine k turns ++ times n (turn_of controller (OfMember k) new)) given_after
-      ∙ ap (λ (l : List LogonTurn). mine k turns ++ times (given_dials k given) l) (turn_same controller (OfMember k) before new stays.caller stays.standing stays.turn) in
+      ∙ ap (λ (l : List ChannelTurn). mine k turns ++ times (given_dials k given) l) (turn_same controller (OfMember k) before new stays.caller stays.standing stays.turn) in
       record {
         order = order;
         out_once = omega (arith, rest_after, old.out_once);
         out_waits = λ some. subst IsWaiting (sym stays.dialling) (old.out_waits (omega (arith, rest_after, some)));
         given_once = omega (arith, given_after, old.given_once);
         given_waits = λ some. let was = old.given_waits (omega (arith, given_after, some)) in (subst IsWaiting (sym stays.dialling) was.0, was.1);
-        turned = subst (λ (all : List LogonTurn). Turned (view_of controller new) all later) (sym same)
+        turned = subst (λ (all : List ChannelTurn). Turned (view_of controller new) all later) (sym same)
             (turned_later (view_of controller new) own drawn later (λ challenge is. drawn_still challenge drawn (draws_between left part.left) is)
             (turned_alike (view_of controller before) (view_of controller new) own drawn (stands_same controller before new stays.caller stays.standing) (ap seed_in stays.standing)
             (opening_same before new stays.standing stays.turn) old.turned));
@@ -269,10 +271,10 @@ waits_dialled (dialling.On number said) waits = absurd waits
 none_of : (n : ℕ) → n ≤ 1 → (1 ≤ n → ⊥) → n ≡ 0
 none_of n few never = elim (none_or_one n few) [ inl none ↦ none | inr one ↦ absurd (never (omega (arith, one))) ]
 
-module _ (asks : AsksWhatWaits) (dialled : TurnsAreDialled) (k controller : ℕ) (turns : List LogonTurn) where
+module _ (k controller : ℕ) (turns : List ChannelTurn) where
   order_after : (running : Running) (what : Event) (now : ℕ) (left : List (List ℕ)) → IsInOrder (is_dialled running.dialling) running.logons →
       InOrderUnlessStopped (step_by actions_in state_in halted_state left (event_part running what now left)).state.running
-  order_after running what now left order = asks.keeps (record { running = Some running }) running what now left refl order
+  order_after running what now left order = asks_what_waits.keeps (record { running = Some running }) running what now left refl order
 
   free_step : (running : Running) (what : Event) (now : ℕ) (left : List (List ℕ)) (d later : Option EndId) (rest : Given) (dials : List WaitingDial) (drawn : List (List ℕ)) (given : Given) →
       dials_out k later rest dials ≡ 0 → given_dials k given ≡ 0 → TurnsOf k controller d rest dials drawn given turns running → AreDrawn drawn (mine k turns) →
@@ -281,9 +283,9 @@ module _ (asks : AsksWhatWaits) (dialled : TurnsAreDialled) (k controller : ℕ)
       TurnsIf k controller later (given_by (Member k) actions ++ rest) dials (drawn ++ (step_by actions_in state_in halted_state left (event_part running what now left)).drawn)
       (given ++ given_by (Member k) actions) turns (step_by actions_in state_in halted_state left (event_part running what now left)).state.running
   free_step running what now left d later rest dials drawn given out none old before differ =
-      free_by k controller drawn turns before (event_part running what now left) running what now left later rest dials given (dialled.starts running what now left)
+      free_by k controller drawn turns before (event_part running what now left) running what now left later rest dials given (turns_dialled.starts running what now left)
       (order_after running what now left old.order) out none old.order.coherent
-      (subst (λ (all : List LogonTurn). Turned (view_of controller running.logons.channel) all drawn)
+      (subst (λ (all : List ChannelTurn). Turned (view_of controller running.logons.channel) all drawn)
       (no_times (given_dials k given) (turn_of controller (OfMember k) running.logons.channel) (mine k turns) none) old.turned) differ
 
   pub member_step : (r : Option Running) (what : Event) (now : ℕ) (left : List (List ℕ)) (d later : Option EndId) (rest : Given) (dials : List WaitingDial) (drawn : List (List ℕ)) (given : Given) →
@@ -302,7 +304,7 @@ module _ (asks : AsksWhatWaits) (dialled : TurnsAreDialled) (k controller : ℕ)
               TurnsIf k controller e (given_by (Member k) (actions_by step.answer) ++ rest) dials (drawn ++ step.drawn) (given ++ given_by (Member k) (actions_by step.answer)) turns
               step.state.running) (sym quiet.1)
               (waits_by k controller turns (event_part running what now left) running left d rest dials drawn given
-              (dialled.waits running what now left waits quiet.0 (subst (λ (b : Bool). IsInOrder b running.logons) (waits_dialled running.dialling waits) old.order))
+              (turns_dialled.waits running what now left waits quiet.0 (subst (λ (b : Bool). IsInOrder b running.logons) (waits_dialled running.dialling waits) old.order))
               (order_after running what now left old.order) old)
           | inr not_so ↦
               free_step running what now left d later rest dials drawn given

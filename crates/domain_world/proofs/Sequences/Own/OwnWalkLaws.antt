@@ -9,9 +9,6 @@ use Rattle.channel_events.specs.Requests.{IsNoCall}
 use Rattle.channel_events.proofs.ListLaws.{all_weaker, got_append}
 use Rattle.domain_controller.specs.State.{State as ControllerState}
 use Rattle.logon_client.specs.State.{State as ClientState}
-use Rattle.member_server.specs.ChannelSteps.{ChannelStepsKnown}
-use Rattle.member_server.specs.Dials.{TurnsAreDialled}
-use Rattle.member_server.specs.Laws.{AsksWhatWaits}
 use Rattle.step_notes.specs.ControllerNotes.{units_of_controller}
 use Rattle.step_notes.specs.Marking.{answered_marks}
 use Rattle.step_notes.specs.Records.{Book}
@@ -62,11 +59,11 @@ MemberComes plan Side =
     OwnHolds plan (n + 1) (hear (Member at) (event.Bytes w.link piece) s).state (given ++ given_by (Member at) (hear (Member at) (event.Bytes w.link piece) s).actions)
     (note_at (Some (Member at)) w piece s (hear_and_act (Member at) (event.Bytes w.link piece) s).state b)
 
-module _ (dialled : TurnsAreDialled) (steps : ChannelStepsKnown) (asks : AsksWhatWaits) (plan : Plan) where
+module _ (plan : Plan) where
   heard_so : (n : ℕ) (end : EndId) (what : Event) (s : State) (given : Given) (b : Book) → IsNoBytes what → OwnHolds plan n s given b →
       HasHeard (OwnHolds plan) AnyAction (n + 1) end (hear end what s) given b
   heard_so n end what s given b none holds =
-      record { holds = own_hears dialled steps asks plan n end what s given b (no_unit end what s none) holds; fine = all_any (hear end what s).actions }
+      record { holds = own_hears plan n end what s given b (no_unit end what s none) holds; fine = all_any (hear end what s).actions }
 
   controller_noted : (found : Option ControllerState) (at n : ℕ) (w : Coming) (piece : List ℕ) (s t after : State) (given : Given) (b : Book) → OwnHolds plan n t given b →
       OwnHolds plan n t given (note_controller found at w piece s after b)
@@ -97,11 +94,11 @@ module _ (dialled : TurnsAreDialled) (steps : ChannelStepsKnown) (asks : AsksWha
     end_comes n (Controller at) w piece s given b at_side came even side holds =
         let what : Event = event.Bytes w.link piece in
         controller_noted (slice_get s.ends.controllers at) at (n + 1) w piece s (hear (Controller at) what s).state (hear_and_act (Controller at) what s).state
-        (given ++ given_by (Controller at) (hear (Controller at) what s).actions) b (own_hears dialled steps asks plan n (Controller at) what s given b tt holds)
+        (given ++ given_by (Controller at) (hear (Controller at) what s).actions) b (own_hears plan n (Controller at) what s given b tt holds)
     end_comes n (Client at) w piece s given b at_side came even side holds =
         let what : Event = event.Bytes w.link piece in
         client_noted (slice_get s.ends.clients at) at (n + 1) w piece s (hear (Client at) what s).state (given ++ given_by (Client at) (hear (Client at) what s).actions) b
-        (own_hears dialled steps asks plan n (Client at) what s given b tt holds)
+        (own_hears plan n (Client at) what s given b tt holds)
     end_comes n (Member at) w piece s given b at_side came even side holds = member_comes n at w piece s given b at_side came (even tt) side holds
 
     -- through each step and each single change
@@ -122,7 +119,7 @@ module _ (dialled : TurnsAreDialled) (steps : ChannelStepsKnown) (asks : AsksWha
       forgets = λ n end s given b side holds. changed plan n s (forget end s) given b refl (kept_same s.bag) refl refl holds;
       settles = λ n number s given b side holds. changed plan n s (settle number s) given b refl (kept_settled number s.bag) refl refl holds;
       dials = λ n s given b side holds. changed plan n s (without_first s) given b refl (kept_same s.bag) refl refl holds;
-      renews = λ n end s given b side holds. own_anew plan asks n end s given b holds;
+      renews = λ n end s given b side holds. own_anew plan n end s given b holds;
       ticks = λ n more s given b side holds. changed plan n s (tick more s) given b refl (kept_same s.bag) refl refl holds;
       over = tt;
     }

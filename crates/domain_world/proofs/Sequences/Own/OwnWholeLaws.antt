@@ -10,18 +10,16 @@ use Rattle.channel_client.specs.Effects.{stands_in, view_of}
 use Rattle.channel_client.specs.Machine.{take_of}
 use Rattle.channel_client.specs.State.{Requester}
 use Rattle.channel_events.specs.Marks.{Mark, Calling}
-use Rattle.member_server.specs.ChannelSteps.{ChannelStepsKnown}
-use Rattle.member_server.specs.Dials.{TurnsAreDialled}
-use Rattle.member_server.specs.Laws.{AsksWhatWaits, LetsInTheGranted}
 use Rattle.member_server.specs.Machine.{actions_in, event_part, halted_state, state_in, step_of}
 use Rattle.member_server.specs.State.{State as MemberState}
 use Rattle.member_server.specs.Turns.{DialWork}
-use Rattle.member_server.specs.declared.state.Dialling.TheVariants as dialling
+use Rattle.channel_turns.specs.declared.state.Dialling.TheVariants as dialling
 use Rattle.member_server.specs.declared.state.Running.{Running}
-use Rattle.member_server.specs.declared.state.TurnTalk.{TurnTalk}
+use Rattle.channel_turns.specs.declared.state.TurnTalk.{TurnTalk}
+use Rattle.member_server.proofs.AskedLaws.{asks_what_waits}
 use Rattle.end_links.specs.Links.{LinkState}
 use Rattle.step_notes.specs.MemberNotes.{TurnNote, taking_note}
-use Rattle.step_notes.specs.Records.{Book, LogonTurn, Sent}
+use Rattle.step_notes.specs.Records.{Book, ChannelTurn, Sent}
 use Rattle.world_moves.specs.declared.links.EndId.TheVariants.{Member}
 use Rattle.world_moves.specs.declared.plan.Plan.{Plan}
 use Rattle.world_moves.specs.declared.state.State.{State}
@@ -41,7 +39,7 @@ use Rattle.domain_world.proofs.Frames.OpenMadeLaws.{IsAtSide}
 use Rattle.domain_world.proofs.Requests.CallComesLaws.{IsWhole, marks, request_placed, served, turn, units_whole}
 use Rattle.domain_world.proofs.Requests.CallFrameLaws.{TurnOn, turn_case}
 use Rattle.domain_world.proofs.Requests.CallHoldsLaws.{CallsHold, differ_front, marks_append, marks_in, marks_sent}
-use Rattle.domain_world.proofs.Requests.CallStepLaws.{CallLaws, most_steps}
+use Rattle.domain_world.proofs.Requests.CallStepLaws.{most_steps}
 use Rattle.domain_world.proofs.Requests.LooserLaws.{IsPlaced, NoCalls, Placed}
 use Rattle.domain_world.proofs.Requests.StepApartLaws.{Differ, PlacedBy, seen_member}
 use Rattle.domain_world.proofs.Requests.WholeNotedLaws.{placed_part}
@@ -95,7 +93,7 @@ only_by true mark more placed so = only_one more mark (so refl)
 
 -- ---- the whole unit
 
-module _ (law : LetsInTheGranted) (laws : CallLaws) (dialled : TurnsAreDialled) (steps : ChannelStepsKnown) (asks : AsksWhatWaits) (plan : Plan) (n at : ℕ) (w : Coming) (piece : List ℕ)
+module _ (plan : Plan) (n at : ℕ) (w : Coming) (piece : List ℕ)
     (s after : State) (given : Given) (b : Book) (running : Running) (said : LinkState TurnTalk) (on : running.dialling ≡ dialling.On w.link said)
     (is : slice_get s.ends.members at ≡ Some (record { running = Some running })) (even : length b.sent ≡ length s.bag)
     (bag : after.bag
@@ -126,11 +124,11 @@ module _ (law : LetsInTheGranted) (laws : CallLaws) (dialled : TurnsAreDialled) 
   more_given = given ++ given_by (Member at) (actions_by (step_of m what s.moment s.chances.left).answer)
 
   grows : GrowsTo s t b d
-  grows = record { bag = kept_same s.bag; sent = sent_stays law plan at w piece s after given b (Some running); ends = ends_same law plan at w piece s after given b (Some running) }
+  grows = record { bag = kept_same s.bag; sent = sent_stays plan at w piece s after given b (Some running); ends = ends_same plan at w piece s after given b (Some running) }
 
   module _ (whole_one : IsWhole w.link piece running) where
     abbrev new : List Mark
-    new = marks laws n at w piece s after b running whole_one
+    new = marks n at w piece s after b running whole_one
 
     abbrev note : TurnNote
     note = taking_note (Some (take_of c whole_one.unit)) its c
@@ -138,20 +136,20 @@ module _ (law : LetsInTheGranted) (laws : CallLaws) (dialled : TurnsAreDialled) 
     now_marks : marks_in d.sent ≡ marks_in b.sent ++ new
     now_marks =
         ap (λ (old : List Sent). marks_in (old ++ map (sent_at w.at) new))
-        (turns_sent its (units_of law plan at w piece s after given b (Some running)) w.unit (numbers law plan at w piece s after given b) (first_book law plan at w piece s after given b (Some running)))
+        (turns_sent its (units_of plan at w piece s after given b (Some running)) w.unit (numbers plan at w piece s after given b) (first_book plan at w piece s after given b (Some running)))
         ∙ marks_append b.sent (map (sent_at w.at) new) ∙ ap (λ (more : List Mark). marks_in b.sent ++ more) (marks_sent w.at new)
 
     placed_by : PlacedBy part_of note new
     placed_by =
-        placed_part its (turn laws n at w piece s after b running whole_one) whole_one.unit part_of w.link (drop (length s.bag) after.bag) s.chances.left
-        (served laws n at w piece s after b running whole_one) (units_whole laws n at w piece s after b running whole_one)
+        placed_part its (turn n at w piece s after b running whole_one) whole_one.unit part_of w.link (drop (length s.bag) after.bag) s.chances.left
+        (served n at w piece s after b running whole_one) (units_whole n at w piece s after b running whole_one)
 
     module _ (link : IsDialledBy s.links at w.link) where
       only_new : (part : Result (Part DialWork) StepRefused) → part_of ≡ part → OnlyThat new note.mark
       only_new (Err why) err = only_none new note.mark (subst (λ (p : Result (Part DialWork) StepRefused). PlacedBy p note new) err placed_by)
       only_new (Ok part) ok =
           only_by note.sends note.mark new (subst (λ (p : Result (Part DialWork) StepRefused). PlacedBy p note new) ok placed_by)
-          (λ sends. request_placed laws n at w piece s after b running whole_one link even bag part ok sends)
+          (λ sends. request_placed n at w piece s after b running whole_one link even bag part ok sends)
 
       -- of another member
       others_new : CallsHold n s.member_plans s.ends s.chances.drawn s.links b.sent b.messages → (k : ℕ) (r : Option Running) → slice_get s.ends.members k ≡ Some (record { running = r }) →
@@ -179,14 +177,14 @@ module _ (law : LetsInTheGranted) (laws : CallLaws) (dialled : TurnsAreDialled) 
           subst (λ (p : Result (Part DialWork) StepRefused).
           OwnIf (IsTakenFor (past_at plan t d)) (marks_in b.sent ++ new) t.chances.drawn b.turns more_given its at (step_by actions_in state_in halted_state s.chances.left p).state.running) (sym err) tt
       own_at (Ok part) ok holds old done differ =
-          own_whole dialled steps (IsTakenFor (past_at plan s b)) (IsTakenFor (past_at plan t d)) (taken_for_stays plan s t b d grows) (marks_in b.sent) new s.chances.drawn b.turns given its at running
+          own_whole (IsTakenFor (past_at plan s b)) (IsTakenFor (past_at plan t d)) (taken_for_stays plan s t b d grows) (marks_in b.sent) new s.chances.drawn b.turns given its at running
           w.link whole_one.said piece whole_one.frames whole_one.unit s.moment s.chances.left whole_one.on whole_one.rest whole_one.none whole_one.heard old.0
           (λ challenge opening i number timestamp e there client.
           holds.apart.opening at (view_of its c) i number timestamp e (ap (λ (x : Option MemberState). seen_member its x) is) (opening ∙ ap (λ (x : List ℕ). Some x) (sym client)) there)
           (subst (λ (p : Result (Part DialWork) StepRefused). PlacedBy p note new) ok placed_by)
           (λ e number timestamp place noted.
           subst (λ (mark : Mark). IsPlaced new mark) (ap (λ (x : TurnNote). x.mark) noted)
-          (request_placed laws n at w piece s after b running whole_one link even bag part ok (ap (λ (x : TurnNote). x.sends) noted)))
+          (request_placed n at w piece s after b running whole_one link even bag part ok (ap (λ (x : TurnNote). x.sends) noted)))
           (done part ok) old.1 differ
 
       -- of all
@@ -199,8 +197,8 @@ module _ (law : LetsInTheGranted) (laws : CallLaws) (dialled : TurnsAreDialled) 
           let still : StillDrawn s.chances.drawn t.chances.drawn = λ challenge was. drawn_still challenge s.chances.drawn (step_of m what s.moment s.chances.left).drawn was in
           let state : MemberState = (step_of m what s.moment s.chances.left).state in
           let own : MemberOwn (IsTakenFor (past_at plan t d)) (marks_in d.sent) t.chances.drawn d.turns more_given (controller_of at t) at state.running = (
-            asks.keeps m running what s.moment s.chances.left refl (old.members at m is).0,
-            subst (λ (all : List LogonTurn). OwnIf (IsTakenFor (past_at plan t d)) (marks_in d.sent) t.chances.drawn all more_given (controller_of at t) at state.running) (sym turns)
+            asks_what_waits.keeps m running what s.moment s.chances.left refl (old.members at m is).0,
+            subst (λ (all : List ChannelTurn). OwnIf (IsTakenFor (past_at plan t d)) (marks_in d.sent) t.chances.drawn all more_given (controller_of at t) at state.running) (sym turns)
                 (subst (λ (all : List Mark). OwnIf (IsTakenFor (past_at plan t d)) all t.chances.drawn b.turns more_given (controller_of at t) at state.running) (sym now_marks)
                 (subst (λ (k : ℕ). OwnIf (IsTakenFor (past_at plan t d)) (marks_in b.sent ++ new) t.chances.drawn b.turns more_given k at state.running) (sym (controller_kept at s t refl grows.ends))
                 (own_at part_of refl holds (old.members at m is) done differ))),
@@ -226,14 +224,14 @@ module _ (law : LetsInTheGranted) (laws : CallLaws) (dialled : TurnsAreDialled) 
   -- with what is known at that time
   from_bag : (u : ℕ) → IsPieceOf s u w piece → w.unit ≡ Some u → IsAtSide s.links w.link w.back (Member at) → TurnSide plan n s given b → OwnHolds plan n s given b → OwnHolds plan (n + 1) t more_given d
   from_bag u piece_of carried at_side side known few unclashed apart marks_known differ =
-      let first : AreApart (links_in (messages_in law plan at w piece s after given b (Some running))) =
-      subst AreApart (turns_links its (units_of law plan at w piece s after given b (Some running)) w.unit (numbers law plan at w piece s after given b) (first_book law plan at w piece s after given b (Some running))) apart in
+      let first : AreApart (links_in (messages_in plan at w piece s after given b (Some running))) =
+      subst AreApart (turns_links its (units_of plan at w piece s after given b (Some running)) w.unit (numbers plan at w piece s after given b) (first_book plan at w piece s after given b (Some running))) apart in
       let few_before : n ≤ most_steps = omega (arith, few) in
       let unclashed_before : b.clash ≡ false =
-      turns_clash its (units_of law plan at w piece s after given b (Some running)) w.unit (numbers law plan at w piece s after given b) (first_book law plan at w piece s after given b (Some running)) unclashed in
+      turns_clash its (units_of plan at w piece s after given b (Some running)) w.unit (numbers plan at w piece s after given b) (first_book plan at w piece s after given b (Some running)) unclashed in
       let apart_before : AreApart (links_in b.messages) =
-      apart_front (links_in b.messages) (links_in (new_in law plan at w piece s after given b (Some running)))
-      (subst AreApart (links_append b.messages (new_in law plan at w piece s after given b (Some running))) first) in
+      apart_front (links_in b.messages) (links_in (new_in plan at w piece s after given b (Some running)))
+      (subst AreApart (links_append b.messages (new_in plan at w piece s after given b (Some running))) first) in
       let marks_before_so : MarksAreKnown s b = marks_before s t b d grows marks_known in
       let differ_before : Differ s.chances.drawn = differ_front s.chances.drawn (step_of m what s.moment s.chances.left).drawn differ in
       let old : OwnFacts plan s given b = known few_before unclashed_before apart_before marks_before_so differ_before in
@@ -241,29 +239,29 @@ module _ (law : LetsInTheGranted) (laws : CallLaws) (dialled : TurnsAreDialled) 
       let rest : RestSide plan s b = rests_on plan n s given b side.0 few_before in
       let turns = side.1 few_before in
       let facts : TurnFacts plan s b b.messages (told_yet given b) = turns.1 unclashed_before apart_before marks_before_so in
-      let back : w.back ≡ true = is_back law plan at w piece s after given b rest running said is on at_side in
-      let heard = heard_whole law plan at w piece s after given b rest running said is on u piece_of back facts carried unclashed first turns.0 marks_known in
-      let unit = (whole law plan at w piece s after given b rest running said is on u piece_of back facts carried unclashed first turns.0 marks_known).0.unit in
+      let back : w.back ≡ true = is_back plan at w piece s after given b rest running said is on at_side in
+      let heard = heard_whole plan at w piece s after given b rest running said is on u piece_of back facts carried unclashed first turns.0 marks_known in
+      let unit = (whole plan at w piece s after given b rest running said is on u piece_of back facts carried unclashed first turns.0 marks_known).0.unit in
       let one : IsWhole w.link piece running =
       record { said = heard.said; on = heard.on; rest = heard.rest; none = heard.none; frames = heard.frames; unit = unit; heard = heard.heard } in
-      facts_after one (dialled_on law plan at w piece s after given b rest running said is on) holds old
+      facts_after one (dialled_on plan at w piece s after given b rest running said is on) holds old
       (λ part ok channel number is_answer stands asking i timestamp there.
-      taken_for plan at w.link u s t b d (messages_in law plan at w piece s after given b (Some running)) running piece unit its s.moment s.chances.left part
-      (comes law plan at w piece s after given b rest running said is on u piece_of back facts carried unclashed first turns.0 marks_known part ok) (told_yet given b)
-      (before law plan at w piece s after given b rest running said is on u piece_of back facts carried unclashed first turns.0 marks_known)
+      taken_for plan at w.link u s t b d (messages_in plan at w piece s after given b (Some running)) running piece unit its s.moment s.chances.left part
+      (comes plan at w piece s after given b rest running said is on u piece_of back facts carried unclashed first turns.0 marks_known part ok) (told_yet given b)
+      (before plan at w piece s after given b rest running said is on u piece_of back facts carried unclashed first turns.0 marks_known)
       (λ x y called stamp later e f. holds.apart.distinct x y called stamp later e f) channel number is_answer stands asking i timestamp there) differ
 
   came_from : (unit : Option ℕ) → w.unit ≡ unit → CameFrom unit s w piece → IsAtSide s.links w.link w.back (Member at) → TurnSide plan n s given b → OwnHolds plan n s given b →
       OwnHolds plan (n + 1) t more_given d
   came_from None carried came at_side side known few unclashed apart marks_known differ =
       let differ_before : Differ s.chances.drawn = differ_front s.chances.drawn (step_of m what s.moment s.chances.left).drawn differ in
-      let link : IsDialledBy s.links at w.link = dialled_on law plan at w piece s after given b (rests_on plan n s given b side.0 (omega (arith, few))) running said is on in
+      let link : IsDialledBy s.links at w.link = dialled_on plan at w piece s after given b (rests_on plan n s given b side.0 (omega (arith, few))) running said is on in
       absurd (came at link.controller link.at)
   came_from (Some u) carried came at_side side known few unclashed apart marks_known differ = from_bag u came carried at_side side known few unclashed apart marks_known differ
 
 -- ---- bytes come at a member
 
-module _ (law : LetsInTheGranted) (laws : CallLaws) (dialled : TurnsAreDialled) (steps : ChannelStepsKnown) (asks : AsksWhatWaits) (plan : Plan) (n at : ℕ) (w : Coming) (piece : List ℕ) (s : State)
+module _ (plan : Plan) (n at : ℕ) (w : Coming) (piece : List ℕ) (s : State)
     (given : Given) (b : Book) (at_side : IsAtSide s.links w.link w.back (Member at)) (came : CameFrom w.unit s w piece) (even : length b.sent ≡ length s.bag) (side : TurnSide plan n s given b)
     (known : OwnHolds plan n s given b) where
   abbrev bytes : Event
@@ -287,7 +285,7 @@ module _ (law : LetsInTheGranted) (laws : CallLaws) (dialled : TurnsAreDialled) 
       let same : m ≡ now = ap (λ (r : Option Running). record { running = r }) on.runs in
       let there : slice_get s.ends.members at ≡ Some now = is ∙ ap (λ (x : MemberState). Some x) same in
       subst IsKept (sym there)
-      (came_from law laws dialled steps asks plan n at w piece s after_all given b on.running on.said on.on there even
+      (came_from plan n at w piece s after_all given b on.running on.said on.on there even
       (ap (λ (found : Option MemberState).
       (perform_all (Member at) (member_step found at bytes s.moment s.ends s.chances).actions (heard_by (member_step found at bytes s.moment s.ends s.chances) s).state).state.bag) there)
       w.unit refl came at_side side known)
@@ -295,13 +293,13 @@ module _ (law : LetsInTheGranted) (laws : CallLaws) (dialled : TurnsAreDialled) 
   by_member : (found : Option MemberState) → slice_get s.ends.members at ≡ found → IsNoted (slice_get s.ends.members at)
   by_member None is =
       subst IsNoted (sym is)
-      (own_hears dialled steps asks plan n (Member at) bytes s given b (let none : HearsIf None bytes = tt in subst (λ (found : Option MemberState). HearsIf found bytes) (sym is) none) known)
+      (own_hears plan n (Member at) bytes s given b (let none : HearsIf None bytes = tt in subst (λ (found : Option MemberState). HearsIf found bytes) (sym is) none) known)
   by_member (Some m) is = elim (turn_case m.running w.link) [
-    | inl other ↦ subst IsNoted (sym is) (other_comes dialled steps asks plan n at w piece s after_all given b m is other known)
+    | inl other ↦ subst IsNoted (sym is) (other_comes plan n at w piece s after_all given b m is other known)
     | inr on ↦ running_comes m on is
   ]
 
 -- what is known of the calls of turns is kept as bytes come at a member
-pub own_comes : LetsInTheGranted → CallLaws → TurnsAreDialled → ChannelStepsKnown → AsksWhatWaits → (plan : Plan) → MemberComes plan (TurnSide plan)
-own_comes law laws dialled steps asks plan n at w piece s given b at_side came even side known =
-    by_member law laws dialled steps asks plan n at w piece s given b at_side came even side known (slice_get s.ends.members at) refl
+pub own_comes : (plan : Plan) → MemberComes plan (TurnSide plan)
+own_comes plan n at w piece s given b at_side came even side known =
+    by_member plan n at w piece s given b at_side came even side known (slice_get s.ends.members at) refl

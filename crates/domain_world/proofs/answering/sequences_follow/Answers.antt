@@ -2,4 +2,4 @@ use Rattle.domain_world.proofs.Sequences.SharedLaws.{sequences_follow}
 use Rattle.domain_world.proofs.answering.sequences_follow.Goals as goal
 
 pub returns : goal.returns
-returns c = sequences_follow c.what_is_kept_waits.ensures c.turns_are_dialled.ensures
+returns c = sequences_follow

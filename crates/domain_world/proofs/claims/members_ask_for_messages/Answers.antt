@@ -2,4 +2,4 @@ use Rattle.domain_world.proofs.Requests.CallMessageLaws.{members_ask_for_message
 use Rattle.domain_world.proofs.claims.members_ask_for_messages.Goals as goal
 
 pub returns : goal.returns
-returns c = members_ask_for_messages c.in_is_told_of_a_granted_logon.ensures
+returns c = members_ask_for_messages

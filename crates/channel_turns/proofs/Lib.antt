@@ -1,0 +1,7 @@
+pub mod DialLaws
+pub mod DrawLaws
+pub mod KeepLaws
+pub mod NextLaws
+pub mod ServedLaws
+pub mod TurnLaws
+pub mod WholeLaws

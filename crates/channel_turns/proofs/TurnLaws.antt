@@ -1,0 +1,196 @@
+-- A turn ends once, and what becomes of its channel. It serves `turns_end_once` and `turns_step_their_channel`.
+use Rattle.std.proofs.Common.{◌≡◌, ℕ, Bool, true, false, List, [], ◌∷◌, map, Option, Some, None, is_some, Result, Ok, Err, refl, sym, ap, ap₂, subst, ◌∙◌}
+use Rattle.std.specs.List.{AllByRecursion}
+use Rattle.rpc_units.specs.Calls.{IsHeard}
+use Rattle.rpc_units.specs.Joining.{AddsTo, answer_by, answer_of, grown, joined_of, kept_by, open_after}
+use Rattle.rpc_units.specs.Reading.{unit_of}
+use Rattle.rpc_units.specs.Stream.{Cut, cut_stream}
+use Rattle.rpc_units.specs.Writing.{written}
+use Rattle.rpc_units.specs.declared.refused.JoinRefused.{JoinRefused}
+use Rattle.rpc_units.specs.declared.refused.UnitRefused.{UnitRefused}
+use Rattle.rpc_units.specs.declared.unit.Unit.{Unit as RpcUnit}
+use Rattle.channel_client.specs.Machine.{lose_of, take_of}
+use Rattle.channel_client.specs.State.{Requester}
+use Rattle.channel_client.specs.Turns.{gives_right, is_out}
+use Rattle.channel_client.specs.declared.answers.Taken.{Taken}
+use Rattle.channel_client.specs.declared.answers.Taken.TheVariants as taken
+use Rattle.channel_client.proofs.TurnLaws.{one_turn}
+use Rattle.channel_turns.specs.declared.hearing.Heard.{Heard}
+use Rattle.channel_turns.specs.declared.hearing.Heard.TheVariants as heard
+use Rattle.channel_turns.specs.declared.state.TurnTalk.{TurnTalk}
+use Rattle.channel_turns.specs.declared.state.TurnWork.{TurnWork}
+use Rattle.channel_turns.specs.Hearing.{heard_by, heard_of}
+use Rattle.channel_turns.specs.Laws.{EndsOnce, TakesInOrder, TurnsEndOnce, TurnsStepTheChannel, taken_by, then_heard, whole_units}
+use Rattle.channel_turns.specs.Turns.{TurnServed, do_heard, do_taken, served_by, take_by, then_said, turn_served, turn_talk, turn_unit, with_channel}
+use Rattle.channel_turns.proofs.KeepLaws.{turn_stays}
+use Rattle.channel_turns.proofs.ServedLaws.{served_part}
+
+-- ---- it ends once
+
+taken_once : (t : Taken) (joiner : Option RpcUnit) (at : TurnWork) → at.ended ≡ None → EndsOnce (do_taken t joiner at)
+taken_once (taken.Skip turn) joiner at not_yet = not_yet
+taken_once (taken.Next turn frames) joiner at not_yet = not_yet
+taken_once taken.Half joiner at not_yet = refl
+taken_once taken.Opened joiner at not_yet = refl
+taken_once (taken.Answer place verdict) joiner at not_yet = refl
+taken_once (taken.Dropped place cause) joiner at not_yet = refl
+
+ends_once : (cut : Cut) (at : TurnWork) (talk : TurnTalk) → at.ended ≡ None → EndsOnce (turn_served cut at talk)
+ends_once cut at talk not_yet =
+    turn_stays EndsOnce (record {
+      waits = λ at talk other ends. ends;
+      takes = λ unit joiner at talk ends.
+          taken_once (take_of at.channel unit).taken joiner (with_channel (take_of at.channel unit).state at) ends;
+      breaks = λ cause at talk ends. refl;
+    }) cut at talk not_yet
+
+-- ---- it is out while its link stays open
+
+abbrev IsOutWhile : TurnServed → Type 0
+IsOutWhile served = is_out served.0.channel ≡ is_some served.1
+
+taken_out : (t : Taken) (joiner : Option RpcUnit) (at : TurnWork) → gives_right t ≡ is_out at.channel → IsOutWhile (do_taken t joiner at)
+taken_out (taken.Skip turn) joiner at right = sym right
+taken_out (taken.Next turn frames) joiner at right = sym right
+taken_out taken.Half joiner at right = sym right
+taken_out taken.Opened joiner at right = sym right
+taken_out (taken.Answer place verdict) joiner at right = sym right
+taken_out (taken.Dropped place cause) joiner at right = sym right
+
+stays_out : (cut : Cut) (at : TurnWork) (talk : TurnTalk) → is_out at.channel ≡ true → IsOutWhile (turn_served cut at talk)
+stays_out cut at talk out =
+    turn_stays IsOutWhile (record {
+      waits = λ at talk other out. out;
+      takes = λ unit joiner at talk out.
+          taken_out (take_of at.channel unit).taken joiner (with_channel (take_of at.channel unit).state at)
+          (one_turn.take at.channel unit out);
+      breaks = λ cause at talk out. refl;
+    }) cut at talk out
+
+pub turns_end : TurnsEndOnce
+turns_end = record {
+  part = served_part;
+  once = ends_once;
+  out = stays_out;
+  lost = λ cause channel. refl;
+}
+
+-- ---- units are taken in order
+
+first_taken : (lost : Bool) (unit : RpcUnit) (units : List RpcUnit) (c : Requester) → taken_by lost units (take_of c unit).state ≡ taken_by lost (unit ∷ units) c
+first_taken false unit units c = refl
+first_taken true unit units c = refl
+
+takes_first : (old new : Requester) (unit : RpcUnit) (whole : List RpcUnit) → TakesInOrder (take_of old unit).state new whole → TakesInOrder old new (unit ∷ whole)
+takes_first old new unit whole takes = record {
+  taken = unit ∷ takes.taken;
+  later = takes.later;
+  lost = takes.lost;
+  hears = ap (λ (units : List RpcUnit). unit ∷ units) takes.hears;
+  is = takes.is ∙ first_taken takes.lost unit takes.taken old;
+}
+
+takes_one : (old : Requester) (unit : RpcUnit) (whole : List RpcUnit) → TakesInOrder old (take_of old unit).state (unit ∷ whole)
+takes_one old unit whole = record { taken = unit ∷ []; later = whole; lost = false; hears = refl; is = refl }
+
+takes_none : (old : Requester) → TakesInOrder old old []
+takes_none old = record { taken = []; later = []; lost = false; hears = refl; is = refl }
+
+loses : (old : Requester) → TakesInOrder old (lose_of old).state []
+loses old = record { taken = []; later = []; lost = true; hears = refl; is = refl }
+
+module _ (units : List (List ℕ)) (why : Option UnitRefused) where
+  abbrev Each : Type 0
+  Each = (at : TurnWork) (talk : TurnTalk) → TakesInOrder at.channel (served_by units why at talk).0.channel (whole_units units talk.joiner)
+
+  abbrev then_served : TurnServed → TurnServed
+  then_served served = then_said served (λ later said. served_by units why later said)
+
+  ended_taken : (joiner : Option RpcUnit) (old : Requester) (unit : RpcUnit) (at : TurnWork) → at.channel ≡ (take_of old unit).state →
+      TakesInOrder old at.channel (unit ∷ whole_units units joiner)
+  ended_taken joiner old unit at is =
+      subst (λ (c : Requester). TakesInOrder old c (unit ∷ whole_units units joiner)) (sym is) (takes_one old unit (whole_units units joiner))
+
+  -- the channel is the one that took the unit
+  after_taken : (t : Taken) (joiner : Option RpcUnit) (old : Requester) (unit : RpcUnit) (at : TurnWork) → at.channel ≡ (take_of old unit).state → Each →
+      TakesInOrder old (then_served (do_taken t joiner at)).0.channel (unit ∷ whole_units units joiner)
+  after_taken (taken.Skip turn) joiner old unit at is each =
+      takes_first old (served_by units why at (turn_talk joiner)).0.channel unit (whole_units units joiner)
+      (subst (λ (c : Requester). TakesInOrder c (served_by units why at (turn_talk joiner)).0.channel (whole_units units joiner)) is (each at (turn_talk joiner)))
+  after_taken (taken.Next turn frames) joiner old unit at is each =
+      let sent : TurnWork = (do_taken (taken.Next turn frames) joiner at).0 in
+      takes_first old (served_by units why sent (turn_talk joiner)).0.channel unit (whole_units units joiner)
+      (subst (λ (c : Requester). TakesInOrder c (served_by units why sent (turn_talk joiner)).0.channel (whole_units units joiner)) is (each sent (turn_talk joiner)))
+  after_taken taken.Half joiner old unit at is each = ended_taken joiner old unit at is
+  after_taken taken.Opened joiner old unit at is each = ended_taken joiner old unit at is
+  after_taken (taken.Answer place verdict) joiner old unit at is each = ended_taken joiner old unit at is
+  after_taken (taken.Dropped place cause) joiner old unit at is each = ended_taken joiner old unit at is
+
+  after_heard : (what : Heard) (at : TurnWork) → Each →
+      TakesInOrder at.channel (then_served (do_heard what at)).0.channel (then_heard what (λ after. whole_units units after))
+  after_heard (heard.Waits joiner) at each = each at (turn_talk joiner)
+  after_heard (heard.Whole unit joiner) at each =
+      after_taken (take_of at.channel unit).taken joiner at.channel unit (with_channel (take_of at.channel unit).state at) refl each
+  after_heard (heard.Broken cause) at each = loses at.channel
+
+takes_by : (units : List (List ℕ)) (why : Option UnitRefused) (at : TurnWork) (talk : TurnTalk) →
+    TakesInOrder at.channel (served_by units why at talk).0.channel (whole_units units talk.joiner)
+takes_by [] None at talk = takes_none at.channel
+takes_by [] (Some why) at talk = loses at.channel
+takes_by (bytes ∷ units) why at talk =
+    after_heard units why (heard_of (unit_of bytes) talk.joiner) at (λ later said. takes_by units why later said)
+
+-- ---- the bytes of one whole unit
+
+whole_last : (joined : Result RpcUnit JoinRefused) (last : Bool) (whole : RpcUnit) → answer_by joined last ≡ Ok (Some whole) → last ≡ true
+whole_last (Err why) last whole is = absurd (let x = is in cc)
+whole_last (Ok unit) true whole is = refl
+whole_last (Ok unit) false whole is = absurd (let x = is in cc)
+
+none_open : (so_far : Option RpcUnit) (frame whole : RpcUnit) → answer_of so_far frame ≡ Ok (Some whole) → open_after so_far frame ≡ None
+none_open so_far frame whole is = ap (λ (last : Bool). kept_by last (grown so_far frame)) (whole_last (joined_of so_far frame) frame.last whole is)
+
+abbrev AreRead : List RpcUnit → Type 0
+AreRead frames = AllByRecursion (λ (frame : RpcUnit). unit_of (written frame) ≡ Ok frame) frames
+
+each_read : (frames : List RpcUnit) → map unit_of (map written frames) ≡ map (λ (unit : RpcUnit). Ok unit) frames → AreRead frames
+each_read [] all = tt
+each_read (frame ∷ frames) all = (let x = all in cc, each_read frames (let x = all in cc))
+
+part_served : (frame : RpcUnit) (at : TurnWork) (talk : TurnTalk) → unit_of (written frame) ≡ Ok frame → answer_of talk.joiner frame ≡ Ok None →
+    turn_unit (unit_of (written frame)) talk.joiner at ≡ (at, Some (turn_talk (open_after talk.joiner frame)))
+part_served frame at talk read adds =
+    ap (λ (r : _). turn_unit r talk.joiner at) read
+    ∙ ap (λ (a : Result (Option RpcUnit) JoinRefused). do_heard (heard_by a (open_after talk.joiner frame)) at) adds
+
+last_served : (frame unit : RpcUnit) (at : TurnWork) (talk : TurnTalk) → unit_of (written frame) ≡ Ok frame → answer_of talk.joiner frame ≡ Ok (Some unit) →
+    turn_unit (unit_of (written frame)) talk.joiner at ≡ take_by (take_of at.channel unit) None at
+last_served frame unit at talk read adds =
+    ap (λ (r : _). turn_unit r talk.joiner at) read
+    ∙ ap₂ (λ (a : Result (Option RpcUnit) JoinRefused) (o : Option RpcUnit). do_heard (heard_by a o) at) adds (none_open talk.joiner frame unit adds)
+
+no_more : (served : TurnServed) → then_said served (λ later said. served_by [] None later said) ≡ served
+no_more (at, None) = refl
+no_more (at, Some talk) = refl
+
+frames_come : (unit : RpcUnit) (frames : List RpcUnit) (at : TurnWork) (talk : TurnTalk) → AreRead frames → AddsTo talk.joiner frames unit →
+    served_by (map written frames) None at talk ≡ take_by (take_of at.channel unit) None at
+frames_come unit [] at talk read adds = absurd adds
+frames_come unit (frame ∷ []) at talk read adds =
+    ap (λ (s : TurnServed). then_said s (λ later said. served_by [] None later said)) (last_served frame unit at talk read.0 adds)
+    ∙ no_more (take_by (take_of at.channel unit) None at)
+frames_come unit (frame ∷ next ∷ frames) at talk read adds =
+    ap (λ (s : TurnServed). then_said s (λ later said. served_by (map written (next ∷ frames)) None later said)) (part_served frame at talk read.0 adds.0)
+    ∙ frames_come unit (next ∷ frames) at (turn_talk (open_after talk.joiner frame)) read.1 adds.1
+
+pub whole_served : (bytes : List ℕ) (frames : List RpcUnit) (unit : RpcUnit) (at : TurnWork) → IsHeard bytes frames unit →
+    turn_served (cut_stream bytes) at (turn_talk None) ≡ take_by (take_of at.channel unit) None at
+whole_served bytes frames unit at comes =
+    ap (λ (cut : Cut). turn_served cut at (turn_talk None)) comes.stream
+    ∙ frames_come unit frames at (turn_talk None) (each_read frames comes.read) comes.joined
+
+pub turns_step : TurnsStepTheChannel
+turns_step = record {
+  takes = λ cut at talk. takes_by cut.units cut.refused at talk;
+  whole = whole_served;
+}

@@ -1,0 +1,125 @@
+-- What holds of the turns of a channel, whatever end they are of, and whatever comes (how turns follow one another is
+-- this project's own choice).
+use Rattle.std.specs.Prelude.{ℕ, ◌≡◌, Bool, true, false, List, [], ◌∷◌, ◌++◌, replicate, Option, Some, None, is_some, Ok}
+use Rattle.std.specs.List.{AllByRecursion}
+use Rattle.outside.specs.declared.action.Action.{Action}
+use Rattle.outside.specs.declared.action.Action.TheVariants as action
+use Rattle.outside.specs.declared.action.DropCause.{DropCause}
+use Rattle.rpc_units.specs.declared.unit.Unit.{Unit as RpcUnit}
+use Rattle.rpc_units.specs.Calls.{IsHeard}
+use Rattle.rpc_units.specs.Reading.{unit_of}
+use Rattle.rpc_units.specs.Stream.{Cut, cut_stream}
+use Rattle.end_links.specs.Serving.{served_cut}
+use Rattle.end_links.specs.Whole.{IsWholeSend}
+use Rattle.channel_client.specs.Machine.{can_start, lose_of, needs_challenge, start_of, take_of}
+use Rattle.channel_client.specs.State.{Requester}
+use Rattle.channel_client.specs.Turns.{is_out}
+use Rattle.channel_client.specs.Whole.{InRangeRequester}
+use Rattle.channel_turns.specs.declared.hearing.Heard.{Heard}
+use Rattle.channel_turns.specs.declared.hearing.Heard.TheVariants as heard
+use Rattle.channel_turns.specs.declared.state.TurnTalk.{TurnTalk}
+use Rattle.channel_turns.specs.declared.state.TurnWork.{TurnWork}
+use Rattle.channel_turns.specs.Dials.{lose_turn, next_turn}
+use Rattle.channel_turns.specs.Hearing.{heard_of}
+use Rattle.channel_turns.specs.Turns.{TurnServed, take_by, turn_served, turn_server, turn_talk}
+use Rattle.authenticators.specs.Timestamps.{timestamp_of}
+
+-- ---- a piece ends one turn at most
+
+-- the turn ended, or its link stays open: one of the two
+abbrev pub EndsOnce : TurnServed → Type 0
+EndsOnce (at, None) = is_some at.ended ≡ true
+EndsOnce (at, Some talk) = at.ended ≡ None
+
+pub record TurnsEndOnce : Type 0 where
+  -- served by the words for any end's units, it is the same, and no challenge is drawn
+  pub part : (cut : Cut) (at : TurnWork) (talk : TurnTalk) (left : List (List ℕ)) →
+      served_cut turn_server cut at talk left ≡ Ok (record { value = turn_served cut at talk; left = left })
+  -- where it hasn't ended before, it ends at the unit that closes the link, or the link stays open
+  pub once : (cut : Cut) (at : TurnWork) (talk : TurnTalk) → at.ended ≡ None → EndsOnce (turn_served cut at talk)
+  -- it is out exactly while its link stays open
+  pub out : (cut : Cut) (at : TurnWork) (talk : TurnTalk) → is_out at.channel ≡ true →
+      is_out (turn_served cut at talk).0.channel ≡ is_some (turn_served cut at talk).1
+  -- one that is lost is out no more
+  pub lost : (cause : DropCause) (channel : Requester) → is_out (lose_turn cause channel).0 ≡ false
+
+-- ---- what becomes of the channel
+
+abbrev pub then_heard : Heard → (Option RpcUnit → List RpcUnit) → List RpcUnit
+then_heard (heard.Waits joiner) later = later joiner
+then_heard (heard.Whole unit joiner) later = unit ∷ later joiner
+then_heard (heard.Broken cause) later = []
+
+-- the whole units that the units on a link make, behind what is open; behind one that is refused nothing is heard
+abbrev pub whole_units : List (List ℕ) → Option RpcUnit → List RpcUnit
+whole_units [] joiner = []
+whole_units (bytes ∷ units) joiner = then_heard (heard_of (unit_of bytes) joiner) (λ after. whole_units units after)
+
+-- the channel takes all of them, in order
+abbrev pub taken_all : List RpcUnit → Requester → Requester
+taken_all [] c = c
+taken_all (unit ∷ units) c = taken_all units (take_of c unit).state
+
+-- and its turn is lost then, or not
+abbrev pub taken_by : Bool → List RpcUnit → Requester → Requester
+taken_by false units c = taken_all units c
+taken_by true units c = (lose_of (taken_all units c)).state
+
+-- the first of the whole units were taken, in order, and nothing else was done but that the turn may be lost
+pub record TakesInOrder (old new : Requester) (whole : List RpcUnit) : Type 0 where
+  pub taken : List RpcUnit
+  pub later : List RpcUnit
+  pub lost : Bool
+  pub hears : whole ≡ taken ++ later
+  pub is : new ≡ taken_by lost taken old
+
+pub record TurnsStepTheChannel : Type 0 where
+  pub takes : (cut : Cut) (at : TurnWork) (talk : TurnTalk) →
+      TakesInOrder at.channel (turn_served cut at talk).0.channel (whole_units cut.units talk.joiner)
+  -- the bytes of one whole unit, where nothing is open: it is taken
+  pub whole : (bytes : List ℕ) (frames : List RpcUnit) (unit : RpcUnit) (at : TurnWork) → IsHeard bytes frames unit →
+      turn_served (cut_stream bytes) at (turn_talk None) ≡ take_by (take_of at.channel unit) None at
+
+-- ---- what is sent on the link
+
+-- a send of one whole unit on that link
+abbrev pub IsWholeOn : ℕ → Action → Type 0
+IsWholeOn number (action.Send link bytes) = (link ≡ number) × IsWholeSend bytes
+IsWholeOn number _ = ⊥
+
+-- beside the actions before it nothing but these is done; the channel is in its ranges
+pub record SendsWhole (before : TurnWork) (after : TurnWork) : Type 0 where
+  pub more : List Action
+  pub is : after.actions ≡ before.actions ++ more
+  pub all : AllByRecursion (IsWholeOn before.link) more
+  pub link : after.link ≡ before.link
+  pub range : InRangeRequester after.channel
+
+pub record TurnsSendWhole : Type 0 where
+  -- requests of turns
+  pub requests : (cut : Cut) (at : TurnWork) (talk : TurnTalk) → InRangeRequester at.channel → SendsWhole at (turn_served cut at talk).0
+  -- a turn that is lost leaves the ranges
+  pub lost : (cause : DropCause) (channel : Requester) → InRangeRequester channel → InRangeRequester (lose_turn cause channel).0
+
+-- ---- the next turn
+
+-- none starts where none can; where one can, it does, and is out then: with the next challenge where the channel needs
+-- one, and with none else
+pub record NextTurnsKnown : Type 0 where
+  pub none : (now : ℕ) (channel : Requester) (left : List (List ℕ)) → can_start channel.turn channel.waiting ≡ false →
+      next_turn now channel left ≡ Ok (record { value = (channel, None); left = left })
+  pub plain : (now : ℕ) (channel : Requester) (left : List (List ℕ)) → can_start channel.turn channel.waiting ≡ true →
+      needs_challenge channel.standing ≡ false → next_turn now channel left ≡ Ok (record {
+        value = (
+          (start_of channel (timestamp_of now) (replicate 8 0)).state,
+          (start_of channel (timestamp_of now) (replicate 8 0)).answer,
+        );
+        left = left;
+      })
+  pub drawn : (now : ℕ) (channel : Requester) (challenge : List ℕ) (left : List (List ℕ)) → can_start channel.turn channel.waiting ≡ true →
+      needs_challenge channel.standing ≡ true → next_turn now channel (challenge ∷ left) ≡ Ok (record {
+        value = ((start_of channel (timestamp_of now) challenge).state, (start_of channel (timestamp_of now) challenge).answer);
+        left = left;
+      })
+  pub out : (channel : Requester) (timestamp : ℕ) (challenge : List ℕ) → can_start channel.turn channel.waiting ≡ true →
+      (is_some (start_of channel timestamp challenge).answer ≡ true) × (is_out (start_of channel timestamp challenge).state ≡ true)

@@ -1,0 +1,32 @@
+//! Laws of turns, over their definitions. Each function does nothing, and its clause is the law.
+
+ghost use Rattle.channel_turns.specs.Laws.{NextTurnsKnown, TurnsEndOnce, TurnsSendWhole, TurnsStepTheChannel};
+
+/// What a piece on the link of a turn comes to is that of the words for any end's units, and no challenge is drawn. The
+/// turn ends once, or its link stays open: it is out exactly while the link stays open. One that is lost is out no
+/// more.
+#[tactic(auto, using(crate::proofs::TurnLaws::turns_end))]
+pub fn turns_end_once()
+    ensures { TurnsEndOnce }
+{}
+
+/// The channel takes the whole units on the link of its turn in their order, up to the one that ends the turn, and
+/// nothing else is done to it but that a unit that is refused loses the turn. The bytes of one whole unit come to that
+/// unit taken.
+#[tactic(auto, using(crate::proofs::TurnLaws::turns_step))]
+pub fn turns_step_their_channel()
+    ensures { TurnsStepTheChannel }
+{}
+
+/// On the link of a turn requests go out and nothing else, each the bytes of one whole unit, in one fragment or more,
+/// with room in one piece of a link, where what the channel has is in its ranges; it stays so.
+#[tactic(auto, using(crate::proofs::WholeLaws::turns_send_whole))]
+pub fn what_is_sent_in_turns_is_whole()
+    ensures { TurnsSendWhole }
+{}
+
+/// A turn starts exactly where one can, and is out then. It draws a challenge exactly where the channel needs one.
+#[tactic(auto, using(crate::proofs::NextLaws::next_turns))]
+pub fn next_turns_are_known()
+    ensures { NextTurnsKnown }
+{}

@@ -1,0 +1,19 @@
+//! The turn of a secure channel that is out, and the link that is dialled for it: the same for every end that asks on a
+//! channel. What a piece on the link comes to is handed back as values, and the end does what follows.
+#![tactic(auto)]
+
+mod dials;
+mod hearing;
+mod laws;
+mod state;
+mod turning;
+mod turns;
+
+pub use dials::{bind_turn, lose_turn, next_turn};
+pub use hearing::{Heard, hear};
+pub use laws::{
+    next_turns_are_known, turns_end_once, turns_step_their_channel, what_is_sent_in_turns_is_whole,
+};
+pub use state::{Dialling, TurnEnd, TurnEnded, TurnTalk, TurnWork, Turning};
+pub use turning::{link_answers, link_closes, link_hears, next_dial, no_dial};
+pub use turns::serve_turn;

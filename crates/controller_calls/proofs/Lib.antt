@@ -1,0 +1,5 @@
+pub mod AlikeLaws
+pub mod ChangeLaws
+pub mod LevelLaws
+pub mod PassLaws
+pub mod StubLaws

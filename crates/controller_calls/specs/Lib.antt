@@ -1,0 +1,5 @@
+pub mod Calls
+pub mod Desk
+pub mod Logons
+pub mod Opening
+pub mod Passing

@@ -1,0 +1,44 @@
+//! NetrServerReqChallenge.
+
+ghost use Rattle.std.specs.Prelude.{◌≡◌, IfOk};
+ghost use Rattle.controller_calls.specs.Desk.{IsLine};
+ghost use Rattle.controller_calls.specs.Opening.{answer_challenge};
+
+use crate::computers::put_pair_if;
+use crate::line::Line;
+use crate::replying::send_reply;
+use crate::state::{ChallengePair, Work};
+use account_table::Table;
+use logon_stubs::{ChallengeCall, ChallengeReply, Reply};
+use std::alloc::Global;
+use wire_base::NoMemory;
+
+/// Answers NetrServerReqChallenge with this server challenge (MS-NRPC 3.5.4.4.1).
+pub fn answer_challenge(
+    alloc: Global,
+    table: &Table,
+    line: Line,
+    call: ChallengeCall,
+    server: [u8; 8],
+    work: Work,
+) -> Result<Work, NoMemory>
+    requires { IsLine line }
+    ensures { IfOk result (λ w. w ≡ answer_challenge table.now line call server work) }
+{
+    let ChallengeCall {
+        computer,
+        challenge,
+        ..
+    } = call;
+    let knows = table.knows(computer.units());
+    let pair = ChallengePair {
+        client: challenge,
+        server,
+    };
+    let work = put_pair_if(knows, computer, pair, work)?;
+    let answer = Reply::Challenge(ChallengeReply {
+        challenge: server,
+        status: 0,
+    });
+    send_reply(alloc, work, line, &answer)
+}

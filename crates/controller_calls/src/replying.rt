@@ -1,0 +1,84 @@
+//! Actions, and replies to calls among them.
+
+ghost use Rattle.std.specs.Prelude.{◌≡◌, ◌≤◌, IfOk, Ok, length};
+ghost use Rattle.logon_stubs.specs.Calls.{opnum_of_reply, reply_of};
+ghost use Rattle.logon_stubs.specs.Ranges.{IsShortReply};
+ghost use Rattle.logon_stubs.specs.Writing.{CanWriteReply, written_reply};
+ghost use Rattle.rpc_units.specs.Writing.{written};
+ghost use Rattle.end_links.specs.Bounds.{IsShortSend};
+ghost use Rattle.end_links.specs.Sending.{fault_of};
+ghost use Rattle.controller_calls.specs.Desk.{IsLine, tell, send_fault, send_reply};
+
+use crate::line::Line;
+use crate::state::Work;
+use end_links::{call_bytes, fault, response, short_unit_bytes};
+use logon_stubs::{Reply, write_reply};
+use outside::Action;
+use std::alloc::Global;
+use wire_base::{Blob, NoMemory};
+
+/// One action more, behind those so far.
+pub fn tell(work: Work, what: Action) -> Result<Work, NoMemory>
+    requires { IsShortSend what }
+    ensures { IfOk result (λ w. w ≡ tell work what) }
+{
+    let mut work = work;
+    work.actions.push(what)?;
+    Ok(work)
+}
+
+/// The bytes of a fault of that status, which answers the call in its context (C706 12.6.4.7). They are at most 5,840.
+pub fn fault_bytes(alloc: Global, call: u32, context: u16, status: u32) -> Result<Blob, NoMemory>
+    ensures value { IfOk result (λ bytes. bytes ≡ written (fault_of call context status)) }
+    ensures most { IfOk result (λ bytes. length bytes ≤ 5840) }
+{
+    short_unit_bytes(alloc, &fault(call, context, status))
+}
+
+/// The call is answered by a fault of that status.
+pub fn send_fault(alloc: Global, work: Work, line: Line, status: u32) -> Result<Work, NoMemory>
+    ensures { IfOk result (λ w. w ≡ send_fault work line status) }
+{
+    let bytes = fault_bytes(alloc, line.call, line.context, status)?;
+    tell(work, Action::Send(line.link, bytes))
+}
+
+/// The call is answered by the reply, all of its frames in one send of at most 131,123 bytes.
+pub(crate) fn send_reply(
+    alloc: Global,
+    work: Work,
+    line: Line,
+    answer: &Reply,
+) -> Result<Work, NoMemory>
+    requires writable { CanWriteReply answer.now }
+    requires short { IsShortReply answer.now }
+    requires line { IsLine line }
+    ensures { IfOk result (λ w. w ≡ send_reply work line answer.now) }
+{
+    let stub = reply_stub(alloc, answer)?;
+    let unit = response(line.call, line.context, stub);
+    let bytes = call_bytes(alloc, &unit, line.limit)?;
+    tell(work, Action::Send(line.link, bytes))
+}
+
+/// The stub of a reply, which is short.
+fn reply_stub(alloc: Global, answer: &Reply) -> Result<Blob, NoMemory>
+    requires writable { CanWriteReply answer.now }
+    requires short { IsShortReply answer.now }
+    ensures exact { IfOk result (λ stub. stub ≡ written_reply answer.now) }
+    ensures most { IfOk result (λ stub. length stub ≤ 65536) }
+{
+    let stub = write_reply(alloc, answer)?;
+    read_stub(answer, stub.bytes());
+    Ok(stub)
+}
+
+/// The stub of a reply has at most 65,536 bytes. It reads them, so that this is known.
+#[tactic(auto, using(crate::proofs::StubLaws::stub_short))]
+fn read_stub(answer: &Reply, stub: &[u8])
+    requires writable { CanWriteReply answer.now }
+    requires short { IsShortReply answer.now }
+    requires again { reply_of (opnum_of_reply answer.now) stub.now ≡ Ok answer.now }
+    requires exact { stub.now ≡ written_reply answer.now }
+    ensures { length stub.now ≤ 65536 }
+{}

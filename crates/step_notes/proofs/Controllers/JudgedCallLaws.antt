@@ -1,0 +1,24 @@
+-- What is said of a judged call by its kind.
+-- It serves `passed_replies_are_read`, and laws of runs.
+use Rattle.std.proofs.Common.{◌≡◌, refl, ap, subst}
+use Rattle.authenticators.specs.SecureChannels.{SecureChannelState}
+use Rattle.logon_stubs.specs.declared.calls.LogonCall.{LogonCall}
+use Rattle.controller_calls.specs.Calls.{done_by}
+use Rattle.controller_calls.specs.Logons.{status_of}
+use Rattle.step_notes.specs.Records.{IfNetwork, JudgedCall, Judging, Network}
+use Rattle.step_notes.specs.ReplySends.{done_on, verdict_passed}
+
+-- what is said of a network logon is had from its kind
+pub if_network : (Fact : LogonCall → Type 0) (asked : JudgedCall) → ((c : LogonCall) → asked ≡ Network c → Fact c) → IfNetwork Fact asked
+if_network Fact (Network c) so = so c refl
+
+-- and so it is said of one
+pub of_network : (Fact : LogonCall → Type 0) (asked : JudgedCall) (c : LogonCall) → asked ≡ Network c → IfNetwork Fact asked → Fact c
+of_network Fact asked c is said = subst (λ (a : JudgedCall). IfNetwork Fact a) is said
+
+pub network_so : (Fact Other : LogonCall → Type 0) (asked : JudgedCall) → ((c : LogonCall) → Fact c → Other c) → IfNetwork Fact asked → IfNetwork Other asked
+network_so Fact Other (Network c) so said = so c said
+
+-- the status that a network logon comes to is that of the verdict on it
+pub status_done : (j : Judging) (c : LogonCall) (channel : SecureChannelState) → j.asked ≡ Network c → (done_on j channel).status ≡ status_of (verdict_passed j c)
+status_done j c channel asks = ap (λ (asked : JudgedCall). (done_by asked channel j.name j.table j.moment).status) asks
