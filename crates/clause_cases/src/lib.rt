@@ -5,6 +5,8 @@
 
 #[cfg(test)]
 mod disk;
+#[cfg(test)]
+mod limits;
 mod pieces;
 #[cfg(test)]
 mod process;

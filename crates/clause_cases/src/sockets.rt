@@ -11,23 +11,23 @@ use std::net::{Net, OpenListener, OpenStream, Shutdown, TcpListener, TcpStream};
 use std::time::{Clock, Duration};
 
 /// An address of the loopback at which nothing listens.
-fn free_address<R: Net + AllocGlobal>(rt: &R) -> io::Result<String> {
+pub(crate) fn free_address<R: Net + AllocGlobal>(rt: &R) -> io::Result<String> {
     let listener = TcpListener::bind(rt, "127.0.0.1:0")?;
     Ok(format!(in rt.alloc(); "{}", listener.local_addr()?)?)
 }
 
 /// Whether a link was opened, of this number.
-fn is_opened(event: &Result<Event, PortRefused>, link: u32) -> bool {
+pub(crate) fn is_opened(event: &Result<Event, PortRefused>, link: u32) -> bool {
     matches!(event, Ok(Event::Opened(number)) if *number == link)
 }
 
 /// Whether the link of this number was closed.
-fn is_closed(event: &Result<Event, PortRefused>, link: u32) -> bool {
+pub(crate) fn is_closed(event: &Result<Event, PortRefused>, link: u32) -> bool {
     matches!(event, Ok(Event::Closed(number)) if *number == link)
 }
 
 /// Whether these bytes came on the link of this number.
-fn is_bytes(event: &Result<Event, PortRefused>, link: u32, bytes: &[u8]) -> bool {
+pub(crate) fn is_bytes(event: &Result<Event, PortRefused>, link: u32, bytes: &[u8]) -> bool {
     match event {
         Ok(Event::Bytes(number, came)) => *number == link && came.bytes() == bytes,
         _ => false,
@@ -43,7 +43,7 @@ fn send_fails<N: Net + Clock>(port: &mut SocketPort<'_, N>, link: u32) -> bool
 }
 
 /// Whether a dial failed. Then the count of dials and sends rose, and the other one stands.
-fn dial_fails<N: Net + Clock>(port: &mut SocketPort<'_, N>, peer: &[u8]) -> bool
+pub(crate) fn dial_fails<N: Net + Clock>(port: &mut SocketPort<'_, N>, peer: &[u8]) -> bool
     ensures other { port.new.faults ≡ port.old.faults }
     ensures rose { result ≢ false → port.new.link_faults ≡ next_count port.old.link_faults }
 {
