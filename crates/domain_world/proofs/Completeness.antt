@@ -6,6 +6,7 @@ pub mod JudgedNoteLaws
 pub mod MomentLaws
 pub mod OwnLogonLaws
 pub mod OwnWalkLaws
+pub mod PlainLaws
 pub mod RestingLaws
 pub mod SuccessLaws
 pub mod UnitNotedLaws

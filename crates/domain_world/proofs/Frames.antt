@@ -6,12 +6,17 @@ pub mod BagStepLaws
 pub mod BookFrameLaws
 pub mod ClientFrameLaws
 pub mod ComingLaws
+pub mod ControllerFrameLaws
 pub mod DrawnRunLaws
 pub mod EndFrameLaws
+pub mod EndNoteLaws
+pub mod EventLaws
 pub mod FrameLaws
 pub mod FrontLaws
+pub mod GivenLaws
 pub mod LeftLaws
 pub mod MarkPlaceLaws
+pub mod MemberFrameLaws
 pub mod MoveFrameLaws
 pub mod NewUnitLaws
 pub mod NoBytesLaws

@@ -13,5 +13,4 @@ pub mod SharedLaws
 pub mod SharedRunLaws
 pub mod StampLaws
 pub mod SumLaws
-pub mod TurnBookLaws
 pub mod WaitStepLaws

@@ -1,7 +1,8 @@
 -- What is written down of a move, and of a run (this project's own choice). Bytes come at an end only where a unit of
 -- the bag is delivered or bytes are handed in; what members tell and dial is read off the actions that ends give.
 use Rattle.std.specs.Prelude.{ℕ, ◌-◌, ◌==◌, ◌&&◌, ◌||◌, Bool, true, false, not, List, [], ◌∷◌, ◌++◌, length, drop, map, flat_map, replicate, Option, Some, None, slice_get}
-use Rattle.wire_base.specs.Maps.{lookup, same_number}
+use Rattle.wire_base.specs.Maps.{lookup, place_of, same_number}
+use Rattle.authenticators.specs.Channels.{ChannelIdentity, same_channel}
 use Rattle.outside.specs.declared.action.Action.{Action}
 use Rattle.outside.specs.declared.action.Action.TheVariants as action
 use Rattle.end_links.specs.Serving.{ServedUnit}
@@ -13,12 +14,12 @@ use Rattle.member_server.specs.declared.plan.MemberPlan.{MemberPlan}
 use Rattle.member_server.specs.Turns.{AtTurn}
 use Rattle.member_server.specs.declared.state.Running.{Running as MemberRunning}
 use Rattle.channel_turns.specs.declared.state.TurnTalk.{TurnTalk}
-use Rattle.channel_events.specs.Marks.{Mark, Plain}
+use Rattle.channel_events.specs.Marks.{Calling, Mark, Plain}
 use Rattle.step_notes.specs.ClientNotes.{made_note, units_of_client}
 use Rattle.step_notes.specs.ControllerNotes.{Answered, Where, answer_on, units_of_controller}
 use Rattle.step_notes.specs.Marking.{answered_marks, clashes, turn_marks}
 use Rattle.step_notes.specs.MemberNotes.{LinkAt, TurnNote, challenge_note, link_of_place, link_units, message_note, taken_link, turn_in, turn_note, turn_units}
-use Rattle.step_notes.specs.Records.{Book, Judging, JudgementTold, ChannelTurn, MessageTaken, OfMember, OutcomeTold, RequesterId, Sent, blank}
+use Rattle.step_notes.specs.Records.{Book, CallTaken, ChannelTurn, Judging, JudgementTold, MessageTaken, OfMember, OutcomeTold, RequesterId, Sent, blank}
 use Rattle.world_moves.specs.declared.bag.BagUnit.{BagUnit}
 use Rattle.world_moves.specs.declared.links.EndId.{EndId}
 use Rattle.world_moves.specs.declared.links.EndId.TheVariants.{Controller, Member, Client}
@@ -133,6 +134,39 @@ note_turns controller (served ∷ units) unit numbers b =
     note_turns controller units unit (later_of (turn_note controller served).sends numbers)
     (note_turn (turn_note controller served) served unit (first_of numbers) b)
 
+-- ---- answers that were taken
+
+abbrev pub is_calling : ChannelIdentity → ℕ → Mark → Bool
+is_calling channel number (Calling other called timestamp) = same_channel other channel && (called == number)
+is_calling channel number _ = false
+
+-- the unit was made as the call of that number on that channel
+abbrev pub is_call_of : ChannelIdentity → ℕ → Sent → Bool
+is_call_of channel number one = is_calling channel number one.mark
+
+-- which unit it was: in a schedule there is one at most, since the calls of a channel have different numbers
+abbrev pub call_made : ChannelIdentity → ℕ → List Sent → Option ℕ
+call_made channel number sent = place_of (is_call_of channel number) sent
+
+-- an answer, where the call and what was taken are units of the bag
+abbrev pub taken_as : RequesterId → ℕ → Option ℕ → Option ℕ → List CallTaken
+taken_as who at None unit = []
+taken_as who at (Some call) None = []
+taken_as who at (Some call) (Some unit) = record { at = at; requester = who; call = call; reply = unit } ∷ []
+
+-- the answer to the call of that number on that channel
+abbrev pub answer_on_channel : Option ChannelIdentity → Option ℕ → RequesterId → ℕ → Option ℕ → List Sent → List CallTaken
+answer_on_channel None number who at unit sent = []
+answer_on_channel (Some channel) None who at unit sent = []
+answer_on_channel (Some channel) (Some number) who at unit sent = taken_as who at (call_made channel number sent) unit
+
+-- of a unit that a turn took
+abbrev pub answers_by : RequesterId → ℕ → Option ℕ → List Sent → TurnNote → List CallTaken
+answers_by who at unit sent note = answer_on_channel note.checked note.replied who at unit sent
+
+abbrev pub with_taken : RequesterId → ℕ → Option ℕ → List TurnNote → Book → Book
+with_taken who at unit notes b = record b { answers = b.answers ++ flat_map (answers_by who at unit b.sent) notes }
+
 -- the number of the controller of a member's plan; where the plan names none, a number that none has
 abbrev pub controller_number : Option EndId → ℕ → ℕ
 controller_number (Some (Controller at)) none = at
@@ -186,7 +220,8 @@ abbrev pub note_requests : ℕ → MemberState → Coming → List ℕ → State
 note_requests member m w piece s after b =
     with_marks w.at w.link false (drop (length s.bag) after.bag)
     (turn_marks (map (turn_note (controller_of member s)) (turn_units m w.link piece s.moment s.chances.left)))
-    (note_turns (controller_of member s) (turn_units m w.link piece s.moment s.chances.left) w.unit (numbers_on w.link false s.bag after.bag) b)
+    (with_taken (OfMember member) w.at w.unit (map (turn_note (controller_of member s)) (turn_units m w.link piece s.moment s.chances.left))
+    (note_turns (controller_of member s) (turn_units m w.link piece s.moment s.chances.left) w.unit (numbers_on w.link false s.bag after.bag) b))
 
 abbrev pub note_member : Option MemberState → ℕ → Coming → List ℕ → State → State → Book → Book
 note_member None member w piece s after b = b

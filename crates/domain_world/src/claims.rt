@@ -45,9 +45,10 @@ pub fn controllers_grant_who_may_log_on()
     ensures { (plan : Plan) (moves : List Move) → GrantsWhoMayLogOn (past plan moves) }
 {}
 
-/// In every run, over all moves from a plan on, a controller's accounts change by the verdicts on the Logon calls that
-/// passed there, one after another (MS-NRPC 3.5.4.5.3), and by nothing else: each call is judged by the accounts as the
-/// earlier ones left them, from those of the plan on, and the controller has what the last one left.
+/// In every run, over all moves from a plan on, a controller's accounts change by what the calls come to that passed
+/// there, a Logon call by its verdict (MS-NRPC 3.5.4.5.3), one after another, and by nothing else: each call is judged
+/// by the accounts as the earlier ones left them, from those of the plan on, and the controller has what the last one
+/// left.
 #[tactic(auto, using(crate::proofs::Judgements::TableLaws::tables_follow))]
 pub fn tables_follow_verdicts()
     ensures { (plan : Plan) (moves : List Move) → TablesFollowVerdicts (past plan moves) }

@@ -17,6 +17,7 @@ use Rattle.logon_runs.specs.Seen.Others.{IsStepOn}
 use Rattle.logon_runs.specs.Rests.{AtRest, ClientRests, ControllerRests, IsInStepAt, MemberRests, RestsStay, StandsWell}
 use Rattle.logon_runs.specs.Seen.WaitingUnits.{waiting}
 use Rattle.logon_runs.proofs.Seen.WaitingLaws.{waiting_comes}
+use Rattle.logon_runs.proofs.Seen.StepOnLaws.{by_step}
 
 well_still : (plan : Plan) (s after : State) (at : ℕ) (member : MemberPlan) (how : Standing) → ((k : ℕ) → slice_get after.ends.controllers k ≡ slice_get s.ends.controllers k) →
     StandsWell plan s at member how → StandsWell plan after at member how
@@ -87,31 +88,14 @@ onward_none : (plan : Plan) (s : State) → AtRest plan s → (act s move.Onward
 onward_none plan s rest = ap (λ (a : Acted). a.state) (waiting_comes.idle s rest.units)
 
 stays_so : (plan : Plan) (s : State) (what : Move) → IsStepOn what → AtRest plan s → AtRest plan (act s what).state
-stays_so plan s move.Connect steps rest =
-    subst (AtRest plan) (sym (connects_none plan s rest)) (rest_still plan s (without_first s) refl refl (ap (λ (dials : List WaitingDial). drop 1 dials) rest.dials) refl refl rest)
-stays_so plan s move.Onward steps rest = subst (AtRest plan) (sym (onward_none plan s rest)) rest
-stays_so plan s (move.Tick more) steps rest = rest_still plan s (tick more s) refl refl rest.dials refl refl rest
-stays_so plan s (move.Start number) steps rest = absurd steps
-stays_so plan s (move.Stranger number) steps rest = absurd steps
-stays_so plan s move.FailDial steps rest = absurd steps
-stays_so plan s move.Lose steps rest = absurd steps
-stays_so plan s (move.Deliver unit link) steps rest = absurd steps
-stays_so plan s (move.Hand link back bytes) steps rest = absurd steps
-stays_so plan s (move.Shut number) steps rest = absurd steps
-stays_so plan s (move.Restart number) steps rest = absurd steps
+stays_so plan s what steps rest =
+    by_step (λ (one : Move). AtRest plan (act s one).state)
+    (subst (AtRest plan) (sym (connects_none plan s rest)) (rest_still plan s (without_first s) refl refl (ap (λ (dials : List WaitingDial). drop 1 dials) rest.dials) refl refl rest))
+    (subst (AtRest plan) (sym (onward_none plan s rest)) rest) (λ more. rest_still plan s (tick more s) refl refl rest.dials refl refl rest) what steps
 
 draws_so : (plan : Plan) (s : State) (what : Move) → IsStepOn what → AtRest plan s → (act s what).state.chances ≡ s.chances
-draws_so plan s move.Connect steps rest = ap State.chances (connects_none plan s rest)
-draws_so plan s move.Onward steps rest = ap State.chances (onward_none plan s rest)
-draws_so plan s (move.Tick more) steps rest = refl
-draws_so plan s (move.Start number) steps rest = absurd steps
-draws_so plan s (move.Stranger number) steps rest = absurd steps
-draws_so plan s move.FailDial steps rest = absurd steps
-draws_so plan s move.Lose steps rest = absurd steps
-draws_so plan s (move.Deliver unit link) steps rest = absurd steps
-draws_so plan s (move.Hand link back bytes) steps rest = absurd steps
-draws_so plan s (move.Shut number) steps rest = absurd steps
-draws_so plan s (move.Restart number) steps rest = absurd steps
+draws_so plan s what steps rest =
+    by_step (λ (one : Move). (act s one).state.chances ≡ s.chances) (ap State.chances (connects_none plan s rest)) (ap State.chances (onward_none plan s rest)) (λ more. refl) what steps
 
 pub rests_stay : RestsStay
 rests_stay = record { stays = stays_so; draws = draws_so }

@@ -5,6 +5,7 @@ pub mod OtherLaws
 pub mod SceneLaws
 pub mod StartLaws
 pub mod StayingLaws
+pub mod StepOnLaws
 pub mod TurnSceneLaws
 pub mod TurningSceneLaws
 pub mod TwoLinkLaws

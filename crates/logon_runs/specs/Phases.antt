@@ -1,6 +1,6 @@
 -- The phases of one logon that is granted, as they are seen of a scene: in whichever order the moves come, and whenever
 -- time passes (MS-NLMP 3.1.5.1, 3.2.5.1; MS-NRPC 3.1.4.1 to 3.1.4.5; the memo interface is this project's own).
-use Rattle.std.specs.Prelude.{ℕ, ◌≡◌, ◌≤◌, ◌<◌, ◌^◌, ◌⊎◌, ◌++◌, true, false, IsSomeAnd, List, [], ◌∷◌, length, Option, Some, None, slice_get}
+use Rattle.std.specs.Prelude.{ℕ, ◌≡◌, ◌≤◌, ◌<◌, ◌^◌, ◌⊎◌, ◌++◌, true, false, IsSomeAnd, List, [], ◌∷◌, length, Option, Some, None, slice_get, Bool}
 use Rattle.wire_base.specs.Maps.{lookup}
 use Rattle.wire_base.specs.Names.{IsName, same_name}
 use Rattle.authenticators.specs.SecureChannels.{SecureChannelState, after_call, fresh_channel}
@@ -51,7 +51,6 @@ use Rattle.world_moves.specs.declared.state.State.{State}
 use Rattle.world_moves.specs.Choosing.{chosen_place}
 use Rattle.world_moves.specs.Moving.{act, end_of_peer, start}
 use Rattle.world_moves.specs.declared.moves.Move.{Move}
-use Rattle.world_moves.specs.declared.moves.Move.TheVariants as move
 use Rattle.logon_steps.specs.Answering.{IsInStep, auth_value, moved, pair_of}
 use Rattle.logon_steps.specs.Answers.{AreDraws, HasUnits, answer_for, auth3_for, drawn_of, logon_for, terms_for}
 use Rattle.logon_steps.specs.Calling.{HasShortCaller, HasShortInfo}
@@ -66,7 +65,7 @@ use Rattle.logon_steps.specs.Turning.{turn_ack, turn_request}
 use Rattle.logon_runs.specs.Seen.AskScenes.{turn_within, with_controller}
 use Rattle.logon_runs.specs.Grants.{KeyArrives}
 use Rattle.logon_runs.specs.Seen.LinkScenes.{Meeting, its_link, joined, meeting_scene, rest_scene, unit_down, unit_up}
-use Rattle.logon_runs.specs.Seen.Others.{IsStepOn}
+use Rattle.logon_runs.specs.Seen.Others.{IfSo, IsStepOn, is_onward}
 use Rattle.logon_runs.specs.Runs.{Asked, StandsInStep, hidden, info_asked, message_for, sam_for}
 use Rattle.logon_runs.specs.Scenes.{Scene, Shows}
 use Rattle.logon_runs.specs.Seen.WaitingUnits.{waiting}
@@ -371,12 +370,12 @@ MayLogOnAt p s = IsSomeAnd (slice_get s.ends.controllers p.meeting.at_controller
 
 -- where the logon is judged at the move, the session base key doesn't travel as zeros, unless units aren't signed
 abbrev pub ArrivesAt : (p : Coming) → LogonPhase p → Move → Type 0
-ArrivesAt p (Calls a who v (Third o c timestamp)) move.Onward = KeyArrives (own p) a o
+ArrivesAt p (Calls a who v (Third o c timestamp)) what = IfSo (is_onward what) (KeyArrives (own p) a o)
 ArrivesAt p phase what = Unit {0}
 
 -- it is then that the user's hash is asked for, and that he may log on
 abbrev pub HasUserAt : (p : Coming) → State → LogonPhase p → Move → Type 0
-HasUserAt p s (Calls a who v (Third o c timestamp)) move.Onward = HasUser p × MayLogOnAt p s
+HasUserAt p s (Calls a who v (Third o c timestamp)) what = IfSo (is_onward what) (HasUser p × MayLogOnAt p s)
 HasUserAt p s phase what = Unit {0}
 
 -- what the moves need of the state
@@ -409,9 +408,12 @@ progress_onward (Calls a who v (Third o c timestamp)) = WasJudged a o
 progress_onward (Granted a who v o c timestamp judged_at accounts) = WasTold a
 progress_onward phase = progress_of phase
 
+abbrev pub progress_if : {p : Coming} → (comes : Bool) → LogonPhase p → Progress
+progress_if false phase = progress_of phase
+progress_if true phase = progress_onward phase
+
 abbrev pub progress_after : {p : Coming} → Move → LogonPhase p → Progress
-progress_after move.Onward phase = progress_onward phase
-progress_after _ phase = progress_of phase
+progress_after what phase = progress_if (is_onward what) phase
 
 -- what a state comes to, where the logon is so far
 abbrev pub ComesSoFar : Coming → Progress → State → Type 0

@@ -1,7 +1,7 @@
 -- What is seen of a world while one logon goes on: a client, a member and a controller, what waits,
 -- and what is open (this project's own choice). Nothing else of the world has to be known to say
 -- what comes of a move.
-use Rattle.std.specs.Prelude.{ℕ, ◌≡◌, ◌≤◌, ◌<◌, List, [], ◌∷◌, ◌++◌, length, Option, Some, None, slice_get}
+use Rattle.std.specs.Prelude.{ℕ, ◌≡◌, ◌≤◌, ◌<◌, List, [], ◌∷◌, ◌++◌, length, Some, slice_get}
 use Rattle.std.specs.List.{AllByRecursion}
 use Rattle.wire_base.specs.Maps.{lookup, same_number}
 use Rattle.outside.specs.declared.action.Action.{Action}
@@ -19,12 +19,12 @@ use Rattle.world_moves.specs.declared.links.EndId.{EndId}
 use Rattle.world_moves.specs.declared.links.EndId.TheVariants.{Controller, Member, Client}
 use Rattle.world_moves.specs.declared.links.OpenLink.{OpenLink}
 use Rattle.world_moves.specs.declared.links.Route.{Route}
-use Rattle.world_moves.specs.declared.links.Route.TheVariants.{ToMember, ToController, Stranger}
 use Rattle.world_moves.specs.declared.state.State.{State}
 use Rattle.world_moves.specs.declared.state.WaitingDial.{WaitingDial}
 use Rattle.world_moves.specs.Links.{OpenMap, hearer_on}
 use Rattle.world_moves.specs.Moving.{onward}
-use Rattle.logon_runs.specs.Seen.WaitingUnits.{unit_on, waiting}
+use Rattle.world_moves.specs.Acting.{dials_of_action, units_of_action}
+use Rattle.logon_runs.specs.Seen.WaitingUnits.{waiting}
 
 -- a scene: one client, one member and one controller, and what is under way between them
 pub record Scene : Type 0 where
@@ -58,35 +58,10 @@ pub record Shows (s : State) (v : Scene) : Type 0 where
 
 -- ---- what actions leave that close nothing
 
--- the unit that is sent on a route, unless it is a stranger's
-abbrev pub sent_if : Option Route → EndId → ℕ → List ℕ → List BagUnit
-sent_if None end link bytes = []
-sent_if (Some (Stranger to)) end link bytes = []
-sent_if (Some (ToMember client member)) end link bytes = unit_on (ToMember client member) end link bytes ∷ []
-sent_if (Some (ToController member controller)) end link bytes = unit_on (ToController member controller) end link bytes ∷ []
-
--- the units that an action sends
-abbrev pub units_of_action : List Route → EndId → Action → List BagUnit
-units_of_action links end (action.Keep bytes) = []
-units_of_action links end (action.Send link bytes) = sent_if (slice_get links link) end link bytes
-units_of_action links end (action.Dial peer) = []
-units_of_action links end (action.Close link cause) = []
-units_of_action links end (action.Told link what) = []
-units_of_action links end (action.Judged how) = []
-
 -- the units that actions send, in order
 abbrev pub units_sent : List Route → EndId → List Action → List BagUnit
 units_sent links end [] = []
 units_sent links end (what ∷ actions) = units_of_action links end what ++ units_sent links end actions
-
--- the dials that an action makes
-abbrev pub dials_of_action : EndId → Action → List WaitingDial
-dials_of_action end (action.Dial peer) = record { end = end; peer = peer } ∷ []
-dials_of_action end (action.Keep bytes) = []
-dials_of_action end (action.Send link bytes) = []
-dials_of_action end (action.Close link cause) = []
-dials_of_action end (action.Told link what) = []
-dials_of_action end (action.Judged how) = []
 
 -- the dials that actions make, in order
 abbrev pub dials_made : EndId → List Action → List WaitingDial

@@ -27,7 +27,7 @@ use Rattle.account_table.specs.declared.account.Account.{Account}
 use Rattle.end_links.specs.Links.{LinkState}
 use Rattle.end_links.specs.Sending.{frames_of, request_of}
 use Rattle.end_links.specs.Serving.{ServedUnit}
-use Rattle.channel_client.specs.Effects.{stands_in, step_in}
+use Rattle.channel_client.specs.Effects.{number_in, stands_in, step_in}
 use Rattle.channel_client.specs.Machine.{ask_of, auth_call, can_start, challenge_call, hear as hear_reply, lose_of, start_of, take_of}
 use Rattle.channel_client.specs.State.{Requester}
 use Rattle.channel_client.specs.declared.answers.Taken.{Taken}
@@ -115,9 +115,10 @@ place_answered (taken.Dropped place cause) = None
 abbrev pub AreFramesOf : ℕ → Call → List (List ℕ) → Type 0
 AreFramesOf number c frames = (limit : ℕ) × (frames ≡ frames_of (request_of number 0 (opnum_of_call c) (written_call c)) limit)
 
--- a credential passed on that channel, and the answer of that place was taken, if one was
-abbrev pub passed_note : ChannelIdentity → Option ℕ → TurnNote
-passed_note channel answered = record { sends = false; mark = Plain; checked = Some channel; called = None; answered = answered }
+-- a credential passed on that channel; and the answer of that place, to the call of that number, was taken, if one was
+abbrev pub passed_note : ChannelIdentity → Option ℕ → Option ℕ → TurnNote
+passed_note channel answered replied =
+    record { sends = false; mark = Plain; checked = Some channel; called = None; answered = answered; replied = replied }
 
 -- the channel that stood stands on, or none does
 abbrev pub StandsOrGoes : ChannelIdentity → Option ChannelIdentity → Type 0
@@ -207,7 +208,7 @@ pub record ChannelsStandAsAsked : Type 0 where
   pub opens : (controller : ℕ) (s : Requester) (unit : RpcUnit) → (take_of s unit).taken ≡ taken.Opened →
       (client : List ℕ) × (server : List ℕ) × (s.standing ≡ standing.Half client server)
       × (standing_channel controller (take_of s unit).state ≡ Some (half_channel controller s client server))
-      × (taking_note (Some (take_of s unit)) controller s ≡ passed_note (half_channel controller s client server) None)
+      × (taking_note (Some (take_of s unit)) controller s ≡ passed_note (half_channel controller s client server) None None)
   pub asks : (controller : ℕ) (s : Requester) (info : NetworkInfo) →
       standing_channel controller (ask_of s info).state ≡ standing_channel controller s
   pub starts : (controller : ℕ) (s : Requester) (timestamp : ℕ) (challenge : List ℕ) →
@@ -239,7 +240,7 @@ pub record CallsAreNamedAlike : Type 0 where
   pub takes : (controller : ℕ) (s : Requester) (unit : RpcUnit) (place : ℕ) → place_answered (take_of s unit).taken ≡ Some place →
       (channel : ChannelIdentity) × (standing_channel controller s ≡ Some channel)
       × (standing_channel controller (take_of s unit).state ≡ Some channel)
-      × (taking_note (Some (take_of s unit)) controller s ≡ passed_note channel (Some place))
+      × (taking_note (Some (take_of s unit)) controller s ≡ passed_note channel (Some place) (Some (number_in s.turn)))
 
 -- A credential that passes on a channel in a unit that was made for it is no clash.
 abbrev pub OwnUnitsAreNoClash : Type 0

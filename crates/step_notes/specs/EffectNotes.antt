@@ -43,11 +43,11 @@ abbrev pub IsNotedBy : Effect → TurnNote → View → View → Bool → Bool �
 IsNotedBy Stays note u v old new = (note ≡ no_note) × StaysOut v old new
 IsNotedBy Counts note u v old new = ((note ≡ request_note Plain None) × StaysOut v old new) ⊎ GoesOut note u old new
 IsNotedBy (Begins client) note u v old new = ⊥
-IsNotedBy (Opens c) note u v old new = note ≡ passed_note c None
+IsNotedBy (Opens c) note u v old new = note ≡ passed_note c None None
 IsNotedBy (Moves c timestamp) note u v old new = ⊥
 IsNotedBy (Calls c number) note u v old new =
     (timestamp : ℕ) × (place : ℕ) × (note ≡ request_note (Calling c number timestamp) (Some place))
-IsNotedBy (Answers c number) note u v old new = (place : ℕ) × (note ≡ passed_note c (Some place)) × StaysOut v old new
+IsNotedBy (Answers c number) note u v old new = (place : ℕ) × (note ≡ passed_note c (Some place) (Some number)) × StaysOut v old new
 IsNotedBy Drops note u v old new = note ≡ no_note
 
 -- a requester that is made anew is fresh; a logon that is asked and a turn that starts send no opening; and a unit that

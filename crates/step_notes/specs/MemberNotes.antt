@@ -17,7 +17,7 @@ use Rattle.wire_base.specs.declared.authenticator.Authenticator.{Authenticator}
 use Rattle.authenticators.specs.SecureChannels.{channel_of}
 use Rattle.end_links.specs.Links.{LinkState}
 use Rattle.end_links.specs.Serving.{ServedUnit, served_units}
-use Rattle.channel_client.specs.Effects.{stands_in, step_in}
+use Rattle.channel_client.specs.Effects.{number_in, stands_in, step_in}
 use Rattle.channel_client.specs.Machine.{Taking, offered_flags, place_of, take_of}
 use Rattle.channel_client.specs.State.{Requester}
 use Rattle.channel_client.specs.declared.answers.Taken.{Taken}
@@ -112,20 +112,22 @@ abbrev pub taking_at : ServedUnit AtTurn TurnTalk → Option Taking
 taking_at unit = taking_read (unit_of unit.bytes) unit.talk.joiner unit.work.work.logons.channel
 
 -- What taking a unit comes to: whether a request is sent on its link, and what that was made for; the channel on which
--- a credential passed; the place whose Logon call that request is; and the place whose answer was taken.
+-- a credential passed; the place whose Logon call that request is; the place whose answer was taken; and the number of
+-- the call that was answered so, whatever it asked.
 pub record TurnNote : Type 0 where
   pub sends : Bool
   pub mark : Mark
   pub checked : Option ChannelIdentity
   pub called : Option ℕ
   pub answered : Option ℕ
+  pub replied : Option ℕ
 
 abbrev pub no_note : TurnNote
-no_note = record { sends = false; mark = Plain; checked = None; called = None; answered = None }
+no_note = record { sends = false; mark = Plain; checked = None; called = None; answered = None; replied = None }
 
 -- a request, by what it asks and how far the channel is
 abbrev pub request_note : Mark → Option ℕ → TurnNote
-request_note mark called = record { sends = true; mark = mark; checked = None; called = called; answered = None }
+request_note mark called = record { sends = true; mark = mark; checked = None; called = called; answered = None; replied = None }
 
 -- the channel that is opened, with that controller
 abbrev pub half_channel : ℕ → Requester → List ℕ → List ℕ → ChannelIdentity
@@ -153,14 +155,16 @@ asked_note (Some (step.Reply question.Logon)) (standing.Open o) controller befor
     (Some (place_of after.turn))
 asked_note _ _ controller before after = request_note Plain None
 
--- a credential passed on the channel that stands then, and the answer of that place was taken, if one was
-abbrev pub checked_note : ℕ → Option ℕ → Requester → TurnNote
-checked_note controller answered s = record {
+-- a credential passed on the channel that stands then; and the answer of that place, to the call of that number, was
+-- taken, if one was
+abbrev pub checked_note : ℕ → Option ℕ → Option ℕ → Requester → TurnNote
+checked_note controller answered replied s = record {
   sends = false;
   mark = Plain;
   checked = stands_in controller s.caller.computer s.standing;
   called = None;
   answered = answered;
+  replied = replied;
 }
 
 -- by what was taken, and by the requester before and after it: a request that is sent has the next number that it had
@@ -169,8 +173,8 @@ abbrev pub taken_note : Taken → ℕ → Requester → Requester → TurnNote
 taken_note (taken.Skip right) controller before after = no_note
 taken_note (taken.Next right frames) controller before after = asked_note (step_in after.turn) after.standing controller before after
 taken_note taken.Half controller before after = no_note
-taken_note taken.Opened controller before after = checked_note controller None after
-taken_note (taken.Answer place verdict) controller before after = checked_note controller (Some place) after
+taken_note taken.Opened controller before after = checked_note controller None None after
+taken_note (taken.Answer place verdict) controller before after = checked_note controller (Some place) (Some (number_in before.turn)) after
 taken_note (taken.Dropped place cause) controller before after = no_note
 
 abbrev pub taking_note : Option Taking → ℕ → Requester → TurnNote

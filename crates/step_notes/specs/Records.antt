@@ -8,7 +8,7 @@ use Rattle.authenticators.specs.SecureChannels.{SecureChannelState}
 use Rattle.outside.specs.declared.action.Judged.{Judged}
 use Rattle.outside.specs.declared.action.Outcome.{Outcome}
 use Rattle.account_table.specs.AccountTable.{AccountTable}
-pub use Rattle.controller_calls.specs.Calls.{IfNetwork, JudgedCall, Network, computer_named, given_in}
+pub use Rattle.controller_calls.specs.Calls.{JudgedCall, Network, computer_named, given_in, IfNetwork}
 use Rattle.logon_client.specs.declared.plan.ClientPlan.{ClientPlan}
 use Rattle.member_server.specs.declared.state.Logon.{Logon}
 use Rattle.channel_events.specs.Marks.{Mark}
@@ -79,7 +79,8 @@ pub record MessageTaken : Type 0 where
   pub place : ℕ
   -- the unit of the bag that carries the Logon call of that place, once there is one
   pub call : Option ℕ
-  -- the unit of the bag that the member took as the answer in the turn of that place, once it took one
+  -- the unit of the bag that the member took as the answer in the turn of that place, once it took one: that of the
+  -- entry of `answers` for that call
   pub reply : Option ℕ
 
 -- An outcome that a member told.
@@ -102,6 +103,14 @@ pub record ChannelTurn : Type 0 where
   pub requester : RequesterId
   pub channel : ChannelIdentity
   pub timestamp : ℕ
+
+-- An answer that was taken, whoever asked and whatever: the unit of the bag that carries the call, and the one that was
+-- taken as its answer.
+pub record CallTaken : Type 0 where
+  pub at : ℕ
+  pub requester : RequesterId
+  pub call : ℕ
+  pub reply : ℕ
 
 -- ---- at a client
 
@@ -132,6 +141,7 @@ pub record Book : Type 0 where
   pub messages : List MessageTaken
   pub told : List OutcomeTold
   pub turns : List ChannelTurn
+  pub answers : List CallTaken
   pub made : List MessageMade
   -- a credential passed on a unit that was made for another channel, or for none
   pub clash : Bool
@@ -147,6 +157,7 @@ blank = record {
   messages = [];
   told = [];
   turns = [];
+  answers = [];
   made = [];
   clash = false;
 }

@@ -3,15 +3,12 @@
 use Rattle.std.proofs.Common.{◌≡◌, ℕ, ◌+◌, ◌≤◌, Bool, true, false, List, [], ◌∷◌, length, Option, Some, None, slice_get, refl, ap, ◌∙◌, arith, length-append}
 use Rattle.wire_base.specs.Maps.{lookup, same_number}
 use Rattle.outside.specs.declared.action.Action.{Action}
-use Rattle.outside.specs.declared.action.Action.TheVariants.{Keep, Send, Dial, Close, Told, Judged}
 use Rattle.outside.specs.declared.event.Event.{Event}
 use Rattle.outside.specs.declared.event.Event.TheVariants as event
 use Rattle.logon_client.specs.declared.plan.ClientPlan.{ClientPlan}
 use Rattle.world_moves.specs.declared.bag.BagUnit.{BagUnit}
 use Rattle.world_moves.specs.declared.links.EndId.{EndId}
 use Rattle.world_moves.specs.declared.links.EndId.TheVariants.{Client}
-use Rattle.world_moves.specs.declared.links.LinkKind.{LinkKind}
-use Rattle.world_moves.specs.declared.links.LinkKind.TheVariants as kind
 use Rattle.world_moves.specs.declared.links.OpenLink.{OpenLink}
 use Rattle.world_moves.specs.declared.links.Route.{Route}
 use Rattle.world_moves.specs.declared.links.Route.TheVariants.{Stranger}
@@ -19,67 +16,38 @@ use Rattle.world_moves.specs.declared.moves.Move.{Move}
 use Rattle.world_moves.specs.declared.moves.Move.TheVariants as move
 use Rattle.world_moves.specs.declared.state.State.{State}
 use Rattle.world_moves.specs.declared.state.WaitingDial.{WaitingDial}
-use Rattle.world_moves.specs.Acting.{bag_unit, close_open, closed_at, forget, hear, hear_and_act, hear_and_act_if, perform, perform_all, perform_all_quietly, perform_quietly, piece_comes, pieces_come, send_on, shut_link}
+use Rattle.world_moves.specs.Acting.{closed_at, forget, hear_and_act, perform_all, piece_comes, shut_link}
 use Rattle.world_moves.specs.Bag.{first_waiting, pieces_of}
 use Rattle.world_moves.specs.Choosing.{chosen_in, chosen_place}
 use Rattle.world_moves.specs.Ends.{acceptors_in, count_of, end_at}
-use Rattle.world_moves.specs.Links.{acceptor_of, handed_links, hearer_of, hearer_on, is_accepted_by, kind_of, links_of, other_hearer}
+use Rattle.world_moves.specs.Links.{acceptor_of, handed_links, hearer_of, hearer_on, links_of}
 use Rattle.world_moves.specs.Moving.{act, answer_by, answered_link, begun, come, come_by, come_on_own, connect_by, connect_first, deliver_by, deliver_on, deliver_unit, end_of_peer, fail_first, hand_on, lose_by, onward_by, open_link, restart_at, restart_by, route_to, settle, shut_at, shut_by, start_at, start_by, stranger_at, stranger_by, with_link, without_first}
+use Rattle.world_moves.proofs.StateFrameLaws.{HoldsActing, StateFact, actions_so, closed_so, hears_if_so, hears_so, pieces_so}
 
-bag_unit_links : (k : LinkKind) (back : Bool) (link : ℕ) (bytes : List ℕ) (s : State) → (bag_unit k back link bytes s).links ≡ s.links
-bag_unit_links kind.Stranger back link bytes s = refl
-bag_unit_links kind.ToMember back link bytes s = refl
-bag_unit_links kind.ToController back link bytes s = refl
+-- the links are the same
+abbrev SameLinks : StateFact
+SameLinks s after = after.links ≡ s.links
 
-send_links : (route : Option Route) (end : EndId) (link : ℕ) (bytes : List ℕ) (s : State) → (send_on route end link bytes s).links ≡ s.links
-send_links None end link bytes s = refl
-send_links (Some route) end link bytes s = bag_unit_links (kind_of route) (is_accepted_by end route) link bytes s
+same_links : HoldsActing SameLinks
+same_links = record {
+  none = λ s. refl;
+  both = λ s between after first later. later ∙ first;
+  hears = λ end what s. refl;
+  acts = λ end what s. refl;
+  shuts = λ link s. refl;
+}
 
-pub quiet_links : (end : EndId) (what : Action) (s : State) → (perform_quietly end what s).links ≡ s.links
-quiet_links end (Keep bytes) s = refl
-quiet_links end (Send link bytes) s = send_links (slice_get s.links link) end link bytes s
-quiet_links end (Dial peer) s = refl
-quiet_links end (Close link cause) s = refl
-quiet_links end (Told link outcome) s = refl
-quiet_links end (Judged how) s = refl
-
-pub all_quiet_links : (end : EndId) (actions : List Action) (s : State) → (perform_all_quietly end actions s).links ≡ s.links
-all_quiet_links end [] s = refl
-all_quiet_links end (what ∷ actions) s = all_quiet_links end actions (perform_quietly end what s) ∙ quiet_links end what s
-
-pub closed_links : (end : Option EndId) (link : ℕ) (s : State) → (closed_at end link s).state.links ≡ s.links
-closed_links None link s = refl
-closed_links (Some end) link s = all_quiet_links end (hear end (event.Closed link) s).actions (hear end (event.Closed link) s).state
-
-close_open_links : (there : Option OpenLink) (end : EndId) (link : ℕ) (s : State) → (close_open there end link s).state.links ≡ s.links
-close_open_links None end link s = refl
-close_open_links (Some there) end link s = closed_links (other_hearer end there) link (shut_link link s)
-
-pub perform_links : (end : EndId) (what : Action) (s : State) → (perform end what s).state.links ≡ s.links
-perform_links end (Keep bytes) s = refl
-perform_links end (Close link cause) s = close_open_links (lookup same_number link s.open_links) end link s
-perform_links end (Send link bytes) s = quiet_links end (Send link bytes) s
-perform_links end (Dial peer) s = refl
-perform_links end (Told link outcome) s = refl
-perform_links end (Judged how) s = refl
+closed_links : (end : Option EndId) (link : ℕ) (s : State) → (closed_at end link s).state.links ≡ s.links
+closed_links = closed_so SameLinks same_links
 
 all_links : (end : EndId) (actions : List Action) (s : State) → (perform_all end actions s).state.links ≡ s.links
-all_links end [] s = refl
-all_links end (what ∷ actions) s = all_links end actions (perform end what s).state ∙ perform_links end what s
+all_links = actions_so SameLinks same_links
 
 pub hears_links : (end : EndId) (what : Event) (s : State) → (hear_and_act end what s).state.links ≡ s.links
-hears_links end what s = all_links end (hear end what s).actions (hear end what s).state
-
-hears_if_links : (end : Option EndId) (what : Event) (s : State) → (hear_and_act_if end what s).state.links ≡ s.links
-hears_if_links None what s = refl
-hears_if_links (Some end) what s = hears_links end what s
+hears_links = hears_so SameLinks same_links
 
 piece_links : (back : Bool) (link : ℕ) (piece : List ℕ) (s : State) → (piece_comes back link piece s).state.links ≡ s.links
-piece_links back link piece s = hears_if_links (hearer_of back (lookup same_number link s.open_links)) (event.Bytes link piece) s
-
-pieces_links : (back : Bool) (link : ℕ) (pieces : List (List ℕ)) (s : State) → (pieces_come back link pieces s).state.links ≡ s.links
-pieces_links back link [] s = refl
-pieces_links back link (piece ∷ pieces) s = pieces_links back link pieces (piece_comes back link piece s).state ∙ piece_links back link piece s
+piece_links back link piece s = hears_if_so SameLinks same_links (hearer_of back (lookup same_number link s.open_links)) (event.Bytes link piece) s
 
 -- ---- moves that make no link
 
@@ -97,7 +65,7 @@ fail_links (Some first) s = hears_links first.end event.DialFailed s
 
 come_by_links : (unit : Option BagUnit) (link : ℕ) (s : State) → (come_by unit link s).state.links ≡ s.links
 come_by_links None link s = refl
-come_by_links (Some unit) link s = pieces_links unit.back link (pieces_of unit.bytes) s
+come_by_links (Some unit) link s = pieces_so SameLinks same_links unit.back link (pieces_of unit.bytes) s
 
 come_links : (number link : ℕ) (s : State) → (come number link s).state.links ≡ s.links
 come_links number link s = come_by_links (slice_get s.bag number) link s

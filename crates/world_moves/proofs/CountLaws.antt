@@ -1,12 +1,11 @@
 -- What a world counts is what its ends' actions are.
 -- It serves `State::put_answered`, `State::shut_link`, `World::new` and 4 more.
-use Rattle.std.proofs.Common.{◌≡◌, ℕ, ◌+◌, Bool, true, false, cond, List, [], ◌∷◌, ◌++◌, length, Option, Some, None, slice_get, refl, ap, sym, subst, ◌∙◌, arith}
+use Rattle.std.proofs.Common.{◌≡◌, ℕ, ◌+◌, Bool, true, false, cond, List, [], ◌∷◌, ◌++◌, length, Option, Some, None, slice_get, refl, ap, sym, subst, ◌∙◌, arith, if◌then◌else◌}
 use Rattle.std.specs.List.{count_by}
-use Rattle.std.proofs.lemmas.List.{map-append}
+use Rattle.std.proofs.lemmas.List.{append_assoc}
 use Rattle.std.proofs.lemmas.List.Sums.{sum_by-append}
 use Rattle.wire_base.specs.Maps.{lookup, same_number}
 use Rattle.outside.specs.declared.action.Action.{Action}
-use Rattle.outside.specs.declared.action.Action.TheVariants.{Keep, Send, Dial, Close, Told, Judged}
 use Rattle.outside.specs.declared.event.Event.{Event}
 use Rattle.outside.specs.declared.event.Event.TheVariants as event
 use Rattle.logon_client.specs.declared.plan.ClientPlan.{ClientPlan}
@@ -14,9 +13,7 @@ use Rattle.domain_controller.specs.Laws.{is_passed}
 use Rattle.world_moves.specs.declared.bag.BagUnit.{BagUnit}
 use Rattle.world_moves.specs.declared.counting.Counts.{Counts}
 use Rattle.world_moves.specs.declared.links.EndId.{EndId}
-use Rattle.world_moves.specs.declared.links.EndId.TheVariants.{Client}
-use Rattle.world_moves.specs.declared.links.LinkKind.{LinkKind}
-use Rattle.world_moves.specs.declared.links.LinkKind.TheVariants as kind
+use Rattle.world_moves.specs.declared.links.EndId.TheVariants.{Client, Controller, Member}
 use Rattle.world_moves.specs.declared.links.OpenLink.{OpenLink}
 use Rattle.world_moves.specs.declared.links.Route.{Route}
 use Rattle.world_moves.specs.declared.links.Route.TheVariants.{Stranger}
@@ -25,14 +22,15 @@ use Rattle.world_moves.specs.declared.moves.Move.TheVariants as move
 use Rattle.world_moves.specs.declared.plan.Plan.{Plan}
 use Rattle.world_moves.specs.declared.state.State.{State}
 use Rattle.world_moves.specs.declared.state.WaitingDial.{WaitingDial}
-use Rattle.world_moves.specs.Acting.{Acted, Heard, Given, bag_unit, close_open, closed_at, done, forget, given_by, hear, hear_and_act, hear_and_act_if, nothing_done, perform, perform_all, perform_all_quietly, perform_quietly, piece_comes, pieces_come, send_on, shut_link, then_act}
+use Rattle.world_moves.specs.Acting.{Acted, Given, Heard, close_open, closed_at, done, forget, given_by, hear, hear_and_act, hear_and_act_if, link_closed, nothing_done, perform, perform_all, perform_all_quietly, perform_by, perform_quietly, piece_comes, pieces_come, shut_link, then_act}
 use Rattle.world_moves.specs.Bag.{first_waiting, pieces_of}
 use Rattle.world_moves.specs.Choosing.{chosen_in, chosen_place}
-use Rattle.world_moves.specs.Counting.{add_counts, clipped, counts_of, is_barred, is_in, is_out, is_unanswered, judges, no_counts, tells}
-use Rattle.world_moves.specs.Ends.{acceptors_in, count_of, end_at}
-use Rattle.world_moves.specs.Links.{acceptor_of, handed_links, hearer_of, hearer_on, is_accepted_by, kind_of, links_of, other_hearer}
+use Rattle.world_moves.specs.Counting.{add_counts, clipped, counted_of, counts_of, is_barred, is_counted, is_in, is_out, is_unanswered, judges, no_counts, tells}
+use Rattle.world_moves.specs.Ends.{EndStep, acceptors_in, count_of, end_at, end_step}
+use Rattle.world_moves.specs.Links.{acceptor_of, handed_links, hearer_of, hearer_on, links_of, other_hearer}
 use Rattle.world_moves.specs.Moving.{act, answer_by, answered_link, begun, come, come_by, come_on_own, connect_by, connect_first, deliver_by, deliver_on, deliver_unit, end_of_peer, fail_first, hand_on, lose_by, onward_by, open_link, restart_at, restart_by, route_to, settle, shut_at, shut_by, start_at, start_by, stranger_at, stranger_by, with_link, without_first}
-use Rattle.world_moves.specs.World.{World, actions_in, actions_of_run, first_world, happens, report_by, report_of, report_of_run, run, run_of}
+use Rattle.world_moves.specs.World.{Passed, World, actions_in, actions_of_run, counted_given, counted_of_run, first_world, happens, report_by, report_of, report_of_run, run, run_of}
+use Rattle.world_moves.proofs.EndKindLaws.{step_by}
 
 -- ---- counts
 
@@ -76,20 +74,57 @@ still_add c d = same_counts _ _ (clip_still _) (clip_still _) (clip_still _) (cl
 
 -- ---- actions that were given
 
-actions_append : (given later : Given) → actions_in (given ++ later) ≡ actions_in given ++ actions_in later
-actions_append given later = map-append (λ (one : EndId × Action). one.1) given later
+counted_append : (given later : Given) → counted_given (given ++ later) ≡ counted_given given ++ counted_given later
+counted_append [] later = refl
+counted_append (one ∷ given) later =
+    ap (λ rest. counted_of one.0 (one.1 ∷ []) ++ rest) (counted_append given later)
+    ∙ sym (append_assoc (counted_of one.0 (one.1 ∷ [])) (counted_given given) (counted_given later))
 
-given_actions : (end : EndId) (actions : List Action) → actions_in (given_by end actions) ≡ actions
-given_actions end [] = refl
-given_actions end (what ∷ actions) = ap (λ rest. what ∷ rest) (given_actions end actions)
+-- the argument: whether what the end gives is counted
+counted_by : (hit : Bool) (end : EndId) (actions : List Action) → is_counted end ≡ hit → counted_given (given_by end actions) ≡ (if hit then actions else [])
+counted_by false end [] is = refl
+counted_by true end [] is = refl
+counted_by false end (what ∷ actions) is =
+    ap (λ (hit : Bool). (if hit then what ∷ [] else []) ++ counted_given (given_by end actions)) is ∙ counted_by false end actions is
+counted_by true end (what ∷ actions) is =
+    ap (λ (hit : Bool). (if hit then what ∷ [] else []) ++ counted_given (given_by end actions)) is ∙ ap (λ rest. what ∷ rest) (counted_by true end actions is)
+
+given_counted : (end : EndId) (actions : List Action) → counted_given (given_by end actions) ≡ counted_of end actions
+given_counted end actions = counted_by (is_counted end) end actions refl
+
+-- of a step they are those that its end counts
+none_if : (hit : Bool) (actions : List Action) → actions ≡ [] → [] ≡ (if hit then actions else [])
+none_if true actions is = sym is
+none_if false actions is = refl
+
+step_counted : (end : EndId) (what : Event) (s : State) → (end_step end what s.moment s.ends s.chances).counted ≡ counted_of end (hear end what s).actions
+step_counted end what s =
+    step_by (λ (one : EndId) (step : EndStep). step.counted ≡ counted_of one step.actions) what s.moment s.ends s.chances (λ one. none_if (is_counted one) [] refl) (λ at c is. refl) (λ at m is. refl)
+    (λ at c is. refl) end
+
+-- all are, of each end
+each_counted : (end : EndId) → is_counted end ≡ true
+each_counted (Controller at) = refl
+each_counted (Member at) = refl
+each_counted (Client at) = refl
+
+given_all : (given : Given) → counted_given given ≡ actions_in given
+given_all [] = refl
+given_all (one ∷ given) =
+    ap (λ (hit : Bool). (if hit then one.1 ∷ [] else []) ++ counted_given given) (each_counted one.0) ∙ ap (λ rest. one.1 ∷ rest) (given_all given)
+
+run_all : (passed : List Passed) → counted_of_run passed ≡ actions_of_run passed
+run_all [] = refl
+run_all (one ∷ passed) =
+    ap (λ first. first ++ counted_of_run passed) (given_all one.given) ∙ ap (λ rest. actions_in one.given ++ rest) (run_all passed)
 
 -- ---- a part counts what its ends gave
 
 pub record Right (s : State) (a : Acted) : Type 0 where
-  pub counts : a.state.counts ≡ add_counts s.counts (counts_of (actions_in a.given))
+  pub counts : a.state.counts ≡ add_counts s.counts (counts_of (counted_given a.given))
 
 still_after : (s : State) (a : Acted) → Right s a → Still a.state.counts
-still_after s a right = subst Still (sym right.counts) (still_add s.counts (counts_of (actions_in a.given)))
+still_after s a right = subst Still (sym right.counts) (still_add s.counts (counts_of (counted_given a.given)))
 
 unchanged : (s t : State) → t.counts ≡ s.counts → Still s.counts → Right s (nothing_done t)
 unfolding Still
@@ -98,35 +133,18 @@ unchanged s t same still = record { counts = same ∙ sym still }
 then_right : (s : State) (a : Acted) (later : State → Acted) → Right s a → Right a.state (later a.state) → Right s (then_act a later)
 then_right s a later first second = record {
   counts = second.counts
-      ∙ ap (λ c. add_counts c (counts_of (actions_in (later a.state).given))) first.counts
-      ∙ add_more s.counts (actions_in a.given) (actions_in (later a.state).given)
-      ∙ ap (λ all. add_counts s.counts (counts_of all)) (sym (actions_append a.given (later a.state).given));
+      ∙ ap (λ c. add_counts c (counts_of (counted_given (later a.state).given))) first.counts
+      ∙ add_more s.counts (counted_given a.given) (counted_given (later a.state).given)
+      ∙ ap (λ all. add_counts s.counts (counts_of all)) (sym (counted_append a.given (later a.state).given));
 }
 
 -- the same world, whatever it counts from
 from_same : (s t : State) (a : Acted) → t.counts ≡ s.counts → Right t a → Right s a
-from_same s t a same right = record { counts = right.counts ∙ ap (λ c. add_counts c (counts_of (actions_in a.given))) same }
-
-bag_unit_counts : (k : LinkKind) (back : Bool) (link : ℕ) (bytes : List ℕ) (s : State) → (bag_unit k back link bytes s).counts ≡ s.counts
-bag_unit_counts kind.Stranger back link bytes s = refl
-bag_unit_counts kind.ToMember back link bytes s = refl
-bag_unit_counts kind.ToController back link bytes s = refl
-
-send_counts : (route : Option Route) (end : EndId) (link : ℕ) (bytes : List ℕ) (s : State) → (send_on route end link bytes s).counts ≡ s.counts
-send_counts None end link bytes s = refl
-send_counts (Some route) end link bytes s = bag_unit_counts (kind_of route) (is_accepted_by end route) link bytes s
-
-quiet_counts : (end : EndId) (what : Action) (s : State) → (perform_quietly end what s).counts ≡ s.counts
-quiet_counts end (Keep bytes) s = refl
-quiet_counts end (Send link bytes) s = send_counts (slice_get s.links link) end link bytes s
-quiet_counts end (Dial peer) s = refl
-quiet_counts end (Close link cause) s = refl
-quiet_counts end (Told link outcome) s = refl
-quiet_counts end (Judged how) s = refl
+from_same s t a same right = record { counts = right.counts ∙ ap (λ c. add_counts c (counts_of (counted_given a.given))) same }
 
 all_quiet_counts : (end : EndId) (actions : List Action) (s : State) → (perform_all_quietly end actions s).counts ≡ s.counts
 all_quiet_counts end [] s = refl
-all_quiet_counts end (what ∷ actions) s = all_quiet_counts end actions (perform_quietly end what s) ∙ quiet_counts end what s
+all_quiet_counts end (what ∷ actions) s = all_quiet_counts end actions (perform_quietly end what s)
 
 closed_right : (end : Option EndId) (link : ℕ) (s : State) → Still s.counts → Right s (closed_at end link s)
 closed_right None link s still = unchanged s s refl still
@@ -134,7 +152,7 @@ closed_right (Some end) link s still =
     let heard : Heard = hear end (event.Closed link) s in
     record {
       counts = all_quiet_counts end heard.actions heard.state
-          ∙ ap (λ all. add_counts s.counts (counts_of all)) (sym (given_actions end heard.actions));
+          ∙ ap (λ all. add_counts s.counts (counts_of all)) (step_counted end (event.Closed link) s ∙ sym (given_counted end heard.actions));
     }
 
 close_right : (there : Option OpenLink) (end : EndId) (link : ℕ) (s : State) → Still s.counts → Right s (close_open there end link s)
@@ -142,13 +160,12 @@ close_right None end link s still = unchanged s s refl still
 close_right (Some there) end link s still =
     from_same s (shut_link link s) _ refl (closed_right (other_hearer end there) link (shut_link link s) still)
 
+perform_by_right : (closed : Option ℕ) (end : EndId) (what : Action) (s : State) → Still s.counts → Right s (perform_by closed end what s)
+perform_by_right None end what s still = unchanged s (perform_quietly end what s) refl still
+perform_by_right (Some link) end what s still = close_right (lookup same_number link s.open_links) end link s still
+
 perform_right : (end : EndId) (what : Action) (s : State) → Still s.counts → Right s (perform end what s)
-perform_right end (Keep bytes) s still = unchanged s s refl still
-perform_right end (Close link cause) s still = close_right (lookup same_number link s.open_links) end link s still
-perform_right end (Send link bytes) s still = unchanged s _ (quiet_counts end (Send link bytes) s) still
-perform_right end (Dial peer) s still = unchanged s _ refl still
-perform_right end (Told link outcome) s still = unchanged s s refl still
-perform_right end (Judged how) s still = unchanged s s refl still
+perform_right end what s still = perform_by_right (link_closed what) end what s still
 
 all_right : (end : EndId) (actions : List Action) (s : State) → Still s.counts → Right s (perform_all end actions s)
 all_right end [] s still = unchanged s s refl still
@@ -158,20 +175,22 @@ all_right end (what ∷ actions) s still =
     (all_right end actions (perform end what s).state (still_after s (perform end what s) first))
 
 -- what an end gave where these were counted already, and what came of it
-done_right : (end : EndId) (heard : Heard) (s : State) → heard.state.counts ≡ add_counts s.counts (counts_of heard.actions) → Right s (done end heard)
+done_right : (end : EndId) (heard : Heard) (s : State) → heard.state.counts ≡ add_counts s.counts (counts_of (counted_of end heard.actions)) → Right s (done end heard)
 done_right end heard s counted =
+    let own : List Action = counted_of end heard.actions in
+    let later : Given = (perform_all end heard.actions heard.state).given in
     let rest : Right heard.state (perform_all end heard.actions heard.state) =
-    all_right end heard.actions heard.state (subst Still (sym counted) (still_add s.counts (counts_of heard.actions))) in
+    all_right end heard.actions heard.state (subst Still (sym counted) (still_add s.counts (counts_of own))) in
     record {
       counts = rest.counts
-          ∙ ap (λ c. add_counts c (counts_of (actions_in (perform_all end heard.actions heard.state).given))) counted
-          ∙ add_more s.counts heard.actions (actions_in (perform_all end heard.actions heard.state).given)
-          ∙ ap (λ all. add_counts s.counts (counts_of (all ++ actions_in (perform_all end heard.actions heard.state).given))) (sym (given_actions end heard.actions))
-          ∙ ap (λ all. add_counts s.counts (counts_of all)) (sym (actions_append (given_by end heard.actions) (perform_all end heard.actions heard.state).given));
+          ∙ ap (λ c. add_counts c (counts_of (counted_given later))) counted
+          ∙ add_more s.counts own (counted_given later)
+          ∙ ap (λ all. add_counts s.counts (counts_of (all ++ counted_given later))) (sym (given_counted end heard.actions))
+          ∙ ap (λ all. add_counts s.counts (counts_of all)) (sym (counted_append (given_by end heard.actions) later));
     }
 
 hears_right : (end : EndId) (what : Event) (s : State) → Right s (hear_and_act end what s)
-hears_right end what s = done_right end (hear end what s) s refl
+hears_right end what s = done_right end (hear end what s) s (ap (λ all. add_counts s.counts (counts_of all)) (step_counted end what s))
 
 hears_if_right : (end : Option EndId) (what : Event) (s : State) → Still s.counts → Right s (hear_and_act_if end what s)
 hears_if_right None what s still = unchanged s s refl still
@@ -303,14 +322,14 @@ act_right s (move.Tick more) still = unchanged s _ refl still
 
 -- ---- a run
 
-run_counts : (moves : List Move) (w : World) → Still w.state.counts → (run moves w).state.counts ≡ add_counts w.state.counts (counts_of (actions_of_run (run_of moves w)))
+run_counts : (moves : List Move) (w : World) → Still w.state.counts → (run moves w).state.counts ≡ add_counts w.state.counts (counts_of (counted_of_run (run_of moves w)))
 unfolding Still
 run_counts [] w still = sym still
 run_counts (what ∷ moves) w still =
     let right : Right w.state (act w.state what) = act_right w.state what still in
     run_counts moves (happens w what) (still_after w.state (act w.state what) right)
-    ∙ ap (λ c. add_counts c (counts_of (actions_of_run (run_of moves (happens w what))))) right.counts
-    ∙ add_more w.state.counts (actions_in (act w.state what).given) (actions_of_run (run_of moves (happens w what)))
+    ∙ ap (λ c. add_counts c (counts_of (counted_of_run (run_of moves (happens w what))))) right.counts
+    ∙ add_more w.state.counts (counted_given (act w.state what).given) (counted_of_run (run_of moves (happens w what)))
 
 run_moves : (moves : List Move) (w : World) → (run moves w).moves ≡ w.moves + length moves
 run_moves [] w = omega arith
@@ -325,5 +344,6 @@ from_none actions = same_counts _ _ (clip_none _) (clip_none _) (clip_none _) (c
 -- the report of a run from a plan is that of the actions that its ends gave
 pub counts_are_of_actions : (plan : Plan) (moves : List Move) → report_of (run moves (first_world plan)) ≡ report_of_run plan moves
 counts_are_of_actions plan moves =
-    ap (λ c. report_by c (run moves (first_world plan)).moves) (run_counts moves (first_world plan) (still_add no_counts no_counts) ∙ from_none (actions_of_run (run_of moves (first_world plan))))
+    ap (λ c. report_by c (run moves (first_world plan)).moves) (run_counts moves (first_world plan) (still_add no_counts no_counts)
+    ∙ from_none (counted_of_run (run_of moves (first_world plan))) ∙ ap (λ all. counts_of all) (run_all (run_of moves (first_world plan))))
     ∙ ap (λ n. report_by (counts_of (actions_of_run (run_of moves (first_world plan)))) n) (run_moves moves (first_world plan) ∙ (let e : 0 + length moves ≡ length moves = omega arith in e))

@@ -18,8 +18,9 @@ use Rattle.logon_client.specs.State.{State as ClientState}
 use Rattle.logon_client.specs.Machine.{step_of as client_step_of}
 use Rattle.member_server.specs.State.{State as MemberState}
 use Rattle.member_server.specs.Machine.{is_stopped as member_is_stopped, step_of as member_step_of}
-use Rattle.world_moves.specs.Ends.{EndStates, client_done, client_step, controller_done, controller_step, drawn_on, member_done, member_step, renew_controller}
+use Rattle.world_moves.specs.Ends.{EndStates, client_done, client_step, controller_done, controller_step, drawn_on, end_done, member_done, member_step, renew_controller}
 use Rattle.world_moves.specs.Running.{CanStep}
+use Rattle.world_moves.specs.declared.links.EndId.TheVariants.{Controller, Member, Client}
 
 same_drawing : (one other : Drawing) → one.seed ≡ other.seed → one.boot ≡ other.boot → one.drawn ≡ other.drawn → one.left ≡ other.left → one ≡ other
 same_drawing one other seed boot drawn left =
@@ -47,29 +48,29 @@ spent_all refused.Stopped stepped halted now before after steps is = absurd cc
 pub controller_took : (old new : ControllerState) (at : ℕ) (what : Event) (now : ℕ) (ends : EndStates) (before after : Drawing) (actions : List Action) →
     slice_get ends.controllers at ≡ Some old → Takes (controller_step_of old what now before.left) new before after actions →
     controller_step (slice_get ends.controllers at) at what now ends before
-    ≡ record { ends = record ends { controllers = slice_set ends.controllers at new }; chances = after; actions = actions }
+    ≡ end_done (Controller at) (record ends { controllers = slice_set ends.controllers at new }) after actions
 controller_took old new at what now ends before after actions there takes =
     ap (λ c. controller_step c at what now ends before) there
     ∙ ap (λ step. controller_done step at ends before) takes.is
-    ∙ ap (λ d. record { ends = record ends { controllers = slice_set ends.controllers at new }; chances = d; actions = actions }) (drawn_is before after takes.drawn takes.draws)
+    ∙ ap (λ d. end_done (Controller at) (record ends { controllers = slice_set ends.controllers at new }) d actions) (drawn_is before after takes.drawn takes.draws)
 
 pub member_took : (old new : MemberState) (at : ℕ) (what : Event) (now : ℕ) (ends : EndStates) (before after : Drawing) (actions : List Action) →
     slice_get ends.members at ≡ Some old → Takes (member_step_of old what now before.left) new before after actions →
     member_step (slice_get ends.members at) at what now ends before
-    ≡ record { ends = record ends { members = slice_set ends.members at new }; chances = after; actions = actions }
+    ≡ end_done (Member at) (record ends { members = slice_set ends.members at new }) after actions
 member_took old new at what now ends before after actions there takes =
     ap (λ c. member_step c at what now ends before) there
     ∙ ap (λ step. member_done step at ends before) takes.is
-    ∙ ap (λ d. record { ends = record ends { members = slice_set ends.members at new }; chances = d; actions = actions }) (drawn_is before after takes.drawn takes.draws)
+    ∙ ap (λ d. end_done (Member at) (record ends { members = slice_set ends.members at new }) d actions) (drawn_is before after takes.drawn takes.draws)
 
 pub client_took : (old new : ClientState) (at : ℕ) (what : Event) (now : ℕ) (ends : EndStates) (before after : Drawing) (actions : List Action) →
     slice_get ends.clients at ≡ Some old → Takes (client_step_of old what now before.left) new before after actions →
     client_step (slice_get ends.clients at) at what now ends before
-    ≡ record { ends = record ends { clients = slice_set ends.clients at new }; chances = after; actions = actions }
+    ≡ end_done (Client at) (record ends { clients = slice_set ends.clients at new }) after actions
 client_took old new at what now ends before after actions there takes =
     ap (λ c. client_step c at what now ends before) there
     ∙ ap (λ step. client_done step at ends before) takes.is
-    ∙ ap (λ d. record { ends = record ends { clients = slice_set ends.clients at new }; chances = d; actions = actions }) (drawn_is before after takes.drawn takes.draws)
+    ∙ ap (λ d. end_done (Client at) (record ends { clients = slice_set ends.clients at new }) d actions) (drawn_is before after takes.drawn takes.draws)
 
 -- what is taken out at a place and put back changed is changed in its place
 pub put_back : {T : Type 0} (items : List T) (at : ℕ) (item : T) → at < length items → insert (remove items at) at item ≡ slice_set items at item

@@ -28,9 +28,7 @@ use Rattle.world_moves.specs.declared.bag.BagUnit.{BagUnit}
 use Rattle.world_moves.specs.declared.counting.Counts.{Counts}
 use Rattle.world_moves.specs.declared.counting.Report.{Report}
 use Rattle.world_moves.specs.declared.links.EndId.{EndId}
-use Rattle.world_moves.specs.declared.links.EndId.TheVariants.{Controller, Member, Client}
-use Rattle.world_moves.specs.declared.links.LinkKind.{LinkKind}
-use Rattle.world_moves.specs.declared.links.LinkKind.TheVariants as kind
+use Rattle.world_moves.specs.declared.links.EndId.TheVariants.{Client}
 use Rattle.world_moves.specs.declared.links.OpenLink.{OpenLink}
 use Rattle.world_moves.specs.declared.links.Route.{Route}
 use Rattle.world_moves.specs.declared.links.Route.TheVariants.{Stranger}
@@ -39,12 +37,12 @@ use Rattle.world_moves.specs.declared.moves.Move.TheVariants as move
 use Rattle.world_moves.specs.declared.plan.Plan.{Plan}
 use Rattle.world_moves.specs.declared.state.State.{State}
 use Rattle.world_moves.specs.declared.state.WaitingDial.{WaitingDial}
-use Rattle.world_moves.specs.Acting.{Heard, bag_unit, close_open, closed_at, done, forget, hear, hear_and_act, hear_and_act_if, perform, perform_all, perform_all_quietly, perform_quietly, piece_comes, pieces_come, send_on, shut_link}
+use Rattle.world_moves.specs.Acting.{Heard, close_open, closed_at, done, forget, hear, hear_and_act, hear_and_act_if, link_closed, perform, perform_all, perform_all_quietly, perform_by, perform_quietly, piece_comes, pieces_come, shut_link}
 use Rattle.world_moves.specs.Bag.{AreShortUnits, first_waiting, piece_limit, pieces_in, pieces_of, settle_at, settle_by, settled}
 use Rattle.world_moves.specs.Choosing.{chosen_in, chosen_place}
 use Rattle.world_moves.specs.Counting.{AreCounted, add_counts, clipped, counts_of, is_barred, is_in, is_out, is_unanswered, judges, tells}
-use Rattle.world_moves.specs.Ends.{EndStates, acceptors_in, actions_by, client_step, controller_step, count_of, end_at, member_step, renew_client, renew_controller, renew_member}
-use Rattle.world_moves.specs.Links.{acceptor_of, handed_links, hearer_of, hearer_on, is_accepted_by, kind_of, links_of, other_hearer}
+use Rattle.world_moves.specs.Ends.{EndStates, EndStep, acceptors_in, actions_by, client_done, controller_done, count_of, end_at, end_step, member_done, no_step}
+use Rattle.world_moves.specs.Links.{acceptor_of, handed_links, hearer_of, hearer_on, links_of, other_hearer}
 use Rattle.world_moves.specs.Moving.{act, answer_by, answered_link, begun, come_by, come_on_own, connect_by, connect_first, deliver_by, deliver_on, deliver_unit, end_of_peer, fail_first, hand_on, lose_by, onward_by, open_link, renewed, restart_at, restart_by, route_to, settle, shut_at, shut_by, start_at, start_by, stranger_at, stranger_by, with_link, without_first}
 use Rattle.world_moves.specs.Telling.{IsWithin, adds_at, bytes_left, bytes_of, counted_in, level_limit, level_of, opens_at, outcomes_left, outcomes_of, tells_one, told_by}
 use Rattle.world_moves.specs.World.{IsMove, World, actions_of_run, first_controllers, first_world, happens, move_limit, report_of, report_of_run, run, run_of}
@@ -53,6 +51,7 @@ use Rattle.world_moves.proofs.BagLaws.{units_settle}
 use Rattle.world_moves.proofs.CountLaws.{counts_are_of_actions}
 use Rattle.world_moves.proofs.MuteLaws.{client_tells}
 use Rattle.world_moves.proofs.TellingLaws.{controller_tells}
+use Rattle.world_moves.proofs.EndKindLaws.{renew_by, step_by}
 
 -- ---- counts
 
@@ -142,33 +141,37 @@ opens_add event.Stop = omega arith
 abbrev pub level : State → ℕ
 level s = level_of s.counts s.ends
 
-controller_level : (found : Option ControllerState) (at : ℕ) (what : Event) (now : ℕ) (ends : EndStates) (chances : Drawing) (c : Counts) → slice_get ends.controllers at ≡ found →
-    level_of (add_counts c (counts_of (controller_step found at what now ends chances).actions)) (controller_step found at what now ends chances).ends ≤ level_of c ends + adds_at what
-unfolding level_of
-controller_level None at what now ends chances c is = omega (arith, counted_few c [])
-controller_level (Some s) at what now ends chances c is =
-    let step = controller_step_of s what now chances.left in
-    omega (arith, counted_few c (actions_by step.answer), controller_tells s what now chances.left, bytes_put ends.controllers at s step.state is)
+-- what a step of an end comes to, by its ends and its actions
+abbrev Adds : EndStates → Counts → Event → EndStep → Type 0
+Adds ends c what step = level_of (add_counts c (counts_of step.counted)) step.ends ≤ level_of c ends + adds_at what
 
-member_level : (found : Option MemberState) (at : ℕ) (what : Event) (now : ℕ) (ends : EndStates) (chances : Drawing) (c : Counts) → slice_get ends.members at ≡ found →
-    level_of (add_counts c (counts_of (member_step found at what now ends chances).actions)) (member_step found at what now ends chances).ends ≤ level_of c ends + adds_at what
-unfolding level_of
-member_level None at what now ends chances c is = omega (arith, counted_few c [])
-member_level (Some s) at what now ends chances c is =
-    let step = member_step_of s what now chances.left in
-    omega (arith, counted_few c (actions_by step.answer), member_tells s what now chances.left, outcomes_put ends.members at s step.state is, opens_add what)
+module _ (what : Event) (now : ℕ) (ends : EndStates) (chances : Drawing) (c : Counts) where
+  none_level : (end : EndId) → Adds ends c what (no_step ends chances)
+  unfolding level_of
+  none_level end = omega (arith, counted_few c [])
 
-client_level : (found : Option ClientState) (at : ℕ) (what : Event) (now : ℕ) (ends : EndStates) (chances : Drawing) (c : Counts) →
-    level_of (add_counts c (counts_of (client_step found at what now ends chances).actions)) (client_step found at what now ends chances).ends ≤ level_of c ends + adds_at what
-unfolding level_of
-client_level None at what now ends chances c = omega (arith, counted_few c [])
-client_level (Some s) at what now ends chances c =
-    omega (arith, counted_few c (actions_by (client_step_of s what now chances.left).answer), client_tells s what now chances.left)
+  controller_level : (at : ℕ) (s : ControllerState) → slice_get ends.controllers at ≡ Some s → Adds ends c what (controller_done (controller_step_of s what now chances.left) at ends chances)
+  unfolding level_of
+  controller_level at s is =
+      let step = controller_step_of s what now chances.left in
+      omega (arith, counted_few c (actions_by step.answer), controller_tells s what now chances.left, bytes_put ends.controllers at s step.state is)
+
+  member_level : (at : ℕ) (s : MemberState) → slice_get ends.members at ≡ Some s → Adds ends c what (member_done (member_step_of s what now chances.left) at ends chances)
+  unfolding level_of
+  member_level at s is =
+      let step = member_step_of s what now chances.left in
+      omega (arith, counted_few c (actions_by step.answer), member_tells s what now chances.left, outcomes_put ends.members at s step.state is, opens_add what)
+
+  client_level : (at : ℕ) (s : ClientState) → slice_get ends.clients at ≡ Some s → Adds ends c what (client_done (client_step_of s what now chances.left) at ends chances)
+  unfolding level_of
+  client_level at s is = omega (arith, counted_few c (actions_by (client_step_of s what now chances.left).answer), client_tells s what now chances.left)
 
 hear_level : (most : ℕ) (end : EndId) (what : Event) (s : State) → level s + adds_at what ≤ most → level (hear end what s).state ≤ most
-hear_level most (Controller at) what s few = omega (arith, few, controller_level (slice_get s.ends.controllers at) at what s.moment s.ends s.chances s.counts refl)
-hear_level most (Member at) what s few = omega (arith, few, member_level (slice_get s.ends.members at) at what s.moment s.ends s.chances s.counts refl)
-hear_level most (Client at) what s few = omega (arith, few, client_level (slice_get s.ends.clients at) at what s.moment s.ends s.chances s.counts)
+hear_level most end what s few =
+    let adds : Adds s.ends s.counts what (end_step end what s.moment s.ends s.chances) =
+    step_by (λ (one : EndId) (step : EndStep). Adds s.ends s.counts what step) what s.moment s.ends s.chances (none_level what s.moment s.ends s.chances s.counts)
+    (controller_level what s.moment s.ends s.chances s.counts) (member_level what s.moment s.ends s.chances s.counts) (client_level what s.moment s.ends s.chances s.counts) end in
+    omega (arith, few, adds)
 
 -- ---- actions
 
@@ -176,26 +179,9 @@ nothing_more : (count most : ℕ) → count ≤ most → count + 0 ≤ most
 nothing_more count most few = omega (arith, few)
 
 module _ (most : ℕ) where
-  bag_unit_level : (k : LinkKind) (back : Bool) (link : ℕ) (bytes : List ℕ) (s : State) → level s ≤ most → level (bag_unit k back link bytes s) ≤ most
-  bag_unit_level kind.Stranger back link bytes s few = few
-  bag_unit_level kind.ToMember back link bytes s few = few
-  bag_unit_level kind.ToController back link bytes s few = few
-
-  send_level : (route : Option Route) (end : EndId) (link : ℕ) (bytes : List ℕ) (s : State) → level s ≤ most → level (send_on route end link bytes s) ≤ most
-  send_level None end link bytes s few = few
-  send_level (Some route) end link bytes s few = bag_unit_level (kind_of route) (is_accepted_by end route) link bytes s few
-
-  quiet_level : (end : EndId) (what : Action) (s : State) → level s ≤ most → level (perform_quietly end what s) ≤ most
-  quiet_level end (Keep bytes) s few = few
-  quiet_level end (Send link bytes) s few = send_level (slice_get s.links link) end link bytes s few
-  quiet_level end (Dial peer) s few = few
-  quiet_level end (Close link cause) s few = few
-  quiet_level end (Told link outcome) s few = few
-  quiet_level end (Judged how) s few = few
-
   all_quiet_level : (end : EndId) (actions : List Action) (s : State) → level s ≤ most → level (perform_all_quietly end actions s) ≤ most
   all_quiet_level end [] s few = few
-  all_quiet_level end (what ∷ actions) s few = all_quiet_level end actions (perform_quietly end what s) (quiet_level end what s few)
+  all_quiet_level end (what ∷ actions) s few = all_quiet_level end actions (perform_quietly end what s) few
 
   closed_level : (end : Option EndId) (link : ℕ) (s : State) → level s ≤ most → level (closed_at end link s).state ≤ most
   closed_level None link s few = few
@@ -206,13 +192,12 @@ module _ (most : ℕ) where
   close_open_level None end link s few = few
   close_open_level (Some there) end link s few = closed_level (other_hearer end there) link (shut_link link s) few
 
+  perform_by_level : (closed : Option ℕ) (end : EndId) (what : Action) (s : State) → level s ≤ most → level (perform_by closed end what s).state ≤ most
+  perform_by_level None end what s few = few
+  perform_by_level (Some link) end what s few = close_open_level (lookup same_number link s.open_links) end link s few
+
   perform_level : (end : EndId) (what : Action) (s : State) → level s ≤ most → level (perform end what s).state ≤ most
-  perform_level end (Keep bytes) s few = few
-  perform_level end (Close link cause) s few = close_open_level (lookup same_number link s.open_links) end link s few
-  perform_level end (Send link bytes) s few = quiet_level end (Send link bytes) s few
-  perform_level end (Dial peer) s few = few
-  perform_level end (Told link outcome) s few = few
-  perform_level end (Judged how) s few = few
+  perform_level end what s few = perform_by_level (link_closed what) end what s few
 
   all_level : (end : EndId) (actions : List Action) (s : State) → level s ≤ most → level (perform_all end actions s).state ≤ most
   all_level end [] s few = few
@@ -326,25 +311,12 @@ module _ (most : ℕ) where
   shut_at_level None s few = few
   shut_at_level (Some number) s few = shut_level (slice_get s.open_links number) s few
 
-  renew_controller_level : (found : Option ControllerState) (at : ℕ) (ends : EndStates) (c : Counts) → level_of c ends ≤ most → level_of c (renew_controller found at ends) ≤ most
-  unfolding level_of
-  renew_controller_level None at ends c few = few
-  renew_controller_level (Some s) at ends c few = omega (arith, few, bytes_anew ends.controllers at (first_state s.table s.name) refl)
-
-  renew_member_level : (plan : Option MemberPlan) (at : ℕ) (ends : EndStates) (c : Counts) → level_of c ends ≤ most → level_of c (renew_member plan at ends) ≤ most
-  unfolding level_of
-  renew_member_level None at ends c few = few
-  renew_member_level (Some plan) at ends c few = omega (arith, few, outcomes_anew ends.members at (fresh_member plan) refl)
-
-  renew_client_level : (plan : Option ClientPlan) (at : ℕ) (ends : EndStates) (c : Counts) → level_of c ends ≤ most → level_of c (renew_client plan at ends) ≤ most
-  unfolding level_of
-  renew_client_level None at ends c few = few
-  renew_client_level (Some plan) at ends c few = few
-
   renewed_level : (end : EndId) (s : State) → level s ≤ most → level (renewed end s) ≤ most
-  renewed_level (Controller at) s few = renew_controller_level (slice_get s.ends.controllers at) at s.ends s.counts few
-  renewed_level (Member at) s few = renew_member_level (slice_get s.member_plans at) at s.ends s.counts few
-  renewed_level (Client at) s few = renew_client_level (slice_get s.client_plans at) at s.ends s.counts few
+  unfolding level_of
+  renewed_level end s few =
+      renew_by (λ (one : EndId) (ends : EndStates). level_of s.counts ends ≤ most) s (λ one. few)
+      (λ at c is. omega (arith, few, bytes_anew s.ends.controllers at (first_state c.table c.name) refl))
+      (λ at plan is. omega (arith, few, outcomes_anew s.ends.members at (fresh_member plan) refl)) (λ at plan is. few) end
 
   restart_by_level : (end : Option EndId) (s : State) → level s ≤ most → level (restart_by end s) ≤ most
   restart_by_level None s few = few

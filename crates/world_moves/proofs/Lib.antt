@@ -3,6 +3,7 @@ pub mod BagLaws
 pub mod BoundLaws
 pub mod CountLaws
 pub mod DrawBlockLaws
+pub mod EndKindLaws
 pub mod EndLaws
 pub mod GeneratorLaws
 pub mod LevelLaws
@@ -12,7 +13,9 @@ pub mod MuteLaws
 pub mod OutcomeLaws
 pub mod OpenLaws
 pub mod PlaceLaws
+pub mod QuietLaws
 pub mod RangeLaws
 pub mod RunLaws
 pub mod RunningLaws
+pub mod StateFrameLaws
 pub mod TellingLaws

@@ -1,20 +1,19 @@
 -- What an end's actions do in a world (this project's own choice).
-use Rattle.std.specs.Prelude.{ℕ, Bool, false, List, [], ◌∷◌, ◌++◌, map, not, filter, Option, Some, None, slice_get}
+use Rattle.std.specs.Prelude.{ℕ, Bool, true, false, List, [], ◌∷◌, ◌++◌, map, not, filter, Option, Some, None, slice_get}
 use Rattle.wire_base.specs.Maps.{lookup, take_out, same_number}
 use Rattle.outside.specs.declared.action.Action.{Action}
-use Rattle.outside.specs.declared.action.Action.TheVariants.{Keep, Send, Dial, Close, Told, Judged}
+use Rattle.outside.specs.declared.action.Action.TheVariants.{Send, Dial, Close}
 use Rattle.outside.specs.declared.event.Event.{Event}
 use Rattle.outside.specs.declared.event.Event.TheVariants as event
+use Rattle.world_moves.specs.declared.bag.BagUnit.{BagUnit}
 use Rattle.world_moves.specs.declared.links.EndId.{EndId}
-use Rattle.world_moves.specs.declared.links.LinkKind.{LinkKind}
-use Rattle.world_moves.specs.declared.links.LinkKind.TheVariants as kind
 use Rattle.world_moves.specs.declared.links.OpenLink.{OpenLink}
 use Rattle.world_moves.specs.declared.links.Route.{Route}
 use Rattle.world_moves.specs.declared.state.State.{State}
 use Rattle.world_moves.specs.declared.state.WaitingDial.{WaitingDial}
 use Rattle.world_moves.specs.Counting.{add_counts, counts_of}
 use Rattle.world_moves.specs.Ends.{EndStep, end_step}
-use Rattle.world_moves.specs.Links.{forget_end, hearer_of, is_accepted_by, kind_of, other_hearer, same_end}
+use Rattle.world_moves.specs.Links.{forget_end, hearer_of, is_accepted_by, is_own, kind_of, other_hearer, same_end}
 
 -- ---- what a part of a move comes to: the world, and the actions that ends gave, in order, each with its end
 
@@ -44,38 +43,45 @@ pub record Heard : Type 0 where
 
 abbrev pub heard_by : EndStep → State → Heard
 heard_by step s = record {
-  state = record s { ends = step.ends; chances = step.chances; counts = add_counts s.counts (counts_of step.actions) };
+  state = record s { ends = step.ends; chances = step.chances; counts = add_counts s.counts (counts_of step.counted) };
   actions = step.actions;
 }
 
 abbrev pub hear : EndId → Event → State → Heard
 hear end what s = heard_by (end_step end what s.moment s.ends s.chances) s
 
--- ---- actions that change nothing at other ends
+-- ---- what an action changes that closes nothing: a unit goes into the bag, or a dial waits
 
--- a unit goes into the bag, unless its link is a stranger's. The argument: whether the end that accepted the link sends
--- it
-abbrev pub bag_unit : LinkKind → Bool → ℕ → List ℕ → State → State
-bag_unit kind.Stranger back link bytes s = s
-bag_unit k back link bytes s =
-    record s { bag = s.bag ++ record { bytes = bytes; link = link; kind = k; back = back; is_settled = false } ∷ [] }
+-- a unit that an end sends on a link
+abbrev pub unit_on : Route → EndId → ℕ → List ℕ → BagUnit
+unit_on route end link bytes =
+    record { bytes = bytes; link = link; kind = kind_of route; back = is_accepted_by end route; is_settled = false }
 
-abbrev pub send_on : Option Route → EndId → ℕ → List ℕ → State → State
-send_on None end link bytes s = s
-send_on (Some route) end link bytes s = bag_unit (kind_of route) (is_accepted_by end route) link bytes s
+abbrev pub unit_if : (goes : Bool) → BagUnit → List BagUnit
+unit_if false unit = []
+unit_if true unit = unit ∷ []
 
--- a dial waits behind the others
-abbrev pub dial : EndId → List ℕ → State → State
-dial end peer s = record s { dials = s.dials ++ record { end = end; peer = peer } ∷ [] }
+-- what goes into the bag where an end sends on a link: the unit, unless the link is a stranger's
+abbrev pub sent_if : Option Route → EndId → ℕ → List ℕ → List BagUnit
+sent_if None end link bytes = []
+sent_if (Some route) end link bytes = unit_if (is_own (kind_of route)) (unit_on route end link bytes)
 
--- `Close` is passed over here
+-- the units that an action sends
+abbrev pub units_of_action : List Route → EndId → Action → List BagUnit
+units_of_action links end (Send link bytes) = sent_if (slice_get links link) end link bytes
+units_of_action links end _ = []
+
+-- the dials that an action makes
+abbrev pub dials_of_action : EndId → Action → List WaitingDial
+dials_of_action end (Dial peer) = record { end = end; peer = peer } ∷ []
+dials_of_action end _ = []
+
+-- they go behind the others; `Close` is passed over here
 abbrev pub perform_quietly : EndId → Action → State → State
-perform_quietly end (Keep bytes) s = s
-perform_quietly end (Send link bytes) s = send_on (slice_get s.links link) end link bytes s
-perform_quietly end (Dial peer) s = dial end peer s
-perform_quietly end (Close link cause) s = s
-perform_quietly end (Told link outcome) s = s
-perform_quietly end (Judged how) s = s
+perform_quietly end what s = record s {
+  bag = s.bag ++ units_of_action s.links end what;
+  dials = s.dials ++ dials_of_action end what;
+}
 
 abbrev pub perform_all_quietly : EndId → List Action → State → State
 perform_all_quietly end [] s = s
@@ -110,13 +116,17 @@ close_open (Some there) end link s = closed_at (other_hearer end there) link (sh
 abbrev pub close : EndId → ℕ → State → Acted
 close end link s = close_open (lookup same_number link s.open_links) end link s
 
+-- the link that an action closes
+abbrev pub link_closed : Action → Option ℕ
+link_closed (Close link cause) = Some link
+link_closed _ = None
+
+abbrev pub perform_by : (closed : Option ℕ) → EndId → Action → State → Acted
+perform_by None end what s = nothing_done (perform_quietly end what s)
+perform_by (Some link) end what s = close end link s
+
 abbrev pub perform : EndId → Action → State → Acted
-perform end (Keep bytes) s = nothing_done (perform_quietly end (Keep bytes) s)
-perform end (Close link cause) s = close end link s
-perform end (Send link bytes) s = nothing_done (perform_quietly end (Send link bytes) s)
-perform end (Dial peer) s = nothing_done (perform_quietly end (Dial peer) s)
-perform end (Told link outcome) s = nothing_done (perform_quietly end (Told link outcome) s)
-perform end (Judged how) s = nothing_done (perform_quietly end (Judged how) s)
+perform end what s = perform_by (link_closed what) end what s
 
 -- in their order
 abbrev pub perform_all : EndId → List Action → State → Acted

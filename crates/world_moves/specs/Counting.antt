@@ -1,5 +1,5 @@
 -- What a world counts of the actions that ends give (this project's own choice).
-use Rattle.std.specs.Prelude.{ℕ, ◌≡◌, ◌+◌, ◌-◌, ◌^◌, min, Bool, true, false, List, count_by}
+use Rattle.std.specs.Prelude.{ℕ, ◌≡◌, ◌+◌, ◌-◌, ◌^◌, min, Bool, true, false, List, [], count_by, if◌then◌else◌}
 use Rattle.outside.specs.declared.action.Action.{Action}
 use Rattle.outside.specs.declared.action.Action.TheVariants as action
 use Rattle.outside.specs.declared.action.Judged.{Judged}
@@ -9,6 +9,8 @@ use Rattle.outside.specs.declared.action.Outcome.TheVariants as outcome
 use Rattle.domain_controller.specs.Laws.{is_passed}
 use Rattle.world_moves.specs.declared.counting.Counts.{Counts}
 use Rattle.world_moves.specs.declared.counting.Report.{Report}
+use Rattle.world_moves.specs.declared.links.EndId.{EndId}
+use Rattle.world_moves.specs.declared.links.EndId.TheVariants.{Controller, Member, Client}
 
 -- ---- what is counted
 
@@ -37,6 +39,18 @@ is_barred _ = false
 abbrev pub judges : (Judged → Bool) → Action → Bool
 judges test (action.Judged how) = test how
 judges test _ = false
+
+-- ---- whose actions are counted
+
+-- What comes of a logon is told by a member, and what is judged by a controller; a client tells neither.
+abbrev pub is_counted : EndId → Bool
+is_counted (Controller at) = true
+is_counted (Member at) = true
+is_counted (Client at) = true
+
+-- the actions of an end that are counted
+abbrev pub counted_of : EndId → List Action → List Action
+counted_of end actions = if is_counted end then actions else []
 
 -- ---- counts of 32 bits, which stand still at their type's end
 

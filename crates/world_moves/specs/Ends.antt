@@ -16,6 +16,7 @@ use Rattle.member_server.specs.Machine.{fresh_member, step_of as member_step_of}
 use Rattle.member_server.specs.declared.plan.MemberPlan.{MemberPlan}
 use Rattle.world_moves.specs.declared.links.EndId.{EndId}
 use Rattle.world_moves.specs.declared.links.EndId.TheVariants.{Controller, Member, Client}
+use Rattle.world_moves.specs.Counting.{counted_of}
 
 pub record EndStates : Type 0 where
   pub controllers : List ControllerState
@@ -44,14 +45,20 @@ count_of ends = length ends.controllers + length ends.members + length ends.clie
 
 -- ---- one step
 
--- what a step of an end comes to: all ends, the maker of challenges and the actions
+-- what a step of an end comes to: all ends, the maker of challenges, the actions and those of them that are counted
 pub record EndStep : Type 0 where
   pub ends : EndStates
   pub chances : Drawing
   pub actions : List Action
+  pub counted : List Action
 
+abbrev pub end_done : EndId → EndStates → Drawing → List Action → EndStep
+end_done end ends chances actions =
+    record { ends = ends; chances = chances; actions = actions; counted = counted_of end actions }
+
+-- an end that isn't there takes none
 abbrev pub no_step : EndStates → Drawing → EndStep
-no_step ends chances = record { ends = ends; chances = chances; actions = [] }
+no_step ends chances = record { ends = ends; chances = chances; actions = []; counted = [] }
 
 -- the actions of a step that is taken
 abbrev pub actions_by : Result (List Action) StepRefused → List Action
@@ -63,25 +70,19 @@ abbrev pub drawn_on : Drawing → List (List ℕ) → List (List ℕ) → Drawin
 drawn_on chances drawn left = record chances { drawn = chances.drawn ++ drawn; left = left }
 
 abbrev pub controller_done : Stepped ControllerState → ℕ → EndStates → Drawing → EndStep
-controller_done step at ends chances = record {
-  ends = record ends { controllers = slice_set ends.controllers at step.state };
-  chances = drawn_on chances step.drawn step.left;
-  actions = actions_by step.answer;
-}
+controller_done step at ends chances =
+    end_done (Controller at) (record ends { controllers = slice_set ends.controllers at step.state })
+    (drawn_on chances step.drawn step.left) (actions_by step.answer)
 
 abbrev pub member_done : Stepped MemberState → ℕ → EndStates → Drawing → EndStep
-member_done step at ends chances = record {
-  ends = record ends { members = slice_set ends.members at step.state };
-  chances = drawn_on chances step.drawn step.left;
-  actions = actions_by step.answer;
-}
+member_done step at ends chances =
+    end_done (Member at) (record ends { members = slice_set ends.members at step.state })
+    (drawn_on chances step.drawn step.left) (actions_by step.answer)
 
 abbrev pub client_done : Stepped ClientState → ℕ → EndStates → Drawing → EndStep
-client_done step at ends chances = record {
-  ends = record ends { clients = slice_set ends.clients at step.state };
-  chances = drawn_on chances step.drawn step.left;
-  actions = actions_by step.answer;
-}
+client_done step at ends chances =
+    end_done (Client at) (record ends { clients = slice_set ends.clients at step.state })
+    (drawn_on chances step.drawn step.left) (actions_by step.answer)
 
 abbrev pub controller_step : Option ControllerState → ℕ → Event → ℕ → EndStates → Drawing → EndStep
 controller_step None at what now ends chances = no_step ends chances

@@ -23,6 +23,17 @@ same_kind kind.ToController kind.ToController = true
 same_kind kind.Stranger kind.Stranger = true
 same_kind _ _ = false
 
+-- Whether a unit that is sent on a link of the kind goes into the bag: what goes between a stranger and an end doesn't.
+abbrev pub is_own : LinkKind → Bool
+is_own kind.Stranger = false
+is_own _ = true
+
+-- Whether bytes from outside come on a link of the kind: on those of clients and strangers alone.
+abbrev pub is_handed_kind : LinkKind → Bool
+is_handed_kind kind.ToMember = true
+is_handed_kind kind.Stranger = true
+is_handed_kind _ = false
+
 -- ---- whom a link is between
 
 abbrev pub kind_of : Route → LinkKind
@@ -62,7 +73,7 @@ abbrev pub links_of : LinkKind → List Route → List ℕ
 links_of k links = places (is_of k) links
 
 abbrev pub is_handed : Route → Bool
-is_handed route = not (is_of kind.ToController route)
+is_handed route = is_handed_kind (kind_of route)
 
 abbrev pub handed_links : List Route → List ℕ
 handed_links links = places is_handed links

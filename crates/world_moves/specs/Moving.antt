@@ -17,7 +17,7 @@ use Rattle.world_moves.specs.declared.state.WaitingDial.{WaitingDial}
 use Rattle.world_moves.specs.Acting.{Acted, Heard, closed_at, done, forget, hear_and_act, nothing_done, piece_comes, pieces_come, shut_link, then_act}
 use Rattle.world_moves.specs.Bag.{first_waiting, pieces_of, settle_at}
 use Rattle.world_moves.specs.Choosing.{chosen_in, chosen_place}
-use Rattle.world_moves.specs.Counting.{add_counts, counts_of}
+use Rattle.world_moves.specs.Counting.{add_counts, counted_of, counts_of}
 use Rattle.world_moves.specs.Ends.{EndStates, acceptors_in, count_of, end_at, renew_client, renew_controller, renew_member, with_client}
 use Rattle.world_moves.specs.Links.{accepted, acceptor_of, answered, handed_links, hearer_on, links_of}
 
@@ -27,7 +27,7 @@ abbrev pub begun : ℕ → ClientPlan → State → Heard
 begun at plan s = record {
   state = record s {
     ends = with_client at (begin_of (fresh_client plan)).state s.ends;
-    counts = add_counts s.counts (counts_of (begin_of (fresh_client plan)).actions);
+    counts = add_counts s.counts (counts_of (counted_of (Client at) (begin_of (fresh_client plan)).actions));
   };
   actions = (begin_of (fresh_client plan)).actions;
 }

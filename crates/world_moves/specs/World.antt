@@ -19,7 +19,7 @@ use Rattle.world_moves.specs.declared.moves.Move.TheVariants as move
 use Rattle.world_moves.specs.declared.plan.Plan.{Plan}
 use Rattle.world_moves.specs.declared.state.State.{State}
 use Rattle.world_moves.specs.Acting.{Given}
-use Rattle.world_moves.specs.Counting.{counts_of, no_counts}
+use Rattle.world_moves.specs.Counting.{counted_of, counts_of, no_counts}
 use Rattle.world_moves.specs.Ends.{EndStates}
 use Rattle.world_moves.specs.Moving.{act}
 
@@ -115,6 +115,13 @@ actions_in given = map (λ (one : EndId × Action). one.1) given
 -- all actions of a run, in order
 abbrev pub actions_of_run : List Passed → List Action
 actions_of_run passed = flat_map (λ (one : Passed). actions_in one.given) passed
+
+-- those of them that are counted, by the ends that gave them
+abbrev pub counted_given : Given → List Action
+counted_given given = flat_map (λ (one : EndId × Action). counted_of one.0 (one.1 ∷ [])) given
+
+abbrev pub counted_of_run : List Passed → List Action
+counted_of_run passed = flat_map (λ (one : Passed). counted_given one.given) passed
 
 abbrev pub report_by : Counts → ℕ → Report
 report_by counts moves = record {

@@ -1,16 +1,17 @@
 //! What an end's actions do in a world.
 
-ghost use Rattle.std.specs.Prelude.{◌≡◌, ◌≢◌, ◌≤◌, ◌+◌, ◌*◌, [], Err, length, filter, IfOk, OnOk, IsSome, slice_get};
+ghost use Rattle.std.specs.Prelude.{◌≡◌, ◌≢◌, ◌≤◌, ◌+◌, ◌*◌, ◌++◌, ◌∷◌, [], Err, length, filter, IfOk, OnOk, IsSome, slice_get};
 ghost use Rattle.wire_base.specs.Maps.{lookup, same_number};
+ghost use Rattle.outside.specs.declared.action.Action.TheVariants as action;
 ghost use Rattle.end_links.specs.Bounds.{AreShortSends, IsShortSend, send_limit};
-ghost use Rattle.world_moves.specs.Acting.{hear, bag_unit, send_on, perform_quietly, perform_all_quietly, hear_closed, closed_at, close, perform, perform_all, hear_and_act, piece_comes, pieces_come, forget, shut_link, is_of_other};
+ghost use Rattle.world_moves.specs.Acting.{hear, unit_on, perform_quietly, perform_all_quietly, hear_closed, closed_at, close, perform, perform_all, hear_and_act, piece_comes, pieces_come, forget, shut_link, is_of_other};
 ghost use Rattle.world_moves.specs.Bag.{AreShortPieces, piece_limit};
 ghost use Rattle.world_moves.specs.Bounds.{DrawsWithin, draws_at, piece_draws};
 ghost use Rattle.world_moves.specs.Links.{hearer_of};
 ghost use Rattle.world_moves.specs.Outcomes.{KeepsOutcomes};
 
 use crate::bag::{Bag, BagUnit};
-use crate::links::{EndId, LinkKind, OpenLink, OpenLinks, forget_end, same_end};
+use crate::links::{EndId, OpenLink, OpenLinks, Route, forget_end, same_end};
 use crate::state::{State, WaitingDial};
 use outside::{Action, Actions, Event, StepRefused};
 use std::alloc::Global;
@@ -39,58 +40,42 @@ impl State {
             .step(alloc, end, event, self.moment, &mut self.chances)
         {
             Ok(actions) => {
-                self.counts = self.counts.add(actions.items());
+                self.counts = self.counts.add(end, actions.items());
                 Ok(actions)
             }
             Err(why) => Err(why),
         }
     }
 
-    /// A unit goes into the bag, unless its link is a stranger's.
-    fn bag_unit(
-        &mut self,
-        alloc: Global,
-        kind: LinkKind,
-        back: bool,
-        link: u32,
-        bytes: Blob,
-    ) -> Result<(), NoMemory>
-        requires { length bytes ≤ send_limit }
-        ensures state { OnOk result (self.new ≡ bag_unit kind back link bytes self.old) }
+    /// A unit goes into the bag behind the others.
+    fn bag_unit(&mut self, alloc: Global, unit: BagUnit) -> Result<(), NoMemory>
+        requires { length unit.bytes ≤ send_limit }
+        ensures state { OnOk result (self.new
+            ≡ record self.old { bag = self.old.bag ++ unit ∷ [] }) }
         ensures few { DrawsWithin 0 self.old self.new }
         ensures ends { self.new.ends ≡ self.old.ends }
     {
-        if matches!(kind, LinkKind::Stranger) {
-            return Ok(());
-        }
-        let unit = BagUnit {
-            bytes,
-            link,
-            kind,
-            back,
-            is_settled: false,
-        };
         let bag = mem::replace(&mut self.bag, Bag::new(alloc));
         self.bag = bag.add(unit)?;
         Ok(())
     }
 
-    /// An end sends on a link.
+    /// An end sends on a link: a unit goes into the bag, unless the link is a stranger's.
     fn send_on(&mut self, alloc: Global, end: EndId, link: u32, bytes: Blob) -> Result<(), NoMemory>
         requires { length bytes ≤ send_limit }
         ensures state { OnOk result (self.new
-            ≡ send_on (slice_get self.old.links link) end link bytes self.old) }
+            ≡ perform_quietly end (action.Send link bytes) self.old) }
         ensures few { DrawsWithin 0 self.old self.new }
         ensures ends { self.new.ends ≡ self.old.ends }
     {
         match self.links.get(link) {
-            Some(route) => self.bag_unit(
-                alloc,
-                route.kind(),
-                route.is_accepted_by(end),
-                link,
-                bytes,
-            ),
+            Some(route) => {
+                if route.kind().is_own() {
+                    self.bag_unit(alloc, unit_on(route, end, link, bytes))
+                } else {
+                    Ok(())
+                }
+            }
             None => Ok(()),
         }
     }
@@ -328,6 +313,19 @@ impl State {
         let dials = mem::replace(&mut self.dials, List::new(alloc));
         self.dials = dials_of_others(end, dials);
         Ok(())
+    }
+}
+
+/// A unit that an end sends on a link.
+fn unit_on(route: Route, end: EndId, link: u32, bytes: Blob) -> BagUnit
+    ensures { result ≡ unit_on route end link bytes }
+{
+    BagUnit {
+        bytes,
+        link,
+        kind: route.kind(),
+        back: route.is_accepted_by(end),
+        is_settled: false,
     }
 }
 

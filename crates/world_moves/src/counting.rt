@@ -2,8 +2,9 @@
 
 ghost use Rattle.std.specs.Prelude.{◌≡◌, ◌+◌, count_by};
 ghost use Rattle.domain_controller.specs.Laws.{is_passed};
-ghost use Rattle.world_moves.specs.Counting.{no_counts, counts_of, add_counts, clipped, tells, judges, is_in, is_out, is_unanswered, is_barred};
+ghost use Rattle.world_moves.specs.Counting.{no_counts, counts_of, add_counts, is_counted, counted_of, clipped, tells, judges, is_in, is_out, is_unanswered, is_barred};
 
+use crate::links::EndId;
 use outside::{Action, Judged, Outcome};
 
 /// How often members told each outcome, and controllers judged an authenticator so. Each count stands still at the end
@@ -45,8 +46,15 @@ impl Counts {
         }
     }
 
+    /// Besides, these actions of that end, as far as they are counted.
+    pub(crate) fn add(self, end: EndId, actions: &[Action]) -> Counts
+        ensures { result ≡ add_counts self (counts_of (counted_of end actions.now)) }
+    {
+        self.add_all(counted_of(end, actions))
+    }
+
     /// Besides, these actions.
-    pub(crate) fn add(self, actions: &[Action]) -> Counts
+    fn add_all(self, actions: &[Action]) -> Counts
         ensures { result ≡ add_counts self (counts_of actions.now) }
     {
         Counts {
@@ -57,6 +65,22 @@ impl Counts {
             barred: add_up(self.barred, count_barred(actions)),
         }
     }
+}
+
+/// Whether what the end gives is counted: a member tells what comes of logons, and a controller what it judges.
+fn is_counted(end: EndId) -> bool
+    ensures { result ≡ is_counted end }
+{
+    match end {
+        EndId::Controller(_) | EndId::Member(_) | EndId::Client(_) => true,
+    }
+}
+
+/// The actions of an end that are counted.
+fn counted_of(end: EndId, actions: &[Action]) -> &[Action]
+    ensures { result.now ≡ counted_of end actions.now }
+{
+    if is_counted(end) { actions } else { &[] }
 }
 
 /// A count and so many more, which stands still at the end of its type.

@@ -2,7 +2,7 @@
 
 ghost use Rattle.std.specs.Prelude.{◌≡◌, ◌<◌, ◌≤◌, ◌^◌, ◌++◌, ◌∷◌, [], length, IfOk, slice_get};
 ghost use Rattle.world_moves.specs.Choosing.{chosen_in, pushed_if};
-ghost use Rattle.world_moves.specs.Links.{same_end, dialler_of, acceptor_of, kind_of, same_kind, is_of, is_dialled_by, is_accepted_by, links_of, handed_links, hearer_on, other_hearer, forgotten_by, forget_end};
+ghost use Rattle.world_moves.specs.Links.{same_end, dialler_of, acceptor_of, kind_of, same_kind, is_own, is_handed_kind, is_of, is_dialled_by, is_accepted_by, links_of, handed_links, hearer_on, other_hearer, forgotten_by, forget_end};
 
 use crate::choosing::chosen_in;
 use std::alloc::Global;
@@ -49,6 +49,22 @@ fn same_kind(one: LinkKind, other: LinkKind) -> bool
         (LinkKind::ToController, LinkKind::ToController) => true,
         (LinkKind::Stranger, LinkKind::Stranger) => true,
         _ => false,
+    }
+}
+
+impl LinkKind {
+    /// Whether a unit that is sent on a link of the kind goes into the bag.
+    pub(crate) fn is_own(self) -> bool
+        ensures { result ≡ is_own self }
+    {
+        !matches!(self, LinkKind::Stranger)
+    }
+
+    /// Whether bytes from outside come on a link of the kind.
+    fn is_handed(self) -> bool
+        ensures { result ≡ is_handed_kind self }
+    {
+        matches!(self, LinkKind::ToMember | LinkKind::Stranger)
     }
 }
 
@@ -256,7 +272,7 @@ impl WorldLinks {
         to_members = push_if(to_members, route.is_of(LinkKind::ToMember), number)?;
         to_controllers = push_if(to_controllers, route.is_of(LinkKind::ToController), number)?;
         strangers = push_if(strangers, route.is_of(LinkKind::Stranger), number)?;
-        handed = push_if(handed, !route.is_of(LinkKind::ToController), number)?;
+        handed = push_if(handed, route.kind().is_handed(), number)?;
         routes.push(route)?;
         Ok(WorldLinks {
             routes,

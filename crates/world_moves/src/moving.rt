@@ -39,7 +39,7 @@ impl State {
         let mut client = task.client(alloc)?;
         let actions = client.begin(alloc)?;
         self.forget(alloc, EndId::Client(at))?;
-        self.counts = self.counts.add(actions.items());
+        self.counts = self.counts.add(EndId::Client(at), actions.items());
         self.perform_all(alloc, EndId::Client(at), actions)?;
         self.ends.put_client(at, client);
         Ok(())

@@ -47,7 +47,7 @@ use Rattle.world_moves.specs.Choosing.{chosen_place}
 use Rattle.world_moves.specs.Forms.{HasForms}
 use Rattle.world_moves.specs.World.{IsPlan, World, first_world, happens, run}
 use Rattle.domain_world.specs.Claims.{AcceptsOnlyGranted, IsAccepted, TravelsAsZeros, Wraps}
-use Rattle.domain_world.specs.Claims.Completeness.{IsQuiet, NoKeyIsLost, OneAtATime, IsPlainMove, started_in}
+use Rattle.domain_world.specs.Claims.Completeness.{IsPlainMove, IsQuiet, IsQuietAt, OneAtATime, started_in, NoKeyIsLost}
 use Rattle.domain_world.specs.Claims.LetIn.{IsLetInBy, LetsInWhoAsked}
 use Rattle.domain_world.specs.Past.{Past, book, note, past}
 use Rattle.logon_steps.specs.Answering.{pair_of}
@@ -78,6 +78,7 @@ use Rattle.logon_runs.specs.Scenes.{HasFirst, Scene, Shows}
 use Rattle.logon_runs.specs.Seen.Staying.{HasSameEnds}
 use Rattle.logon_runs.specs.Seen.TurnScenes.{IsBetween, Turn, with_accounts}
 use Rattle.logon_runs.specs.Seen.TwoLinks.{HasMet}
+use Rattle.logon_runs.specs.Seen.Others.{IsStepOn}
 use Rattle.logon_runs.proofs.First.ExampleLogonLaws.{an_example_logs_on}
 use Rattle.logon_runs.proofs.First.FirstLogonRunLaws.{joined_still}
 use Rattle.logon_runs.proofs.First.FirstTraceLaws.{after_below}
@@ -88,6 +89,7 @@ use Rattle.logon_runs.proofs.Seen.StayingLaws.{both_same, connects_same}
 use Rattle.logon_runs.proofs.Seen.TurnSceneLaws.{heard_back}
 use Rattle.logon_runs.proofs.Seen.WaitingLaws.{waiting_comes}
 use Rattle.logon_runs.proofs.Seen.TwoLinkLaws.{turns_have_links}
+use Rattle.logon_runs.proofs.Seen.StepOnLaws.{by_step}
 use Rattle.claim_examples.specs.ClearRuns.{FirstLogonsAreClear, HasSharedChannel, IsLetIn, LetsInClearly}
 use Rattle.claim_examples.proofs.Runs.LogonTrailLaws.{FineSo, logon_trail}
 use Rattle.claim_examples.proofs.Runs.JudgedOnLaws.{HearsNoCall, OnlyTravels, travels_still}
@@ -141,24 +143,10 @@ accepted_so run only told =
 
 -- ---- nothing is under way
 
-abbrev GoesOn : Move → Type 0
-GoesOn move.Connect = Unit {0}
-GoesOn move.Onward = Unit {0}
-GoesOn _ = ⊥
-
-later_quiet : (moves : List Move) (w : World) → AllByRecursion GoesOn moves → IsQuiet (run moves w) → OneAtATime moves w
+later_quiet : (moves : List Move) (w : World) → AllByRecursion IsStepOn moves → IsQuiet (run moves w) → OneAtATime moves w
 later_quiet [] w on quiet = quiet
-later_quiet (move.Connect ∷ moves) w on quiet = (tt, later_quiet moves (happens w move.Connect) on.1 quiet)
-later_quiet (move.Onward ∷ moves) w on quiet = (tt, later_quiet moves (happens w move.Onward) on.1 quiet)
-later_quiet (move.Start number ∷ moves) w on quiet = absurd on.0
-later_quiet (move.Stranger number ∷ moves) w on quiet = absurd on.0
-later_quiet (move.FailDial ∷ moves) w on quiet = absurd on.0
-later_quiet (move.Lose ∷ moves) w on quiet = absurd on.0
-later_quiet (move.Deliver unit link ∷ moves) w on quiet = absurd on.0
-later_quiet (move.Hand link back bytes ∷ moves) w on quiet = absurd on.0
-later_quiet (move.Shut number ∷ moves) w on quiet = absurd on.0
-later_quiet (move.Restart number ∷ moves) w on quiet = absurd on.0
-later_quiet (move.Tick more ∷ moves) w on quiet = absurd on.0
+later_quiet (what ∷ moves) w on quiet =
+    (by_step (λ (one : Move). IsQuietAt one w) tt tt (λ more. tt) what on.0, later_quiet moves (happens w what) on.1 quiet)
 
 rests_so : (w : World) (v : Scene) → v.dials ≡ [] → v.units ≡ [] → Shows w.state v → IsQuiet w
 rests_so w v dials units shows = record { dials = shows.dials ∙ dials; units = waiting_comes.none w.state.bag (shows.units ∙ units) }
@@ -320,7 +308,7 @@ module _ (plan : Plan) (client member controller : ℕ) (can : CanComeIn plan cl
         lets_in s11 _ _ [] _ left t3.link j.link close.CallDone _ _ _ _ seen.turns.logon.reply heard_reply
             (logons_end.granted j.plan j.caller o t3.info (hidden o sam) (logon_for j.link j.task a.challenge (message_for j a)) j.task j.place (after n5) n5 t3.link plan.now stamp 0 1 1 _ left (after_below n4) is_reply opened.short seen.who seen.back)
             k b,
-        travels_still key base s11 _ [] (Member member) tt (comes_so s11 _ _ [] (Member member) seen.turns.logon.reply heard_reply) k b only,
+        travels_still key base s11 _ [] (Member member) refl (comes_so s11 _ _ [] (Member member) seen.turns.logon.reply heard_reply) k b only,
       )))
       more))
 
@@ -334,7 +322,7 @@ module _ (plan : Plan) (client member controller : ℕ) (can : CanComeIn plan cl
       let end : Meeting = after_first g [] can.machine one other can.table can.name no_computers plan.now in
       let heard = heard_down end _ _ seen.back.sent [] left plan.now (record { some = seen.back.some; short = omega (arith, seen.back.short) }) in
       then_on s9 move.Onward [] (FineSo s9 1 (LetsInOn key base)) (FineSo (goes s9) 1 (LetsInOn key base)) (EndsSo true)
-      (told_leads key base s9 _ (unit_down end seen.back.sent) [] (Client client) tt seen.granted heard (client_comes s9 (unit_down end seen.back.sent) [] client 1 (comes_so s9 _ (unit_down end seen.back.sent) [] (Client client) seen.granted heard)))
+      (told_leads key base s9 _ (unit_down end seen.back.sent) [] (Client client) refl seen.granted heard (client_comes s9 (unit_down end seen.back.sent) [] client 1 (comes_so s9 _ (unit_down end seen.back.sent) [] (Client client) seen.granted heard)))
       (λ k b f. (f.fine.apart, f.fine.few, f.holds))
   end_trail seen false is_silent =
       let s9 : State = first_turns number s0 in
@@ -357,11 +345,11 @@ module _ (plan : Plan) (client member controller : ℕ) (can : CanComeIn plan cl
       let heard_echo = heard_up end _ _ asks.sent [] left plan.now (record { some = asks.some; short = omega (arith, asks.short) }) in
       let heard_again = heard_down end _ _ again.sent [] left plan.now (record { some = again.some; short = omega (arith, again.short) }) in
       then_on s9 move.Onward (move.Onward ∷ move.Onward ∷ []) (FineSo s9 1 (LetsInOn key base)) (FineSo s10 1 (LetsInOn key base)) (EndsSo false)
-      (told_leads key base s9 _ (unit_down end seen.back.sent) [] (Client client) tt seen.granted heard (client_comes s9 (unit_down end seen.back.sent) [] client 1 (comes_so s9 _ (unit_down end seen.back.sent) [] (Client client) seen.granted heard)))
+      (told_leads key base s9 _ (unit_down end seen.back.sent) [] (Client client) refl seen.granted heard (client_comes s9 (unit_down end seen.back.sent) [] client 1 (comes_so s9 _ (unit_down end seen.back.sent) [] (Client client) seen.granted heard)))
       (then_on s10 move.Onward (move.Onward ∷ []) (FineSo s10 1 (LetsInOn key base)) (FineSo s11 1 (LetsInOn key base)) (EndsSo false)
-      (told_leads key base s10 _ (unit_up end asks.sent) [] (Member member) tt named heard_echo (meeting_leads s10 end _ _ asks.sent [] left plan.now 1 (record { some = asks.some; short = omega (arith, asks.short) }) named))
+      (told_leads key base s10 _ (unit_up end asks.sent) [] (Member member) refl named heard_echo (meeting_leads s10 end _ _ asks.sent [] left plan.now 1 (record { some = asks.some; short = omega (arith, asks.short) }) named))
       (then_on s11 move.Onward [] (FineSo s11 1 (LetsInOn key base)) (FineSo s12 1 (LetsInOn key base)) (EndsSo false)
-      (told_leads key base s11 _ (unit_down end again.sent) [] (Client client) tt echoed heard_again (client_comes s11 (unit_down end again.sent) [] client 1 (comes_so s11 _ (unit_down end again.sent) [] (Client client) echoed heard_again)))
+      (told_leads key base s11 _ (unit_down end again.sent) [] (Client client) refl echoed heard_again (client_comes s11 (unit_down end again.sent) [] client 1 (comes_so s11 _ (unit_down end again.sent) [] (Client client) echoed heard_again)))
       (λ k b f. (f.fine.apart, f.fine.few, f.holds))))
 
   ends_so : EndsSo (can.task.echo == 0) (past plan (logon_moves number (can.task.echo == 0))).book

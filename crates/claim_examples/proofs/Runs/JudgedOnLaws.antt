@@ -1,62 +1,38 @@
 -- Calls that were judged stay as they are where a unit comes at a client or at a member; and of a key that travels as
 -- zeros on one of them.
 -- It serves `ann_can_succeed`.
-use Rattle.std.proofs.Common.{◌≡◌, ℕ, ◌≤◌, arith, Bool, true, false, List, [], ◌∷◌, length, Option, Some, None, refl, sym, ap, subst, ◌∙◌, replicate, slice_get}
+use Rattle.std.proofs.Common.{◌≡◌, ℕ, ◌≤◌, arith, Bool, true, false, List, [], ◌∷◌, length, Option, Some, sym, ap, subst, ◌∙◌, replicate}
 use Rattle.std.specs.List.{AllByRecursion}
 use Rattle.wire_base.specs.Maps.{lookup}
 use Rattle.wire_base.specs.Names.{same_name}
 use Rattle.rc4_stream.specs.Rc4.{applied}
 use Rattle.authenticators.specs.SecureChannels.{SecureChannelState, key_of_channel}
-use Rattle.end_links.specs.Serving.{ServedUnit}
-use Rattle.logon_client.specs.State.{State as ClientState}
-use Rattle.member_server.specs.State.{State as MemberState}
-use Rattle.member_server.specs.Turns.{AtTurn}
-use Rattle.channel_turns.specs.declared.state.TurnTalk.{TurnTalk}
 use Rattle.step_notes.specs.ControllerNotes.{identity_by, channel_in, has_passed}
 use Rattle.step_notes.specs.Judged.{base_key_asked, channel_if}
-use Rattle.step_notes.specs.MemberNotes.{turn_note, turn_units}
+use Rattle.step_notes.specs.Records.{Book, Judging, computer_named, IfNetwork}
 use Rattle.logon_stubs.specs.declared.calls.LogonCall.{LogonCall}
 use Rattle.logon_stubs.specs.declared.info.NetworkInfo.{NetworkInfo}
-use Rattle.step_notes.specs.Records.{Book, IfNetwork, Judging, computer_named}
 use Rattle.world_moves.specs.declared.bag.BagUnit.{BagUnit}
 use Rattle.world_moves.specs.declared.links.EndId.{EndId}
-use Rattle.world_moves.specs.declared.links.EndId.TheVariants.{Client, Controller, Member}
 use Rattle.world_moves.specs.declared.state.State.{State}
 use Rattle.world_moves.specs.Moving.{settle}
 use Rattle.logon_steps.specs.Calling.{TravelsAsZeros as KeyTravels}
 use Rattle.domain_world.specs.Claims.{TravelsAsZeros, key_bytes}
-use Rattle.domain_world.specs.Past.{Coming, controller_of, note, note_at, note_client, note_member, note_messages, note_turn, note_turns, numbers_on}
+use Rattle.domain_world.specs.Past.{note}
 use Rattle.domain_world.proofs.Completeness.UnitNotedLaws.{Came, coming, state_then}
+use Rattle.domain_world.proofs.Frames.EndNoteLaws.{judged_so, judgings_of, others_of_controllers}
 use Rattle.claim_examples.proofs.Runs.NotedLaws.{world_at}
 use Rattle.world_moves.specs.declared.moves.Move.TheVariants as move
+use Rattle.world_moves.proofs.EndKindLaws.{is_controller}
 
 -- no call is heard there
 abbrev pub HearsNoCall : EndId → Type 0
-HearsNoCall (Controller at) = ⊥
-HearsNoCall (Member at) = Unit {0}
-HearsNoCall (Client at) = Unit {0}
-
-turns_judge : (controller : ℕ) (units : List (ServedUnit AtTurn TurnTalk)) (unit : Option ℕ) (numbers : List ℕ) (b : Book) → (note_turns controller units unit numbers b).judged ≡ b.judged
-turns_judge controller [] unit numbers b = refl
-turns_judge controller (served ∷ units) unit numbers b = turns_judge controller units unit _ (note_turn (turn_note controller served) served unit _ b)
-
-client_judges : (found : Option ClientState) (at : ℕ) (w : Coming) (piece : List ℕ) (s : State) (b : Book) → (note_client found at w piece s b).judged ≡ b.judged
-client_judges None at w piece s b = refl
-client_judges (Some c) at w piece s b = refl
-
-member_judges : (found : Option MemberState) (at : ℕ) (w : Coming) (piece : List ℕ) (s after : State) (b : Book) → (note_member found at w piece s after b).judged ≡ b.judged
-member_judges None at w piece s after b = refl
-member_judges (Some m) at w piece s after b =
-    turns_judge (controller_of at s) (turn_units m w.link piece s.moment s.chances.left) w.unit (numbers_on w.link false s.bag after.bag) (note_messages at m w piece s b)
-
-end_judges : (end : EndId) → HearsNoCall end → (w : Coming) (piece : List ℕ) (s after : State) (b : Book) → (note_at (Some end) w piece s after b).judged ≡ b.judged
-end_judges (Controller at) none w piece s after b = absurd none
-end_judges (Member at) none w piece s after b = member_judges (slice_get s.ends.members at) at w piece s after b
-end_judges (Client at) none w piece s after b = client_judges (slice_get s.ends.clients at) at w piece s b
+HearsNoCall end = is_controller end ≡ false
 
 judged_still : (s : State) (unit : BagUnit) (later : List BagUnit) (end : EndId) → HearsNoCall end → Came s unit later end → (k : ℕ) (b : Book) → (note (world_at k s) move.Onward b).judged ≡ b.judged
 judged_still s unit later end none came k b =
-    ap (λ (one : Book). one.judged) (came.noted k b) ∙ end_judges end none (coming k came.number unit) unit.bytes (settle came.number s) (state_then end unit came.number s) b
+    ap (λ (one : Book). one.judged) (came.noted k b)
+    ∙ others_of_controllers judgings_of judged_so (coming k came.number unit) unit.bytes (settle came.number s) (state_then end unit came.number s) b end none
 
 -- ---- keys that travel as zeros
 

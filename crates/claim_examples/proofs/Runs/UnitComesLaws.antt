@@ -1,6 +1,6 @@
 -- What is written down where a unit of a turn, or of a client's link, comes at its end, as the world is seen then.
 -- It serves `a_run_is_clear`.
-use Rattle.std.proofs.Common.{◌≡◌, ℕ, ◌+◌, ◌≤◌, ◌<◌, ◌^◌, arith, Bool, true, false, List, [], ◌∷◌, ◌++◌, length, map, Option, Some, refl, sym, ap, ap₂, subst, ◌∙◌, slice_get}
+use Rattle.std.proofs.Common.{◌≡◌, ℕ, ◌+◌, ◌≤◌, ◌<◌, ◌^◌, arith, Bool, true, false, List, [], ◌∷◌, ◌++◌, length, map, Option, Some, refl, sym, ap, ap₂, subst, ◌∙◌, slice_get, append-nil}
 use Rattle.std.specs.Prelude.{◌||◌, ◌&&◌}
 use Rattle.std.specs.List.{AllByRecursion}
 use Rattle.outside.specs.declared.action.Action.{Action}
@@ -42,7 +42,7 @@ use Rattle.world_moves.specs.declared.links.Route.{Route}
 use Rattle.world_moves.specs.declared.links.Route.TheVariants.{ToController}
 use Rattle.world_moves.specs.declared.moves.Move.TheVariants as move
 use Rattle.world_moves.specs.declared.state.State.{State}
-use Rattle.world_moves.specs.Acting.{Heard, done, send_on}
+use Rattle.world_moves.specs.Acting.{Heard, done, sent_if, unit_on}
 use Rattle.world_moves.specs.Bag.{first_waiting}
 use Rattle.world_moves.specs.Ends.{EndStates}
 use Rattle.world_moves.specs.Links.{OpenMap}
@@ -60,7 +60,7 @@ use Rattle.logon_runs.specs.Runs.{connects, goes}
 use Rattle.logon_runs.specs.Seen.LinkScenes.{Meeting, meeting_scene, unit_up}
 use Rattle.logon_runs.specs.Scenes.{HasFirst, Scene, Shows}
 use Rattle.logon_runs.specs.Seen.TurnScenes.{IsBetween, Turn, dial_scene, turn_scene, unit_back, unit_there}
-use Rattle.logon_runs.specs.Seen.WaitingUnits.{after_hearing, unit_on, with_controller_at, with_member_at}
+use Rattle.logon_runs.specs.Seen.WaitingUnits.{after_hearing, with_controller_at, with_member_at}
 use Rattle.logon_runs.proofs.Seen.LinkSceneLaws.{heard_up}
 use Rattle.logon_runs.proofs.Seen.TurnSceneLaws.{heard_back, heard_there}
 use Rattle.logon_runs.proofs.Seen.WaitingLaws.{waiting_comes}
@@ -138,12 +138,13 @@ client_comes s unit later at count came k b fine =
 bag_sent : (end : EndId) (ends : EndStates) (left : List (List ℕ)) (link member controller : ℕ) (bytes : List ℕ) (s : State) → slice_get s.links link ≡ Some (ToController member controller) →
     (done end (after_hearing ends left (action.Send link bytes ∷ []) s)).state.bag ≡ s.bag ++ unit_on (ToController member controller) end link bytes ∷ []
 bag_sent end ends left link member controller bytes s made =
-    ap (λ (route : Option Route). (send_on route end link bytes (after_hearing ends left (action.Send link bytes ∷ []) s).state).bag) made
+    ap (λ (route : Option Route). s.bag ++ sent_if route end link bytes) made
 
 bag_judged : (end : EndId) (ends : EndStates) (left : List (List ℕ)) (link member controller : ℕ) (how : Judged) (bytes : List ℕ) (s : State) → slice_get s.links link ≡ Some (ToController member controller) →
     (done end (after_hearing ends left (action.Judged how ∷ action.Send link bytes ∷ []) s)).state.bag ≡ s.bag ++ unit_on (ToController member controller) end link bytes ∷ []
 bag_judged end ends left link member controller how bytes s made =
-    ap (λ (route : Option Route). (send_on route end link bytes (after_hearing ends left (action.Judged how ∷ action.Send link bytes ∷ []) s).state).bag) made
+    ap (λ (route : Option Route). (s.bag ++ []) ++ sent_if route end link bytes) made
+    ∙ ap (λ (bag : List BagUnit). bag ++ unit_on (ToController member controller) end link bytes ∷ []) (append-nil s.bag)
 
 on_there : (t : Turn) (bytes : List ℕ) → is_sent_on t.link false (unit_on (ToController t.at_member t.at_controller) (Member t.at_member) t.link bytes) ≡ true
 on_there t bytes = ap (λ (here : Bool). here && true) (same t.link)

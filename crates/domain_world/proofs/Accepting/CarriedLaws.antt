@@ -17,11 +17,11 @@ use Rattle.logon_stubs.specs.declared.calls.LogonCall.{LogonCall}
 use Rattle.channel_events.specs.Marks.{Mark, Plain, Opening, Opened, Calling, ReplyTo}
 use Rattle.step_notes.specs.Judged.{passed_channel}
 use Rattle.step_notes.specs.Marking.{clashes, is_channel, mark_channel, sent_channel}
-use Rattle.step_notes.specs.Records.{JudgedCall, Judging, MessageTaken, Network, Sent}
+use Rattle.step_notes.specs.Records.{CallTaken, JudgedCall, Judging, MessageTaken, Network, RequesterId, Sent}
 use Rattle.step_notes.specs.ReplySends.{IsReplyOfCall}
 use Rattle.world_moves.specs.declared.bag.BagUnit.{BagUnit}
 use Rattle.domain_world.specs.Accepting.Answered.{AsksForIt, IsAnsweredIn, IsItsWay, MarksHaveTheirWay, PassesAreUnclashed}
-use Rattle.domain_world.specs.Accepting.Carried.{AnswersAreInTurn, CallsHaveNumbers, CarriedCallsAreHeard, IsCalledFor, IsJudgedAsCarried, IsPlain, IsTakenInTurn, IsWholeAsMarked, IsWholeUnit, JudgedAsCarried, MarkedUnitsAreWhole, MessagesAreCalled, call_carried, call_judged, call_read}
+use Rattle.domain_world.specs.Accepting.Carried.{AnswersAreInTurn, AsksOf, CallsHaveNumbers, CarriedCallsAreHeard, IsCalledFor, IsJudgedAsCarried, IsPlain, IsReadAsAnswer, IsTakenAs, IsTakenInTurn, IsWholeAsMarked, IsWholeUnit, JudgedAsCarried, MarkedUnitsAreWhole, MessagesAreCalled, call_carried, call_judged, call_read}
 use Rattle.domain_world.specs.Claims.{HasController}
 use Rattle.domain_world.specs.Claims.Replies.{IsReplyOfOne, RepliesCarryTheirJudgement}
 use Rattle.domain_world.specs.Past.{Past}
@@ -175,48 +175,67 @@ module _ (past : Past) where
         ∙ ap (λ (c : Option ChannelIdentity). clashes c (Some request) past.book.sent) reply.passed) ∙ free)
         reply.call
 
-    -- by the mark of the unit that was taken
-    answered_by : (mark : Mark) (message : MessageTaken) (u : ℕ) (is : IsTakenInTurn past message u) → is.sent.mark ≡ mark → mark_channel mark ≡ Some is.named →
-        IsItsWay is.carrier.back mark → ((IsPlain mark → ⊥) → IsWholeAsMarked mark is.carrier.bytes) → IsReplyOfOne past.book.judged u is.carrier.bytes mark →
-        IsAnsweredIn past message u
-    answered_by Plain message u is marked made goes fit replied = absurd (let x = made in cc)
-    answered_by (Opening c k) message u is marked made goes fit replied = absurd (let x = sym is.back ∙ goes in cc)
-    answered_by (Opened c k r) message u is marked made goes fit replied =
+    -- the unit that was taken was made as the reply to the call, on a channel with the controller of which is asked
+    pub record RepliesTo (taken : CallTaken) : Type 0 where
+      pub channel : ChannelIdentity
+      pub number : ℕ
+      pub sent : Sent
+      pub there : slice_get past.book.sent taken.reply ≡ Some sent
+      pub mark : sent.mark ≡ ReplyTo channel number taken.call
+      pub controller : AsksOf taken.requester past channel.controller
+
+    -- by the mark of the unit
+    replies_by : (mark : Mark) (taken : CallTaken) (is : IsTakenInTurn past taken) → is.sent.mark ≡ mark → mark_channel mark ≡ Some is.named → IsItsWay is.carrier.back mark →
+        ((IsPlain mark → ⊥) → IsWholeAsMarked mark is.carrier.bytes) → IsReplyOfOne past.book.judged taken.reply is.carrier.bytes mark → RepliesTo taken
+    replies_by Plain taken is marked made goes fit replied = absurd (let x = made in cc)
+    replies_by (Opening c k) taken is marked made goes fit replied = absurd (let x = sym is.back ∙ goes in cc)
+    replies_by (Opened c k r) taken is marked made goes fit replied =
         let its = fit (λ none. none) in
-        absurd (its.marked.1 is.read is.given (ap (λ (unit : RpcUnit). reply_of 2 (stub_of unit.body)) (one_unit is.carrier.bytes its.whole is.whole) ∙ is.reads) is.returned)
-    answered_by (Calling c k t) message u is marked made goes fit replied = absurd (let x = sym is.back ∙ goes in cc)
-    answered_by (ReplyTo c k r) message u is marked made goes fit replied =
+        absurd (its.marked.1 (subst IsReadAsAnswer (one_unit is.carrier.bytes is.whole its.whole) is.answer))
+    replies_by (Calling c k t) taken is marked made goes fit replied = absurd (let x = sym is.back ∙ goes in cc)
+    replies_by (ReplyTo c k r) taken is marked made goes fit replied =
         let its = fit (λ none. none) in
-        let one = placed (λ (j : Judging). (j.reply ≡ Some u) × IsReplyOfCall c k r j is.carrier.bytes) past.book.judged replied in
+        let one = placed (λ (j : Judging). (j.reply ≡ Some taken.reply) × IsReplyOfCall c k r j is.carrier.bytes) past.book.judged replied in
         let asked : IsRequested c k r = requested one.place c one.item r k is.carrier.bytes one.there one.is.1 in
         let named : c ≡ is.named = some_is c is.named made in
         let same : k ≡ is.number = sym its.marked.1 ∙ ap (λ (unit : RpcUnit). unit.call) (one_unit is.carrier.bytes its.whole is.whole) ∙ is.has in
         let client : asked.named.client ≡ is.channel.client = asked.same.client ∙ ap (λ (d : ChannelIdentity). d.client) named ∙ is.same.client in
-        let found : r ≡ is.request =
-        numbers r is.request is.number asked.timestamp is.timestamp asked.named is.channel asked.sent is.out asked.there is.asked
+        let found : r ≡ taken.call =
+        numbers r taken.call is.number asked.timestamp is.timestamp asked.named is.channel asked.sent is.out asked.there is.asked
         (asked.mark ∙ ap (λ (m : ℕ). Calling asked.named m asked.timestamp) same) is.mark client in
         record {
           channel = c;
           number = k;
-          request = r;
           sent = is.sent;
           there = is.noted;
-          mark = marked;
-          call = is.call ∙ ap Some (sym found);
-          controller = subst (λ (at : ℕ). HasController (slice_get past.plan.members message.member) past.world.state.ends at)
-              (sym (ap (λ (d : ChannelIdentity). d.controller) named ∙ is.same.controller)) is.controller;
+          mark = marked ∙ ap (λ (request : ℕ). ReplyTo c k request) found;
+          controller = subst (λ (at : ℕ). AsksOf taken.requester past at) (sym (ap (λ (d : ChannelIdentity). d.controller) named ∙ is.same.controller)) is.controller;
         }
 
-    pub answered : (message : MessageTaken) (u : ℕ) → IsTakenInTurn past message u → IsAnsweredIn past message u
-    answered message u is =
-        answered_by is.sent.mark message u is refl is.made (way u is.carrier is.sent is.there is.noted) (λ isn't. whole u is.carrier is.sent is.there is.noted isn't)
-        (replies u is.carrier is.sent is.there is.noted)
+    pub replies_to : (taken : CallTaken) → IsTakenInTurn past taken → RepliesTo taken
+    replies_to taken is =
+        replies_by is.sent.mark taken is refl is.made (way taken.reply is.carrier is.sent is.there is.noted) (λ isn't. whole taken.reply is.carrier is.sent is.there is.noted isn't)
+        (replies taken.reply is.carrier is.sent is.there is.noted)
+
+    answered : (message : MessageTaken) (u : ℕ) → IsTakenAs past message u → IsAnsweredIn past message u
+    answered message u its =
+        let its_reply : RepliesTo its.taken = replies_to its.taken its.turn in
+        record {
+          channel = its_reply.channel;
+          number = its_reply.number;
+          request = its.taken.call;
+          sent = its_reply.sent;
+          there = subst (λ (n : ℕ). slice_get past.book.sent n ≡ Some its_reply.sent) its.is.reply its_reply.there;
+          mark = its_reply.mark;
+          call = its.is.call;
+          controller = subst (λ (who : RequesterId). AsksOf who past its_reply.channel.controller) its.is.requester its_reply.controller;
+        }
 
     all_answered : AnswersAreInTurn past → AllByRecursion (λ (message : MessageTaken). (unit : ℕ) → message.reply ≡ Some unit → IsAnsweredIn past message unit) past.book.messages
     all_answered turns =
         all_by_place (λ (message : MessageTaken). (unit : ℕ) → message.reply ≡ Some unit → IsAnsweredIn past message unit) past.book.messages
         (λ k message at unit reply. answered message unit
-        (all_at (λ (m : MessageTaken). (u : ℕ) → m.reply ≡ Some u → IsTakenInTurn past m u) past.book.messages k message (turns clear) at unit reply))
+        (all_at (λ (m : MessageTaken). (u : ℕ) → m.reply ≡ Some u → IsTakenAs past m u) past.book.messages k message (turns clear) at unit reply))
 
 pub carried_heard : CarriedCallsAreHeard
 carried_heard = record {

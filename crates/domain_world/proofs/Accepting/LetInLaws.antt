@@ -5,16 +5,12 @@ use Rattle.std.specs.Prelude.{flat_map}
 use Rattle.std.specs.List.{AllByRecursion}
 use Rattle.std.proofs.lemmas.Bool.{eqb-true}
 use Rattle.outside.specs.declared.action.Action.{Action}
-use Rattle.outside.specs.declared.action.Action.TheVariants as action
 use Rattle.outside.specs.declared.action.Outcome.{Outcome}
-use Rattle.outside.specs.declared.action.Outcome.TheVariants as outcome
 use Rattle.outside.specs.declared.action.StepRefused.{StepRefused}
 use Rattle.outside.specs.declared.event.Event.TheVariants as event
 use Rattle.logon_stubs.specs.declared.info.Verdict.TheVariants as verdict
 use Rattle.end_links.specs.Links.{LinkState}
 use Rattle.end_links.specs.Serving.{ServedUnit}
-use Rattle.domain_controller.specs.State.{State as ControllerState}
-use Rattle.logon_client.specs.State.{State as ClientState}
 use Rattle.rpc_units.specs.declared.unit.Unit.{Unit as RpcUnit}
 use Rattle.member_server.specs.Laws.{IsGranted, IsTold, heard_from, heard_if}
 use Rattle.member_server.specs.Machine.{fresh_member, step_of, step_on}
@@ -42,7 +38,7 @@ use Rattle.world_moves.specs.declared.plan.Plan.{Plan}
 use Rattle.world_moves.specs.declared.state.State.{State}
 use Rattle.world_moves.specs.Acting.{Given, Heard, given_by, hear, heard_by, hear_and_act}
 use Rattle.world_moves.specs.Counting.{is_in}
-use Rattle.world_moves.specs.Ends.{actions_by, member_step}
+use Rattle.world_moves.specs.Ends.{EndStep, actions_by, client_step, controller_step, member_step, no_step}
 use Rattle.world_moves.specs.Links.{acceptor_of}
 use Rattle.world_moves.specs.Moving.{begun, with_link}
 use Rattle.world_moves.specs.World.{World, first_world}
@@ -51,13 +47,15 @@ use Rattle.domain_world.specs.Past.{Coming, at_member, controller_of, note_at, n
 use Rattle.step_notes.proofs.Members.KeptLogonLaws.{HasFor, IfDialled, IsFor, KeptIn, bytes_keep, each_found, kept_so, one_before}
 use Rattle.step_notes.proofs.Members.TurnAnswerLaws.{HasAnswer, link_answers, none_whole}
 use Rattle.step_notes.proofs.Members.UnservedLaws.{LinksIn, bytes_took, took_known}
-use Rattle.domain_world.proofs.Accepting.LetInStepLaws.{IsAcceptedBy, IsDialledBy, KeepsIn, OfLetIn, IfLetIn, clients_tell, controllers_tell, given_append, given_so, hear_keeps, member_put, messages_so, nobody_so, step_told, Keeps, Meets, NotLate, calm_meets, end_silent, last_accepted, link_made, renewed_keeps, side_meets}
+use Rattle.domain_world.proofs.Accepting.LetInStepLaws.{IfLetIn, IsAcceptedBy, IsDialledBy, Keeps, KeepsIn, Meets, NotLate, OfLetIn, calm_meets, end_silent, given_append, given_so, hear_keeps, last_accepted, link_made, member_put, messages_so, nobody_so, others_tell, renewed_keeps, side_meets, step_told}
 use Rattle.domain_world.proofs.Frames.ComingLaws.{CameFrom}
 use Rattle.domain_world.proofs.Accepting.Messages.MessageNoteLaws.{AreCarried, IsAnsweredFor, for_stable, let_in_stable, notes_grow, one_so, turns_answer}
 use Rattle.domain_world.proofs.Frames.TurnFrameLaws.{turns_told}
 use Rattle.domain_world.proofs.Frames.EndFrameLaws.{Ends, KeepsEnds, ends_after, ends_in}
 use Rattle.domain_world.proofs.Frames.NoBytesLaws.{IsNoBytes}
-use Rattle.domain_world.proofs.Judgements.ToldLaws.{calm_bytes}
+use Rattle.domain_world.proofs.Frames.EndNoteLaws.{noted_by}
+use Rattle.domain_world.proofs.Frames.EventLaws.{calm_no_bytes}
+use Rattle.domain_world.proofs.Frames.GivenLaws.{told_cases}
 use Rattle.outside.specs.declared.event.Event.{Event}
 
 -- ---- bytes that come in no unit of the bag come on no link of a turn
@@ -217,16 +215,8 @@ known_append messages (told ∷ all) later known more = (known.0, known_append m
 
 one_known : (messages : List MessageTaken) (at : ℕ) (end : EndId) (what : Action) (later : List OutcomeTold) → IfLetIn (IsKnown at messages) end what → AreKnown messages later →
     AreKnown messages (told_by end what at ++ later)
-one_known messages at (Member member) (action.Keep bytes) later known more = more
-one_known messages at (Controller controller) what later known more = more
-one_known messages at (Client client) what later known more = more
-one_known messages at (Member member) (action.Send link bytes) later known more = more
-one_known messages at (Member member) (action.Dial peer) later known more = more
-one_known messages at (Member member) (action.Close link cause) later known more = more
-one_known messages at (Member member) (action.Told link (outcome.In domain user key)) later known more = (λ is. known, more)
-one_known messages at (Member member) (action.Told link (outcome.Out status)) later known more = (λ is. absurd (let never : false ≡ true = is in cc), more)
-one_known messages at (Member member) (action.Told link (outcome.NoController cause)) later known more = (λ is. absurd (let never : false ≡ true = is in cc), more)
-one_known messages at (Member member) (action.Judged how) later known more = more
+one_known messages at end what later known more =
+    told_cases (λ (told : ℕ → List OutcomeTold). AreKnown messages (told at ++ later)) end what more (λ member link how same tells. (λ is. known member link how same tells is, more))
 
 given_known : (messages : List MessageTaken) (at : ℕ) (given : Given) → OfLetIn (IsKnown at messages) given → AreKnown messages (told_in given at)
 given_known messages at [] all = tt
@@ -271,37 +261,11 @@ heard_goes w b later s given end heard old kept known grows told = record {
       (λ member on how is. grows (record { at = w.at; member = member; link = on; outcome = how }) is) given old.let_in) known;
 }
 
-controller_goes : (found : Option ControllerState) (controller : ℕ) (w : Coming) (piece : List ℕ) (s after : State) (given : Given) (b : Book) → IsKept w.at (Some w) (ends_in s) given b →
-    let heard : Heard = hear (Controller controller) (event.Bytes w.link piece) s in
-    IsKept w.at (Some w) (ends_in heard.state) (given ++ given_by (Controller controller) heard.actions) (note_controller found controller w piece s after b)
-controller_goes None controller w piece s after given b kept =
-    heard_goes w b b s given (Controller controller) (hear (Controller controller) (event.Bytes w.link piece) s) kept
-    (hear_keeps (IsLate w.link) w.at b.messages (Controller controller) (event.Bytes w.link piece) s tt kept.keeps)
-    (controllers_tell (IsKnown w.at b.messages) controller (hear (Controller controller) (event.Bytes w.link piece) s).actions) (λ told known. known) refl
-controller_goes (Some c) controller w piece s after given b kept =
-    heard_goes w b (note_controller (Some c) controller w piece s after b) s given (Controller controller) (hear (Controller controller) (event.Bytes w.link piece) s) kept
-    (hear_keeps (IsLate w.link) w.at b.messages (Controller controller) (event.Bytes w.link piece) s tt kept.keeps)
-    (controllers_tell (IsKnown w.at b.messages) controller (hear (Controller controller) (event.Bytes w.link piece) s).actions) (λ told known. known) refl
-
-client_goes : (found : Option ClientState) (client : ℕ) (w : Coming) (piece : List ℕ) (s : State) (given : Given) (b : Book) → IsKept w.at (Some w) (ends_in s) given b →
-    let heard : Heard = hear (Client client) (event.Bytes w.link piece) s in
-    IsKept w.at (Some w) (ends_in heard.state) (given ++ given_by (Client client) heard.actions) (note_client found client w piece s b)
-client_goes None client w piece s given b kept =
-    heard_goes w b b s given (Client client) (hear (Client client) (event.Bytes w.link piece) s) kept
-    (hear_keeps (IsLate w.link) w.at b.messages (Client client) (event.Bytes w.link piece) s tt kept.keeps)
-    (clients_tell (IsKnown w.at b.messages) client (hear (Client client) (event.Bytes w.link piece) s).actions) (λ told known. known) refl
-client_goes (Some c) client w piece s given b kept =
-    heard_goes w b (note_client (Some c) client w piece s b) s given (Client client) (hear (Client client) (event.Bytes w.link piece) s) kept
-    (hear_keeps (IsLate w.link) w.at b.messages (Client client) (event.Bytes w.link piece) s tt kept.keeps)
-    (clients_tell (IsKnown w.at b.messages) client (hear (Client client) (event.Bytes w.link piece) s).actions) (λ told known. known) refl
-
-member_goes : (found : Option MemberState) (member : ℕ) (w : Coming) (piece : List ℕ) (s after : State) (given : Given) (b : Book) → slice_get s.ends.members member ≡ found →
+member_goes : (m : MemberState) (member : ℕ) (w : Coming) (piece : List ℕ) (s after : State) (given : Given) (b : Book) → slice_get s.ends.members member ≡ Some m →
     IsCarried w.unit s.links w.link → IsKept w.at (Some w) (ends_in s) given b →
-    let heard : Heard = heard_by (member_step found member (event.Bytes w.link piece) s.moment s.ends s.chances) s in
-    IsKept w.at (Some w) (ends_in heard.state) (given ++ given_by (Member member) heard.actions) (note_member found member w piece s after b)
-member_goes None member w piece s after given b is carries kept =
-    heard_goes w b b s given (Member member) (heard_by (member_step None member (event.Bytes w.link piece) s.moment s.ends s.chances) s) kept kept.keeps tt (λ told known. known) refl
-member_goes (Some m) member w piece s after given b is carries kept =
+    let heard : Heard = heard_by (member_step (Some m) member (event.Bytes w.link piece) s.moment s.ends s.chances) s in
+    IsKept w.at (Some w) (ends_in heard.state) (given ++ given_by (Member member) heard.actions) (note_member (Some m) member w piece s after b)
+member_goes m member w piece s after given b is carries kept =
     let new : MemberState = (step_of m (event.Bytes w.link piece) s.moment s.chances.left).state in
     let units : List (ServedUnit AtTurn TurnTalk) = turn_units m w.link piece s.moment s.chances.left in
     let first : Book = note_messages member m w piece s b in
@@ -334,15 +298,23 @@ member_goes (Some m) member w piece s after given b is carries kept =
 
 end_goes : (end : EndId) (w : Coming) (piece : List ℕ) (s after : State) (given : Given) (b : Book) → IsCarried w.unit s.links w.link → IsKept w.at (Some w) (ends_in s) given b →
     let heard : Heard = hear end (event.Bytes w.link piece) s in IsKept w.at (Some w) (ends_in heard.state) (given ++ given_by end heard.actions) (note_at (Some end) w piece s after b)
-end_goes (Controller controller) w piece s after given b carries kept = controller_goes (slice_get s.ends.controllers controller) controller w piece s after given b kept
-end_goes (Member member) w piece s after given b carries kept = member_goes (slice_get s.ends.members member) member w piece s after given b refl carries kept
-end_goes (Client client) w piece s after given b carries kept = client_goes (slice_get s.ends.clients client) client w piece s given b kept
+end_goes end w piece s after given b carries kept =
+    noted_by (λ (one : EndId) (step : EndStep) (now : Book). IsKept w.at (Some w) (ends_in (heard_by step s).state) (given ++ given_by one step.actions) now) w piece s after b
+    (λ one. heard_goes w b b s given one (heard_by (no_step s.ends s.chances) s) kept kept.keeps tt (λ told known. known) refl)
+    (λ k c is.
+    heard_goes w b (note_controller (Some c) k w piece s after b) s given (Controller k)
+    (heard_by (controller_step (Some c) k (event.Bytes w.link piece) s.moment s.ends s.chances) s) kept kept.keeps
+    (others_tell (IsKnown w.at b.messages) (Controller k) refl _) (λ told known. known) refl)
+    (λ k m is. member_goes m k w piece s after given b is carries kept)
+    (λ k c is.
+    heard_goes w b (note_client (Some c) k w piece s b) s given (Client k) (heard_by (client_step (Some c) k (event.Bytes w.link piece) s.moment s.ends s.chances) s) kept kept.keeps
+    (others_tell (IsKnown w.at b.messages) (Client k) refl _) (λ told known. known) refl) end
 
 -- ---- a run
 
 kept_on : KeepsEnds IsKept
 kept_on = record {
-  calm = λ at on end what s given b calm kept. calm_goes at on end what s given b (calm_bytes what calm) (calm_meets end s.links what calm) kept;
+  calm = λ at on end what s given b calm kept. calm_goes at on end what s given b (calm_no_bytes what calm) (calm_meets end s.links what calm) kept;
   dialled = λ at end link s given b side kept. calm_goes at None end (event.Dialled link) s given b tt (side_meets end s.links link side) kept;
   opens = λ at route s given b kept. record {
     keeps = hear_keeps NotLate at b.messages (acceptor_of route) (event.Opened (length s.links)) (with_link route s) (last_accepted (acceptor_of route) route s.links refl)
@@ -351,7 +323,7 @@ kept_on = record {
     let_in = given_append (IsKnown at b.messages) given _ kept.let_in
         (nobody_so (IsKnown at b.messages) _ (end_silent (acceptor_of route) (event.Opened (length s.links)) (with_link route s) tt));
   };
-  begins = λ at client plan s b is kept. record { keeps = kept.keeps; known = kept.known; let_in = clients_tell (IsKnown at b.messages) client (begun client plan s).actions };
+  begins = λ at client plan s b is kept. record { keeps = kept.keeps; known = kept.known; let_in = others_tell (IsKnown at b.messages) (Client client) refl (begun client plan s).actions };
   comes = λ end w piece s given b side came kept. end_goes end w piece s (hear_and_act end (event.Bytes w.link piece) s).state given b (carried_from w.unit s w piece came) kept;
   renews = λ at end s b kept. record { keeps = renewed_keeps NotLate at b.messages end s kept.keeps; known = kept.known; let_in = kept.let_in };
   over = λ at on next s given b kept. record {

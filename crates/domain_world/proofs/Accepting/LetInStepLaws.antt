@@ -1,8 +1,7 @@
 -- What ends do where no bytes come: nobody is let in, and the logons that members keep stay those of messages that they
 -- took. It serves `members_ask_for_messages`, `members_let_in_who_asked`, `sends_ask_for_messages`.
-use Rattle.std.proofs.Common.{◌≡◌, ℕ, true, List, [], ◌∷◌, ◌++◌, length, inl, inr, Option, Some, None, Result, Ok, Err, refl, sym, subst, slice_get, slice_set, ap, ◌∙◌}
+use Rattle.std.proofs.Common.{◌≡◌, ℕ, true, List, [], ◌∷◌, ◌++◌, length, inl, inr, Option, Some, None, Result, Ok, Err, refl, sym, subst, slice_get, slice_set, ap, ◌∙◌, false}
 use Rattle.std.specs.List.{AllByRecursion}
-use Rattle.outside.specs.Drawing.{Drawing}
 use Rattle.outside.specs.declared.action.Action.{Action}
 use Rattle.outside.specs.declared.action.Action.TheVariants as action
 use Rattle.outside.specs.declared.action.Outcome.{Outcome}
@@ -10,13 +9,9 @@ use Rattle.outside.specs.declared.action.Outcome.TheVariants as outcome
 use Rattle.outside.specs.declared.action.StepRefused.{StepRefused}
 use Rattle.outside.specs.declared.event.Event.{Event}
 use Rattle.outside.specs.declared.event.Event.TheVariants as event
-use Rattle.domain_controller.specs.State.{State as ControllerState}
-use Rattle.logon_client.specs.State.{State as ClientState}
-use Rattle.logon_client.specs.declared.plan.ClientPlan.{ClientPlan}
 use Rattle.member_server.specs.Laws.{IsGranted, IsTold}
 use Rattle.member_server.specs.Machine.{fresh_member, step_of, step_on}
 use Rattle.member_server.specs.State.{State as MemberState}
-use Rattle.member_server.specs.declared.plan.MemberPlan.{MemberPlan}
 use Rattle.member_server.specs.declared.state.Logon.{Logon}
 use Rattle.member_server.specs.declared.state.Running.{Running}
 use Rattle.member_server.proofs.KeptLaws.{lets_in_the_granted}
@@ -27,24 +22,26 @@ use Rattle.world_moves.specs.declared.links.Route.{Route}
 use Rattle.world_moves.specs.declared.links.Route.TheVariants.{ToController, Stranger, ToMember}
 use Rattle.world_moves.specs.declared.state.State.{State}
 use Rattle.world_moves.specs.Acting.{Given, given_by, hear}
-use Rattle.world_moves.specs.Ends.{EndStates, actions_by, client_step, controller_step, member_step, renew_client, renew_controller, renew_member}
+use Rattle.world_moves.specs.Ends.{EndStates, EndStep, actions_by}
 use Rattle.world_moves.specs.Links.{acceptor_of, dialler_of}
 use Rattle.world_moves.specs.Moving.{renewed}
+use Rattle.world_moves.specs.Counting.{is_in}
+use Rattle.world_moves.proofs.EndKindLaws.{IfMember, is_member, members_by, renew_by, step_by}
 use Rattle.channel_events.proofs.ListLaws.{got_append, got_last}
 use Rattle.step_notes.proofs.Members.KeptLogonLaws.{Dials, HasFor, KeptIn, kept_so, step_keeps}
 use Rattle.step_notes.proofs.Members.TurnAnswerLaws.{none_whole}
 use Rattle.step_notes.proofs.Members.UnservedLaws.{LinksIn, Opens, in_so, step_known}
 use Rattle.domain_world.proofs.Challenges.MessageOnceLaws.{set_cases}
 use Rattle.domain_world.proofs.Frames.NoBytesLaws.{IsNoBytes}
-use Rattle.domain_world.proofs.Frames.EndFrameLaws.{IsCalm}
+use Rattle.domain_world.proofs.Frames.EndFrameLaws.{IsCalm, by_calm}
 use Rattle.domain_world.proofs.Frames.OpenMadeLaws.{IsAtSide}
+use Rattle.domain_world.proofs.Frames.EventLaws.{by_no_bytes}
 
 -- ---- whom members let in
 
 -- the fact of the member, the link and the outcome, where the action tells that somebody is let in
 abbrev pub IfLetIn : (ℕ → ℕ → Outcome → Type 0) → EndId → Action → Type 0
-IfLetIn Fact (Member member) (action.Told link (outcome.In domain user key)) = Fact member link (outcome.In domain user key)
-IfLetIn Fact _ what = Unit {0}
+IfLetIn Fact end what = (member link : ℕ) (how : Outcome) → end ≡ Member member → what ≡ action.Told link how → is_in how ≡ true → Fact member link how
 
 abbrev pub OfLetIn : (ℕ → ℕ → Outcome → Type 0) → Given → Type 0
 OfLetIn Fact given = AllByRecursion (λ (one : EndId × Action). IfLetIn Fact one.0 one.1) given
@@ -52,23 +49,10 @@ OfLetIn Fact given = AllByRecursion (λ (one : EndId × Action). IfLetIn Fact on
 abbrev pub Nobody : ℕ → ℕ → Outcome → Type 0
 Nobody member link how = ⊥
 
-action_so : (Fact Later : ℕ → ℕ → Outcome → Type 0) → ((member link : ℕ) (how : Outcome) → Fact member link how → Later member link how) → (end : EndId) (what : Action) →
-    IfLetIn Fact end what → IfLetIn Later end what
-action_so Fact Later so (Controller at) what known = tt
-action_so Fact Later so (Client at) what known = tt
-action_so Fact Later so (Member at) (action.Keep bytes) known = tt
-action_so Fact Later so (Member at) (action.Send link bytes) known = tt
-action_so Fact Later so (Member at) (action.Dial peer) known = tt
-action_so Fact Later so (Member at) (action.Close link cause) known = tt
-action_so Fact Later so (Member at) (action.Told link (outcome.In domain user key)) known = so at link (outcome.In domain user key) known
-action_so Fact Later so (Member at) (action.Told link (outcome.Out status)) known = tt
-action_so Fact Later so (Member at) (action.Told link (outcome.NoController cause)) known = tt
-action_so Fact Later so (Member at) (action.Judged how) known = tt
-
 pub given_so : (Fact Later : ℕ → ℕ → Outcome → Type 0) → ((member link : ℕ) (how : Outcome) → Fact member link how → Later member link how) → (given : Given) →
     OfLetIn Fact given → OfLetIn Later given
 given_so Fact Later so [] all = tt
-given_so Fact Later so (one ∷ given) all = (action_so Fact Later so one.0 one.1 all.0, given_so Fact Later so given all.1)
+given_so Fact Later so (one ∷ given) all = ((λ member link how end told is. so member link how (all.0 member link how end told is)), given_so Fact Later so given all.1)
 
 pub nobody_so : (Fact : ℕ → ℕ → Outcome → Type 0) (given : Given) → OfLetIn Nobody given → OfLetIn Fact given
 nobody_so Fact given none = given_so Nobody Fact (λ member link how never. absurd never) given none
@@ -77,24 +61,22 @@ pub given_append : (Fact : ℕ → ℕ → Outcome → Type 0) (given later : Gi
 given_append Fact [] later all more = more
 given_append Fact (one ∷ given) later all more = (all.0, given_append Fact given later all.1 more)
 
-pub controllers_tell : (Fact : ℕ → ℕ → Outcome → Type 0) (at : ℕ) (actions : List Action) → OfLetIn Fact (given_by (Controller at) actions)
-controllers_tell Fact at [] = tt
-controllers_tell Fact at (what ∷ actions) = (tt, controllers_tell Fact at actions)
-
-pub clients_tell : (Fact : ℕ → ℕ → Outcome → Type 0) (at : ℕ) (actions : List Action) → OfLetIn Fact (given_by (Client at) actions)
-clients_tell Fact at [] = tt
-clients_tell Fact at (what ∷ actions) = (tt, clients_tell Fact at actions)
+-- only members tell outcomes
+pub others_tell : (Fact : ℕ → ℕ → Outcome → Type 0) (end : EndId) → is_member end ≡ false → (actions : List Action) → OfLetIn Fact (given_by end actions)
+others_tell Fact end other [] = tt
+others_tell Fact end other (what ∷ actions) =
+    ((λ member link how same told is. absurd (let never : true ≡ false = sym (ap is_member same) ∙ other in cc)), others_tell Fact end other actions)
 
 module _ (Fact : ℕ → ℕ → Outcome → Type 0) (at : ℕ) (running : Running) (what : Event) (so : (link : ℕ) (how : Outcome) → IsGranted running what link how → Fact at link how) where
+  outcome_granted : (link : ℕ) (how : Outcome) → is_in how ≡ true → IsTold running what (action.Told link how) → IsGranted running what link how
+  outcome_granted link (outcome.In domain user key) is told = told
+  outcome_granted link (outcome.Out status) is told = absurd (let never : false ≡ true = is in cc)
+  outcome_granted link (outcome.NoController cause) is told = absurd (let never : false ≡ true = is in cc)
+
   action_told : (one : Action) → IsTold running what one → IfLetIn Fact (Member at) one
-  action_told (action.Keep bytes) told = tt
-  action_told (action.Send link bytes) told = tt
-  action_told (action.Dial peer) told = tt
-  action_told (action.Close link cause) told = tt
-  action_told (action.Told link (outcome.In domain user key)) told = so link (outcome.In domain user key) told
-  action_told (action.Told link (outcome.Out status)) told = tt
-  action_told (action.Told link (outcome.NoController cause)) told = tt
-  action_told (action.Judged how) told = tt
+  action_told one told member link how same tells is =
+      let here : at ≡ member = cc in
+      subst (λ (k : ℕ). Fact k link how) here (so link how (outcome_granted link how is (subst (IsTold running what) tells told)))
 
   all_told : (actions : List Action) → AllByRecursion (IsTold running what) actions → OfLetIn Fact (given_by (Member at) actions)
   all_told [] told = tt
@@ -108,12 +90,10 @@ module _ (Fact : ℕ → ℕ → Outcome → Type 0) (at : ℕ) (running : Runni
 
 -- a grant comes in bytes
 grant_comes : (what : Event) (running : Running) (link : ℕ) (how : Outcome) → IsNoBytes what → IsGranted running what link how → ⊥
-grant_comes (event.Bytes at piece) running link how none granted = absurd none
-grant_comes (event.Opened at) running link how none granted = none_whole granted.earlier granted.unit granted.later granted.hears
-grant_comes (event.Closed at) running link how none granted = none_whole granted.earlier granted.unit granted.later granted.hears
-grant_comes (event.Dialled at) running link how none granted = none_whole granted.earlier granted.unit granted.later granted.hears
-grant_comes event.DialFailed running link how none granted = none_whole granted.earlier granted.unit granted.later granted.hears
-grant_comes event.Stop running link how none granted = none_whole granted.earlier granted.unit granted.later granted.hears
+grant_comes what running link how =
+    by_no_bytes (λ (one : Event). IsGranted running one link how → ⊥) (λ at granted. none_whole granted.earlier granted.unit granted.later granted.hears)
+    (λ at granted. none_whole granted.earlier granted.unit granted.later granted.hears) (λ at granted. none_whole granted.earlier granted.unit granted.later granted.hears)
+    (λ granted. none_whole granted.earlier granted.unit granted.later granted.hears) (λ granted. none_whole granted.earlier granted.unit granted.later granted.hears) what
 
 running_silent : (r : Option Running) (m : MemberState) (at : ℕ) (what : Event) (now : ℕ) (left : List (List ℕ)) → m.running ≡ r → IsNoBytes what →
     OfLetIn Nobody (given_by (Member at) (actions_by (step_of m what now left).answer))
@@ -122,15 +102,10 @@ running_silent None m at what now left is none =
 running_silent (Some running) m at what now left is none =
     step_told Nobody at running what (λ link how granted. grant_comes what running link how none granted) (step_of m what now left).answer (lets_in_the_granted.told m running what now left is)
 
-member_silent : (found : Option MemberState) (at : ℕ) (what : Event) (now : ℕ) (ends : EndStates) (chances : Drawing) → IsNoBytes what →
-    OfLetIn Nobody (given_by (Member at) (member_step found at what now ends chances).actions)
-member_silent None at what now ends chances none = tt
-member_silent (Some m) at what now ends chances none = running_silent m.running m at what now chances.left refl none
-
 pub end_silent : (end : EndId) (what : Event) (s : State) → IsNoBytes what → OfLetIn Nobody (given_by end (hear end what s).actions)
-end_silent (Controller at) what s none = controllers_tell Nobody at (hear (Controller at) what s).actions
-end_silent (Member at) what s none = member_silent (slice_get s.ends.members at) at what s.moment s.ends s.chances none
-end_silent (Client at) what s none = clients_tell Nobody at (hear (Client at) what s).actions
+end_silent end what s none =
+    step_by (λ (one : EndId) (step : EndStep). OfLetIn Nobody (given_by one step.actions)) what s.moment s.ends s.chances (λ one. tt) (λ at c is. others_tell Nobody (Controller at) refl _)
+    (λ at m is. running_silent m.running m at what s.moment s.chances.left refl none) (λ at c is. others_tell Nobody (Client at) refl _) end
 
 -- ---- what is kept
 
@@ -204,50 +179,28 @@ messages_so Late More most later messages more members links so kept = record {
 
 -- what must be known of the link of an answered dial, or of one that opens, where the end is a member; no bytes come at
 -- it
+abbrev pub MeetsMember : List Route → Event → ℕ → Type 0
+MeetsMember links what at = Dials (λ number. IsDialledBy links at number) what × Opens what (λ number p. IsAcceptedBy links at number)
+
 abbrev pub Meets : EndId → List Route → Event → Type 0
-Meets (Controller at) links what = Unit {0}
-Meets (Member at) links what = Dials (λ number. IsDialledBy links at number) what × Opens what (λ number p. IsAcceptedBy links at number)
-Meets (Client at) links what = Unit {0}
+Meets end links what = IfMember (MeetsMember links what) end
 
-module _ (Late : List Route → ℕ → Type 0) (most : ℕ) (messages : List MessageTaken) where
-  controller_hears : (found : Option ControllerState) (at : ℕ) (what : Event) (now : ℕ) (ends : EndStates) (chances : Drawing) (links : List Route) →
-      Keeps Late most messages ends.members links → Keeps Late most messages (controller_step found at what now ends chances).ends.members links
-  controller_hears None at what now ends chances links kept = kept
-  controller_hears (Some c) at what now ends chances links kept = kept
-
-  client_hears : (found : Option ClientState) (at : ℕ) (what : Event) (now : ℕ) (ends : EndStates) (chances : Drawing) (links : List Route) →
-      Keeps Late most messages ends.members links → Keeps Late most messages (client_step found at what now ends chances).ends.members links
-  client_hears None at what now ends chances links kept = kept
-  client_hears (Some c) at what now ends chances links kept = kept
-
-  member_hears : (found : Option MemberState) (at : ℕ) (what : Event) (now : ℕ) (ends : EndStates) (chances : Drawing) (links : List Route) → slice_get ends.members at ≡ found →
-      Meets (Member at) links what → Keeps Late most messages ends.members links → Keeps Late most messages (member_step found at what now ends chances).ends.members links
-  member_hears None at what now ends chances links is meets kept = kept
-  member_hears (Some m) at what now ends chances links is meets kept =
-      member_put Late most messages ends.members links at (step_of m what now chances.left).state kept
-      (step_keeps (HasFor (Late links at) most at messages) (λ number. IsDialledBy links at number) what m now chances.left meets.0 (kept.each at m is))
-      (step_known (λ number p. IsAcceptedBy links at number) what m now chances.left meets.1 (kept.accepts at m is))
-
-  pub hear_keeps : (end : EndId) (what : Event) (s : State) → Meets end s.links what → KeepsIn Late most messages s → KeepsIn Late most messages (hear end what s).state
-  hear_keeps (Controller at) what s meets kept = controller_hears (slice_get s.ends.controllers at) at what s.moment s.ends s.chances s.links kept
-  hear_keeps (Member at) what s meets kept = member_hears (slice_get s.ends.members at) at what s.moment s.ends s.chances s.links refl meets kept
-  hear_keeps (Client at) what s meets kept = client_hears (slice_get s.ends.clients at) at what s.moment s.ends s.chances s.links kept
+pub hear_keeps : (Late : List Route → ℕ → Type 0) (most : ℕ) (messages : List MessageTaken) (end : EndId) (what : Event) (s : State) → Meets end s.links what → KeepsIn Late most messages s →
+    KeepsIn Late most messages (hear end what s).state
+hear_keeps Late most messages end what s meets kept =
+    members_by what s.moment s.ends s.chances (λ (one : EndId) (members : List MemberState). IfMember (MeetsMember s.links what) one → Keeps Late most messages members s.links) (λ one its. kept)
+    (λ at m is its.
+    member_put Late most messages s.ends.members s.links at (step_of m what s.moment s.chances.left).state kept
+    (step_keeps (HasFor (Late s.links at) most at messages) (λ number. IsDialledBy s.links at number) what m s.moment s.chances.left (its at refl).0 (kept.each at m is))
+    (step_known (λ number p. IsAcceptedBy s.links at number) what m s.moment s.chances.left (its at refl).1 (kept.accepts at m is)))
+    end meets
 
 pub calm_meets : (end : EndId) (links : List Route) (what : Event) → IsCalm what → Meets end links what
-calm_meets (Controller at) links what calm = tt
-calm_meets (Client at) links what calm = tt
-calm_meets (Member at) links (event.Bytes link piece) calm = absurd calm
-calm_meets (Member at) links (event.Opened link) calm = absurd calm
-calm_meets (Member at) links (event.Closed link) calm = (tt, tt)
-calm_meets (Member at) links (event.Dialled link) calm = absurd calm
-calm_meets (Member at) links event.DialFailed calm = (tt, tt)
-calm_meets (Member at) links event.Stop calm = (tt, tt)
+calm_meets end links what calm at is = by_calm (λ (one : Event). MeetsMember links one at) (λ link. (tt, tt)) (tt, tt) (tt, tt) what calm
 
 -- the end accepted the link that was just made
 pub last_accepted : (end : EndId) (route : Route) (links : List Route) → acceptor_of route ≡ end → Meets end (links ++ route ∷ []) (event.Opened (length links))
-last_accepted (Controller at) route links is = tt
-last_accepted (Member at) route links is = (tt, record { route = route; at = got_last links route; acceptor = is })
-last_accepted (Client at) route links is = tt
+last_accepted end route links is at same = (tt, record { route = route; at = got_last links route; acceptor = is ∙ same })
 
 -- the end dialled the link that is answered
 dialled_by : (links : List Route) (link at : ℕ) (route : Route) → slice_get links link ≡ Some route → dialler_of route ≡ Some (Member at) → IsDialledBy links at link
@@ -258,26 +211,11 @@ dialled_by links link at (ToController member controller) made side =
     record { controller = controller; at = made ∙ ap (λ (k : ℕ). Some (ToController k controller)) same }
 
 pub side_meets : (end : EndId) (links : List Route) (link : ℕ) → IsAtSide links link true end → Meets end links (event.Dialled link)
-side_meets (Controller at) links link side = tt
-side_meets (Client at) links link side = tt
-side_meets (Member at) links link side = (dialled_by links link at side.route side.made side.side, tt)
+side_meets end links link side at is = (dialled_by links link at side.route side.made (side.side ∙ ap (λ (one : EndId). Some one) is), tt)
 
 -- ---- an end is made anew
 
-module _ (Late : List Route → ℕ → Type 0) (most : ℕ) (messages : List MessageTaken) where
-  controller_anew : (found : Option ControllerState) (at : ℕ) (s : State) → KeepsIn Late most messages s → Keeps Late most messages (renew_controller found at s.ends).members s.links
-  controller_anew None at s kept = kept
-  controller_anew (Some c) at s kept = kept
-
-  member_anew : (plan : Option MemberPlan) (at : ℕ) (s : State) → KeepsIn Late most messages s → Keeps Late most messages (renew_member plan at s.ends).members s.links
-  member_anew None at s kept = kept
-  member_anew (Some plan) at s kept = member_put Late most messages s.ends.members s.links at (fresh_member plan) kept (tt, tt) tt
-
-  client_anew : (plan : Option ClientPlan) (at : ℕ) (s : State) → KeepsIn Late most messages s → Keeps Late most messages (renew_client plan at s.ends).members s.links
-  client_anew None at s kept = kept
-  client_anew (Some plan) at s kept = kept
-
-  pub renewed_keeps : (end : EndId) (s : State) → KeepsIn Late most messages s → KeepsIn Late most messages (renewed end s)
-  renewed_keeps (Controller at) s kept = controller_anew (slice_get s.ends.controllers at) at s kept
-  renewed_keeps (Member at) s kept = member_anew (slice_get s.member_plans at) at s kept
-  renewed_keeps (Client at) s kept = client_anew (slice_get s.client_plans at) at s kept
+pub renewed_keeps : (Late : List Route → ℕ → Type 0) (most : ℕ) (messages : List MessageTaken) (end : EndId) (s : State) → KeepsIn Late most messages s → KeepsIn Late most messages (renewed end s)
+renewed_keeps Late most messages end s kept =
+    renew_by (λ (one : EndId) (ends : EndStates). Keeps Late most messages ends.members s.links) s (λ one. kept) (λ at c is. kept)
+    (λ at plan is. member_put Late most messages s.ends.members s.links at (fresh_member plan) kept (tt, tt) tt) (λ at plan is. kept) end

@@ -1,4 +1,5 @@
 -- The turns of members: what is kept of them, and when an answer is taken in one.
+pub mod CallUnitLaws
 pub mod TurnChangedLaws
 pub mod TurnFactLaws
 pub mod TurnKeepLaws

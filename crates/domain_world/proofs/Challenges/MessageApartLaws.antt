@@ -1,13 +1,11 @@
 -- In every run no two messages that are written down came on one link: they are among the links on which one was taken,
 -- in order, and a link takes one. It serves `messages_are_apart`.
-use Rattle.std.proofs.Common.{◌≡◌, ◌≢◌, ◌⊎◌, ◌==◌, ℕ, zero, suc, Bool, true, false, List, [], ◌∷◌, ◌++◌, map, inl, inr, Option, Some, None, slice_get, refl, sym, ap, ap₂, subst, ◌∙◌, arith}
+use Rattle.std.proofs.Common.{◌≡◌, ◌≢◌, ◌⊎◌, ◌==◌, ℕ, zero, suc, Bool, true, false, List, [], ◌∷◌, ◌++◌, map, inl, inr, Option, Some, None, refl, sym, ap, ap₂, subst, ◌∙◌, arith}
 use Rattle.std.specs.Prelude.{AllPairs, flat_map}
 use Rattle.std.specs.List.{AllByRecursion}
 use Rattle.std.proofs.lemmas.List.Elements.{recursion_from_All}
 use Rattle.wire_base.specs.Maps.{lookup, same_number}
 use Rattle.end_links.specs.Serving.{ServedUnit}
-use Rattle.logon_client.specs.State.{State as ClientState}
-use Rattle.domain_controller.specs.State.{State as ControllerState}
 use Rattle.member_server.specs.State.{State as MemberState}
 use Rattle.member_server.specs.Laws.{is_past}
 use Rattle.member_server.specs.declared.state.AtLink.{AtLink}
@@ -21,16 +19,16 @@ use Rattle.step_notes.specs.MemberNotes.{LinkAt, is_challenged, link_if, link_of
 use Rattle.step_notes.specs.Records.{Book, MessageTaken}
 use Rattle.step_notes.specs.Served.{work_after, talk_after}
 use Rattle.world_moves.specs.declared.links.EndId.{EndId}
-use Rattle.world_moves.specs.declared.links.EndId.TheVariants.{Controller, Member, Client}
 use Rattle.world_moves.specs.declared.moves.Move.{Move}
 use Rattle.world_moves.specs.declared.plan.Plan.{Plan}
 use Rattle.world_moves.specs.declared.state.State.{State}
 use Rattle.domain_world.specs.Accepting.Answered.{MessagesAreApart}
-use Rattle.domain_world.specs.Past.{Coming, at_member, change_if, change_message, controller_of, note_at, note_client, note_controller, note_member, note_messages, note_turn, note_turns, numbers_on, past, with_answer, with_call}
+use Rattle.domain_world.specs.Past.{Coming, at_member, change_if, change_message, controller_of, note_at, note_member, note_messages, note_turn, note_turns, numbers_on, past, with_answer, with_call}
 use Rattle.channel_events.proofs.ListLaws.{pairs_first}
 use Rattle.domain_world.proofs.Challenges.MessageOnceLaws.{messages_once}
 use Rattle.domain_world.proofs.Frames.BookFrameLaws.{book_holds}
 use Rattle.domain_world.proofs.Frames.TurnFrameLaws.{notes_leave, turns_taken}
+use Rattle.domain_world.proofs.Frames.EndNoteLaws.{book_by}
 
 -- ---- a list among another, in order
 
@@ -169,27 +167,17 @@ turns_among controller units unit numbers b among =
     subst (λ (taken : List ℕ). Among (links_in (note_turns controller units unit numbers b).messages) taken) (sym (turns_taken controller units unit numbers b))
     (subst (λ (links : List ℕ). Among links b.taken) (sym (turns_links controller units unit numbers b)) among)
 
-member_among : (found : Option MemberState) (at : ℕ) (w : Coming) (piece : List ℕ) (s after : State) (b : Book) → AreAmong b → AreAmong (note_member found at w piece s after b)
-member_among None at w piece s after b among = among
-member_among (Some m) at w piece s after b among =
+member_among : (m : MemberState) (at : ℕ) (w : Coming) (piece : List ℕ) (s after : State) (b : Book) → AreAmong b → AreAmong (note_member (Some m) at w piece s after b)
+member_among m at w piece s after b among =
     let units = link_units m w.link piece s.moment s.chances.left in
     turns_among (controller_of at s) (turn_units m w.link piece s.moment s.chances.left) w.unit (numbers_on w.link false s.bag after.bag) (note_messages at m w piece s b)
     (subst (λ (links : List ℕ). Among links (b.taken ++ flat_map (taken_link (at_member at w s)) units)) (sym (links_append b.messages (flat_map (message_note (at_member at w s)) units)))
     (among_append (links_in b.messages) b.taken (links_in (flat_map (message_note (at_member at w s)) units)) (flat_map (taken_link (at_member at w s)) units) among
     (units_among (at_member at w s) units)))
 
-controller_among : (found : Option ControllerState) (at : ℕ) (w : Coming) (piece : List ℕ) (s after : State) (b : Book) → AreAmong b → AreAmong (note_controller found at w piece s after b)
-controller_among None at w piece s after b among = among
-controller_among (Some c) at w piece s after b among = among
-
-client_among : (found : Option ClientState) (at : ℕ) (w : Coming) (piece : List ℕ) (s : State) (b : Book) → AreAmong b → AreAmong (note_client found at w piece s b)
-client_among None at w piece s b among = among
-client_among (Some c) at w piece s b among = among
-
 end_among : (end : EndId) (w : Coming) (piece : List ℕ) (s after : State) (b : Book) → AreAmong b → AreAmong (note_at (Some end) w piece s after b)
-end_among (Controller at) w piece s after b among = controller_among (slice_get s.ends.controllers at) at w piece s after b among
-end_among (Member at) w piece s after b among = member_among (slice_get s.ends.members at) at w piece s after b among
-end_among (Client at) w piece s after b among = client_among (slice_get s.ends.clients at) at w piece s b among
+end_among end w piece s after b among =
+    book_by (λ (one : EndId) (now : Book). AreAmong now) w piece s after b (λ one. among) (λ at c is. among) (λ at m is. member_among m at w piece s after b among) (λ at c is. among) end
 
 -- in every run
 pub messages_apart : (plan : Plan) (moves : List Move) → MessagesAreApart (past plan moves)

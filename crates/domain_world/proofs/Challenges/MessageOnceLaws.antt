@@ -1,36 +1,34 @@
 -- In every run a link takes at most one AUTHENTICATE.
 -- It serves `links_take_one_message`.
-use Rattle.std.proofs.Common.{◌≡◌, ◌≢◌, ℕ, zero, suc, ◌<◌, List, [], ◌∷◌, ◌++◌, length, map, ◌⊎◌, inl, inr, Option, Some, None, slice_get, slice_set, All, AllPairs, refl, sym, ap, subst, ◌∙◌, arith, length-append}
+use Rattle.std.proofs.Common.{◌≡◌, ◌≢◌, ℕ, zero, suc, ◌<◌, List, [], ◌∷◌, ◌++◌, length, map, ◌⊎◌, inl, inr, Some, slice_get, slice_set, All, AllPairs, refl, sym, ap, subst, ◌∙◌, arith, length-append}
 use Rattle.std.specs.Prelude.{false, flat_map}
 use Rattle.std.proofs.lemmas.List.{append-nil}
 use Rattle.std.proofs.lemmas.List.Elements.{All-nil, All-push, All-weaker}
 use Rattle.std.proofs.lemmas.List.Quantifiers.{all_pairs_push}
 use Rattle.std.proofs.lemmas.Option.{slice_get_within}
-use Rattle.outside.specs.Drawing.{Drawing}
 use Rattle.outside.specs.declared.event.Event.{Event}
 use Rattle.outside.specs.declared.event.Event.TheVariants as event
-use Rattle.domain_controller.specs.State.{State as ControllerState}
-use Rattle.logon_client.specs.State.{State as ClientState}
 use Rattle.member_server.specs.Machine.{fresh_member, step_of}
 use Rattle.member_server.specs.State.{State as MemberState}
 use Rattle.member_server.specs.declared.plan.MemberPlan.{MemberPlan}
 use Rattle.member_server.specs.declared.state.Phase.{Phase}
 use Rattle.step_notes.specs.MemberNotes.{link_units, taken_link, turn_units}
 use Rattle.step_notes.specs.Records.{Book}
-use Rattle.world_moves.specs.declared.links.EndId.{EndId}
-use Rattle.world_moves.specs.declared.links.EndId.TheVariants.{Controller, Member, Client}
+use Rattle.world_moves.specs.declared.links.EndId.TheVariants.{Member}
 use Rattle.world_moves.specs.declared.links.Route.{Route}
 use Rattle.world_moves.specs.declared.moves.Move.{Move}
 use Rattle.world_moves.specs.declared.plan.Plan.{Plan}
 use Rattle.world_moves.specs.declared.state.State.{State}
-use Rattle.world_moves.specs.Ends.{EndStates, client_step, controller_step, end_step, member_step}
 use Rattle.world_moves.specs.Links.{acceptor_of}
 use Rattle.world_moves.specs.World.{first_world}
-use Rattle.domain_world.specs.Past.{Coming, at_member, controller_of, note_at, note_client, note_controller, note_member, note_messages, numbers_on, past}
+use Rattle.domain_world.specs.Past.{Coming, at_member, controller_of, note_member, note_messages, numbers_on, past}
 use Rattle.channel_events.proofs.ListLaws.{got_append, got_behind}
 use Rattle.step_notes.proofs.Members.UnservedLaws.{LinksIn, Opens, Took, bytes_took, in_so, step_known}
-use Rattle.domain_world.proofs.Frames.FrameLaws.{Fact, HoldsAfter, HoldsIn, IsQuiet, Stays, StaysWritten, run_stays}
+use Rattle.domain_world.proofs.Frames.FrameLaws.{IsQuiet, run_stays}
 use Rattle.domain_world.proofs.Frames.TurnFrameLaws.{turns_taken}
+use Rattle.domain_world.proofs.Frames.MemberFrameLaws.{AmongMembers, KeepsMembers, MembersFact, members_written}
+use Rattle.domain_world.proofs.Frames.EndNoteLaws.{taken_so, takings_of}
+use Rattle.domain_world.proofs.Frames.EventLaws.{by_quiet}
 
 -- ---- places of a list
 
@@ -71,8 +69,8 @@ pub record IsTakenOnce (taken : List ℕ) (members : List MemberState) (links : 
   pub each : (k : ℕ) (m : MemberState) → slice_get members k ≡ Some m → LinksIn (λ link p. MayTake taken links k link) m.running
 
 -- so it is by the parts of a world
-abbrev pub Keeps : List ℕ → Fact
-Keeps taken ends chances links = IsTakenOnce taken ends.members links
+abbrev pub Keeps : List ℕ → MembersFact
+Keeps taken members chances links = IsTakenOnce taken members links
 
 may_more : (taken : List ℕ) (links : List Route) (member link one : ℕ) → MayTake taken links member link → one ≢ link → MayTake (taken ++ one ∷ []) links member link
 may_more taken links member link one may differs =
@@ -133,86 +131,33 @@ link_made taken members links route kept = record {
       in_so (λ link p. MayTake taken links k link) (λ link p. MayTake taken (links ++ route ∷ []) k link) (λ link p may. may_opened taken links route k link may) m.running (kept.each k m there);
 }
 
--- the end that accepted the link is that member, where it is one
-abbrev pub MayTakeAt : EndId → List ℕ → List Route → ℕ → Type 0
-MayTakeAt (Controller at) taken links link = Unit {0}
-MayTakeAt (Member at) taken links link = MayTake taken links at link
-MayTakeAt (Client at) taken links link = Unit {0}
-
 -- on a link that was just made none was taken
-last_may : (end : EndId) (taken : List ℕ) (links : List Route) (route : Route) → acceptor_of route ≡ end → All (λ (one : ℕ). one < length links) taken →
-    MayTakeAt end taken (links ++ route ∷ []) (length links)
-last_may (Controller at) taken links route is below = tt
-last_may (Client at) taken links route is below = tt
-last_may (Member at) taken links route is below = record {
+last_may : (taken : List ℕ) (links : List Route) (route : Route) (at : ℕ) → acceptor_of route ≡ Member at → All (λ (one : ℕ). one < length links) taken →
+    MayTake taken (links ++ route ∷ []) at (length links)
+last_may taken links route at is below = record {
   route = route;
   at = got_behind links route [];
   acceptor = is;
   free = All-weaker (λ (one : ℕ). one < length links) (λ (one : ℕ). one ≢ length links) (λ one lt same. omega (arith, lt, same)) taken below;
 }
 
--- ---- an end hears something
-
-controller_hears : (found : Option ControllerState) (taken : List ℕ) (at : ℕ) (what : Event) (now : ℕ) (ends : EndStates) (chances : Drawing) (links : List Route) →
-    IsTakenOnce taken ends.members links → IsTakenOnce taken (controller_step found at what now ends chances).ends.members links
-controller_hears None taken at what now ends chances links kept = kept
-controller_hears (Some c) taken at what now ends chances links kept = kept
-
-client_hears : (found : Option ClientState) (taken : List ℕ) (at : ℕ) (what : Event) (now : ℕ) (ends : EndStates) (chances : Drawing) (links : List Route) →
-    IsTakenOnce taken ends.members links → IsTakenOnce taken (client_step found at what now ends chances).ends.members links
-client_hears None taken at what now ends chances links kept = kept
-client_hears (Some c) taken at what now ends chances links kept = kept
-
-member_hears : (found : Option MemberState) (taken : List ℕ) (at : ℕ) (what : Event) (now : ℕ) (ends : EndStates) (chances : Drawing) (links : List Route) →
-    slice_get ends.members at ≡ found → Opens what (λ link p. MayTake taken links at link) → IsTakenOnce taken ends.members links →
-    IsTakenOnce taken (member_step found at what now ends chances).ends.members links
-member_hears None taken at what now ends chances links is opens kept = kept
-member_hears (Some m) taken at what now ends chances links is opens kept =
-    member_put taken ends.members links at (step_of m what now chances.left).state kept
-    (step_known (λ link p. MayTake taken links at link) what m now chances.left opens (kept.each at m is))
+-- ---- a member hears something
 
 -- an event at which neither bytes come nor a link opens asks nothing
 pub quiet_opens : (what : Event) (May : ℕ → Phase → Type 0) → IsQuiet what → Opens what May
-quiet_opens (event.Bytes link piece) May quiet = absurd quiet
-quiet_opens (event.Opened link) May quiet = absurd quiet
-quiet_opens (event.Closed link) May quiet = tt
-quiet_opens (event.Dialled link) May quiet = tt
-quiet_opens event.DialFailed May quiet = tt
-quiet_opens event.Stop May quiet = tt
+quiet_opens what May = by_quiet (λ (one : Event). Opens one May) (λ link. tt) (λ link. tt) tt tt what
 
-hear_keeps : (end : EndId) (taken : List ℕ) (what : Event) (now : ℕ) (ends : EndStates) (chances : Drawing) (links : List Route) →
-    Opens what (λ link p. MayTakeAt end taken links link) → Keeps taken ends chances links → HoldsAfter (Keeps taken) (end_step end what now ends chances) links
-hear_keeps (Controller at) taken what now ends chances links opens kept = controller_hears (slice_get ends.controllers at) taken at what now ends chances links kept
-hear_keeps (Member at) taken what now ends chances links opens kept = member_hears (slice_get ends.members at) taken at what now ends chances links refl opens kept
-hear_keeps (Client at) taken what now ends chances links opens kept = client_hears (slice_get ends.clients at) taken at what now ends chances links kept
-
-keeps_so : (taken : List ℕ) → Stays (Keeps taken)
-keeps_so taken = record {
-  hears = λ end what now ends chances links quiet kept.
-      hear_keeps end taken what now ends chances links (quiet_opens what (λ link p. MayTakeAt end taken links link) quiet) kept;
-  opens = λ route now ends chances links kept.
-      hear_keeps (acceptor_of route) taken (event.Opened (length links)) now ends chances (links ++ route ∷ [])
-      (last_may (acceptor_of route) taken links route refl kept.below) (link_made taken ends.members links route kept);
-  controllers = λ c at ends chances links is kept. kept;
-  members = λ plan at ends chances links kept. member_put taken ends.members links at (fresh_member plan) kept tt;
-  clients = λ client at ends chances links kept. kept;
-}
+hear_keeps : (taken : List ℕ) (m : MemberState) (at : ℕ) (what : Event) (now : ℕ) (members : List MemberState) (left : List (List ℕ)) (links : List Route) → slice_get members at ≡ Some m →
+    Opens what (λ link p. MayTake taken links at link) → IsTakenOnce taken members links → IsTakenOnce taken (slice_set members at (step_of m what now left).state) links
+hear_keeps taken m at what now members left links is opens kept =
+    member_put taken members links at (step_of m what now left).state kept (step_known (λ link p. MayTake taken links at link) what m now left opens (kept.each at m is))
 
 -- ---- bytes come
 
-controller_taken : (found : Option ControllerState) (controller : ℕ) (w : Coming) (piece : List ℕ) (s after : State) (b : Book) → (note_controller found controller w piece s after b).taken ≡ b.taken
-controller_taken None controller w piece s after b = refl
-controller_taken (Some c) controller w piece s after b = refl
-
-client_taken : (found : Option ClientState) (client : ℕ) (w : Coming) (piece : List ℕ) (s : State) (b : Book) → (note_client found client w piece s b).taken ≡ b.taken
-client_taken None client w piece s b = refl
-client_taken (Some c) client w piece s b = refl
-
--- a member hears bytes: what it took is written down
-member_bytes : (found : Option MemberState) (at : ℕ) (w : Coming) (piece : List ℕ) (s after : State) (b : Book) → slice_get s.ends.members at ≡ found → HoldsIn (Keeps b.taken) s →
-    IsTakenOnce (note_member found at w piece s after b).taken (member_step found at (event.Bytes w.link piece) s.moment s.ends s.chances).ends.members s.links
-member_bytes None at w piece s after b is kept = kept
-member_bytes (Some m) at w piece s after b is kept =
+-- what it took is written down
+member_bytes : (m : MemberState) (at : ℕ) (w : Coming) (piece : List ℕ) (s after : State) (b : Book) → slice_get s.ends.members at ≡ Some m → IsTakenOnce b.taken s.ends.members s.links →
+    IsTakenOnce (note_member (Some m) at w piece s after b).taken (slice_set s.ends.members at (step_of m (event.Bytes w.link piece) s.moment s.chances.left).state) s.links
+member_bytes m at w piece s after b is kept =
     let new : MemberState = (step_of m (event.Bytes w.link piece) s.moment s.chances.left).state in
     let more : List ℕ = flat_map (taken_link (at_member at w s)) (link_units m w.link piece s.moment s.chances.left) in
     subst (λ (all : List ℕ). IsTakenOnce all (slice_set s.ends.members at new) s.links)
@@ -220,22 +165,22 @@ member_bytes (Some m) at w piece s after b is kept =
     (member_took b.taken more s.ends.members s.links at new kept
     (bytes_took (λ link. MayTake b.taken s.links at link) (at_member at w s) m piece s.moment s.chances.left (kept.each at m is)))
 
-end_kept : (end : EndId) (w : Coming) (piece : List ℕ) (s after : State) (b : Book) → HoldsIn (Keeps b.taken) s →
-    HoldsAfter (Keeps (note_at (Some end) w piece s after b).taken) (end_step end (event.Bytes w.link piece) s.moment s.ends s.chances) s.links
-end_kept (Controller at) w piece s after b kept =
-    subst (λ (all : List ℕ). HoldsAfter (Keeps all) (end_step (Controller at) (event.Bytes w.link piece) s.moment s.ends s.chances) s.links)
-    (sym (controller_taken (slice_get s.ends.controllers at) at w piece s after b))
-    (controller_hears (slice_get s.ends.controllers at) b.taken at (event.Bytes w.link piece) s.moment s.ends s.chances s.links kept)
-end_kept (Client at) w piece s after b kept =
-    subst (λ (all : List ℕ). HoldsAfter (Keeps all) (end_step (Client at) (event.Bytes w.link piece) s.moment s.ends s.chances) s.links)
-    (sym (client_taken (slice_get s.ends.clients at) at w piece s b))
-    (client_hears (slice_get s.ends.clients at) b.taken at (event.Bytes w.link piece) s.moment s.ends s.chances s.links kept)
-end_kept (Member at) w piece s after b kept = member_bytes (slice_get s.ends.members at) at w piece s after b refl kept
-
 -- ---- a run
 
-keeps_written : StaysWritten (λ (b : Book). b.taken) Keeps
-keeps_written = record { stays = keeps_so; bytes = end_kept; given = λ at given after b. refl }
+keeps_on : KeepsMembers takings_of Keeps
+keeps_on = record {
+  of = taken_so;
+  given = λ at given after b. refl;
+  draws = λ taken members chances later links on kept. kept;
+  hears = λ taken m at what now members chances links quiet is kept.
+      hear_keeps taken m at what now members chances.left links is (quiet_opens what (λ link p. MayTake taken links at link) quiet) kept;
+  opens = λ taken route members chances links kept. link_made taken members links route kept;
+  accepts = λ taken m at route now members chances links accepts is kept.
+      hear_keeps taken m at (event.Opened (length links)) now members chances.left (links ++ route ∷ []) is (last_may taken links route at accepts kept.below)
+      (link_made taken members links route kept);
+  comes = λ m at w piece s after b is kept. member_bytes m at w piece s after b is kept;
+  anew = λ taken plan at members chances links kept. member_put taken members links at (fresh_member plan) kept tt;
+}
 
 pub fresh_links : (plans : List MemberPlan) (May : ℕ → Phase → Type 0) (k : ℕ) (m : MemberState) → slice_get (map fresh_member plans) k ≡ Some m → LinksIn May m.running
 fresh_links [] May k m there = absurd cc
@@ -243,7 +188,7 @@ fresh_links (plan ∷ plans) May zero m there =
     let is : fresh_member plan ≡ m = cc in subst (λ (x : MemberState). LinksIn May x.running) is tt
 fresh_links (plan ∷ plans) May (suc k) m there = fresh_links plans May k m there
 
-first_kept : (plan : Plan) → HoldsIn (Keeps []) (first_world plan).state
+first_kept : (plan : Plan) → IsTakenOnce [] (first_world plan).state.ends.members (first_world plan).state.links
 first_kept plan = record {
   once = λ i j d lt within. absurd (omega (arith, within));
   below = All-nil (λ (one : ℕ). one < 0);
@@ -252,4 +197,4 @@ first_kept plan = record {
 
 -- in every run a link takes at most one AUTHENTICATE
 pub messages_once : (plan : Plan) (moves : List Move) → AllPairs (λ (one other : ℕ). one ≢ other) (past plan moves).book.taken
-messages_once plan moves = (run_stays (λ (b : Book). b.taken) Keeps keeps_written plan moves (first_kept plan)).once
+messages_once plan moves = (run_stays takings_of (AmongMembers takings_of Keeps keeps_on) (members_written takings_of Keeps keeps_on) plan moves (first_kept plan)).once

@@ -14,13 +14,8 @@ use Rattle.outside.specs.declared.event.Event.TheVariants as event
 use Rattle.outside.specs.Drawing.{Drawing}
 use Rattle.outside.specs.Machine.{Stepped}
 use Rattle.end_links.specs.Serving.{ServedUnit}
-use Rattle.domain_controller.specs.State.{State as ControllerState}
-use Rattle.domain_controller.specs.Step.{step_of as controller_step_of}
-use Rattle.logon_client.specs.State.{State as ClientState}
-use Rattle.logon_client.specs.Machine.{step_of as client_step_of}
 use Rattle.member_server.specs.declared.state.AtLink.{AtLink}
 use Rattle.member_server.specs.Turns.{AtTurn}
-use Rattle.member_server.specs.declared.state.Phase.{Phase}
 use Rattle.member_server.specs.declared.state.Phase.TheVariants as phase
 use Rattle.member_server.specs.declared.state.Talk.{Talk}
 use Rattle.channel_turns.specs.declared.state.TurnTalk.{TurnTalk}
@@ -29,26 +24,25 @@ use Rattle.member_server.specs.State.{State as MemberState}
 use Rattle.channel_events.specs.Marks.{OneOf}
 use Rattle.step_notes.specs.MemberNotes.{LinkAt, TurnNote, challenge_note, link_of_place, link_units, message_note, taken_link, turn_units}
 use Rattle.step_notes.specs.Records.{Book, ChallengeSent, MessageTaken, blank}
-use Rattle.world_moves.specs.declared.links.EndId.{EndId}
-use Rattle.world_moves.specs.declared.links.EndId.TheVariants.{Controller, Member, Client}
+use Rattle.world_moves.specs.declared.links.EndId.TheVariants.{Member}
 use Rattle.world_moves.specs.declared.links.Route.{Route}
 use Rattle.world_moves.specs.declared.moves.Move.{Move}
 use Rattle.world_moves.specs.declared.plan.Plan.{Plan}
 use Rattle.world_moves.specs.declared.state.State.{State}
 use Rattle.world_moves.specs.Draws.{DrawsDiffer}
-use Rattle.world_moves.specs.Ends.{EndStates, client_step, controller_step, end_step, member_step}
 use Rattle.world_moves.specs.Links.{acceptor_of}
 use Rattle.world_moves.specs.World.{first_world}
 use Rattle.domain_world.specs.Claims.{IsUnusedChallenge}
 use Rattle.domain_world.specs.Claims.OwnChallenges.{HasOwnChallenge, MessagesHaveOwnChallenges}
-use Rattle.domain_world.specs.Past.{Coming, Past, at_member, change_if, change_message, controller_of, note_at, note_client, note_controller, note_member, note_messages, note_turn, note_turns, numbers_on, past, with_answer, with_call}
+use Rattle.domain_world.specs.Past.{Coming, Past, at_member, change_if, change_message, controller_of, note_member, note_messages, note_turn, note_turns, numbers_on, past, with_answer, with_call}
 use Rattle.channel_events.proofs.ListLaws.{got_append, got_behind}
 use Rattle.step_notes.proofs.Members.UnservedLaws.{LinksIn, Opens, in_so, step_known}
 use Rattle.domain_world.proofs.Challenges.MessageOnceLaws.{each_put, fresh_links, messages_once, quiet_opens}
 use Rattle.domain_world.proofs.Challenges.OwnLinkLaws.{AtMostOne, IsDrawn, IsLinkIn, IsOwn, IsSentAt, IsSentOn, IsTakenIn, all_sent, all_so, all_taken, bytes_drawn, bytes_one, bytes_own, link_more, one_behind, one_earlier, own_more, own_opened, sent_among}
-use Rattle.domain_world.proofs.Frames.FrameLaws.{Fact, HoldsAfter, HoldsIn, Stays, StaysWritten, run_stays}
+use Rattle.domain_world.proofs.Frames.FrameLaws.{run_stays}
 use Rattle.domain_world.proofs.Frames.TurnFrameLaws.{notes_leave}
 use Rattle.domain_world.proofs.Frames.AllLaws.{all_join}
+use Rattle.domain_world.proofs.Frames.MemberFrameLaws.{AmongMembers, KeepsMembers, MembersFact, members_written}
 
 -- ---- lists
 
@@ -140,8 +134,8 @@ pub record AreOwn (notes : Notes) (members : List MemberState) (drawn : List (Li
   pub messages : AllByRecursion (IsItsOwn notes links) notes.messages
 
 -- so it is by the parts of a world
-abbrev pub Owns : Notes → Fact
-Owns notes ends chances links = AreOwn notes ends.members chances.drawn links
+abbrev pub Owns : Notes → MembersFact
+Owns notes members chances links = AreOwn notes members chances.drawn links
 
 drew_more : (sent : List ChallengeSent) (drawn more : List (List ℕ)) → AllByRecursion (IsDrawn drawn) sent → AllByRecursion (IsDrawn (drawn ++ more)) sent
 drew_more sent drawn more all =
@@ -174,57 +168,18 @@ own_linked notes members drawn links route kept = record {
       notes.messages kept.messages;
 }
 
--- ---- an end hears something
+-- ---- a member hears something
 
-controller_owns : (found : Option ControllerState) (notes : Notes) (at : ℕ) (what : Event) (now : ℕ) (ends : EndStates) (chances : Drawing) (links : List Route) →
-    Owns notes ends chances links → HoldsAfter (Owns notes) (controller_step found at what now ends chances) links
-controller_owns None notes at what now ends chances links kept = kept
-controller_owns (Some c) notes at what now ends chances links kept =
-    own_drew notes ends.members chances.drawn (controller_step_of c what now chances.left).drawn links kept
-
-client_owns : (found : Option ClientState) (notes : Notes) (at : ℕ) (what : Event) (now : ℕ) (ends : EndStates) (chances : Drawing) (links : List Route) →
-    Owns notes ends chances links → HoldsAfter (Owns notes) (client_step found at what now ends chances) links
-client_owns None notes at what now ends chances links kept = kept
-client_owns (Some c) notes at what now ends chances links kept = own_drew notes ends.members chances.drawn (client_step_of c what now chances.left).drawn links kept
-
-member_owns : (found : Option MemberState) (notes : Notes) (at : ℕ) (what : Event) (now : ℕ) (ends : EndStates) (chances : Drawing) (links : List Route) →
-    slice_get ends.members at ≡ found → Opens what (IsOwn notes.challenges links at) → Owns notes ends chances links →
-    HoldsAfter (Owns notes) (member_step found at what now ends chances) links
-member_owns None notes at what now ends chances links is opens kept = kept
-member_owns (Some m) notes at what now ends chances links is opens kept =
+hear_owns : (notes : Notes) (m : MemberState) (at : ℕ) (what : Event) (now : ℕ) (members : List MemberState) (chances : Drawing) (links : List Route) → slice_get members at ≡ Some m →
+    Opens what (IsOwn notes.challenges links at) → AreOwn notes members chances.drawn links →
+    AreOwn notes (slice_set members at (step_of m what now chances.left).state) (chances.drawn ++ (step_of m what now chances.left).drawn) links
+hear_owns notes m at what now members chances links is opens kept =
     let step : Stepped MemberState = step_of m what now chances.left in
-    own_drew notes (slice_set ends.members at step.state) chances.drawn step.drawn links
-    (own_put notes ends.members chances.drawn links at step.state kept (step_known (IsOwn notes.challenges links at) what m now chances.left opens (kept.each at m is)))
+    own_drew notes (slice_set members at step.state) chances.drawn step.drawn links
+    (own_put notes members chances.drawn links at step.state kept (step_known (IsOwn notes.challenges links at) what m now chances.left opens (kept.each at m is)))
 
--- the end that accepted the link is that member, where it is one
-abbrev pub IsOwnAt : EndId → List ChallengeSent → List Route → ℕ → Phase → Type 0
-IsOwnAt (Controller at) challenges links link p = Unit {0}
-IsOwnAt (Member at) challenges links link p = IsOwn challenges links at link p
-IsOwnAt (Client at) challenges links link p = Unit {0}
-
-last_own : (end : EndId) (challenges : List ChallengeSent) (links : List Route) (route : Route) → acceptor_of route ≡ end →
-    IsOwnAt end challenges (links ++ route ∷ []) (length links) phase.Fresh
-last_own (Controller at) challenges links route is = tt
-last_own (Client at) challenges links route is = tt
-last_own (Member at) challenges links route is = record { route = route; at = got_behind links route []; acceptor = is }
-
-hear_owns : (end : EndId) (notes : Notes) (what : Event) (now : ℕ) (ends : EndStates) (chances : Drawing) (links : List Route) →
-    Opens what (IsOwnAt end notes.challenges links) → Owns notes ends chances links → HoldsAfter (Owns notes) (end_step end what now ends chances) links
-hear_owns (Controller at) notes what now ends chances links opens kept = controller_owns (slice_get ends.controllers at) notes at what now ends chances links kept
-hear_owns (Member at) notes what now ends chances links opens kept = member_owns (slice_get ends.members at) notes at what now ends chances links refl opens kept
-hear_owns (Client at) notes what now ends chances links opens kept = client_owns (slice_get ends.clients at) notes at what now ends chances links kept
-
-owns_so : (notes : Notes) → Stays (Owns notes)
-owns_so notes = record {
-  hears = λ end what now ends chances links quiet kept.
-      hear_owns end notes what now ends chances links (quiet_opens what (IsOwnAt end notes.challenges links) quiet) kept;
-  opens = λ route now ends chances links kept.
-      hear_owns (acceptor_of route) notes (event.Opened (length links)) now ends chances (links ++ route ∷ [])
-      (last_own (acceptor_of route) notes.challenges links route refl) (own_linked notes ends.members chances.drawn links route kept);
-  controllers = λ c at ends chances links is kept. kept;
-  members = λ plan at ends chances links kept. own_put notes ends.members chances.drawn links at (fresh_member plan) kept tt;
-  clients = λ client at ends chances links kept. kept;
-}
+last_own : (challenges : List ChallengeSent) (links : List Route) (route : Route) (at : ℕ) → acceptor_of route ≡ Member at → IsOwn challenges (links ++ route ∷ []) at (length links) phase.Fresh
+last_own challenges links route at is = record { route = route; at = got_behind links route []; acceptor = is }
 
 -- ---- bytes come
 
@@ -250,15 +205,6 @@ turn_notes note served unit number b =
 turns_notes : (controller : ℕ) (units : List (ServedUnit AtTurn TurnTalk)) (unit : Option ℕ) (numbers : List ℕ) (b : Book) →
     notes_of (note_turns controller units unit numbers b) ≡ notes_of b
 turns_notes controller units unit numbers b = notes_leave notes_of turn_notes controller units unit numbers b
-
-controller_notes : (found : Option ControllerState) (controller : ℕ) (w : Coming) (piece : List ℕ) (s after : State) (b : Book) →
-    notes_of (note_controller found controller w piece s after b) ≡ notes_of b
-controller_notes None controller w piece s after b = refl
-controller_notes (Some c) controller w piece s after b = refl
-
-client_notes : (found : Option ClientState) (client : ℕ) (w : Coming) (piece : List ℕ) (s : State) (b : Book) → notes_of (note_client found client w piece s b) ≡ notes_of b
-client_notes None client w piece s b = refl
-client_notes (Some c) client w piece s b = refl
 
 bare_more : (notes : Notes) (links : List Route) (more : List MessageTaken) → AllByRecursion (IsItsOwn notes links) more → AllByRecursion (IsItsOwn notes links) (map bare more)
 bare_more notes links [] all = tt
@@ -295,8 +241,9 @@ apart_more old (one ∷ []) drawn few apart drew late =
 apart_more old (one ∷ other ∷ more) drawn few apart drew late = absurd few
 
 -- a member hears bytes: what it sent and took is written down
-messages_heard : (m : MemberState) (at : ℕ) (w : Coming) (piece : List ℕ) (s : State) (b : Book) → slice_get s.ends.members at ≡ Some m → HoldsIn (Owns (notes_of b)) s →
-    HoldsAfter (Owns (notes_of (note_messages at m w piece s b))) (member_step (Some m) at (event.Bytes w.link piece) s.moment s.ends s.chances) s.links
+messages_heard : (m : MemberState) (at : ℕ) (w : Coming) (piece : List ℕ) (s : State) (b : Book) → slice_get s.ends.members at ≡ Some m → AreOwn (notes_of b) s.ends.members s.chances.drawn s.links →
+    AreOwn (notes_of (note_messages at m w piece s b)) (slice_set s.ends.members at (step_of m (event.Bytes w.link piece) s.moment s.chances.left).state)
+    (s.chances.drawn ++ (step_of m (event.Bytes w.link piece) s.moment s.chances.left).drawn) s.links
 messages_heard m at w piece s b is kept =
     let l : LinkAt = at_member at w s in
     let units : List (ServedUnit AtLink Talk) = link_units m w.link piece s.moment s.chances.left in
@@ -331,32 +278,37 @@ messages_heard m at w piece s b is kept =
           own.0);
     }
 
-member_heard : (found : Option MemberState) (at : ℕ) (w : Coming) (piece : List ℕ) (s after : State) (b : Book) → slice_get s.ends.members at ≡ found → HoldsIn (Owns (notes_of b)) s →
-    HoldsAfter (Owns (notes_of (note_member found at w piece s after b))) (member_step found at (event.Bytes w.link piece) s.moment s.ends s.chances) s.links
-member_heard None at w piece s after b is kept = kept
-member_heard (Some m) at w piece s after b is kept =
-    subst (λ (notes : Notes). HoldsAfter (Owns notes) (member_step (Some m) at (event.Bytes w.link piece) s.moment s.ends s.chances) s.links)
+member_heard : (m : MemberState) (at : ℕ) (w : Coming) (piece : List ℕ) (s after : State) (b : Book) → slice_get s.ends.members at ≡ Some m →
+    AreOwn (notes_of b) s.ends.members s.chances.drawn s.links →
+    AreOwn (notes_of (note_member (Some m) at w piece s after b)) (slice_set s.ends.members at (step_of m (event.Bytes w.link piece) s.moment s.chances.left).state)
+    (s.chances.drawn ++ (step_of m (event.Bytes w.link piece) s.moment s.chances.left).drawn) s.links
+member_heard m at w piece s after b is kept =
+    subst
+    (λ (notes : Notes).
+    AreOwn notes (slice_set s.ends.members at (step_of m (event.Bytes w.link piece) s.moment s.chances.left).state)
+    (s.chances.drawn ++ (step_of m (event.Bytes w.link piece) s.moment s.chances.left).drawn) s.links)
     (sym (turns_notes (controller_of at s) (turn_units m w.link piece s.moment s.chances.left) w.unit (numbers_on w.link false s.bag after.bag) (note_messages at m w piece s b)))
     (messages_heard m at w piece s b is kept)
 
-end_heard : (end : EndId) (w : Coming) (piece : List ℕ) (s after : State) (b : Book) → HoldsIn (Owns (notes_of b)) s →
-    HoldsAfter (Owns (notes_of (note_at (Some end) w piece s after b))) (end_step end (event.Bytes w.link piece) s.moment s.ends s.chances) s.links
-end_heard (Controller at) w piece s after b kept =
-    subst (λ (notes : Notes). HoldsAfter (Owns notes) (end_step (Controller at) (event.Bytes w.link piece) s.moment s.ends s.chances) s.links)
-    (sym (controller_notes (slice_get s.ends.controllers at) at w piece s after b))
-    (controller_owns (slice_get s.ends.controllers at) (notes_of b) at (event.Bytes w.link piece) s.moment s.ends s.chances s.links kept)
-end_heard (Client at) w piece s after b kept =
-    subst (λ (notes : Notes). HoldsAfter (Owns notes) (end_step (Client at) (event.Bytes w.link piece) s.moment s.ends s.chances) s.links)
-    (sym (client_notes (slice_get s.ends.clients at) at w piece s b))
-    (client_owns (slice_get s.ends.clients at) (notes_of b) at (event.Bytes w.link piece) s.moment s.ends s.chances s.links kept)
-end_heard (Member at) w piece s after b kept = member_heard (slice_get s.ends.members at) at w piece s after b refl kept
-
 -- ---- a run
 
-owns_written : StaysWritten notes_of Owns
-owns_written = record { stays = owns_so; bytes = end_heard; given = λ at given after b. refl }
+owns_on : KeepsMembers notes_of Owns
+owns_on = record {
+  of = record { controllers = λ c at w piece s after b. refl; clients = λ c at w piece s b. refl };
+  given = λ at given after b. refl;
+  draws = λ notes members chances later links on kept.
+      subst (λ (drawn : List (List ℕ)). AreOwn notes members drawn links) (sym on.is) (own_drew notes members chances.drawn on.more links kept);
+  hears = λ notes m at what now members chances links quiet is kept.
+      hear_owns notes m at what now members chances links is (quiet_opens what (IsOwn notes.challenges links at) quiet) kept;
+  opens = λ notes route members chances links kept. own_linked notes members chances.drawn links route kept;
+  accepts = λ notes m at route now members chances links accepts is kept.
+      hear_owns notes m at (event.Opened (length links)) now members chances (links ++ route ∷ []) is (last_own notes.challenges links route at accepts)
+      (own_linked notes members chances.drawn links route kept);
+  comes = λ m at w piece s after b is kept. member_heard m at w piece s after b is kept;
+  anew = λ notes plan at members chances links kept. own_put notes members chances.drawn links at (fresh_member plan) kept tt;
+}
 
-first_owns : (plan : Plan) → HoldsIn (Owns (notes_of blank)) (first_world plan).state
+first_owns : (plan : Plan) → AreOwn (notes_of blank) (first_world plan).state.ends.members (first_world plan).state.chances.drawn (first_world plan).state.links
 first_owns plan = record { drew = tt; apart = λ i j d lt within. absurd (omega (arith, within)); each = λ k m there. fresh_links plan.members (IsOwn [] [] k) k m there; messages = tt }
 
 -- a message that is its link's own is for its unused challenge, where no two draws are alike and no link took two
@@ -392,14 +344,15 @@ apart_so challenges drawn drew differ apart i j d lt within same =
     (All-from_recursion (IsDrawn drawn) challenges drew i d (omega (arith, lt, within)) ∙ ap (λ (challenge : List ℕ). Some challenge) same))
 
 -- in every run each link has its own CHALLENGE
-pub links_own : (plan : Plan) (moves : List Move) → HoldsIn (Owns (notes_of (past plan moves).book)) (past plan moves).world.state
-links_own plan moves = run_stays notes_of Owns owns_written plan moves (first_owns plan)
+pub links_own : (plan : Plan) (moves : List Move) →
+    AreOwn (notes_of (past plan moves).book) (past plan moves).world.state.ends.members (past plan moves).world.state.chances.drawn (past plan moves).world.state.links
+links_own plan moves = run_stays notes_of (AmongMembers notes_of Owns owns_on) (members_written notes_of Owns owns_on) plan moves (first_owns plan)
 
 -- in every run whose draws differ each message is for the own unused challenge of its link
 pub messages_own : (plan : Plan) (moves : List Move) → DrawsDiffer (past plan moves).world → MessagesHaveOwnChallenges (past plan moves)
 messages_own plan moves differ =
     let run : Past = past plan moves in
-    let kept : HoldsIn (Owns (notes_of run.book)) run.world.state = links_own plan moves in
+    let kept : AreOwn (notes_of run.book) run.world.state.ends.members run.world.state.chances.drawn run.world.state.links = links_own plan moves in
     record {
       each = bare_all run (own_unused run kept.drew differ (messages_once plan moves)) run.book.messages kept.messages;
       apart = apart_so run.book.challenges run.world.state.chances.drawn kept.drew differ kept.apart;

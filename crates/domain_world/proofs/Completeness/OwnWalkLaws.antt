@@ -1,6 +1,6 @@
 -- The logon of a client that can succeed, over its moves: at its end the client is in, and its member told so.
 -- It serves `logons_succeed`.
-use Rattle.std.proofs.Common.{◌≡◌, ◌≢◌, ℕ, suc, ◌<◌, ◌^◌, sym, ap, subst, ◌∙◌, List, [], ◌∷◌, length, Some, inl, inr, slice_get, arith}
+use Rattle.std.proofs.Common.{◌≡◌, ◌≢◌, ℕ, suc, ◌<◌, ◌^◌, sym, ap, subst, ◌∙◌, List, [], ◌∷◌, length, Some, inl, inr, slice_get, arith, false, refl}
 use Rattle.std.specs.Prelude.{IsSomeAnd}
 use Rattle.std.specs.List.{AllByRecursion}
 use Rattle.domain_controller.specs.State.{State as ControllerState}
@@ -20,15 +20,17 @@ use Rattle.world_moves.specs.Moving.{act}
 use Rattle.world_moves.specs.World.{IsPlan, World, happens, run}
 use Rattle.logon_steps.specs.ClientSteps.{client_ended}
 use Rattle.logon_runs.specs.AnyLogons.{HasServers}
-use Rattle.logon_runs.specs.Seen.Others.{IsStepOn}
+use Rattle.logon_runs.specs.Seen.Others.{IsStepOn, is_onward}
 use Rattle.logon_runs.specs.Rests.{HasEnough}
 use Rattle.logon_runs.specs.Phases.{Aim, ArrivesAt, ComesSoFar, Coming, DrawsFew, First, HasUser, HasUserAt, IsKnown, IsOver, IsReached, IsReady, IsUnderWay, LogonPhase, MayLogOnAt, Progress, Second, Third, TurnAt, WasTold, WhoAsked, key_at, own, progress_of, progress_onward, told_of}
 use Rattle.logon_runs.specs.Phases.{Acked, Answers, Binds, BindsBefore, BindsHeld, Calls, Challenged, Dials, DialsBefore, DialsHeld, Echoed, Echoes, Granted, Halved, Named, Proved}
 use Rattle.logon_runs.specs.Runs.{Asked}
+use Rattle.logon_runs.specs.Grants.{KeyArrives}
 use Rattle.logon_runs.proofs.AmongLaws.{reached_so}
 use Rattle.logon_runs.proofs.EnoughLaws.{enough_after, none_drawn, three_from}
 use Rattle.logon_runs.proofs.Phases.PhaseLaws.{phases_go_on}
 use Rattle.logon_runs.proofs.Seen.StayingLaws.{ends_stay}
+use Rattle.logon_runs.proofs.Seen.StepOnLaws.{by_step, if_other}
 use Rattle.logon_runs.proofs.Failing.TurnedAwayLaws.{logons_are_turned_away}
 use Rattle.domain_world.specs.Claims.Completeness.{InEachState, IsQuiet, MayLogOnIn, info_planned, started_in}
 use Rattle.domain_world.specs.Past.{book, note}
@@ -38,30 +40,16 @@ use Rattle.domain_world.proofs.Frames.PlacedLaws.{IsPlaced}
 use Rattle.domain_world.proofs.Completeness.BookStayLaws.{link_stays, told_stays}
 use Rattle.domain_world.proofs.Completeness.OwnLogonLaws.{AreSafe, IsSafe, IsTold, IsWritten, onward_arrives, onward_written, safe_then, written_stays}
 use Rattle.domain_world.proofs.Completeness.RestingLaws.{Along, Started, along_next, goes_further, rests_then, stays_so, units_quiet}
+use Rattle.domain_world.proofs.Completeness.PlainLaws.{by_plain, later_starts}
 
 -- ---- a move at which no unit comes
 
-abbrev IsStill : Move → Type 0
-IsStill move.Connect = Unit {0}
-IsStill (move.Tick more) = Unit {0}
-IsStill _ = ⊥
-
-call_still : (p : Coming) (a : Asked) (who : WhoAsked p a) (v : TurnAt) (aim : Aim) (what : Move) → IsStill what → ArrivesAt p (Calls a who v aim) what
+call_still : (p : Coming) (a : Asked) (who : WhoAsked p a) (v : TurnAt) (aim : Aim) (what : Move) → is_onward what ≡ false → ArrivesAt p (Calls a who v aim) what
 call_still p a who v (First client) what still = tt
 call_still p a who v (Second client server) what still = tt
-call_still p a who v (Third o c timestamp) move.Connect still = tt
-call_still p a who v (Third o c timestamp) (move.Tick more) still = tt
-call_still p a who v (Third o c timestamp) move.Onward still = absurd still
-call_still p a who v (Third o c timestamp) (move.Start number) still = absurd still
-call_still p a who v (Third o c timestamp) (move.Stranger number) still = absurd still
-call_still p a who v (Third o c timestamp) move.FailDial still = absurd still
-call_still p a who v (Third o c timestamp) move.Lose still = absurd still
-call_still p a who v (Third o c timestamp) (move.Deliver unit link) still = absurd still
-call_still p a who v (Third o c timestamp) (move.Hand link back bytes) still = absurd still
-call_still p a who v (Third o c timestamp) (move.Shut number) still = absurd still
-call_still p a who v (Third o c timestamp) (move.Restart number) still = absurd still
+call_still p a who v (Third o c timestamp) what still = if_other (is_onward what) (KeyArrives (own p) a o) still
 
-still_arrives : (p : Coming) (phase : LogonPhase p) (what : Move) → IsStill what → ArrivesAt p phase what
+still_arrives : (p : Coming) (phase : LogonPhase p) (what : Move) → is_onward what ≡ false → ArrivesAt p phase what
 still_arrives p Dials what still = tt
 still_arrives p Binds what still = tt
 still_arrives p (Challenged challenge) what still = tt
@@ -109,7 +97,7 @@ module _ (p : Coming) (w : World) (b : Book) (known : IsKnown p) (user : HasUser
   connect_goes : (at : IsUnderWay p w.state) → IsWritten p (progress_of at.phase) b → GoesSoFar p w.state (act w.state move.Connect).state (note w move.Connect b)
   connect_goes at written =
       let asked : HasUserAt p w.state at.phase move.Connect = phases_go_on.has_user p w.state at.phase move.Connect user may in
-      let arrives : ArrivesAt p at.phase move.Connect = still_arrives p at.phase move.Connect tt in
+      let arrives : ArrivesAt p at.phase move.Connect = still_arrives p at.phase move.Connect refl in
       record {
         so_far = record {
           far = progress_of at.phase;
@@ -122,7 +110,7 @@ module _ (p : Coming) (w : World) (b : Book) (known : IsKnown p) (user : HasUser
   tick_goes : (more : ℕ) (at : IsUnderWay p w.state) → IsWritten p (progress_of at.phase) b → GoesSoFar p w.state (act w.state (move.Tick more)).state (note w (move.Tick more) b)
   tick_goes more at written =
       let asked : HasUserAt p w.state at.phase (move.Tick more) = phases_go_on.has_user p w.state at.phase (move.Tick more) user may in
-      let arrives : ArrivesAt p at.phase (move.Tick more) = still_arrives p at.phase (move.Tick more) tt in
+      let arrives : ArrivesAt p at.phase (move.Tick more) = still_arrives p at.phase (move.Tick more) refl in
       record {
         so_far = record {
           far = progress_of at.phase;
@@ -133,17 +121,9 @@ module _ (p : Coming) (w : World) (b : Book) (known : IsKnown p) (user : HasUser
       }
 
   under_goes : (what : Move) → IsStepOn what → IsSafe (note w what b) → (at : IsUnderWay p w.state) → IsWritten p (progress_of at.phase) b → GoesSoFar p w.state (act w.state what).state (note w what b)
-  under_goes move.Onward steps safe at written = onward_goes safe at written
-  under_goes move.Connect steps safe at written = connect_goes at written
-  under_goes (move.Tick more) steps safe at written = tick_goes more at written
-  under_goes (move.Start number) steps safe at written = absurd steps
-  under_goes (move.Stranger number) steps safe at written = absurd steps
-  under_goes move.FailDial steps safe at written = absurd steps
-  under_goes move.Lose steps safe at written = absurd steps
-  under_goes (move.Deliver unit link) steps safe at written = absurd steps
-  under_goes (move.Hand link back bytes) steps safe at written = absurd steps
-  under_goes (move.Shut number) steps safe at written = absurd steps
-  under_goes (move.Restart number) steps safe at written = absurd steps
+  under_goes what steps =
+      by_step (λ (one : Move). IsSafe (note w one b) → (at : IsUnderWay p w.state) → IsWritten p (progress_of at.phase) b → GoesSoFar p w.state (act w.state one).state (note w one b))
+      (λ safe at written. connect_goes at written) (λ safe at written. onward_goes safe at written) (λ more safe at written. tick_goes more at written) what steps
 
   over_goes : (what : Move) → IsStepOn what → (over : IsOver p w.state) → IsWritten p (WasTold over.asked) b → GoesSoFar p w.state (act w.state what).state (note w what b)
   over_goes what steps over written =
@@ -214,18 +194,10 @@ module _ (plan : Plan) (is : IsPlan plan) (forms : HasForms plan) (servers : Has
 
   pub own_goes : (moves : List Move) (w : World) (b : Book) → OwnGoes moves w b
   own_goes [] w b along enough may safe reached started apart so_far = over_ends [] w b along.quiet along started apart so_far.far so_far.comes so_far.written
-  own_goes (move.Start number ∷ moves) w b along enough may safe reached started apart so_far =
-      over_ends (move.Start number ∷ moves) w b along.quiet.0 along started apart so_far.far so_far.comes so_far.written
-  own_goes (move.Connect ∷ moves) w b along enough may safe reached started apart so_far =
-      own_steps move.Connect moves w b tt (own_goes moves (happens w move.Connect) (note w move.Connect b)) along enough may safe reached started apart so_far
-  own_goes (move.Onward ∷ moves) w b along enough may safe reached started apart so_far =
-      own_steps move.Onward moves w b tt (own_goes moves (happens w move.Onward) (note w move.Onward b)) along enough may safe reached started apart so_far
-  own_goes (move.Tick more ∷ moves) w b along enough may safe reached started apart so_far =
-      own_steps (move.Tick more) moves w b tt (own_goes moves (happens w (move.Tick more)) (note w (move.Tick more) b)) along enough may safe reached started apart so_far
-  own_goes (move.Stranger number ∷ moves) w b along enough may safe reached started apart so_far = absurd along.plain.0
-  own_goes (move.FailDial ∷ moves) w b along enough may safe reached started apart so_far = absurd along.plain.0
-  own_goes (move.Lose ∷ moves) w b along enough may safe reached started apart so_far = absurd along.plain.0
-  own_goes (move.Deliver unit link ∷ moves) w b along enough may safe reached started apart so_far = absurd along.plain.0
-  own_goes (move.Hand link back bytes ∷ moves) w b along enough may safe reached started apart so_far = absurd along.plain.0
-  own_goes (move.Shut number ∷ moves) w b along enough may safe reached started apart so_far = absurd along.plain.0
-  own_goes (move.Restart number ∷ moves) w b along enough may safe reached started apart so_far = absurd along.plain.0
+  own_goes (what ∷ moves) w b along enough may safe reached started apart so_far =
+      by_plain (λ (one : Move). OwnGoes (one ∷ moves) w b)
+      (λ number on few can clear comes began differs far. over_ends (move.Start number ∷ moves) w b on.quiet.0 on began differs far.far far.comes far.written)
+      (λ one steps on few can clear comes began differs far.
+      own_steps one moves w b steps (own_goes moves (happens w one) (note w one b)) on few can clear comes began
+      (later_starts (AllByRecursion (λ (other : ℕ). p.meeting.at_client ≢ other)) one (length plan.clients) (started_in moves (length plan.clients)) steps differs) far)
+      what along.plain.0 along enough may safe reached started apart so_far

@@ -33,11 +33,13 @@ use Rattle.logon_runs.proofs.EnoughLaws.{rest_of}
 use Rattle.logon_runs.proofs.RestStayLaws.{rests_stay}
 use Rattle.logon_runs.proofs.Seen.StayingLaws.{both_same, ends_stay}
 use Rattle.logon_runs.proofs.Seen.WaitingLaws.{waiting_comes}
+use Rattle.logon_runs.proofs.Seen.StepOnLaws.{by_step}
 use Rattle.step_notes.specs.Records.{blank}
 use Rattle.domain_world.specs.Claims.Completeness.{IsPlainMove, IsQuiet, OneAtATime, started_in}
 use Rattle.domain_world.proofs.Frames.MoveFrameLaws.{placed_next}
 use Rattle.domain_world.proofs.Frames.PlacedLaws.{IsPlaced}
 use Rattle.domain_world.proofs.Completeness.MomentLaws.{moment_below, start_chances}
+use Rattle.domain_world.proofs.Completeness.PlainLaws.{by_plain, later_starts}
 
 -- ---- challenges
 
@@ -139,17 +141,9 @@ rests_on plan left s what steps resting = record {
 
 -- no end changes
 ends_rest : (plan : Plan) (s : State) (what : Move) → IsStepOn what → AtRest plan s → (act s what).state.ends ≡ s.ends
-ends_rest plan s move.Connect steps rest = ap (λ (dials : List WaitingDial). (connect_first (slice_get dials 0) (without_first s)).state.ends) rest.dials
-ends_rest plan s move.Onward steps rest = ap (λ (a : Acted). a.state.ends) (waiting_comes.idle s rest.units)
-ends_rest plan s (move.Tick more) steps rest = refl
-ends_rest plan s (move.Start number) steps rest = absurd steps
-ends_rest plan s (move.Stranger number) steps rest = absurd steps
-ends_rest plan s move.FailDial steps rest = absurd steps
-ends_rest plan s move.Lose steps rest = absurd steps
-ends_rest plan s (move.Deliver unit link) steps rest = absurd steps
-ends_rest plan s (move.Hand link back bytes) steps rest = absurd steps
-ends_rest plan s (move.Shut number) steps rest = absurd steps
-ends_rest plan s (move.Restart number) steps rest = absurd steps
+ends_rest plan s what steps rest =
+    by_step (λ (one : Move). (act s one).state.ends ≡ s.ends) (ap (λ (dials : List WaitingDial). (connect_first (slice_get dials 0) (without_first s)).state.ends) rest.dials)
+    (ap (λ (a : Acted). a.state.ends) (waiting_comes.idle s rest.units)) (λ more. refl) what steps
 
 -- ---- a client starts
 
@@ -225,7 +219,7 @@ along_next plan what moves w along = record {
   plain = along.plain.1;
   quiet = along.quiet.1;
   same = both_same (first_world plan).state w.state (act w.state what).state along.same (ends_stay.acts w.state what);
-  below = moment_below w.state what along.plain.0 along.below;
+  below = moment_below w.state what along.below;
   placed = placed_next what w blank along.placed;
 }
 
@@ -281,22 +275,19 @@ module _ (plan : Plan) (is : IsPlan plan) (forms : HasForms plan) (servers : Has
       AllByRecursion (λ (other : ℕ). client ≢ other) (started_in moves (length plan.clients)) → Keeps plan (length moves) client value w.state →
       slice_get (run moves w).state.ends.clients client ≡ value
   keeps_on client value [] w along apart keeps = (quiet_keeps plan 0 client value w along.quiet keeps).is
-  keeps_on client value (move.Start number ∷ moves) w along apart keeps =
-      keeps_on client value moves (happens w (move.Start number)) (along_next plan (move.Start number) moves w along) apart.1
-      (start_keeps (length moves) client value w.state number along.same apart.0 (quiet_keeps plan (suc (length moves)) client value w along.quiet.0 keeps))
-  keeps_on client value (move.Connect ∷ moves) w along apart keeps =
-      keeps_on client value moves (happens w move.Connect) (along_next plan move.Connect moves w along) apart (step_keeps plan (length moves) client value w.state move.Connect tt along.below keeps)
-  keeps_on client value (move.Onward ∷ moves) w along apart keeps =
-      keeps_on client value moves (happens w move.Onward) (along_next plan move.Onward moves w along) apart (step_keeps plan (length moves) client value w.state move.Onward tt along.below keeps)
-  keeps_on client value (move.Tick more ∷ moves) w along apart keeps =
-      keeps_on client value moves (happens w (move.Tick more)) (along_next plan (move.Tick more) moves w along) apart (step_keeps plan (length moves) client value w.state (move.Tick more) tt along.below keeps)
-  keeps_on client value (move.Stranger number ∷ moves) w along apart keeps = absurd along.plain.0
-  keeps_on client value (move.FailDial ∷ moves) w along apart keeps = absurd along.plain.0
-  keeps_on client value (move.Lose ∷ moves) w along apart keeps = absurd along.plain.0
-  keeps_on client value (move.Deliver unit link ∷ moves) w along apart keeps = absurd along.plain.0
-  keeps_on client value (move.Hand link back bytes ∷ moves) w along apart keeps = absurd along.plain.0
-  keeps_on client value (move.Shut number ∷ moves) w along apart keeps = absurd along.plain.0
-  keeps_on client value (move.Restart number ∷ moves) w along apart keeps = absurd along.plain.0
+  keeps_on client value (what ∷ moves) w along apart keeps =
+      by_plain
+      (λ (one : Move).
+      Along plan (one ∷ moves) w → AllByRecursion (λ (other : ℕ). client ≢ other) (started_in (one ∷ moves) (length plan.clients)) → Keeps plan (suc (length moves)) client value w.state →
+      slice_get (run moves (happens w one)).state.ends.clients client ≡ value)
+      (λ number on differs kept.
+      keeps_on client value moves (happens w (move.Start number)) (along_next plan (move.Start number) moves w on) differs.1
+      (start_keeps (length moves) client value w.state number on.same differs.0 (quiet_keeps plan (suc (length moves)) client value w on.quiet.0 kept)))
+      (λ one steps on differs kept.
+      keeps_on client value moves (happens w one) (along_next plan one moves w on)
+      (later_starts (AllByRecursion (λ (other : ℕ). client ≢ other)) one (length plan.clients) (started_in moves (length plan.clients)) steps differs)
+      (step_keeps plan (length moves) client value w.state one steps on.below kept))
+      what along.plain.0 along apart keeps
 
   -- from rest on
   pub stays_so : (client : ℕ) (moves : List Move) (w : World) → Along plan moves w → AllByRecursion (λ (other : ℕ). client ≢ other) (started_in moves (length plan.clients)) →

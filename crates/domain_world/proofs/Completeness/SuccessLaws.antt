@@ -40,6 +40,7 @@ use Rattle.domain_world.proofs.Completeness.OwnLogonLaws.{AreSafe, IsTold}
 use Rattle.domain_world.proofs.Completeness.OwnWalkLaws.{IsSoFar, OwnEnds, own_goes}
 use Rattle.domain_world.proofs.Frames.PlacedLaws.{placed_first}
 use Rattle.domain_world.proofs.Completeness.RestingLaws.{Along, BeginsSo, along_next, Resting, Started, begins_so, fewer_moves, goes_further, rests_on, rests_then}
+use Rattle.domain_world.proofs.Completeness.PlainLaws.{by_plain, later_starts, with_starts}
 
 -- ---- a logon that starts isn't judged yet
 
@@ -210,22 +211,16 @@ module _ (plan : Plan) (every : List Move) (is : IsPlan plan) (forms : HasForms 
 
   pub each_from : (moves : List Move) (w : World) (b : Book) → EachFrom moves w b
   each_from [] w b along once follows is_world is_book stands = tt
-  each_from (move.Start number ∷ moves) w b along once follows is_world is_book stands =
-      each_starts number moves w b (each_from moves (happens w (move.Start number)) (note w (move.Start number) b)) along once follows is_world is_book
-      (quiet_rests plan (suc (length moves)) w along.quiet.0 stands)
-  each_from (move.Connect ∷ moves) w b along once follows is_world is_book stands =
-      each_steps move.Connect moves w b tt (each_from moves (happens w move.Connect) (note w move.Connect b)) along once follows is_world is_book stands
-  each_from (move.Onward ∷ moves) w b along once follows is_world is_book stands =
-      each_steps move.Onward moves w b tt (each_from moves (happens w move.Onward) (note w move.Onward b)) along once follows is_world is_book stands
-  each_from (move.Tick more ∷ moves) w b along once follows is_world is_book stands =
-      each_steps (move.Tick more) moves w b tt (each_from moves (happens w (move.Tick more)) (note w (move.Tick more) b)) along once follows is_world is_book stands
-  each_from (move.Stranger number ∷ moves) w b along once follows is_world is_book stands = absurd along.plain.0
-  each_from (move.FailDial ∷ moves) w b along once follows is_world is_book stands = absurd along.plain.0
-  each_from (move.Lose ∷ moves) w b along once follows is_world is_book stands = absurd along.plain.0
-  each_from (move.Deliver unit link ∷ moves) w b along once follows is_world is_book stands = absurd along.plain.0
-  each_from (move.Hand link back bytes ∷ moves) w b along once follows is_world is_book stands = absurd along.plain.0
-  each_from (move.Shut number ∷ moves) w b along once follows is_world is_book stands = absurd along.plain.0
-  each_from (move.Restart number ∷ moves) w b along once follows is_world is_book stands = absurd along.plain.0
+  each_from (what ∷ moves) w b along once follows is_world is_book stands =
+      by_plain (λ (one : Move). EachFrom (one ∷ moves) w b)
+      (λ number on differ each its_world its_book standing.
+      each_starts number moves w b (each_from moves (happens w (move.Start number)) (note w (move.Start number) b)) on differ each its_world its_book
+      (quiet_rests plan (suc (length moves)) w on.quiet.0 standing))
+      (λ one steps on differ each its_world its_book standing.
+      with_starts (AllByRecursion GoalOf) one (length plan.clients) (started_in moves (length plan.clients)) steps
+      (each_steps one moves w b steps (each_from moves (happens w one) (note w one b)) on
+      (later_starts (AllPairs (λ (first other : ℕ). first ≢ other)) one (length plan.clients) (started_in moves (length plan.clients)) steps differ) each its_world its_book standing))
+      what along.plain.0 along once follows is_world is_book stands
 
 -- ---- a run
 

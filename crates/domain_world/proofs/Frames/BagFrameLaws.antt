@@ -9,7 +9,6 @@ use Rattle.std.proofs.lemmas.List.{drop_at, length-map, length-replicate}
 use Rattle.outside.specs.declared.event.Event.TheVariants as event
 use Rattle.domain_controller.specs.State.{State as ControllerState}
 use Rattle.domain_controller.specs.Step.{step_of as controller_step_of}
-use Rattle.logon_client.specs.State.{State as ClientState}
 use Rattle.member_server.specs.State.{State as MemberState}
 use Rattle.channel_events.specs.Marks.{Mark, Plain}
 use Rattle.step_notes.specs.Marking.{answered_marks, turn_marks}
@@ -24,19 +23,21 @@ use Rattle.world_moves.specs.declared.plan.Plan.{Plan}
 use Rattle.world_moves.specs.declared.state.State.{State}
 use Rattle.world_moves.specs.Acting.{Heard, done, heard_by, hear_and_act}
 use Rattle.world_moves.specs.Bag.{settle_at, settled}
-use Rattle.world_moves.specs.Ends.{actions_by, controller_step, member_step}
+use Rattle.world_moves.specs.Ends.{EndStep, actions_by, client_step, controller_step, member_step}
 use Rattle.world_moves.specs.World.{World, first_world, happens, run}
 use Rattle.domain_world.specs.Claims.MarkedUnits.{EachUnitIsMarked}
 use Rattle.domain_world.specs.Past.{Coming, answers_of, at_controller, book, controller_of, marks_of, note, note_at, note_client, note_coming, note_controller, note_member, note_messages, note_turns, numbers_on, past, sent_at, note_given}
 use Rattle.channel_events.proofs.ListLaws.{got_append, got_nothing}
-use Rattle.world_moves.proofs.LinkFrameLaws.{IsOnLink, actions_stay, heard_stays, StaysOnLinks}
+use Rattle.world_moves.proofs.LinkFrameLaws.{IsOnLink, StaysOnLinks, actions_stay, quiet_stays}
+use Rattle.world_moves.proofs.EndKindLaws.{is_client}
 use Rattle.domain_world.proofs.Frames.FrameLaws.{Fact, HoldsIn, StaysWritten, OfSide, side_keeps}
 use Rattle.domain_world.proofs.Frames.FrontLaws.{controller_unit}
 use Rattle.domain_world.proofs.Frames.MarkPlaceLaws.{got_beside, got_later, got_map, got_replicate, got_settled, later_or, marks_length, no_longer, settled_length}
 use Rattle.domain_world.proofs.Frames.NewUnitLaws.{IsNewUnit}
 use Rattle.domain_world.proofs.Frames.OpenMadeLaws.{IsAtSide, IsMore, MoreOf, goes_on, no_more, same_side}
 use Rattle.domain_world.proofs.Frames.TurnFrameLaws.{turns_sent}
-use Rattle.domain_world.proofs.Frames.MoveFrameLaws.{AtWork, Both, HoldsAfterMoves, KeepsMoves, MoveFact, NoSide, join_moves, moves_keep, quiet_stays, started}
+use Rattle.domain_world.proofs.Frames.MoveFrameLaws.{AtWork, Both, HoldsAfterMoves, KeepsMoves, MoveFact, NoSide, join_moves, moves_keep, started}
+use Rattle.domain_world.proofs.Frames.EndNoteLaws.{acted_by}
 
 -- ---- what is to hold of each unit
 
@@ -141,10 +142,9 @@ pub record IsMarked {X : Type 0} (P : UnitFact X) (x : X) (bag : List BagUnit) (
 abbrev hear_bytes : EndId → Coming → List ℕ → State → State
 hear_bytes end w piece s = (hear_and_act end (event.Bytes w.link piece) s).state
 
+-- what clients send is marked once a move is over
 abbrev pub IsServer : EndId → Type 0
-IsServer (Controller at) = Unit {0}
-IsServer (Member at) = Unit {0}
-IsServer (Client at) = ⊥
+IsServer end = is_client end ≡ false
 
 -- ---- as a fact of a move
 
@@ -174,6 +174,10 @@ all_for None links bag sent all = tt
 all_for (Some w) links bag sent all = λ end there server. all
 
 module _ {X : Type 0} (part : Book → X) (Side : X → Fact) (P : UnitFact X) (written : StaysWritten part Side) (stays : StepsMark part Side P) where
+  -- it goes on holding where that is written down
+  abbrev GrowsTo : List BagUnit → Book → Book → Type 0
+  GrowsTo bag b now = (number : ℕ) (unit : BagUnit) (one : Sent) → slice_get bag number ≡ Some unit → slice_get b.sent number ≡ Some one → P (part b) number unit one.mark → P (part now) number unit one.mark
+
   -- ---- an end hears bytes
 
   -- the new units get these marks
@@ -200,28 +204,24 @@ module _ {X : Type 0} (part : Book → X) (Side : X → Fact) (P : UnitFact X) (
       subst (λ (bag : List BagUnit). IsMarked P now bag (sent ++ map (sent_at at) (marks_of link back (drop (length s.bag) after) marks))) (sym is)
       (subst (λ (more : List BagUnit). IsMarked P now (s.bag ++ units) (sent ++ map (sent_at at) (marks_of link back more marks))) (sym new) both)
 
-  controller_hears : (found : Option ControllerState) (at : ℕ) (w : Coming) (piece : List ℕ) (s : State) (b : Book) → slice_get s.ends.controllers at ≡ found → HoldsIn (Side (part b)) s →
+  controller_hears : (c : ControllerState) (at : ℕ) (w : Coming) (piece : List ℕ) (s : State) (b : Book) → slice_get s.ends.controllers at ≡ Some c → HoldsIn (Side (part b)) s →
       IsAtSide s.links w.link w.back (Controller at) → IsMarked P (part b) s.bag b.sent →
-      let after : State = (done (Controller at) (heard_by (controller_step found at (event.Bytes w.link piece) s.moment s.ends s.chances) s)).state in
-      let now : Book = note_controller found at w piece s after b in
-      ((number : ℕ) (unit : BagUnit) (one : Sent) → slice_get s.bag number ≡ Some unit → slice_get b.sent number ≡ Some one → P (part b) number unit one.mark → P (part now) number unit one.mark) →
-      IsMarked P (part now) after.bag now.sent
-  controller_hears None at w piece s b is side hears before grows = before
-  controller_hears (Some c) at w piece s b is side hears before grows =
+      let after : State = (done (Controller at) (heard_by (controller_step (Some c) at (event.Bytes w.link piece) s.moment s.ends s.chances) s)).state in
+      let now : Book = note_controller (Some c) at w piece s after b in
+      GrowsTo s.bag b now → IsMarked P (part now) after.bag now.sent
+  controller_hears c at w piece s b is side hears before grows =
       let heard : Heard = heard_by (controller_step (Some c) at (event.Bytes w.link piece) s.moment s.ends s.chances) s in
       let after : State = (done (Controller at) heard).state in
       let more : IsMore s.links s.bag after.links after.bag = actions_stay (MoreOf s.links s.bag) (goes_on s.links s.bag) (Controller at) heard.actions heard.state (no_more s.links s.bag) in
       marked_more (part b) (part (note_controller (Some c) at w piece s after b)) s after.bag b.sent w.link true (controller_marks at c w piece s) w.at more.units more.is grows
       (λ place unit mark there marked. stays.controllers c at w piece s b is side hears before.all more.units more.is more.on place unit mark there marked) before
 
-  member_hears : (found : Option MemberState) (at : ℕ) (w : Coming) (piece : List ℕ) (s : State) (b : Book) → slice_get s.ends.members at ≡ found → HoldsIn (Side (part b)) s →
+  member_hears : (m : MemberState) (at : ℕ) (w : Coming) (piece : List ℕ) (s : State) (b : Book) → slice_get s.ends.members at ≡ Some m → HoldsIn (Side (part b)) s →
       IsAtSide s.links w.link w.back (Member at) → IsMarked P (part b) s.bag b.sent →
-      let after : State = (done (Member at) (heard_by (member_step found at (event.Bytes w.link piece) s.moment s.ends s.chances) s)).state in
-      let now : Book = note_member found at w piece s after b in
-      ((number : ℕ) (unit : BagUnit) (one : Sent) → slice_get s.bag number ≡ Some unit → slice_get b.sent number ≡ Some one → P (part b) number unit one.mark → P (part now) number unit one.mark) →
-      IsMarked P (part now) after.bag now.sent
-  member_hears None at w piece s b is side hears before grows = before
-  member_hears (Some m) at w piece s b is side hears before grows =
+      let after : State = (done (Member at) (heard_by (member_step (Some m) at (event.Bytes w.link piece) s.moment s.ends s.chances) s)).state in
+      let now : Book = note_member (Some m) at w piece s after b in
+      GrowsTo s.bag b now → IsMarked P (part now) after.bag now.sent
+  member_hears m at w piece s b is side hears before grows =
       let heard : Heard = heard_by (member_step (Some m) at (event.Bytes w.link piece) s.moment s.ends s.chances) s in
       let after : State = (done (Member at) heard).state in
       let now : X = part (note_member (Some m) at w piece s after b) in
@@ -244,38 +244,27 @@ module _ {X : Type 0} (part : Book → X) (Side : X → Fact) (P : UnitFact X) (
         holds = grows number had.unit one had.there there had.holds;
       }
 
-  client_sent : (found : Option ClientState) (client : ℕ) (w : Coming) (piece : List ℕ) (s : State) (b : Book) → (note_client found client w piece s b).sent ≡ b.sent
-  client_sent None client w piece s b = refl
-  client_sent (Some c) client w piece s b = refl
-
-  abbrev EndHeard : EndId → Coming → List ℕ → State → Book → State → Type 0
-  EndHeard end w piece s b after =
-      OfEachUnit P (part (note_at (Some end) w piece s after b)) after.bag (note_at (Some end) w piece s after b).sent
-      × (IsServer end → length (note_at (Some end) w piece s after b).sent ≡ length after.bag)
+  abbrev EndHeard : EndId → State → Book → Type 0
+  EndHeard end after now = OfEachUnit P (part now) after.bag now.sent × (IsServer end → length now.sent ≡ length after.bag)
 
   end_hears : (end : EndId) (w : Coming) (piece : List ℕ) (s : State) (b : Book) → HoldsIn (Side (part b)) s → IsAtSide s.links w.link w.back end →
-      OfEachUnit P (part b) s.bag b.sent → (IsServer end → length b.sent ≡ length s.bag) → EndHeard end w piece s b (hear_and_act end (event.Bytes w.link piece) s).state
-  end_hears (Controller at) w piece s b side hears each all =
-      let after : State = (hear_bytes (Controller at) w piece s) in
-      let marked : IsMarked P (part (note_at (Some (Controller at)) w piece s after b)) after.bag (note_at (Some (Controller at)) w piece s after b).sent =
-      controller_hears (slice_get s.ends.controllers at) at w piece s b refl side hears (record { each = each; all = all tt })
-      (λ number unit one there sent holds. stays.grows (Controller at) w piece s after b number unit one side there sent holds) in
-      (marked.each, (λ server. marked.all))
-  end_hears (Member at) w piece s b side hears each all =
-      let after : State = (hear_bytes (Member at) w piece s) in
-      let marked : IsMarked P (part (note_at (Some (Member at)) w piece s after b)) after.bag (note_at (Some (Member at)) w piece s after b).sent =
-      member_hears (slice_get s.ends.members at) at w piece s b refl side hears (record { each = each; all = all tt })
-      (λ number unit one there sent holds. stays.grows (Member at) w piece s after b number unit one side there sent holds) in
-      (marked.each, (λ server. marked.all))
-  end_hears (Client at) w piece s b side hears each all =
-      let after : State = (hear_bytes (Client at) w piece s) in
-      let now : X = part (note_at (Some (Client at)) w piece s after b) in
-      let more : IsMore s.links s.bag after.links after.bag = heard_stays (MoreOf s.links s.bag) (goes_on s.links s.bag) (Client at) (event.Bytes w.link piece) s (no_more s.links s.bag) in (
-        subst (λ (sent : List Sent). OfEachUnit P now after.bag sent) (sym (client_sent (slice_get s.ends.clients at) at w piece s b))
-            (each_more (part b) now s.bag more.units after.bag b.sent more.is
-            (λ number unit one there sent holds. stays.grows (Client at) w piece s after b number unit one side there sent holds) each),
-        (λ server. absurd server),
-      )
+      OfEachUnit P (part b) s.bag b.sent → (IsServer end → length b.sent ≡ length s.bag) →
+      let after : State = (hear_bytes end w piece s) in EndHeard end after (note_at (Some end) w piece s after b)
+  end_hears end w piece s b side hears each all =
+      acted_by (λ (one : EndId) (step : EndStep) (after : State) (now : Book).
+      IsAtSide s.links w.link w.back one → (IsServer one → length b.sent ≡ length s.bag) → GrowsTo s.bag b now → EndHeard one after now) w piece s b
+      (λ one here even grows. (each, even))
+      (λ at c is here even grows.
+      let marked = controller_hears c at w piece s b is side here (record { each = each; all = even refl }) grows in (marked.each, (λ server. marked.all)))
+      (λ at m is here even grows.
+      let marked = member_hears m at w piece s b is side here (record { each = each; all = even refl }) grows in (marked.each, (λ server. marked.all)))
+      (λ at c is here even grows.
+      let heard : Heard = heard_by (client_step (Some c) at (event.Bytes w.link piece) s.moment s.ends s.chances) s in
+      let after : State = (done (Client at) heard).state in
+      let more : IsMore s.links s.bag after.links after.bag = actions_stay (MoreOf s.links s.bag) (goes_on s.links s.bag) (Client at) heard.actions heard.state (no_more s.links s.bag) in (
+        each_more (part b) (part (note_client (Some c) at w piece s b)) s.bag more.units after.bag b.sent more.is grows each,
+        (λ server. absurd (let never : true ≡ false = server in cc)),
+      )) end hears all (λ number unit one there sent holds. stays.grows end w piece s (hear_bytes end w piece s) b number unit one side there sent holds)
 
   settled_each : (x : X) (number : ℕ) (bag : List BagUnit) (sent : List Sent) → OfEachUnit P x bag sent → OfEachUnit P x (settle_at number bag) sent
   settled_each x number bag sent each k one there =
@@ -326,8 +315,7 @@ module _ {X : Type 0} (part : Book → X) (Side : X → Fact) (P : UnitFact X) (
     fails = λ n at end s b side marks. marks;
     begins = λ n at client plan s b is side marks. marks;
     comes = λ n end w piece s given b here came bytes side marks.
-        let after : State = (hear_bytes end w piece s) in
-        let heard : EndHeard end w piece s b after = end_hears end w piece s b side here marks.each (λ server. marks.all end here server) in
+        let heard = end_hears end w piece s b side here marks.each (λ server. marks.all end here server) in
         record {
           each = heard.0;
           all = λ other there server. heard.1 (subst IsServer (same_side other end s.links w.link w.back there here) server);

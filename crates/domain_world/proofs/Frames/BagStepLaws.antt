@@ -14,13 +14,14 @@ use Rattle.world_moves.specs.declared.state.State.{State}
 use Rattle.world_moves.specs.Acting.{Given, hear_and_act, perform_quietly}
 use Rattle.world_moves.specs.Moving.{settle}
 use Rattle.world_moves.specs.World.{first_world}
+use Rattle.world_moves.proofs.LinkFrameLaws.{quiet_stays}
 use Rattle.domain_world.specs.Past.{Coming, note_at, note_given, past}
 use Rattle.domain_world.proofs.Frames.BagFrameLaws.{IsServer, StepsMark, UnitFact, MarkFact, bag_at, first_marked, marked_keep}
 use Rattle.domain_world.proofs.Frames.ComingLaws.{CameFrom, StillHas, kept_same, kept_settled, StillIn, kept_sent}
 use Rattle.domain_world.proofs.Frames.FrameLaws.{Fact, HoldsIn, StaysWritten, OfSide}
 use Rattle.domain_world.proofs.Frames.OpenMadeLaws.{IsAtSide}
 use Rattle.domain_world.proofs.Frames.StepFrameLaws.{ActionFact, Keeps, NoFact, RunFact, OfSteps, steps_keep}
-use Rattle.domain_world.proofs.Frames.MoveFrameLaws.{Both, HoldsAfterMoves, KeepsMoves, MoveFact, NoSide, join_moves, moves_keep, quiet_stays}
+use Rattle.domain_world.proofs.Frames.MoveFrameLaws.{Both, HoldsAfterMoves, KeepsMoves, MoveFact, NoSide, join_moves, moves_keep}
 use Rattle.domain_world.proofs.Frames.PlacedLaws.{HasBytes}
 use Rattle.outside.specs.declared.action.Action.{Action}
 

@@ -1,36 +1,33 @@
 -- What holds of each client through the moves of a world, by its plan, the links and what is written down as made: what
 -- holds through its own steps, whatever other clients make. It is an instance of `EndFrameLaws`.
 -- It serves `clients_are_written_down` and `messages_are_of_their_clients`.
-use Rattle.std.proofs.Common.{◌≡◌, ℕ, List, [], ◌∷◌, ◌++◌, length, map, Option, Some, None, refl, sym, subst, slice_get, slice_set}
-use Rattle.std.specs.Prelude.{false, true, flat_map}
+use Rattle.std.proofs.Common.{◌≡◌, ℕ, List, [], ◌∷◌, ◌++◌, length, map, Some, refl, sym, subst, slice_get, slice_set}
+use Rattle.std.specs.Prelude.{true, flat_map}
 use Rattle.outside.specs.Drawing.{Drawing}
 use Rattle.outside.specs.declared.event.Event.{Event}
 use Rattle.outside.specs.declared.event.Event.TheVariants as event
-use Rattle.domain_controller.specs.State.{State as ControllerState}
 use Rattle.logon_client.specs.Machine.{begin_of, fresh_client, step_of}
 use Rattle.logon_client.specs.State.{State as ClientState}
 use Rattle.logon_client.specs.declared.plan.ClientPlan.{ClientPlan}
-use Rattle.member_server.specs.State.{State as MemberState}
-use Rattle.member_server.specs.declared.plan.MemberPlan.{MemberPlan}
 use Rattle.step_notes.specs.ClientNotes.{ClientAt, made_note, units_of_client}
 use Rattle.step_notes.specs.Records.{Book, MessageMade}
 use Rattle.world_moves.specs.declared.links.EndId.{EndId}
-use Rattle.world_moves.specs.declared.links.EndId.TheVariants.{Controller, Member, Client}
+use Rattle.world_moves.specs.declared.links.EndId.TheVariants.{Client}
 use Rattle.world_moves.specs.declared.links.Route.{Route}
 use Rattle.world_moves.specs.declared.moves.Move.{Move}
 use Rattle.world_moves.specs.declared.plan.Plan.{Plan}
 use Rattle.world_moves.specs.declared.state.State.{State}
 use Rattle.world_moves.specs.Acting.{hear_and_act}
-use Rattle.world_moves.specs.Ends.{EndStates, client_step, controller_step, end_step, member_step, renew_client, renew_controller, renew_member}
+use Rattle.world_moves.specs.Ends.{EndStates, EndStep, client_step, end_step}
 use Rattle.world_moves.specs.Links.{acceptor_of}
 use Rattle.world_moves.specs.Moving.{renewed}
-use Rattle.domain_world.specs.Past.{Coming, controller_of, note_at, note_client, note_controller, note_member, note_messages, numbers_on, past}
-use Rattle.step_notes.specs.MemberNotes.{turn_units}
+use Rattle.world_moves.proofs.EndKindLaws.{IfClient, clients_by, renew_by}
+use Rattle.domain_world.specs.Past.{Coming, note_at, note_client, past}
 use Rattle.domain_world.proofs.Challenges.MessageOnceLaws.{each_put}
-use Rattle.domain_world.proofs.Frames.EndFrameLaws.{EndFact, IsCalm, KeepsEnds, ends_after}
+use Rattle.domain_world.proofs.Frames.EndFrameLaws.{EndFact, IsCalm, KeepsEnds, by_calm, ends_after}
 use Rattle.domain_world.proofs.Frames.MarkPlaceLaws.{got_map}
 use Rattle.domain_world.proofs.Frames.OpenMadeLaws.{IsAtSide}
-use Rattle.domain_world.proofs.Frames.TurnFrameLaws.{turns_made}
+use Rattle.domain_world.proofs.Frames.EndNoteLaws.{made_so, noted_by}
 
 -- ---- what is to hold
 
@@ -68,17 +65,6 @@ pub record KeepsClients (plans : List ClientPlan) (Fits : ClientFact) (Made : Ma
   pub begins : (links : List Route) (made : List MessageMade) (k : ℕ) (plan : ClientPlan) → slice_get plans k ≡ Some plan → Fits links made k (begin_of (fresh_client plan)).state
   pub anew : (links : List Route) (made : List MessageMade) (k : ℕ) (plan : ClientPlan) → slice_get plans k ≡ Some plan → Fits links made k (fresh_client plan)
 
--- ---- what is written down of the other ends
-
-pub controller_made : (found : Option ControllerState) (controller : ℕ) (w : Coming) (piece : List ℕ) (s after : State) (b : Book) → (note_controller found controller w piece s after b).made ≡ b.made
-controller_made None controller w piece s after b = refl
-controller_made (Some c) controller w piece s after b = refl
-
-pub member_made : (found : Option MemberState) (member : ℕ) (w : Coming) (piece : List ℕ) (s after : State) (b : Book) → (note_member found member w piece s after b).made ≡ b.made
-member_made None member w piece s after b = refl
-member_made (Some m) member w piece s after b =
-    turns_made (controller_of member s) (turn_units m w.link piece s.moment s.chances.left) w.unit (numbers_on w.link false s.bag after.bag) (note_messages member m w piece s b)
-
 -- ---- clients among ends
 
 module _ (plans : List ClientPlan) (Fits : ClientFact) (Made : MadeFact) (keeps : KeepsClients plans Fits Made) where
@@ -98,56 +84,27 @@ module _ (plans : List ClientPlan) (Fits : ClientFact) (Made : MadeFact) (keeps 
   -- ---- an end hears something but bytes
 
   abbrev Meets : EndId → List Route → Event → Type 0
-  Meets (Controller at) links what = Unit {0}
-  Meets (Member at) links what = Unit {0}
-  Meets (Client at) links what = MeetsClient links at what
+  Meets end links what = IfClient (λ at. MeetsClient links at what) end
 
-  module _ (what : Event) (now : ℕ) (ends : EndStates) (chances : Drawing) (links : List Route) (made : List MessageMade) where
-    controller_hears : (found : Option ControllerState) (at : ℕ) → AreKept ends.clients links made → AreKept (controller_step found at what now ends chances).ends.clients links made
-    controller_hears None at kept = kept
-    controller_hears (Some c) at kept = kept
-
-    member_hears : (found : Option MemberState) (at : ℕ) → AreKept ends.clients links made → AreKept (member_step found at what now ends chances).ends.clients links made
-    member_hears None at kept = kept
-    member_hears (Some m) at kept = kept
-
-    client_hears : (found : Option ClientState) (at : ℕ) → slice_get ends.clients at ≡ found → MeetsClient links at what → AreKept ends.clients links made →
-        AreKept (client_step found at what now ends chances).ends.clients links made
-    client_hears None at is meets kept = kept
-    client_hears (Some c) at is meets kept =
-        client_put ends.clients links made at (step_of c what now chances.left).state kept (keeps.hears links made at c what now chances.left meets (kept.each at c is))
-
-    end_hears : (end : EndId) → Meets end links what → AreKept ends.clients links made → AreKept (end_step end what now ends chances).ends.clients links made
-    end_hears (Controller at) meets kept = controller_hears (slice_get ends.controllers at) at kept
-    end_hears (Member at) meets kept = member_hears (slice_get ends.members at) at kept
-    end_hears (Client at) meets kept = client_hears (slice_get ends.clients at) at refl meets kept
+  end_hears : (what : Event) (now : ℕ) (ends : EndStates) (chances : Drawing) (links : List Route) (made : List MessageMade) (end : EndId) → Meets end links what →
+      AreKept ends.clients links made → AreKept (end_step end what now ends chances).ends.clients links made
+  end_hears what now ends chances links made end meets kept =
+      clients_by what now ends chances (λ (one : EndId) (clients : List ClientState). Meets one links what → AreKept clients links made) (λ one its. kept)
+      (λ at c is its.
+      client_put ends.clients links made at (step_of c what now chances.left).state kept (keeps.hears links made at c what now chances.left (its at refl) (kept.each at c is)))
+      end meets
 
   calm_meets : (end : EndId) (links : List Route) (what : Event) → IsCalm what → Meets end links what
-  calm_meets (Controller at) links what calm = tt
-  calm_meets (Member at) links what calm = tt
-  calm_meets (Client at) links (event.Bytes link piece) calm = absurd calm
-  calm_meets (Client at) links (event.Opened link) calm = tt
-  calm_meets (Client at) links (event.Closed link) calm = tt
-  calm_meets (Client at) links (event.Dialled link) calm = absurd calm
-  calm_meets (Client at) links event.DialFailed calm = tt
-  calm_meets (Client at) links event.Stop calm = tt
+  calm_meets end links what calm at is = by_calm (λ (one : Event). MeetsClient links at one) (λ link. tt) tt tt what calm
 
   dialled_meets : (end : EndId) (links : List Route) (link : ℕ) → IsAtSide links link true end → Meets end links (event.Dialled link)
-  dialled_meets (Controller at) links link side = tt
-  dialled_meets (Member at) links link side = tt
-  dialled_meets (Client at) links link side = side
-
-  opened_meets : (end : EndId) (links : List Route) (link : ℕ) → Meets end links (event.Opened link)
-  opened_meets (Controller at) links link = tt
-  opened_meets (Member at) links link = tt
-  opened_meets (Client at) links link = tt
+  dialled_meets end links link side at is = subst (λ (one : EndId). IsAtSide links link true one) is side
 
   -- ---- bytes come
 
-  client_comes : (found : Option ClientState) (at : ℕ) (w : Coming) (piece : List ℕ) (s : State) (b : Book) → slice_get s.ends.clients at ≡ found → AreKept s.ends.clients s.links b.made →
-      AreKept (client_step found at (event.Bytes w.link piece) s.moment s.ends s.chances).ends.clients s.links (note_client found at w piece s b).made
-  client_comes None at w piece s b is kept = kept
-  client_comes (Some c) at w piece s b is kept =
+  client_comes : (c : ClientState) (at : ℕ) (w : Coming) (piece : List ℕ) (s : State) (b : Book) → slice_get s.ends.clients at ≡ Some c → AreKept s.ends.clients s.links b.made →
+      AreKept (client_step (Some c) at (event.Bytes w.link piece) s.moment s.ends s.chances).ends.clients s.links (note_client (Some c) at w piece s b).made
+  client_comes c at w piece s b is kept =
       let l : ClientAt = record { at = w.at; client = at; link = w.link } in
       let new : List MessageMade = made_at l c piece s.moment s.chances.left in
       let its = keeps.comes s.links b.made l c piece s.moment s.chances.left (kept.each at c is) kept.made in
@@ -159,39 +116,19 @@ module _ (plans : List ClientPlan) (Fits : ClientFact) (Made : MadeFact) (keeps 
 
   end_comes : (end : EndId) (w : Coming) (piece : List ℕ) (s after : State) (b : Book) → AreKept s.ends.clients s.links b.made →
       AreKept (end_step end (event.Bytes w.link piece) s.moment s.ends s.chances).ends.clients s.links (note_at (Some end) w piece s after b).made
-  end_comes (Controller at) w piece s after b kept =
-      subst (λ (made : List MessageMade). AreKept (end_step (Controller at) (event.Bytes w.link piece) s.moment s.ends s.chances).ends.clients s.links made)
-      (sym (controller_made (slice_get s.ends.controllers at) at w piece s after b))
-      (controller_hears (event.Bytes w.link piece) s.moment s.ends s.chances s.links b.made (slice_get s.ends.controllers at) at kept)
-  end_comes (Member at) w piece s after b kept =
-      subst (λ (made : List MessageMade). AreKept (end_step (Member at) (event.Bytes w.link piece) s.moment s.ends s.chances).ends.clients s.links made)
-      (sym (member_made (slice_get s.ends.members at) at w piece s after b))
-      (member_hears (event.Bytes w.link piece) s.moment s.ends s.chances s.links b.made (slice_get s.ends.members at) at kept)
-  end_comes (Client at) w piece s after b kept = client_comes (slice_get s.ends.clients at) at w piece s b refl kept
+  end_comes end w piece s after b kept =
+      noted_by (λ (one : EndId) (step : EndStep) (now : Book). AreKept step.ends.clients s.links now.made) w piece s after b (λ one. kept) (λ at c is. kept)
+      (λ at m is. subst (λ (made : List MessageMade). AreKept s.ends.clients s.links made) (sym (made_so.members m at w piece s after b)) kept)
+      (λ at c is. client_comes c at w piece s b is kept) end
 
   -- ---- ends that are made anew
 
-  client_anew : (found : Option ClientPlan) (at : ℕ) (ends : EndStates) (links : List Route) (made : List MessageMade) → slice_get plans at ≡ found → AreKept ends.clients links made →
-      AreKept (renew_client found at ends).clients links made
-  client_anew None at ends links made is kept = kept
-  client_anew (Some plan) at ends links made is kept = client_put ends.clients links made at (fresh_client plan) kept (keeps.anew links made at plan is)
-
-  controller_anew : (found : Option ControllerState) (at : ℕ) (ends : EndStates) (links : List Route) (made : List MessageMade) → AreKept ends.clients links made →
-      AreKept (renew_controller found at ends).clients links made
-  controller_anew None at ends links made kept = kept
-  controller_anew (Some c) at ends links made kept = kept
-
-  member_anew : (found : Option MemberPlan) (at : ℕ) (ends : EndStates) (links : List Route) (made : List MessageMade) → AreKept ends.clients links made →
-      AreKept (renew_member found at ends).clients links made
-  member_anew None at ends links made kept = kept
-  member_anew (Some plan) at ends links made kept = kept
-
   end_anew : (end : EndId) (s : State) (made : List MessageMade) → s.client_plans ≡ plans → AreKept s.ends.clients s.links made → AreKept (renewed end s).ends.clients s.links made
-  end_anew (Controller at) s made same kept = controller_anew (slice_get s.ends.controllers at) at s.ends s.links made kept
-  end_anew (Member at) s made same kept = member_anew (slice_get s.member_plans at) at s.ends s.links made kept
-  end_anew (Client at) s made same kept =
-      subst (λ (all : List ClientPlan). AreKept (renew_client (slice_get all at) at s.ends).clients s.links made) (sym same)
-      (client_anew (slice_get plans at) at s.ends s.links made refl kept)
+  end_anew end s made same kept =
+      renew_by (λ (one : EndId) (ends : EndStates). AreKept ends.clients s.links made) s (λ one. kept) (λ at c is. kept) (λ at plan is. kept)
+      (λ at plan is.
+      client_put s.ends.clients s.links made at (fresh_client plan) kept
+      (keeps.anew s.links made at plan (subst (λ (all : List ClientPlan). slice_get all at ≡ Some plan) same is))) end
 
   -- ---- a run
 
@@ -216,7 +153,7 @@ module _ (plans : List ClientPlan) (Fits : ClientFact) (Made : MadeFact) (keeps 
     opens = λ at route s given b holds. record {
       same = holds.same;
       kept = end_hears (event.Opened (length s.links)) s.moment s.ends s.chances (s.links ++ route ∷ []) b.made (acceptor_of route)
-          (opened_meets (acceptor_of route) (s.links ++ route ∷ []) (length s.links)) (link_made s.ends.clients s.links b.made route holds.kept);
+          (λ at is. tt) (link_made s.ends.clients s.links b.made route holds.kept);
     };
     begins = λ at client plan s b is holds. record {
       same = holds.same;

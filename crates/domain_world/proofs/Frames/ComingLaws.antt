@@ -2,8 +2,6 @@
 -- between a member and a controller; and what stays of a unit of the bag. It serves `drive`, `schedules_are_heard` and
 -- `members_let_in_who_asked`.
 use Rattle.std.proofs.Common.{◌≡◌, ℕ, zero, suc, ◌+◌, Bool, true, false, List, [], ◌∷◌, ◌++◌, inl, inr, Option, Some, None, slice_get, if◌then◌else◌, refl, sym, ap, subst, ◌∙◌, arith, drop, length}
-use Rattle.outside.specs.declared.event.Event.TheVariants as event
-use Rattle.wire_base.specs.Maps.{lookup, same_number}
 use Rattle.wire_base.specs.Numbers.{AreBytes}
 use Rattle.wire_base.proofs.NumberLaws.{AreBytes-drop, AreBytes-take}
 use Rattle.channel_events.specs.Marks.{OneOf}
@@ -15,17 +13,15 @@ use Rattle.world_moves.specs.declared.links.LinkKind.TheVariants as kind
 use Rattle.world_moves.specs.declared.links.Route.{Route}
 use Rattle.world_moves.specs.declared.links.Route.TheVariants.{ToMember, ToController}
 use Rattle.world_moves.specs.declared.moves.Move.{Move}
-use Rattle.world_moves.specs.declared.moves.Move.TheVariants as move
 use Rattle.world_moves.specs.declared.state.State.{State}
-use Rattle.world_moves.specs.Acting.{piece_comes, pieces_come}
-use Rattle.world_moves.specs.Bag.{first_waiting, piece_limit, pieces_in, pieces_of, settle_at, settled}
-use Rattle.world_moves.specs.Choosing.{places_from, chosen_in, chosen_place}
-use Rattle.world_moves.specs.Links.{OpenMap, dialler_of, handed_links, hearer_of, is_handed, is_of, kind_of, links_of, same_kind}
-use Rattle.world_moves.specs.Moving.{act, come_by, come_on_own, deliver_by, deliver_on, deliver_unit, hand_on, onward_by, route_to, settle}
+use Rattle.world_moves.specs.Bag.{piece_limit, pieces_in, pieces_of, settle_at, settled}
+use Rattle.world_moves.specs.Choosing.{places_from}
+use Rattle.world_moves.specs.Links.{OpenMap, dialler_of, handed_links, is_handed, is_of, kind_of, links_of, same_kind}
+use Rattle.world_moves.specs.Moving.{act, route_to}
 use Rattle.world_moves.specs.World.{World, happens, run}
 use Rattle.domain_world.specs.Past.{Coming}
 use Rattle.channel_events.proofs.ListLaws.{got_append, got_nothing}
-use Rattle.world_moves.proofs.LinkFrameLaws.{HasNoBytes, IsOnLink, LinkFact, StaysAlways, StaysOnLinks, heard_if_stays, move_stays}
+use Rattle.world_moves.proofs.LinkFrameLaws.{IsOnLink, LinkFact, StaysAlways, StaysOnLinks, move_stays}
 use Rattle.domain_world.proofs.Frames.MarkPlaceLaws.{SettledOr, got_beside, got_settled, later_or, settled_length}
 
 -- ---- where bytes come from
@@ -250,59 +246,8 @@ kept_stay old = record {
 
 -- ---- the units of the bag stay through a move
 
-pieces_still : (back : Bool) (link : ℕ) (pieces : List (List ℕ)) (old : List BagUnit) (s : State) → StillHas old s.bag → StillHas old (pieces_come back link pieces s).state.bag
-pieces_still back link [] old s still = still
-pieces_still back link (piece ∷ pieces) old s still =
-    pieces_still back link pieces old (piece_comes back link piece s).state
-    (heard_if_stays (StillIn old) (kept_sent old) (hearer_of back (lookup same_number link s.open_links)) (event.Bytes link piece) s still)
-
-come_still : (unit : Option BagUnit) (link : ℕ) (old : List BagUnit) (s : State) → StillHas old s.bag → StillHas old (come_by unit link s).state.bag
-come_still None link old s still = still
-come_still (Some unit) link old s still = pieces_still unit.back link (pieces_of unit.bytes) old s still
-
-settled_still : (number link : ℕ) (s : State) → StillHas s.bag (come_by (slice_get (settle number s).bag number) link (settle number s)).state.bag
-settled_still number link s = come_still (slice_get (settle number s).bag number) link s.bag (settle number s) (kept_settled number s.bag)
-
-own_still : (unit : Option BagUnit) (number : ℕ) (s : State) → StillHas s.bag (come_on_own unit number s).state.bag
-own_still None number s = kept_same s.bag
-own_still (Some unit) number s = settled_still number unit.link s
-
-onward_still : (number : Option ℕ) (s : State) → StillHas s.bag (onward_by number s).state.bag
-onward_still None s = kept_same s.bag
-onward_still (Some number) s = own_still (slice_get s.bag number) number s
-
-on_still : (link : Option ℕ) (number : ℕ) (s : State) → StillHas s.bag (deliver_on link number s).state.bag
-on_still None number s = kept_same s.bag
-on_still (Some link) number s = settled_still number link s
-
-chosen_still : (unit : Option BagUnit) (number link : ℕ) (s : State) → StillHas s.bag (deliver_unit unit number link s).state.bag
-chosen_still None number link s = kept_same s.bag
-chosen_still (Some unit) number link s = on_still (chosen_in link (links_of unit.kind s.links)) number s
-
-deliver_still : (number : Option ℕ) (link : ℕ) (s : State) → StillHas s.bag (deliver_by number link s).state.bag
-deliver_still None link s = kept_same s.bag
-deliver_still (Some number) link s = chosen_still (slice_get s.bag number) number link s
-
-hand_still : (link : Option ℕ) (back : Bool) (bytes : List ℕ) (s : State) → StillHas s.bag (hand_on link back bytes s).state.bag
-hand_still None back bytes s = kept_same s.bag
-hand_still (Some link) back bytes s =
-    heard_if_stays (StillIn s.bag) (kept_sent s.bag) (hearer_of back (lookup same_number link s.open_links)) (event.Bytes link bytes) s (kept_same s.bag)
-
-quietly_still : (what : Move) (s : State) → HasNoBytes what → StillHas s.bag (act s what).state.bag
-quietly_still what s none = move_stays (StillIn s.bag) (kept_stay s.bag) what s none (kept_same s.bag)
-
 pub act_still : (what : Move) (s : State) → StillHas s.bag (act s what).state.bag
-act_still move.Onward s = onward_still (first_waiting s.bag) s
-act_still (move.Deliver unit link) s = deliver_still (chosen_place unit (length s.bag)) link s
-act_still (move.Hand link back bytes) s = hand_still (chosen_in link (handed_links s.links)) back bytes s
-act_still (move.Start number) s = quietly_still (move.Start number) s tt
-act_still (move.Stranger number) s = quietly_still (move.Stranger number) s tt
-act_still move.Connect s = quietly_still move.Connect s tt
-act_still move.FailDial s = quietly_still move.FailDial s tt
-act_still move.Lose s = quietly_still move.Lose s tt
-act_still (move.Shut number) s = quietly_still (move.Shut number) s tt
-act_still (move.Restart number) s = quietly_still (move.Restart number) s tt
-act_still (move.Tick more) s = quietly_still (move.Tick more) s tt
+act_still what s = move_stays (StillIn s.bag) (kept_stay s.bag) what s (kept_same s.bag)
 
 pub run_still : (moves : List Move) (w : World) → StillHas w.state.bag (run moves w).state.bag
 run_still [] w = kept_same w.state.bag

@@ -1,6 +1,6 @@
 -- In every run what was drawn and what is left are the challenges that the maker gives: so no two that were drawn are
 -- alike, and each has 8 bytes. It serves `draws_of_runs_differ`.
-use Rattle.std.proofs.Common.{◌≡◌, ◌≢◌, ℕ, ◌-◌, List, ◌++◌, All, get_or, take, length, Option, Some, None, Result, Ok, Err, slice_get, refl, sym, ap, subst, ◌∙◌, arith, length-append}
+use Rattle.std.proofs.Common.{◌≡◌, ◌≢◌, ℕ, ◌-◌, List, ◌++◌, All, get_or, take, length, Option, Some, None, Result, Ok, Err, refl, sym, ap, subst, ◌∙◌, arith, length-append}
 use Rattle.std.specs.Prelude.{AllPairs}
 use Rattle.std.proofs.lemmas.List.{append_assoc, append-nil, get_or_append_left, take_at}
 use Rattle.channel_keys.specs.Des.{IsBlock}
@@ -23,11 +23,11 @@ use Rattle.member_server.specs.State.{State as MemberState}
 use Rattle.member_server.specs.declared.state.Running.{Running as MemberRunning}
 use Rattle.step_notes.specs.Records.{Book}
 use Rattle.world_moves.specs.declared.links.EndId.{EndId}
-use Rattle.world_moves.specs.declared.links.EndId.TheVariants.{Controller, Member, Client}
 use Rattle.world_moves.specs.declared.moves.Move.{Move}
 use Rattle.world_moves.specs.declared.plan.Plan.{Plan}
 use Rattle.world_moves.specs.Draws.{DrawsAreBlocks, DrawsDiffer}
-use Rattle.world_moves.specs.Ends.{EndStates, client_step, controller_step, end_step, member_step}
+use Rattle.world_moves.specs.Ends.{EndStates, EndStep, end_step}
+use Rattle.world_moves.proofs.EndKindLaws.{step_by as end_by}
 use Rattle.domain_world.specs.Past.{past}
 use Rattle.domain_world.proofs.Frames.FrameLaws.{Fact, StaysWritten, run_stays}
 use Rattle.domain_world.proofs.Frames.LeftLaws.{end_rests}
@@ -78,28 +78,13 @@ all_of chances = chances.drawn ++ chances.left
 same_all : (chances : Drawing) (drawn left : List (List ℕ)) → drawn ++ left ≡ chances.left → (chances.drawn ++ drawn) ++ left ≡ all_of chances
 same_all chances drawn left is = append_assoc chances.drawn drawn left ∙ ap (λ (rest : List (List ℕ)). chances.drawn ++ rest) is
 
-controller_all : (found : Option ControllerState) (at : ℕ) (what : Event) (now : ℕ) (ends : EndStates) (chances : Drawing) →
-    IsRest (controller_step found at what now ends chances).chances.left chances.left → all_of (controller_step found at what now ends chances).chances ≡ all_of chances
-controller_all None at what now ends chances rest = refl
-controller_all (Some c) at what now ends chances rest =
-    same_all chances (controller.step_of c what now chances.left).drawn (controller.step_of c what now chances.left).left (controller_draws c.running c what now chances.left rest)
-
-member_all : (found : Option MemberState) (at : ℕ) (what : Event) (now : ℕ) (ends : EndStates) (chances : Drawing) →
-    IsRest (member_step found at what now ends chances).chances.left chances.left → all_of (member_step found at what now ends chances).chances ≡ all_of chances
-member_all None at what now ends chances rest = refl
-member_all (Some m) at what now ends chances rest =
-    same_all chances (member.step_of m what now chances.left).drawn (member.step_of m what now chances.left).left (member_draws m.running m what now chances.left rest)
-
-client_all : (found : Option ClientState) (at : ℕ) (what : Event) (now : ℕ) (ends : EndStates) (chances : Drawing) →
-    IsRest (client_step found at what now ends chances).chances.left chances.left → all_of (client_step found at what now ends chances).chances ≡ all_of chances
-client_all None at what now ends chances rest = refl
-client_all (Some c) at what now ends chances rest =
-    same_all chances (client.step_of c what now chances.left).drawn (client.step_of c what now chances.left).left (client_draws c.running c what now chances.left rest)
-
 pub end_all : (end : EndId) (what : Event) (now : ℕ) (ends : EndStates) (chances : Drawing) → all_of (end_step end what now ends chances).chances ≡ all_of chances
-end_all (Controller at) what now ends chances = controller_all (slice_get ends.controllers at) at what now ends chances (end_rests (Controller at) what now ends chances)
-end_all (Member at) what now ends chances = member_all (slice_get ends.members at) at what now ends chances (end_rests (Member at) what now ends chances)
-end_all (Client at) what now ends chances = client_all (slice_get ends.clients at) at what now ends chances (end_rests (Client at) what now ends chances)
+end_all end what now ends chances =
+    end_by (λ (one : EndId) (step : EndStep). IsRest step.chances.left chances.left → all_of step.chances ≡ all_of chances) what now ends chances (λ one rest. refl)
+    (λ at c is rest. same_all chances (controller.step_of c what now chances.left).drawn (controller.step_of c what now chances.left).left (controller_draws c.running c what now chances.left rest))
+    (λ at m is rest. same_all chances (member.step_of m what now chances.left).drawn (member.step_of m what now chances.left).left (member_draws m.running m what now chances.left rest))
+    (λ at c is rest. same_all chances (client.step_of c what now chances.left).drawn (client.step_of c what now chances.left).left (client_draws c.running c what now chances.left rest)) end
+    (end_rests end what now ends chances)
 
 -- ---- a run
 

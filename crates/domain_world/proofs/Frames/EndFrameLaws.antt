@@ -2,11 +2,9 @@
 -- gave in the move, and of the book: whatever holds through each step of an end, since actions change none of them.
 -- It is an instance of `MoveFrameLaws`. It serves `controllers_pass_the_next`, `members_let_in_who_asked`,
 -- `runs_are_heard` and others.
-use Rattle.std.proofs.Common.{◌≡◌, ℕ, ◌+◌, List, [], ◌++◌, length, Option, Some, None, slice_get, refl, sym, subst}
-use Rattle.std.specs.Prelude.{Bool, true}
+use Rattle.std.proofs.Common.{◌≡◌, ℕ, ◌+◌, List, [], ◌++◌, length, Option, Some, None, slice_get}
+use Rattle.std.specs.Prelude.{true}
 use Rattle.outside.specs.Drawing.{Drawing}
-use Rattle.outside.specs.declared.action.Action.{Action}
-use Rattle.outside.specs.declared.action.Action.TheVariants.{Keep, Send, Dial, Close, Told, Judged}
 use Rattle.outside.specs.declared.event.Event.{Event}
 use Rattle.outside.specs.declared.event.Event.TheVariants as event
 use Rattle.logon_client.specs.declared.plan.ClientPlan.{ClientPlan}
@@ -14,15 +12,13 @@ use Rattle.member_server.specs.declared.plan.MemberPlan.{MemberPlan}
 use Rattle.step_notes.specs.Records.{Book, blank}
 use Rattle.world_moves.specs.declared.links.EndId.{EndId}
 use Rattle.world_moves.specs.declared.links.EndId.TheVariants.{Client}
-use Rattle.world_moves.specs.declared.links.LinkKind.{LinkKind}
-use Rattle.world_moves.specs.declared.links.LinkKind.TheVariants as kind
 use Rattle.world_moves.specs.declared.links.Route.{Route}
 use Rattle.world_moves.specs.declared.moves.Move.{Move}
 use Rattle.world_moves.specs.declared.plan.Plan.{Plan}
 use Rattle.world_moves.specs.declared.state.State.{State}
-use Rattle.world_moves.specs.Acting.{Given, forget, Heard, bag_unit, given_by, hear, hear_and_act, perform_quietly, send_on}
+use Rattle.world_moves.specs.Acting.{Given, forget, Heard, given_by, hear, hear_and_act}
 use Rattle.world_moves.specs.Ends.{EndStates}
-use Rattle.world_moves.specs.Links.{acceptor_of, is_accepted_by, kind_of}
+use Rattle.world_moves.specs.Links.{acceptor_of}
 use Rattle.world_moves.specs.Moving.{begun, renewed, with_link}
 use Rattle.world_moves.specs.World.{World, first_world, run}
 use Rattle.domain_world.specs.Past.{Coming, book, note_at, note_given, past}
@@ -61,6 +57,14 @@ IsCalm (event.Closed link) = Unit {0}
 IsCalm event.DialFailed = Unit {0}
 IsCalm event.Stop = Unit {0}
 
+pub by_calm : (P : Event → Type 0) → ((link : ℕ) → P (event.Closed link)) → P event.DialFailed → P event.Stop → (what : Event) → IsCalm what → P what
+by_calm P closed fails stops (event.Bytes link piece) calm = absurd calm
+by_calm P closed fails stops (event.Opened link) calm = absurd calm
+by_calm P closed fails stops (event.Dialled link) calm = absurd calm
+by_calm P closed fails stops (event.Closed link) calm = closed link
+by_calm P closed fails stops event.DialFailed calm = fails
+by_calm P closed fails stops event.Stop calm = stops
+
 pub record KeepsEnds (Holds : EndFact) : Type 0 where
   pub calm : (at : ℕ) (on : Option Coming) (end : EndId) (what : Event) (s : State) (given : Given) (b : Book) → IsCalm what → Holds at on (ends_in s) given b →
       HasHeard Holds at on end (hear end what s) given b
@@ -77,25 +81,6 @@ pub record KeepsEnds (Holds : EndFact) : Type 0 where
   -- the move is over, whatever comes in the next one
   pub over : (at : ℕ) (on next : Option Coming) (s : State) (given : Given) (b : Book) → Holds at on (ends_in s) given b → Holds (at + 1) next (ends_in s) [] (note_given at given s b)
 
--- ---- actions
-
-bag_unit_ends : (k : LinkKind) (back : Bool) (link : ℕ) (bytes : List ℕ) (s : State) → ends_in (bag_unit k back link bytes s) ≡ ends_in s
-bag_unit_ends kind.Stranger back link bytes s = refl
-bag_unit_ends kind.ToMember back link bytes s = refl
-bag_unit_ends kind.ToController back link bytes s = refl
-
-send_ends : (route : Option Route) (end : EndId) (link : ℕ) (bytes : List ℕ) (s : State) → ends_in (send_on route end link bytes s) ≡ ends_in s
-send_ends None end link bytes s = refl
-send_ends (Some route) end link bytes s = bag_unit_ends (kind_of route) (is_accepted_by end route) link bytes s
-
-act_ends : (end : EndId) (what : Action) (s : State) → ends_in (perform_quietly end what s) ≡ ends_in s
-act_ends end (Keep bytes) s = refl
-act_ends end (Send link bytes) s = send_ends (slice_get s.links link) end link bytes s
-act_ends end (Dial peer) s = refl
-act_ends end (Close link cause) s = refl
-act_ends end (Told link outcome) s = refl
-act_ends end (Judged how) s = refl
-
 -- ---- a run
 
 module _ (Holds : EndFact) (keeps : KeepsEnds Holds) where
@@ -111,7 +96,7 @@ module _ (Holds : EndFact) (keeps : KeepsEnds Holds) where
     begins = λ n at client plan s b is none holds. keeps.begins at client plan s b is holds;
     comes = λ n end w piece s given b side came bytes none holds. keeps.comes end w piece s given b side came holds;
     reaches = λ n w s given b none holds. holds;
-    acts = λ n p end what s given b work none holds. subst (λ (ends : Ends). Holds p.at p.on ends given b) (sym (act_ends end what s)) holds;
+    acts = λ n p end what s given b work none holds. holds;
     shuts = λ n p link s given b work none holds. holds;
     answers = λ n at dial link there s given b is none holds. holds;
     forgets = λ n at end s b none holds. holds;

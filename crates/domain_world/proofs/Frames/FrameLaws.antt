@@ -2,7 +2,7 @@
 -- whatever holds through each step of an end, also where it speaks of the plans from which clients are made. It is an
 -- instance of `EndFrameLaws`. It serves `controllers_grant_who_may_log_on`, `each_unit_is_marked`,
 -- `links_take_one_message` and 14 more.
-use Rattle.std.proofs.Common.{◌≡◌, ℕ, List, [], ◌∷◌, ◌++◌, length, Option, Some, None, slice_get, slice_set, refl, sym, subst}
+use Rattle.std.proofs.Common.{◌≡◌, ℕ, List, [], ◌∷◌, ◌++◌, length, Some, slice_get, slice_set, sym, subst}
 use Rattle.outside.specs.Drawing.{Drawing}
 use Rattle.outside.specs.declared.event.Event.{Event}
 use Rattle.outside.specs.declared.event.Event.TheVariants as event
@@ -15,20 +15,20 @@ use Rattle.member_server.specs.Machine.{fresh_member}
 use Rattle.member_server.specs.declared.plan.MemberPlan.{MemberPlan}
 use Rattle.step_notes.specs.Records.{Book, blank}
 use Rattle.world_moves.specs.declared.links.EndId.{EndId}
-use Rattle.world_moves.specs.declared.links.EndId.TheVariants.{Controller, Member, Client}
 use Rattle.world_moves.specs.declared.links.Route.{Route}
 use Rattle.world_moves.specs.declared.moves.Move.{Move}
 use Rattle.world_moves.specs.declared.state.State.{State}
 use Rattle.world_moves.specs.Acting.{Given, hear_and_act}
-use Rattle.world_moves.specs.Ends.{EndStates, EndStep, end_step, renew_client, renew_controller, renew_member, with_client, with_member}
+use Rattle.world_moves.specs.Ends.{EndStates, EndStep, end_step, with_client, with_member}
 use Rattle.world_moves.specs.Links.{acceptor_of}
 use Rattle.world_moves.specs.Moving.{renewed}
 use Rattle.world_moves.specs.World.{World, first_world, run}
 use Rattle.domain_world.specs.Past.{Coming, book, note_at, note_given, past}
-use Rattle.domain_world.proofs.Frames.EndFrameLaws.{EndFact, IsCalm, KeepsEnds, ends_after, ends_keep, ends_later}
+use Rattle.domain_world.proofs.Frames.EndFrameLaws.{EndFact, IsCalm, KeepsEnds, by_calm, ends_after, ends_keep, ends_later}
 use Rattle.domain_world.proofs.Frames.MoveFrameLaws.{KeepsMoves, MoveFact, NoSide}
 use Rattle.domain_world.proofs.Frames.PlacedLaws.{IsPlaced}
 use Rattle.world_moves.specs.declared.plan.Plan.{Plan}
+use Rattle.world_moves.proofs.EndKindLaws.{renew_by}
 
 -- ---- what is to hold
 
@@ -98,30 +98,14 @@ stays_by_plans Fits stays = record {
 }
 
 module _ (Fits : PlannedFact) (stays : StaysByPlans Fits) where
-  controller_stays : (found : Option ControllerState) (at : ℕ) (s : State) → slice_get s.ends.controllers at ≡ found → HoldsByPlans Fits s → Fits s.client_plans (renew_controller found at s.ends) s.chances s.links
-  controller_stays None at s is holds = holds
-  controller_stays (Some c) at s is holds = stays.controllers c at s.client_plans s.ends s.chances s.links is holds
-
-  member_stays : (plan : Option MemberPlan) (at : ℕ) (s : State) → HoldsByPlans Fits s → Fits s.client_plans (renew_member plan at s.ends) s.chances s.links
-  member_stays None at s holds = holds
-  member_stays (Some plan) at s holds = stays.members plan at s.client_plans s.ends s.chances s.links holds
-
-  client_stays : (plan : Option ClientPlan) (at : ℕ) (s : State) → slice_get s.client_plans at ≡ plan → HoldsByPlans Fits s → Fits s.client_plans (renew_client plan at s.ends) s.chances s.links
-  client_stays None at s is holds = holds
-  client_stays (Some plan) at s is holds = stays.clients plan at s.client_plans s.ends s.chances s.links is holds
-
   pub renewed_stays : (end : EndId) (s : State) → HoldsByPlans Fits s → HoldsByPlans Fits (renewed end s)
-  renewed_stays (Controller at) s holds = controller_stays (slice_get s.ends.controllers at) at s refl holds
-  renewed_stays (Member at) s holds = member_stays (slice_get s.member_plans at) at s holds
-  renewed_stays (Client at) s holds = client_stays (slice_get s.client_plans at) at s refl holds
+  renewed_stays end s holds =
+      renew_by (λ (one : EndId) (ends : EndStates). Fits s.client_plans ends s.chances s.links) s (λ one. holds)
+      (λ at c is. stays.controllers c at s.client_plans s.ends s.chances s.links is holds) (λ at plan is. stays.members plan at s.client_plans s.ends s.chances s.links holds)
+      (λ at plan is. stays.clients plan at s.client_plans s.ends s.chances s.links is holds) end
 
 calm_quiet : (what : Event) → IsCalm what → IsQuiet what
-calm_quiet (event.Bytes link piece) calm = calm
-calm_quiet (event.Opened link) calm = calm
-calm_quiet (event.Closed link) calm = tt
-calm_quiet (event.Dialled link) calm = tt
-calm_quiet event.DialFailed calm = tt
-calm_quiet event.Stop calm = tt
+calm_quiet = by_calm IsQuiet (λ link. tt) tt tt
 
 -- ---- with what is written down
 

@@ -1,7 +1,7 @@
 -- Each challenge that is left in a world has 8 bytes: at first, by the maker of challenges, and through each step of an
 -- end, which leaves a rest of those that were left.
 -- It serves `messages_are_made`, `messages_are_taken_as_sent`.
-use Rattle.std.proofs.Common.{◌≡◌, ◌-◌, ℕ, List, [], ◌∷◌, ◌++◌, length, Option, Some, None, Result, Ok, Err, sym, subst, slice_get}
+use Rattle.std.proofs.Common.{◌≡◌, ◌-◌, ℕ, List, [], ◌∷◌, ◌++◌, length, Option, Some, None, Result, Ok, Err, sym, subst, refl, append-nil}
 use Rattle.std.specs.List.{AllByRecursion}
 use Rattle.std.proofs.lemmas.List.Elements.{All-weaker, recursion_from_All}
 use Rattle.wire_base.specs.Maps.{lookup, same_number, take_out}
@@ -23,18 +23,18 @@ use Rattle.end_links.specs.Serving.{served_cut}
 use Rattle.end_links.proofs.ServingLaws.{units_served}
 use Rattle.domain_controller.specs.Machine.{Desk, controller_server}
 use Rattle.domain_controller.specs.State.{State as ControllerState}
-use Rattle.domain_controller.specs.Step.{LinkMap, by_event, first_desk, halted, keep_link, serve_on, start_turn, state_after, step_on, step_part, whole_part}
+use Rattle.domain_controller.specs.Step.{LinkMap, by_event, first_desk, halted, keep_link, serve_on, start_turn, state_after, step_of as controller_step_of, step_on, step_part, whole_part}
 use Rattle.domain_controller.specs.declared.state.Running.{Running}
 use Rattle.domain_controller.specs.declared.state.Talk.{Talk}
 use Rattle.domain_controller.proofs.RestLaws.{server_leaves}
-use Rattle.logon_client.specs.State.{State as ClientState}
-use Rattle.member_server.specs.State.{State as MemberState}
+use Rattle.logon_client.specs.Machine.{step_of as client_step_of}
+use Rattle.member_server.specs.Machine.{step_of as member_step_of}
 use Rattle.step_notes.proofs.Members.RestLaws.{client_leaves_rest, member_leaves}
 use Rattle.world_moves.specs.declared.links.EndId.{EndId}
-use Rattle.world_moves.specs.declared.links.EndId.TheVariants.{Controller, Member, Client}
 use Rattle.world_moves.specs.declared.plan.Plan.{Plan}
-use Rattle.world_moves.specs.Ends.{EndStates, client_step, controller_step, end_step, member_step}
+use Rattle.world_moves.specs.Ends.{EndStates, EndStep, end_step}
 use Rattle.world_moves.specs.World.{first_world}
+use Rattle.world_moves.proofs.EndKindLaws.{step_by as end_by}
 
 -- challenges of 8 bytes
 abbrev pub AreEights : List (List ℕ) → Type 0
@@ -111,37 +111,25 @@ running_rest (Some running) c what now left =
 
 -- ---- any end leaves a rest of the challenges that were left
 
-controller_rests : (found : Option ControllerState) (at : ℕ) (what : Event) (now : ℕ) (ends : EndStates) (chances : Drawing) →
-    IsRest (controller_step found at what now ends chances).chances.left chances.left
-controller_rests None at what now ends chances = IsRest-refl chances.left
-controller_rests (Some c) at what now ends chances = running_rest c.running c what now chances.left
-
-member_rests : (found : Option MemberState) (at : ℕ) (what : Event) (now : ℕ) (ends : EndStates) (chances : Drawing) →
-    IsRest (member_step found at what now ends chances).chances.left chances.left
-member_rests None at what now ends chances = IsRest-refl chances.left
-member_rests (Some m) at what now ends chances = member_leaves m what now chances.left
-
-client_rests : (found : Option ClientState) (at : ℕ) (what : Event) (now : ℕ) (ends : EndStates) (chances : Drawing) →
-    IsRest (client_step found at what now ends chances).chances.left chances.left
-client_rests None at what now ends chances = IsRest-refl chances.left
-client_rests (Some c) at what now ends chances = client_leaves_rest c what now chances.left
-
 pub end_rests : (end : EndId) (what : Event) (now : ℕ) (ends : EndStates) (chances : Drawing) → IsRest (end_step end what now ends chances).chances.left chances.left
-end_rests (Controller at) what now ends chances = controller_rests (slice_get ends.controllers at) at what now ends chances
-end_rests (Member at) what now ends chances = member_rests (slice_get ends.members at) at what now ends chances
-end_rests (Client at) what now ends chances = client_rests (slice_get ends.clients at) at what now ends chances
+end_rests end what now ends chances =
+    end_by (λ (one : EndId) (step : EndStep). IsRest step.chances.left chances.left) what now ends chances (λ one. IsRest-refl chances.left)
+    (λ at c is. running_rest c.running c what now chances.left) (λ at m is. member_leaves m what now chances.left) (λ at c is. client_leaves_rest c what now chances.left) end
 
-pub controller_left : (found : Option ControllerState) (at : ℕ) (what : Event) (now : ℕ) (ends : EndStates) (chances : Drawing) → AreEights chances.left →
-    AreEights (controller_step found at what now ends chances).chances.left
-controller_left found at what now ends chances eights =
-    eights_rest (controller_step found at what now ends chances).chances.left chances.left (controller_rests found at what now ends chances) eights
+-- what was drawn, and of what is left: more was drawn, and a rest is left
+pub record DrawsOn (chances later : Drawing) : Type 0 where
+  pub more : List (List ℕ)
+  pub is : later.drawn ≡ chances.drawn ++ more
+  pub rest : IsRest later.left chances.left
 
-pub member_left : (found : Option MemberState) (at : ℕ) (what : Event) (now : ℕ) (ends : EndStates) (chances : Drawing) → AreEights chances.left →
-    AreEights (member_step found at what now ends chances).chances.left
-member_left found at what now ends chances eights =
-    eights_rest (member_step found at what now ends chances).chances.left chances.left (member_rests found at what now ends chances) eights
+pub end_draws : (end : EndId) (what : Event) (now : ℕ) (ends : EndStates) (chances : Drawing) → DrawsOn chances (end_step end what now ends chances).chances
+end_draws end what now ends chances =
+    end_by (λ (one : EndId) (step : EndStep). IsRest step.chances.left chances.left → DrawsOn chances step.chances) what now ends chances
+    (λ one rest. record { more = []; is = sym (append-nil chances.drawn); rest = rest })
+    (λ at c is rest. record { more = (controller_step_of c what now chances.left).drawn; is = refl; rest = rest })
+    (λ at m is rest. record { more = (member_step_of m what now chances.left).drawn; is = refl; rest = rest })
+    (λ at c is rest. record { more = (client_step_of c what now chances.left).drawn; is = refl; rest = rest }) end (end_rests end what now ends chances)
 
-pub client_left : (found : Option ClientState) (at : ℕ) (what : Event) (now : ℕ) (ends : EndStates) (chances : Drawing) → AreEights chances.left →
-    AreEights (client_step found at what now ends chances).chances.left
-client_left found at what now ends chances eights =
-    eights_rest (client_step found at what now ends chances).chances.left chances.left (client_rests found at what now ends chances) eights
+-- what is left has eights where it had them
+pub eights_after : (chances later : Drawing) → DrawsOn chances later → AreEights chances.left → AreEights later.left
+eights_after chances later on eights = eights_rest later.left chances.left on.rest eights

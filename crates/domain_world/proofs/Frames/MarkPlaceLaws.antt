@@ -13,14 +13,12 @@ use Rattle.channel_events.specs.Marks.{Mark, Plain}
 use Rattle.step_notes.specs.ChannelNames.{sends_in}
 use Rattle.world_moves.specs.declared.bag.BagUnit.{BagUnit}
 use Rattle.world_moves.specs.declared.links.EndId.{EndId}
-use Rattle.world_moves.specs.declared.links.LinkKind.{LinkKind}
-use Rattle.world_moves.specs.declared.links.LinkKind.TheVariants as kind
 use Rattle.world_moves.specs.declared.links.Route.{Route}
 use Rattle.world_moves.specs.declared.state.State.{State}
-use Rattle.world_moves.specs.Acting.{bag_unit, perform, perform_all, send_on}
+use Rattle.world_moves.specs.Acting.{link_closed, perform, perform_all, perform_by, perform_quietly, sent_if, unit_if, unit_on, units_of_action}
 use Rattle.world_moves.specs.Bag.{settle_at, settle_by, settled}
 use Rattle.world_moves.specs.Choosing.{places_from}
-use Rattle.world_moves.specs.Links.{is_accepted_by, is_of, kind_of, same_kind}
+use Rattle.world_moves.specs.Links.{is_accepted_by, is_own, kind_of}
 use Rattle.domain_world.specs.Past.{is_sent_on, marks_by, marks_of}
 use Rattle.world_moves.proofs.LinkFrameLaws.{IsOnLink}
 
@@ -147,45 +145,39 @@ IsHere link (Close other cause) = ⊥
 IsHere link (Told other outcome) = Unit {0}
 IsHere link (Judged how) = Unit {0}
 
-abbrev pub unit_on : Route → EndId → ℕ → List ℕ → BagUnit
-unit_on route end link bytes = record { bytes = bytes; link = link; kind = kind_of route; back = is_accepted_by end route; is_settled = false }
+-- the unit that such an action sends, on a link between these
+abbrev pub front_unit : Route → EndId → ℕ → Action → List BagUnit
+front_unit route end link (Send other bytes) = unit_on route end link bytes ∷ []
+front_unit route end link _ = []
 
--- the units of such actions, on a link between these
 abbrev pub front_units : Route → EndId → ℕ → List Action → List BagUnit
 front_units route end link [] = []
-front_units route end link (Keep bytes ∷ actions) = front_units route end link actions
-front_units route end link (Send other bytes ∷ actions) = unit_on route end link bytes ∷ front_units route end link actions
-front_units route end link (Dial peer ∷ actions) = front_units route end link actions
-front_units route end link (Close other cause ∷ actions) = front_units route end link actions
-front_units route end link (Told other outcome ∷ actions) = front_units route end link actions
-front_units route end link (Judged how ∷ actions) = front_units route end link actions
+front_units route end link (what ∷ actions) = front_unit route end link what ++ front_units route end link actions
 
-bag_unit_goes : (k : LinkKind) (back : Bool) (link : ℕ) (bytes : List ℕ) (s : State) → same_kind k kind.Stranger ≡ false →
-    bag_unit k back link bytes s ≡ record s { bag = s.bag ++ record { bytes = bytes; link = link; kind = k; back = back; is_settled = false } ∷ [] }
-bag_unit_goes kind.Stranger back link bytes s between = absurd cc
-bag_unit_goes kind.ToMember back link bytes s between = refl
-bag_unit_goes kind.ToController back link bytes s between = refl
-
-pub send_goes : (route : Route) (end : EndId) (link : ℕ) (bytes : List ℕ) (s : State) → slice_get s.links link ≡ Some route → is_of kind.Stranger route ≡ false →
-    send_on (slice_get s.links link) end link bytes s ≡ record s { bag = s.bag ++ unit_on route end link bytes ∷ [] }
-send_goes route end link bytes s made between =
-    ap (λ (found : Option Route). send_on found end link bytes s) made ∙ bag_unit_goes (kind_of route) (is_accepted_by end route) link bytes s between
+-- what such an action does
+here_does : (route : Route) (end : EndId) (link : ℕ) (what : Action) (s : State) → slice_get s.links link ≡ Some route → is_own (kind_of route) ≡ true → IsHere link what →
+    (units_of_action s.links end what ≡ front_unit route end link what) × (link_closed what ≡ None)
+here_does route end link (Keep bytes) s made own here = (refl, refl)
+here_does route end link (Send other bytes) s made own here = (
+  ap (λ (n : ℕ). sent_if (slice_get s.links n) end n bytes) here ∙ ap (λ (r : Option Route). sent_if r end link bytes) made
+      ∙ ap (λ (goes : Bool). unit_if goes (unit_on route end link bytes)) own,
+  refl,
+)
+here_does route end link (Dial peer) s made own here = (refl, refl)
+here_does route end link (Close other cause) s made own here = absurd here
+here_does route end link (Told other outcome) s made own here = (refl, refl)
+here_does route end link (Judged how) s made own here = (refl, refl)
 
 -- they go into the bag first
-pub front_goes : (route : Route) (end : EndId) (link : ℕ) (actions : List Action) (s : State) → slice_get s.links link ≡ Some route → is_of kind.Stranger route ≡ false →
+pub front_goes : (route : Route) (end : EndId) (link : ℕ) (actions : List Action) (s : State) → slice_get s.links link ≡ Some route → is_own (kind_of route) ≡ true →
     AllByRecursion (IsHere link) actions → (perform_all end actions s).state.bag ≡ s.bag ++ front_units route end link actions
-front_goes route end link [] s made between here = sym (append-nil s.bag)
-front_goes route end link (Keep bytes ∷ actions) s made between here = front_goes route end link actions s made between here.1
-front_goes route end link (Send other bytes ∷ actions) s made between here =
-    let after : State = record s { bag = s.bag ++ unit_on route end link bytes ∷ [] } in
-    ap (λ (n : ℕ). (perform_all end actions (send_on (slice_get s.links n) end n bytes s)).state.bag) here.0
-    ∙ ap (λ (t : State). (perform_all end actions t).state.bag) (send_goes route end link bytes s made between)
-    ∙ front_goes route end link actions after made between here.1
-    ∙ append_assoc s.bag (unit_on route end link bytes ∷ []) (front_units route end link actions)
-front_goes route end link (Dial peer ∷ actions) s made between here = front_goes route end link actions (perform end (Dial peer) s).state made between here.1
-front_goes route end link (Close other cause ∷ actions) s made between here = absurd here.0
-front_goes route end link (Told other outcome ∷ actions) s made between here = front_goes route end link actions s made between here.1
-front_goes route end link (Judged how ∷ actions) s made between here = front_goes route end link actions s made between here.1
+front_goes route end link [] s made own here = sym (append-nil s.bag)
+front_goes route end link (what ∷ actions) s made own here =
+    let does = here_does route end link what s made own here.0 in
+    ap (λ (closed : Option ℕ). (perform_all end actions (perform_by closed end what s).state).state.bag) does.1
+    ∙ front_goes route end link actions (perform_quietly end what s) made own here.1
+    ∙ ap (λ (units : List BagUnit). (s.bag ++ units) ++ front_units route end link actions) does.0
+    ∙ append_assoc s.bag (front_unit route end link what) (front_units route end link actions)
 
 pub all_append : (end : EndId) (front rest : List Action) (s : State) → (perform_all end (front ++ rest) s).state ≡ (perform_all end rest (perform_all end front s).state).state
 all_append end [] rest s = refl
@@ -277,7 +269,7 @@ off true link unit is = ap (λ (b : Bool). b && unit.back) is
 off false link unit is = ap (λ (b : Bool). b && not unit.back) is
 
 pub strangers_plain : (links : List Route) (route : Route) (link : ℕ) (back : Bool) (units : List BagUnit) (marks : List Mark) → slice_get links link ≡ Some route →
-    is_of kind.Stranger route ≡ true → AllByRecursion (IsOnLink links) units → ArePlain (marks_of link back units marks)
+    is_own (kind_of route) ≡ false → AllByRecursion (IsOnLink links) units → ArePlain (marks_of link back units marks)
 strangers_plain links route link back [] marks made is on zero mark there = absurd cc
 strangers_plain links route link back [] marks made is on (suc k) mark there = absurd cc
 strangers_plain links route link back (unit ∷ units) marks made is on k mark there =
@@ -286,5 +278,5 @@ strangers_plain links route link back (unit ∷ units) marks made is on k mark t
     let one : IsOnLink links unit = on.0 in
     let found : Some one.route ≡ Some route = sym one.made ∙ ap (λ (n : ℕ). slice_get links n) same ∙ made in
     let equal : one.route ≡ route = cc in
-    let clash : true ≡ false = sym is ∙ ap (λ (r : Route). is_of kind.Stranger r) (sym equal) ∙ one.between in cc)))
+    let clash : false ≡ true = sym is ∙ ap (λ (r : Route). is_own (kind_of r)) (sym equal) ∙ one.own in cc)))
     (strangers_plain links route link back units marks made is on.1) k mark there

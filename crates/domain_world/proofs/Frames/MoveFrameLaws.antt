@@ -9,7 +9,6 @@ use Rattle.std.proofs.lemmas.List.{append_assoc, append-nil}
 use Rattle.wire_base.specs.Maps.{lookup, same_number, take_out}
 use Rattle.wire_base.specs.Numbers.{AreBytes}
 use Rattle.outside.specs.declared.action.Action.{Action}
-use Rattle.outside.specs.declared.action.Action.TheVariants.{Keep, Send, Dial, Close, Told, Judged}
 use Rattle.outside.specs.declared.event.Event.TheVariants as event
 use Rattle.logon_client.specs.declared.plan.ClientPlan.{ClientPlan}
 use Rattle.channel_events.specs.Marks.{OneOf}
@@ -17,8 +16,6 @@ use Rattle.step_notes.specs.Records.{Book, blank}
 use Rattle.world_moves.specs.declared.bag.BagUnit.{BagUnit}
 use Rattle.world_moves.specs.declared.links.EndId.{EndId}
 use Rattle.world_moves.specs.declared.links.EndId.TheVariants.{Client}
-use Rattle.world_moves.specs.declared.links.LinkKind.{LinkKind}
-use Rattle.world_moves.specs.declared.links.LinkKind.TheVariants as kind
 use Rattle.world_moves.specs.declared.links.OpenLink.{OpenLink}
 use Rattle.world_moves.specs.declared.links.Route.{Route}
 use Rattle.world_moves.specs.declared.links.Route.TheVariants.{Stranger}
@@ -27,11 +24,11 @@ use Rattle.world_moves.specs.declared.moves.Move.TheVariants as move
 use Rattle.world_moves.specs.declared.plan.Plan.{Plan}
 use Rattle.world_moves.specs.declared.state.State.{State}
 use Rattle.world_moves.specs.declared.state.WaitingDial.{WaitingDial}
-use Rattle.world_moves.specs.Acting.{Acted, Given, Heard, bag_unit, close_open, closed_at, done, forget, given_by, hear, hear_and_act, hear_and_act_if, nothing_done, perform, perform_all, perform_all_quietly, perform_quietly, piece_comes, pieces_come, send_on, shut_link, then_act}
+use Rattle.world_moves.specs.Acting.{Acted, Given, Heard, close_open, closed_at, done, forget, given_by, hear, hear_and_act, hear_and_act_if, link_closed, nothing_done, perform, perform_all, perform_all_quietly, perform_by, perform_quietly, piece_comes, pieces_come, shut_link, then_act}
 use Rattle.world_moves.specs.Bag.{first_waiting, pieces_of}
 use Rattle.world_moves.specs.Choosing.{chosen_in, chosen_place}
 use Rattle.world_moves.specs.Ends.{acceptors_in, count_of, end_at}
-use Rattle.world_moves.specs.Links.{accepted, acceptor_of, answered, dialler_of, handed_links, hearer_of, hearer_on, is_accepted_by, kind_of, links_of, other_hearer}
+use Rattle.world_moves.specs.Links.{accepted, acceptor_of, answered, dialler_of, handed_links, hearer_of, hearer_on, links_of, other_hearer}
 use Rattle.world_moves.specs.Moving.{act, answer_by, answered_link, begun, come_by, come_on_own, connect_by, connect_first, deliver_by, deliver_on, deliver_unit, end_of_peer, fail_first, hand_on, lose_by, onward_by, open_link, renewed, restart_at, restart_by, route_to, settle, shut_at, shut_by, start_at, start_by, stranger_at, stranger_by, tick, with_link, without_first}
 use Rattle.world_moves.specs.World.{World, first_world, happens, run}
 use Rattle.domain_world.specs.Past.{Coming, book, note, note_at, note_chosen, note_coming, note_deliver, note_given, note_hand, note_on, note_onward, note_own, note_pieces, note_unit, past}
@@ -39,8 +36,9 @@ use Rattle.channel_events.proofs.ListLaws.{got_last, got_nothing}
 use Rattle.world_moves.proofs.BagLaws.{pieces_few}
 use Rattle.world_moves.proofs.BoundLaws.{hears_links}
 use Rattle.world_moves.proofs.LevelLaws.{unit_short}
-use Rattle.world_moves.proofs.LinkFrameLaws.{FitsIn, HasNoBytes, actions_stay, LinkFact, StaysOnLinks, closed_stays, heard_if_stays, move_stays}
+use Rattle.world_moves.proofs.LinkFrameLaws.{LinkFact, StaysOnLinks, closed_stays, heard_if_stays, move_stays}
 use Rattle.world_moves.proofs.OpenLaws.{forgotten_fewer, put_more, taken_fewer, taken_one}
+use Rattle.world_moves.proofs.QuietLaws.{closes_alone}
 use Rattle.domain_world.proofs.Frames.ComingLaws.{CameFrom, IsFromOutside, IsLinkOf, chosen_of, handed_outside, kept_same, piece_bytes, route_dials, run_still}
 use Rattle.domain_world.proofs.Frames.OpenMadeLaws.{IsAtSide, hears_side}
 use Rattle.domain_world.proofs.Frames.PlacedLaws.{Placed, IsPlaced, placed_stay, Since, since_sent, HandsBytes, IsBytesBag, bag_before, settled_bag, settled_link, same_piece, HasBytes, bytes_in}
@@ -178,16 +176,6 @@ beside Known Side Holds keeps = record {
   over = λ n at on next s given b side holds. keeps.over n at on next s given b tt holds;
 }
 
--- ---- what holds of links and the bag, as an action is done
-
-pub quiet_stays : (Fits : LinkFact) → StaysOnLinks Fits → (end : EndId) (what : Action) (s : State) → FitsIn Fits s → FitsIn Fits (perform_quietly end what s)
-quiet_stays Fits stays end (Close link cause) s holds = holds
-quiet_stays Fits stays end (Keep bytes) s holds = holds
-quiet_stays Fits stays end (Send link bytes) s holds = actions_stay Fits stays end (Send link bytes ∷ []) s holds
-quiet_stays Fits stays end (Dial peer) s holds = holds
-quiet_stays Fits stays end (Told link outcome) s holds = holds
-quiet_stays Fits stays end (Judged how) s holds = holds
-
 -- ---- how many links are open
 
 abbrev pub FewOpen : ℕ → LinkFact
@@ -198,15 +186,6 @@ few_open most = record {
   sends = λ unit links map bag on few. few;
   shuts = λ link links map bag few. omega (arith, few, taken_fewer link map);
 }
-
-bag_unit_open : (k : LinkKind) (back : Bool) (link : ℕ) (bytes : List ℕ) (s : State) → (bag_unit k back link bytes s).open_links ≡ s.open_links
-bag_unit_open kind.Stranger back link bytes s = refl
-bag_unit_open kind.ToMember back link bytes s = refl
-bag_unit_open kind.ToController back link bytes s = refl
-
-send_open : (route : Option Route) (end : EndId) (link : ℕ) (bytes : List ℕ) (s : State) → (send_on route end link bytes s).open_links ≡ s.open_links
-send_open None end link bytes s = refl
-send_open (Some route) end link bytes s = bag_unit_open (kind_of route) (is_accepted_by end route) link bytes s
 
 -- no dial waits: the first isn't taken
 none_dialled : (dials : List WaitingDial) → slice_get dials 0 ≡ None → drop 1 dials ≡ dials
@@ -265,21 +244,16 @@ module _ (Known : Type 0) (Holds : MoveFact) (keeps : KeepsMoves Known NoSide Ho
       widen p (n + 1 + 2 * length (take_out same_number link s.open_links)) (n + 2 * length s.open_links) (closed_at (other_hearer end there) link (shut_link link s)) given b (omega (arith, one))
       (closed_part p work (other_hearer end there) link n (shut_link link s) given b (keeps.shuts n p link s given b work tt holds))
 
-  -- an action that closes no link
-  quietly : (p : Progress) (work : AtWork p.on p.to) (end : EndId) (what : Action) (n : ℕ) (s : State) (given : Given) (b : Book) → length (perform_quietly end what s).open_links ≡ length s.open_links →
-      Holds n (with_rest ((end, what) ∷ []) p) s given b → After p (n + 2 * length s.open_links) (nothing_done (perform_quietly end what s)) given b
-  quietly p work end what n s given b same holds =
-      nothing p (n + 2 * length s.open_links) n (perform_quietly end what s) given b (keeps.acts n p end what s given b work tt holds) (omega (arith, same))
+  perform_by_part : (closed : Option ℕ) (p : Progress) (work : AtWork p.on p.to) (end : EndId) (what : Action) (n : ℕ) (s : State) (given : Given) (b : Book) → link_closed what ≡ closed →
+      Holds n (with_rest ((end, what) ∷ []) p) s given b → After p (n + 2 * length s.open_links) (perform_by closed end what s) given b
+  perform_by_part None p work end what n s given b is holds =
+      nothing p (n + 2 * length s.open_links) n (perform_quietly end what s) given b (keeps.acts n p end what s given b work tt holds) (omega arith)
+  perform_by_part (Some link) p work end what n s given b is holds =
+      close_part p work (lookup same_number link s.open_links) end link n s given b refl (closes_alone (λ (t : State). Holds n p t given b) end link what s is (keeps.acts n p end what s given b work tt holds))
 
   perform_part : (p : Progress) (work : AtWork p.on p.to) (end : EndId) (what : Action) (n : ℕ) (s : State) (given : Given) (b : Book) → Holds n (with_rest ((end, what) ∷ []) p) s given b →
       After p (n + 2 * length s.open_links) (perform end what s) given b
-  perform_part p work end (Close link cause) n s given b holds =
-      close_part p work (lookup same_number link s.open_links) end link n s given b refl (keeps.acts n p end (Close link cause) s given b work tt holds)
-  perform_part p work end (Keep bytes) n s given b holds = quietly p work end (Keep bytes) n s given b refl holds
-  perform_part p work end (Send link bytes) n s given b holds = quietly p work end (Send link bytes) n s given b (ap length (send_open (slice_get s.links link) end link bytes s)) holds
-  perform_part p work end (Dial peer) n s given b holds = quietly p work end (Dial peer) n s given b refl holds
-  perform_part p work end (Told link outcome) n s given b holds = quietly p work end (Told link outcome) n s given b refl holds
-  perform_part p work end (Judged how) n s given b holds = quietly p work end (Judged how) n s given b refl holds
+  perform_part p work end what n s given b holds = perform_by_part (link_closed what) p work end what n s given b refl holds
 
   all_part : (p : Progress) (work : AtWork p.on p.to) (end : EndId) (actions : List Action) (n : ℕ) (s : State) (given : Given) (b : Book) → Holds n (with_rest (given_by end actions) p) s given b →
       After p (n + 2 * length s.open_links) (perform_all end actions s) given b
@@ -547,13 +521,13 @@ module _ (Known : Type 0) (Holds : MoveFact) (keeps : KeepsMoves Known NoSide Ho
 
   -- ---- a move
 
-  quiet_part : (what : Move) (most n at : ℕ) (s : State) (b : Book) → HasNoBytes what → IsPlaced s → most ≤ n + 2 * length s.open_links + 10 → Quietly at most (act s what) [] b →
+  quiet_part : (what : Move) (most n at : ℕ) (s : State) (b : Book) → IsPlaced s → most ≤ n + 2 * length s.open_links + 10 → Quietly at most (act s what) [] b →
       Moved n at s (act s what) b
-  quiet_part what most n at s b none placed few part = record {
+  quiet_part what most n at s b placed few part = record {
     steps = part.steps;
     on = None;
     holds = part.holds;
-    placed = move_stays Placed placed_stay what s none placed;
+    placed = move_stays Placed placed_stay what s placed;
     few = λ known. omega (arith, part.few, few);
   }
 
@@ -564,21 +538,21 @@ module _ (Known : Type 0) (Holds : MoveFact) (keeps : KeepsMoves Known NoSide Ho
   act_part (move.Hand link back piece) n at s b placed have handed holds =
       hand_part (chosen_in link (handed_links s.links)) back piece n at s b (λ there is. handed_outside s.links (link % length (handed_links s.links)) there is) placed handed holds
   act_part (move.Start number) n at s b placed have handed holds =
-      quiet_part (move.Start number) (n + 1 + 2 * length s.open_links) n at s b tt placed (omega arith) (start_part (chosen_place number (length s.ends.clients)) n at s b (holds None))
+      quiet_part (move.Start number) (n + 1 + 2 * length s.open_links) n at s b placed (omega arith) (start_part (chosen_place number (length s.ends.clients)) n at s b (holds None))
   act_part (move.Stranger number) n at s b placed have handed holds =
-      quiet_part (move.Stranger number) (n + 3 + 2 * length s.open_links) n at s b tt placed (omega arith) (stranger_part (chosen_place number (acceptors_in s.ends)) n at s b (holds None))
+      quiet_part (move.Stranger number) (n + 3 + 2 * length s.open_links) n at s b placed (omega arith) (stranger_part (chosen_place number (acceptors_in s.ends)) n at s b (holds None))
   act_part move.Connect n at s b placed have handed holds =
-      quiet_part move.Connect (n + 6 + 2 * length s.open_links) n at s b tt placed (omega arith) (connect_part (slice_get s.dials 0) n at s b refl (holds None))
+      quiet_part move.Connect (n + 6 + 2 * length s.open_links) n at s b placed (omega arith) (connect_part (slice_get s.dials 0) n at s b refl (holds None))
   act_part move.FailDial n at s b placed have handed holds =
-      quiet_part move.FailDial (n + 1 + 2 * length s.open_links) n at s b tt placed (omega arith) (fail_part (slice_get s.dials 0) n at s b refl (holds None))
+      quiet_part move.FailDial (n + 1 + 2 * length s.open_links) n at s b placed (omega arith) (fail_part (slice_get s.dials 0) n at s b refl (holds None))
   act_part move.Lose n at s b placed have handed holds =
-      quiet_part move.Lose (n + 2 * length s.open_links) n at s b tt placed (omega arith) (lose_part (first_waiting s.bag) n at s b (holds None))
+      quiet_part move.Lose (n + 2 * length s.open_links) n at s b placed (omega arith) (lose_part (first_waiting s.bag) n at s b (holds None))
   act_part (move.Shut number) n at s b placed have handed holds =
-      quiet_part (move.Shut number) (n + 2 + 2 * length s.open_links) n at s b tt placed (omega arith) (shut_part (chosen_place number (length s.open_links)) n at s b (holds None))
+      quiet_part (move.Shut number) (n + 2 + 2 * length s.open_links) n at s b placed (omega arith) (shut_part (chosen_place number (length s.open_links)) n at s b (holds None))
   act_part (move.Restart number) n at s b placed have handed holds =
-      quiet_part (move.Restart number) (n + 2 * length s.open_links) n at s b tt placed (omega arith) (restart_part (chosen_place number (count_of s.ends)) n at s b (holds None))
+      quiet_part (move.Restart number) (n + 2 * length s.open_links) n at s b placed (omega arith) (restart_part (chosen_place number (count_of s.ends)) n at s b (holds None))
   act_part (move.Tick more) n at s b placed have handed holds =
-      quiet_part (move.Tick more) (n + 2 * length s.open_links) n at s b tt placed (omega arith)
+      quiet_part (move.Tick more) (n + 2 * length s.open_links) n at s b placed (omega arith)
       (nothing (waiting at None) (n + 2 * length s.open_links) n (tick more s) [] b (keeps.ticks n at more s b tt (holds None)) (omega arith))
 
   -- ---- a run

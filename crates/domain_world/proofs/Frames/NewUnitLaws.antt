@@ -11,12 +11,11 @@ use Rattle.channel_events.specs.Marks.{Mark, Plain}
 use Rattle.step_notes.specs.ChannelNames.{sends_in, sent_by}
 use Rattle.world_moves.specs.declared.bag.BagUnit.{BagUnit}
 use Rattle.world_moves.specs.declared.links.EndId.{EndId}
-use Rattle.world_moves.specs.declared.links.LinkKind.TheVariants as kind
 use Rattle.world_moves.specs.declared.links.Route.{Route}
 use Rattle.world_moves.specs.declared.state.State.{State}
 use Rattle.world_moves.specs.Acting.{perform_all}
 use Rattle.world_moves.specs.Choosing.{places_from}
-use Rattle.world_moves.specs.Links.{is_accepted_by, is_of}
+use Rattle.world_moves.specs.Links.{is_accepted_by, is_own, kind_of}
 use Rattle.domain_world.specs.Past.{is_sent_on, marks_of, numbers_on}
 use Rattle.channel_events.proofs.ListLaws.{got_append}
 use Rattle.world_moves.proofs.LinkFrameLaws.{IsOnLink, actions_stay}
@@ -59,30 +58,30 @@ same_units : (bag units others after : List BagUnit) → after ≡ bag ++ units 
 same_units bag units others after one other =
     sym (drop_at bag units (length bag) refl) ∙ ap (λ (all : List BagUnit). drop (length bag) all) (sym one ∙ other) ∙ drop_at bag others (length bag) refl
 
-new_by : (stranger : Bool) (route : Route) (end : EndId) (link : ℕ) (back : Bool) (actions : List Action) (marks : List Mark) (s : State) (units : List BagUnit) (place : ℕ) (unit : BagUnit) (mark : Mark) →
-    is_of kind.Stranger route ≡ stranger → slice_get s.links link ≡ Some route → is_accepted_by end route ≡ back → IsFront link marks actions →
+new_by : (own : Bool) (route : Route) (end : EndId) (link : ℕ) (back : Bool) (actions : List Action) (marks : List Mark) (s : State) (units : List BagUnit) (place : ℕ) (unit : BagUnit) (mark : Mark) →
+    is_own (kind_of route) ≡ own → slice_get s.links link ≡ Some route → is_accepted_by end route ≡ back → IsFront link marks actions →
     (perform_all end actions s).state.bag ≡ s.bag ++ units → AllByRecursion (IsOnLink s.links) units →
     slice_get units place ≡ Some unit → slice_get (marks_of link back units marks) place ≡ Some mark →
     (mark ≡ Plain) ⊎ IsNewUnit link back actions marks (numbers_on link back s.bag (perform_all end actions s).state.bag) (length s.bag + place) unit mark
-new_by true route end link back actions marks s units place unit mark between made way f is on there marked =
-    inl (strangers_plain s.links route link back units marks made between on place mark marked)
 new_by false route end link back actions marks s units place unit mark between made way f is on there marked =
+    inl (strangers_plain s.links route link back units marks made between on place mark marked)
+new_by true route end link back actions marks s units place unit mark between made way f is on there marked =
     let t : State = (perform_all end f.front s).state in
-    let own : List BagUnit = front_units route end link f.front in
+    let first : List BagUnit = front_units route end link f.front in
     let later : IsMore t.links t.bag (perform_all end f.rest t).state.links (perform_all end f.rest t).state.bag =
     actions_stay (MoreOf t.links t.bag) (goes_on t.links t.bag) end f.rest t (no_more t.links t.bag) in
-    let bag : (perform_all end actions s).state.bag ≡ s.bag ++ (own ++ later.units) =
+    let bag : (perform_all end actions s).state.bag ≡ s.bag ++ (first ++ later.units) =
     ap (λ (all : List Action). (perform_all end all s).state.bag) f.is
     ∙ ap (λ (u : State). u.bag) (all_append end f.front f.rest s)
     ∙ later.is
-    ∙ ap (λ (first : List BagUnit). first ++ later.units) (front_goes route end link f.front s made between f.here)
-    ∙ append_assoc s.bag own later.units in
-    let same : units ≡ own ++ later.units = same_units s.bag units (own ++ later.units) (perform_all end actions s).state.bag is bag in
+    ∙ ap (λ (bag : List BagUnit). bag ++ later.units) (front_goes route end link f.front s made between f.here)
+    ∙ append_assoc s.bag first later.units in
+    let same : units ≡ first ++ later.units = same_units s.bag units (first ++ later.units) (perform_all end actions s).state.bag is bag in
     elim (front_marked route end link back f.front later.units marks (length s.bag) place unit mark way f.here f.size
     (ap (λ (all : List BagUnit). slice_get all place) (sym same) ∙ there)
     (ap (λ (all : List BagUnit). slice_get (marks_of link back all marks) place) (sym same) ∙ marked)) [
       | inl plain ↦ inl plain
-      | inr new ↦ inr (marked_new link back actions marks s.bag (perform_all end actions s).state.bag (own ++ later.units) f place unit mark bag new)
+      | inr new ↦ inr (marked_new link back actions marks s.bag (perform_all end actions s).state.bag (first ++ later.units) f place unit mark bag new)
     ]
 
 -- of the units that go into the bag where an end does these actions, each is made for no channel, or is one that the
@@ -93,4 +92,4 @@ pub new_or_plain : (route : Route) (end : EndId) (link : ℕ) (back : Bool) (act
     slice_get units place ≡ Some unit → slice_get (marks_of link back units marks) place ≡ Some mark →
     (mark ≡ Plain) ⊎ IsNewUnit link back actions marks (numbers_on link back s.bag (perform_all end actions s).state.bag) (length s.bag + place) unit mark
 new_or_plain route end link back actions marks s units place unit mark made way f is on there marked =
-    new_by (is_of kind.Stranger route) route end link back actions marks s units place unit mark refl made way f is on there marked
+    new_by (is_own (kind_of route)) route end link back actions marks s units place unit mark refl made way f is on there marked

@@ -2,7 +2,7 @@
 -- that isn't written down yet, and of the book: whatever holds through each step of an end, and through each single
 -- change beside it. It gives an end's step the unit that came, and the actions what the step may do. It is an instance
 -- of `MoveFrameLaws`. It serves `runs_stand_so`.
-use Rattle.std.proofs.Common.{◌≡◌, ℕ, ◌+◌, ◌*◌, ◌≤◌, true, List, [], ◌∷◌, ◌++◌, length, Option, Some, None, slice_get, sym, subst, arith}
+use Rattle.std.proofs.Common.{◌≡◌, ℕ, ◌+◌, ◌*◌, ◌≤◌, true, List, [], ◌∷◌, ◌++◌, length, Option, Some, None, slice_get, arith}
 use Rattle.std.specs.List.{AllByRecursion}
 use Rattle.wire_base.specs.Maps.{lookup, same_number}
 use Rattle.wire_base.specs.Numbers.{AreBytes}
@@ -23,7 +23,6 @@ use Rattle.world_moves.specs.Links.{acceptor_of}
 use Rattle.world_moves.specs.Moving.{answered_link, begun, renewed, settle, tick, with_link, without_first}
 use Rattle.world_moves.specs.World.{first_world}
 use Rattle.domain_world.specs.Past.{Coming, note_at, note_given, past}
-use Rattle.world_moves.proofs.BoundLaws.{quiet_links}
 use Rattle.domain_world.proofs.Frames.BagFrameLaws.{IsServer, no_more_of, no_part, no_side, nothing_marked, nothing_written, AllFor, MarkFact, first_marked, marked_keep}
 use Rattle.domain_world.proofs.Frames.ComingLaws.{CameFrom}
 use Rattle.domain_world.proofs.Frames.OpenMadeLaws.{IsAtSide}
@@ -237,10 +236,7 @@ module _ {Over : Type 0} (Holds : RunFact) (Fine : ActionFact) (keeps : KeepsWit
         so_heard n (coming w) end (hear end (event.Bytes w.link piece) s) given (note_at (Some end) w piece s (hear_and_act end (event.Bytes w.link piece) s).state b)
         (keeps.comes n end w piece s given b here came (bytes tt) (λ server. marks n w s given b side end here server) tt holds.0) tt;
     reaches = λ n w s given b side holds. holds;
-    acts = λ n p end what s given b work side holds. (
-      keeps.acts n end what s given b holds.1.0 tt holds.0,
-      subst (λ (links : List Route). OfRest Fine links p.rest) (sym (quiet_links end what s)) holds.1.1,
-    );
+    acts = λ n p end what s given b work side holds. (keeps.acts n end what s given b holds.1.0 tt holds.0, holds.1.1);
     shuts = λ n p link s given b work side holds. (keeps.shuts n link s given b tt holds.0, holds.1);
     answers = λ n at dial link there s given b is side holds. (keeps.answers n link there s given b is tt holds.0, tt);
     forgets = λ n at end s b side holds. (keeps.forgets n end s [] b tt holds.0, tt);

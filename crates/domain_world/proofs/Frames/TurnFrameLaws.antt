@@ -46,3 +46,6 @@ module _ (controller : ℕ) (units : List (ServedUnit AtTurn TurnTalk)) (unit : 
 
   pub units_turns : (note_turns controller units unit numbers b).turns ≡ b.turns
   units_turns = notes_leave (λ (book : Book). book.turns) (λ note served at number old. refl) controller units unit numbers b
+
+  pub turns_answers : (note_turns controller units unit numbers b).answers ≡ b.answers
+  turns_answers = notes_leave (λ (book : Book). book.answers) (λ note served at number old. refl) controller units unit numbers b

@@ -6,7 +6,6 @@ use Rattle.wire_base.specs.Maps.{lookup, same_number}
 use Rattle.wire_base.specs.Names.{same_name}
 use Rattle.wire_base.specs.declared.authenticator.Authenticator.{Authenticator}
 use Rattle.authenticators.specs.SecureChannels.{SecureChannelState, key_of_channel, channel_by, passes_on, return_by}
-use Rattle.outside.specs.Drawing.{Drawing}
 use Rattle.outside.specs.Machine.{step_by, then_part}
 use Rattle.outside.specs.declared.action.Action.{Action}
 use Rattle.outside.specs.declared.action.Judged.{Judged}
@@ -29,30 +28,24 @@ use Rattle.domain_controller.specs.Step.{StepPart, by_event, first_desk, first_s
 use Rattle.controller_calls.specs.declared.line.Line.{Line}
 use Rattle.domain_controller.specs.declared.state.Running.{Running}
 use Rattle.domain_controller.specs.declared.state.Talk.{Talk}
-use Rattle.logon_client.specs.State.{State as ClientState}
-use Rattle.member_server.specs.State.{State as MemberState}
 use Rattle.step_notes.specs.ControllerNotes.{Answered, Where, answer_on, has_passed, judged_in, units_at, units_by, units_of_controller}
 use Rattle.step_notes.specs.Judged.{IsJudgedRight, IsNextOn}
-use Rattle.step_notes.specs.Records.{Book, Judging, Network, given_in}
+use Rattle.step_notes.specs.Records.{Judging, Network, given_in}
 use Rattle.step_notes.specs.ReplySends.{done_on, verdict_passed}
-use Rattle.world_moves.specs.declared.links.EndId.{EndId}
-use Rattle.world_moves.specs.declared.links.EndId.TheVariants.{Controller, Member, Client}
-use Rattle.world_moves.specs.declared.links.Route.{Route}
 use Rattle.world_moves.specs.declared.moves.Move.{Move}
 use Rattle.world_moves.specs.declared.plan.Plan.{Plan}
 use Rattle.world_moves.specs.declared.state.State.{State}
-use Rattle.world_moves.specs.Ends.{EndStates, client_step, controller_step, end_step, member_step}
-use Rattle.world_moves.specs.Links.{acceptor_of}
 use Rattle.world_moves.specs.World.{first_controllers, first_world}
 use Rattle.domain_world.specs.Claims.Grants.{GrantsWhoMayLogOn, IsGrantedRightly, IsPlannedTable, IsToBeGranted}
-use Rattle.domain_world.specs.Past.{Coming, answers_of, at_controller, judged_of, note_at, note_controller, numbers_on, past}
+use Rattle.domain_world.specs.Past.{Coming, answers_of, at_controller, judged_of, note_controller, numbers_on, past}
 use Rattle.step_notes.proofs.Controllers.GrantVerdictLaws.{IsServedGrant, granted_status, served_grant}
 use Rattle.step_notes.proofs.Controllers.JudgedCallLaws.{if_network, status_done}
 use Rattle.step_notes.proofs.Controllers.JudgedStepLaws.{told_first, same_status}
 use Rattle.domain_world.proofs.Challenges.MessageOnceLaws.{set_cases}
-use Rattle.domain_world.proofs.Frames.FrameLaws.{Fact, HoldsAfter, HoldsIn, Stays, StaysWritten, run_stays}
+use Rattle.domain_world.proofs.Frames.FrameLaws.{run_stays}
+use Rattle.domain_world.proofs.Frames.ControllerFrameLaws.{AmongControllers, ControllersFact, KeepsControllers, controllers_written}
+use Rattle.domain_world.proofs.Frames.EndNoteLaws.{judged_so, judgings_of}
 use Rattle.domain_world.proofs.Judgements.JudgedLaws.{AreRight, HoldsIf, IsServedBy, answers_hold, are_if_taken, heard_holds, judged_hold, judged_rightly, onto_hold}
-use Rattle.domain_world.proofs.Judgements.ReplayLaws.{client_judged, member_judged}
 use Rattle.step_notes.proofs.ServedLaws.{served_such}
 use Rattle.outside.specs.declared.action.Action.TheVariants as action
 use Rattle.outside.specs.declared.action.Judged.TheVariants as judged
@@ -192,8 +185,8 @@ pub record StandsByPlan (plan : Plan) (judgings : List Judging) (controllers : L
   pub judged : AllByRecursion (IsByPlan plan) judgings
   pub each : (at : ℕ) (c : ControllerState) → slice_get controllers at ≡ Some c → IsPlanned plan at c.table c.name
 
-abbrev pub ByPlan : Plan → List Judging → Fact
-ByPlan plan judgings ends chances links = StandsByPlan plan judgings ends.controllers
+abbrev pub ByPlan : Plan → List Judging → ControllersFact
+ByPlan plan judgings controllers chances = StandsByPlan plan judgings controllers
 
 -- a controller that keeps its accounts and its name is put in its place
 controller_put : (plan : Plan) (judgings now : List Judging) (controllers : List ControllerState) (at : ℕ) (c new : ControllerState) → slice_get controllers at ≡ Some c → KeepsPlan c new →
@@ -211,66 +204,23 @@ controller_put plan judgings now controllers at c new there keeps all stands =
       ];
     }
 
-controller_stands : (found : Option ControllerState) (plan : Plan) (judgings : List Judging) (at : ℕ) (what : Event) (now : ℕ) (ends : EndStates) (chances : Drawing) (links : List Route) →
-    slice_get ends.controllers at ≡ found → ByPlan plan judgings ends chances links → HoldsAfter (ByPlan plan judgings) (controller_step found at what now ends chances) links
-controller_stands None plan judgings at what now ends chances links is stands = stands
-controller_stands (Some c) plan judgings at what now ends chances links is stands =
-    controller_put plan judgings judgings ends.controllers at c (step_of c what now chances.left).state is (step_keeps c what now chances.left) stands.judged stands
-
-member_stands : (found : Option MemberState) (plan : Plan) (judgings : List Judging) (at : ℕ) (what : Event) (now : ℕ) (ends : EndStates) (chances : Drawing) (links : List Route) →
-    ByPlan plan judgings ends chances links → HoldsAfter (ByPlan plan judgings) (member_step found at what now ends chances) links
-member_stands None plan judgings at what now ends chances links stands = stands
-member_stands (Some m) plan judgings at what now ends chances links stands = stands
-
-client_stands : (found : Option ClientState) (plan : Plan) (judgings : List Judging) (at : ℕ) (what : Event) (now : ℕ) (ends : EndStates) (chances : Drawing) (links : List Route) →
-    ByPlan plan judgings ends chances links → HoldsAfter (ByPlan plan judgings) (client_step found at what now ends chances) links
-client_stands None plan judgings at what now ends chances links stands = stands
-client_stands (Some c) plan judgings at what now ends chances links stands = stands
-
-end_stands : (end : EndId) (plan : Plan) (judgings : List Judging) (what : Event) (now : ℕ) (ends : EndStates) (chances : Drawing) (links : List Route) →
-    ByPlan plan judgings ends chances links → HoldsAfter (ByPlan plan judgings) (end_step end what now ends chances) links
-end_stands (Controller at) plan judgings what now ends chances links stands = controller_stands (slice_get ends.controllers at) plan judgings at what now ends chances links refl stands
-end_stands (Member at) plan judgings what now ends chances links stands = member_stands (slice_get ends.members at) plan judgings at what now ends chances links stands
-end_stands (Client at) plan judgings what now ends chances links stands = client_stands (slice_get ends.clients at) plan judgings at what now ends chances links stands
-
-stands_so : (plan : Plan) (judgings : List Judging) → Stays (ByPlan plan judgings)
-stands_so plan judgings = record {
-  hears = λ end what now ends chances links quiet stands. end_stands end plan judgings what now ends chances links stands;
-  opens = λ route now ends chances links stands. end_stands (acceptor_of route) plan judgings (event.Opened (length links)) now ends chances links stands;
-  controllers = λ c at ends chances links is stands.
-      controller_put plan judgings judgings ends.controllers at c (first_state c.table c.name) is (differs-none c.table, refl) stands.judged stands;
-  members = λ member at ends chances links stands. stands;
-  clients = λ client at ends chances links stands. stands;
+stand_on : (plan : Plan) → KeepsControllers judgings_of (ByPlan plan)
+stand_on plan = record {
+  of = judged_so;
+  given = λ at given after b. refl;
+  draws = λ judgings controllers chances later on stands. stands;
+  hears = λ judgings c at what now controllers chances none is stands.
+      controller_put plan judgings judgings controllers at c (step_of c what now chances.left).state is (step_keeps c what now chances.left) stands.judged stands;
+  comes = λ c at w piece s after b is stands.
+      controller_put plan b.judged (note_controller (Some c) at w piece s after b).judged s.ends.controllers at c (step_of c (event.Bytes w.link piece) s.moment s.chances.left).state is
+      (step_keeps c (event.Bytes w.link piece) s.moment s.chances.left)
+      (onto_hold (IsByPlan plan) (judged_of (answers_of at c w piece s) (numbers_on w.link true s.bag after.bag)) b.judged
+      (judged_hold (IsByPlan plan) (λ j number holds. holds) (answers_of at c w piece s) (numbers_on w.link true s.bag after.bag) (answers_by_plan plan at c w piece s (stands.each at c is)))
+      stands.judged)
+      stands;
+  anew = λ judgings c at controllers chances is stands.
+      controller_put plan judgings judgings controllers at c (first_state c.table c.name) is (differs-none c.table, refl) stands.judged stands;
 }
-
--- ---- what is written down of bytes
-
-controller_bytes : (found : Option ControllerState) (plan : Plan) (at : ℕ) (w : Coming) (piece : List ℕ) (s after : State) (b : Book) → slice_get s.ends.controllers at ≡ found →
-    HoldsIn (ByPlan plan b.judged) s →
-    HoldsAfter (ByPlan plan (note_controller found at w piece s after b).judged) (controller_step found at (event.Bytes w.link piece) s.moment s.ends s.chances) s.links
-controller_bytes None plan at w piece s after b is stands = stands
-controller_bytes (Some c) plan at w piece s after b is stands =
-    controller_put plan b.judged (note_controller (Some c) at w piece s after b).judged s.ends.controllers at c (step_of c (event.Bytes w.link piece) s.moment s.chances.left).state is
-    (step_keeps c (event.Bytes w.link piece) s.moment s.chances.left)
-    (onto_hold (IsByPlan plan) (judged_of (answers_of at c w piece s) (numbers_on w.link true s.bag after.bag)) b.judged
-    (judged_hold (IsByPlan plan) (λ j number holds. holds) (answers_of at c w piece s) (numbers_on w.link true s.bag after.bag) (answers_by_plan plan at c w piece s (stands.each at c is)))
-    stands.judged)
-    stands
-
-bytes_stand : (plan : Plan) (end : EndId) (w : Coming) (piece : List ℕ) (s after : State) (b : Book) → HoldsIn (ByPlan plan b.judged) s →
-    HoldsAfter (ByPlan plan (note_at (Some end) w piece s after b).judged) (end_step end (event.Bytes w.link piece) s.moment s.ends s.chances) s.links
-bytes_stand plan (Controller at) w piece s after b stands = controller_bytes (slice_get s.ends.controllers at) plan at w piece s after b refl stands
-bytes_stand plan (Member at) w piece s after b stands =
-    subst (λ (judgings : List Judging). HoldsAfter (ByPlan plan judgings) (end_step (Member at) (event.Bytes w.link piece) s.moment s.ends s.chances) s.links)
-    (sym (member_judged (slice_get s.ends.members at) at w piece s after b))
-    (end_stands (Member at) plan b.judged (event.Bytes w.link piece) s.moment s.ends s.chances s.links stands)
-bytes_stand plan (Client at) w piece s after b stands =
-    subst (λ (judgings : List Judging). HoldsAfter (ByPlan plan judgings) (end_step (Client at) (event.Bytes w.link piece) s.moment s.ends s.chances) s.links)
-    (sym (client_judged (slice_get s.ends.clients at) at w piece s b))
-    (end_stands (Client at) plan b.judged (event.Bytes w.link piece) s.moment s.ends s.chances s.links stands)
-
-stands_written : (plan : Plan) → StaysWritten (λ (b : Book). b.judged) (ByPlan plan)
-stands_written plan = record { stays = stands_so plan; bytes = bytes_stand plan; given = λ at given after b. refl }
 
 -- ---- at first
 
@@ -282,7 +232,7 @@ first_planned (table ∷ tables) (name ∷ names) zero c there =
     let is : first_state table name ≡ c = cc in (ap (λ (x : ControllerState). Some x.table) is, ap (λ (x : ControllerState). Some x.name) is)
 first_planned (table ∷ tables) (name ∷ names) (suc at) c there = first_planned tables names at c there
 
-first_stands : (plan : Plan) → HoldsIn (ByPlan plan []) (first_world plan).state
+first_stands : (plan : Plan) → StandsByPlan plan [] (first_world plan).state.ends.controllers
 first_stands plan = record {
   judged = tt;
   each = λ at c there. let both = first_planned plan.tables plan.controllers at c there in
@@ -317,15 +267,20 @@ all_rightly plan (j ∷ judgings) planned right = (
   all_rightly plan judgings planned.1 right.1,
 )
 
+-- after all moves of a run
+stand_after : (plan : Plan) (moves : List Move) → StandsByPlan plan (past plan moves).book.judged (past plan moves).world.state.ends.controllers
+stand_after plan moves =
+    run_stays judgings_of (AmongControllers judgings_of (ByPlan plan) (stand_on plan)) (controllers_written judgings_of (ByPlan plan) (stand_on plan)) plan moves (first_stands plan)
+
 -- in every run each call that passed was told with its status
 pub each_status : (plan : Plan) (moves : List Move) → AllByRecursion HasItsStatus (past plan moves).book.judged
 each_status plan moves =
     all_weaker (IsByPlan plan) HasItsStatus (past plan moves).book.judged (λ j planned. planned.1)
-    (run_stays (λ (b : Book). b.judged) (ByPlan plan) (stands_written plan) plan moves (first_stands plan)).judged
+    (stand_after plan moves).judged
 
 -- in every run a controller grants a Logon call exactly where it is to be granted, by the accounts of the plan
 pub grants_who_may : (plan : Plan) (moves : List Move) → GrantsWhoMayLogOn (past plan moves)
 grants_who_may plan moves =
     all_rightly plan (past plan moves).book.judged
-    (run_stays (λ (b : Book). b.judged) (ByPlan plan) (stands_written plan) plan moves (first_stands plan)).judged
+    (stand_after plan moves).judged
     (judged_rightly plan moves)

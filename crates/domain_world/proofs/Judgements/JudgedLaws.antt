@@ -1,6 +1,6 @@
 -- Each Logon call that a controller heard in a run was judged by its channel's sequence.
 -- It serves `controllers_grant_who_may_log_on`, `controllers_pass_the_next`, `members_ask_for_messages` and 8 more.
-use Rattle.std.proofs.Common.{◌≡◌, ℕ, Bool, true, false, List, [], ◌∷◌, ◌++◌, map, Option, Some, None, Result, Ok, Err, refl, sym, subst, slice_get}
+use Rattle.std.proofs.Common.{◌≡◌, ℕ, Bool, true, false, List, [], ◌∷◌, ◌++◌, map, Option, Some, None, Result, Ok, Err, refl, sym, subst}
 use Rattle.std.specs.List.{AllByRecursion}
 use Rattle.wire_base.specs.Maps.{lookup, same_number}
 use Rattle.authenticators.specs.Channels.{ChannelIdentity}
@@ -21,23 +21,19 @@ use Rattle.domain_controller.specs.declared.hearing.Heard.TheVariants as heard
 use Rattle.controller_calls.specs.declared.line.Line.{Line}
 use Rattle.domain_controller.specs.declared.state.Running.{Running}
 use Rattle.domain_controller.specs.declared.state.Talk.{Talk}
-use Rattle.logon_client.specs.State.{State as ClientState}
-use Rattle.member_server.specs.State.{State as MemberState}
-use Rattle.step_notes.specs.ControllerNotes.{Answered, Where, answer_on, channel_in, checked_on, has_passed, heard_answer, judging_by, judging_of, logon_answer, opened_by, opening, passing, units_at, units_by, units_of_controller}
+use Rattle.step_notes.specs.ControllerNotes.{Answered, Where, answer_on, channel_in, has_passed, heard_answer, judging_by, judging_of, logon_answer, opened_by, opening, passing, units_at, units_by, units_of_controller, checked_on}
 use Rattle.step_notes.specs.Judged.{IsJudgedRight}
-use Rattle.step_notes.specs.MemberNotes.{turn_units}
-use Rattle.step_notes.specs.Records.{Book, Judging, Network, computer_named}
+use Rattle.step_notes.specs.Records.{Book, Judging, computer_named, Network}
 use Rattle.step_notes.specs.Served.{units_if_taken, work_after}
 use Rattle.world_moves.specs.declared.links.EndId.{EndId}
-use Rattle.world_moves.specs.declared.links.EndId.TheVariants.{Controller, Member, Client}
 use Rattle.world_moves.specs.declared.moves.Move.{Move}
 use Rattle.world_moves.specs.declared.plan.Plan.{Plan}
 use Rattle.world_moves.specs.declared.state.State.{State}
-use Rattle.domain_world.specs.Past.{Coming, answers_of, at_controller, controller_of, first_of, judged_of, later_of, note_at, note_client, note_controller, note_member, note_messages, numbers_on, onto, past, with_reply}
-use Rattle.step_notes.proofs.Controllers.JudgedStepLaws.{by_names, checked_named, told_right}
+use Rattle.domain_world.specs.Past.{Coming, answers_of, at_controller, first_of, judged_of, later_of, note_at, note_controller, numbers_on, onto, past, with_reply}
+use Rattle.step_notes.proofs.Controllers.JudgedStepLaws.{by_names, told_right, checked_named}
 use Rattle.step_notes.proofs.ServedLaws.{served_such}
-use Rattle.domain_world.proofs.Frames.TurnFrameLaws.{notes_keep}
 use Rattle.domain_world.proofs.Frames.BookFrameLaws.{book_holds}
+use Rattle.domain_world.proofs.Frames.EndNoteLaws.{book_by, judged_so}
 
 -- ---- a unit
 
@@ -141,9 +137,8 @@ AreRight judgings = AllByRecursion IsJudgedRight judgings
 abbrev pub IsRight : Book → Type 0
 IsRight b = AreRight b.judged
 
-controller_right : (c : Option ControllerState) (controller : ℕ) (w : Coming) (piece : List ℕ) (s after : State) (b : Book) → IsRight b → IsRight (note_controller c controller w piece s after b)
-controller_right None controller w piece s after b was = was
-controller_right (Some c) controller w piece s after b was =
+controller_right : (c : ControllerState) (controller : ℕ) (w : Coming) (piece : List ℕ) (s after : State) (b : Book) → IsRight b → IsRight (note_controller (Some c) controller w piece s after b)
+controller_right c controller w piece s after b was =
     onto_hold IsJudgedRight (judged_of (answers_of controller c w piece s) (numbers_on w.link true s.bag after.bag)) b.judged
     (judged_hold IsJudgedRight (λ j number is. record { right = is.right; named = is.named }) (answers_of controller c w piece s) (numbers_on w.link true s.bag after.bag)
     (answers_hold IsJudgedRight (IsServedBy (controller_server c.name s.moment w.link)) (at_controller controller c w s) w.link (unit_right (at_controller controller c w s) w.link) (units_of_controller c w.link piece s.moment s.chances.left)
@@ -151,19 +146,10 @@ controller_right (Some c) controller w piece s after b was =
     (served_by c.running w.link piece c s.moment s.chances.left))))
     was
 
-member_right : (m : Option MemberState) (member : ℕ) (w : Coming) (piece : List ℕ) (s after : State) (b : Book) → IsRight b → IsRight (note_member m member w piece s after b)
-member_right None member w piece s after b was = was
-member_right (Some m) member w piece s after b was =
-    notes_keep IsRight w.unit (λ note served number later right. right) (controller_of member s) (turn_units m w.link piece s.moment s.chances.left) _ (note_messages member m w piece s b) was
-
-client_right : (c : Option ClientState) (client : ℕ) (w : Coming) (piece : List ℕ) (s : State) (b : Book) → IsRight b → IsRight (note_client c client w piece s b)
-client_right None client w piece s b was = was
-client_right (Some c) client w piece s b was = was
-
 at_right : (end : EndId) (w : Coming) (piece : List ℕ) (s after : State) (b : Book) → IsRight b → IsRight (note_at (Some end) w piece s after b)
-at_right (Controller at) w piece s after b was = controller_right (slice_get s.ends.controllers at) at w piece s after b was
-at_right (Member at) w piece s after b was = member_right (slice_get s.ends.members at) at w piece s after b was
-at_right (Client at) w piece s after b was = client_right (slice_get s.ends.clients at) at w piece s b was
+at_right end w piece s after b was =
+    book_by (λ (one : EndId) (now : Book). IsRight now) w piece s after b (λ one. was) (λ at c is. controller_right c at w piece s after b was)
+    (λ at m is. subst AreRight (sym (judged_so.members m at w piece s after b)) was) (λ at c is. was) end
 
 pub judged_rightly : (plan : Plan) (moves : List Move) → AreRight (past plan moves).book.judged
 judged_rightly plan moves = book_holds IsRight at_right (λ at given after b was. was) plan moves tt

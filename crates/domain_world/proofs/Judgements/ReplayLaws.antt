@@ -1,6 +1,6 @@
 -- In every run a replayed authenticator passes again exactly where the timestamps that passed since, each plus one, sum
 -- to a multiple of 2^32. It serves `replays_pass_by_sum`.
-use Rattle.std.proofs.Common.{◌≡◌, ◌≢◌, ◌↔◌, ℕ, zero, suc, ◌+◌, ◌-◌, ◌%◌, ◌^◌, Bool, true, false, List, [], ◌∷◌, ◌++◌, length, Option, Some, None, AllPairs, refl, sym, ap, ap₂, subst, ◌∙◌, arith, slice_get}
+use Rattle.std.proofs.Common.{◌≡◌, ◌≢◌, ◌↔◌, ℕ, zero, suc, ◌+◌, ◌-◌, ◌%◌, ◌^◌, Bool, true, false, List, [], ◌∷◌, ◌++◌, Option, Some, None, AllPairs, refl, sym, ap, ap₂, subst, ◌∙◌, arith, slice_get}
 use Rattle.std.proofs.lemmas.List.Elements.{recursion_from_All}
 use Rattle.wire_base.specs.Maps.{lookup}
 use Rattle.wire_base.specs.Names.{same_name}
@@ -15,71 +15,34 @@ use Rattle.authenticators.proofs.ChannelLaws.{channel_key-same}
 use Rattle.authenticators.proofs.ReplayLaws.{replay}
 use Rattle.authenticators.proofs.SeedLaws.{IsBlock-add_to, add_to-add_to, seed_after-moved_by}
 use Rattle.outside.specs.Counter.{most_draws}
-use Rattle.outside.specs.Drawing.{Drawing}
-use Rattle.outside.specs.declared.event.Event.{Event}
-use Rattle.outside.specs.declared.event.Event.TheVariants as event
 use Rattle.outside.proofs.CounterLaws.{challenges_from-distinct}
 use Rattle.account_table.specs.AccountTable.{AccountTable}
 use Rattle.domain_controller.specs.State.{State as ControllerState}
 use Rattle.domain_controller.specs.Step.{first_state}
-use Rattle.logon_client.specs.State.{State as ClientState}
-use Rattle.member_server.specs.State.{State as MemberState}
 use Rattle.step_notes.specs.ControllerNotes.{channel_in, has_passed}
 use Rattle.step_notes.specs.Judged.{IsNextOn, channel_if}
 use Rattle.step_notes.specs.Marking.{is_channel}
-use Rattle.step_notes.specs.MemberNotes.{turn_units}
-use Rattle.step_notes.specs.Records.{Book, Judging, computer_named, given_in, timestamp_in}
-use Rattle.world_moves.specs.declared.links.EndId.{EndId}
-use Rattle.world_moves.specs.declared.links.EndId.TheVariants.{Controller, Member, Client}
-use Rattle.world_moves.specs.declared.links.Route.{Route}
+use Rattle.step_notes.specs.Records.{Judging, computer_named, given_in, timestamp_in}
 use Rattle.world_moves.specs.declared.moves.Move.{Move}
 use Rattle.world_moves.specs.declared.plan.Plan.{Plan}
-use Rattle.world_moves.specs.declared.state.State.{State}
-use Rattle.world_moves.specs.Ends.{EndStates, client_step, controller_step, end_step, member_step}
-use Rattle.world_moves.specs.Links.{acceptor_of}
 use Rattle.world_moves.specs.World.{first_controllers, first_world}
 use Rattle.domain_world.specs.Claims.{ReplaysBySum, moved_if, moved_on, passed_on, judged_timestamp}
-use Rattle.domain_world.specs.Past.{Coming, controller_of, note_at, note_client, note_controller, note_member, note_messages, numbers_on, past}
+use Rattle.domain_world.specs.Past.{numbers_on, past}
 use Rattle.channel_events.proofs.ListLaws.{moved_none, moved_one}
 use Rattle.channel_events.proofs.SameLaws.{one_channel}
-use Rattle.step_notes.proofs.Members.RestLaws.{client_leaves_rest, member_leaves}
-use Rattle.domain_world.proofs.Frames.FrameLaws.{Fact, HoldsAfter, HoldsIn, IsQuiet, Stays, StaysWritten, run_stays}
+use Rattle.domain_world.proofs.Frames.FrameLaws.{run_stays}
 use Rattle.domain_world.proofs.Judgements.JudgedLaws.{AreRight, judged_rightly}
 use Rattle.domain_world.proofs.Judgements.MovedLaws.{found_in, moved_append, moved_same}
 use Rattle.domain_world.proofs.Judgements.SeedLaws.{AreApart, AreKept, AreMoved, AreUnheard, IsMovedIn}
 use Rattle.domain_world.proofs.Judgements.SeedStepLaws.{AreKeptIf, SeedsFollow, bytes_follow, controller_put, drawn_follow, quiet_follow}
-use Rattle.domain_world.proofs.Frames.NoBytesLaws.{IsNoBytes}
-use Rattle.domain_world.proofs.Frames.TurnFrameLaws.{turns_judged}
+use Rattle.domain_world.proofs.Frames.ControllerFrameLaws.{AmongControllers, ControllersFact, KeepsControllers, controllers_written}
+use Rattle.domain_world.proofs.Frames.EndNoteLaws.{judged_so, judgings_of}
 
 -- ---- through the moves
 
 -- the seeds follow, by the parts of a world
-abbrev pub Follows : List Judging → Fact
-Follows judgings ends chances links = SeedsFollow judgings chances.left ends.controllers
-
-member_follow : (found : Option MemberState) (judgings : List Judging) (at : ℕ) (what : Event) (now : ℕ) (ends : EndStates) (chances : Drawing) (links : List Route) →
-    Follows judgings ends chances links → HoldsAfter (Follows judgings) (member_step found at what now ends chances) links
-member_follow None judgings at what now ends chances links follow = follow
-member_follow (Some m) judgings at what now ends chances links follow = drawn_follow judgings chances.left _ ends.controllers (member_leaves m what now chances.left) follow
-
-client_follow : (found : Option ClientState) (judgings : List Judging) (at : ℕ) (what : Event) (now : ℕ) (ends : EndStates) (chances : Drawing) (links : List Route) →
-    Follows judgings ends chances links → HoldsAfter (Follows judgings) (client_step found at what now ends chances) links
-client_follow None judgings at what now ends chances links follow = follow
-client_follow (Some c) judgings at what now ends chances links follow = drawn_follow judgings chances.left _ ends.controllers (client_leaves_rest c what now chances.left) follow
-
-end_follow : (end : EndId) (judgings : List Judging) (what : Event) (now : ℕ) (ends : EndStates) (chances : Drawing) (links : List Route) → IsNoBytes what →
-    Follows judgings ends chances links → HoldsAfter (Follows judgings) (end_step end what now ends chances) links
-end_follow (Controller at) judgings what now ends chances links none follow = quiet_follow (slice_get ends.controllers at) judgings at what now ends chances refl none follow
-end_follow (Member at) judgings what now ends chances links none follow = member_follow (slice_get ends.members at) judgings at what now ends chances links follow
-end_follow (Client at) judgings what now ends chances links none follow = client_follow (slice_get ends.clients at) judgings at what now ends chances links follow
-
-no_bytes : (what : Event) → IsQuiet what → IsNoBytes what
-no_bytes (event.Bytes link piece) quiet = absurd quiet
-no_bytes (event.Opened link) quiet = absurd quiet
-no_bytes (event.Closed link) quiet = tt
-no_bytes (event.Dialled link) quiet = tt
-no_bytes event.DialFailed quiet = tt
-no_bytes event.Stop quiet = tt
+abbrev pub Follows : List Judging → ControllersFact
+Follows judgings controllers chances = SeedsFollow judgings chances.left controllers
 
 -- a controller that is made anew keeps nothing of computers
 fresh_kept : (judgings : List Judging) (left : List (List ℕ)) (controller : ℕ) → AreKept judgings left controller (record { pending = []; channels = [] })
@@ -88,52 +51,22 @@ fresh_kept judgings left controller = record {
   each = λ name. record { channels = λ c there. absurd cc; pairs = λ pair waits. absurd cc; differ = λ c pair there waits. absurd cc };
 }
 
-follows_so : (judgings : List Judging) → Stays (Follows judgings)
-follows_so judgings = record {
-  hears = λ end what now ends chances links quiet follow. end_follow end judgings what now ends chances links (no_bytes what quiet) follow;
-  opens = λ route now ends chances links follow. end_follow (acceptor_of route) judgings (event.Opened (length links)) now ends chances links tt follow;
-  controllers = λ c at ends chances links is follow.
-      controller_put judgings judgings chances.left chances.left ends.controllers at (first_state c.table c.name) follow (record {
+follow_on : KeepsControllers judgings_of Follows
+follow_on = record {
+  of = judged_so;
+  given = λ at given after b. refl;
+  draws = λ judgings controllers chances later on follow. drawn_follow judgings chances.left later.left controllers on.rest follow;
+  hears = λ judgings c at what now controllers chances none is follow. quiet_follow c judgings at what now controllers chances.left is none follow;
+  comes = λ c at w piece s after b is follow.
+      bytes_follow c b.judged w.at at w.unit w.link piece s.moment s.ends.controllers s.chances.left (numbers_on w.link true s.bag after.bag) is follow;
+  anew = λ judgings c at controllers chances is follow.
+      controller_put judgings judgings chances.left chances.left controllers at (first_state c.table c.name) follow (record {
         order = follow.order;
         kept = fresh_kept judgings chances.left at;
         fewer = record { front = []; is = refl };
         others = λ channel apart. refl;
       });
-  members = λ plan at ends chances links follow. follow;
-  clients = λ client at ends chances links follow. follow;
 }
-
--- ---- what is written down of bytes
-
-controller_bytes : (found : Option ControllerState) (at : ℕ) (w : Coming) (piece : List ℕ) (s after : State) (b : Book) → slice_get s.ends.controllers at ≡ found → HoldsIn (Follows b.judged) s →
-    HoldsAfter (Follows (note_controller found at w piece s after b).judged) (controller_step found at (event.Bytes w.link piece) s.moment s.ends s.chances) s.links
-controller_bytes None at w piece s after b is follow = follow
-controller_bytes (Some c) at w piece s after b is follow =
-    bytes_follow (Some c) b.judged w.at at w.unit w.link piece s.moment s.ends s.chances (numbers_on w.link true s.bag after.bag) is follow c refl
-
-pub member_judged : (found : Option MemberState) (member : ℕ) (w : Coming) (piece : List ℕ) (s after : State) (b : Book) → (note_member found member w piece s after b).judged ≡ b.judged
-member_judged None member w piece s after b = refl
-member_judged (Some m) member w piece s after b =
-    turns_judged (controller_of member s) (turn_units m w.link piece s.moment s.chances.left) w.unit (numbers_on w.link false s.bag after.bag) (note_messages member m w piece s b)
-
-pub client_judged : (found : Option ClientState) (client : ℕ) (w : Coming) (piece : List ℕ) (s : State) (b : Book) → (note_client found client w piece s b).judged ≡ b.judged
-client_judged None client w piece s b = refl
-client_judged (Some c) client w piece s b = refl
-
-bytes_written : (end : EndId) (w : Coming) (piece : List ℕ) (s after : State) (b : Book) → HoldsIn (Follows b.judged) s →
-    HoldsAfter (Follows (note_at (Some end) w piece s after b).judged) (end_step end (event.Bytes w.link piece) s.moment s.ends s.chances) s.links
-bytes_written (Controller at) w piece s after b follow = controller_bytes (slice_get s.ends.controllers at) at w piece s after b refl follow
-bytes_written (Member at) w piece s after b follow =
-    subst (λ (judgings : List Judging). HoldsAfter (Follows judgings) (end_step (Member at) (event.Bytes w.link piece) s.moment s.ends s.chances) s.links)
-    (sym (member_judged (slice_get s.ends.members at) at w piece s after b))
-    (member_follow (slice_get s.ends.members at) b.judged at (event.Bytes w.link piece) s.moment s.ends s.chances s.links follow)
-bytes_written (Client at) w piece s after b follow =
-    subst (λ (judgings : List Judging). HoldsAfter (Follows judgings) (end_step (Client at) (event.Bytes w.link piece) s.moment s.ends s.chances) s.links)
-    (sym (client_judged (slice_get s.ends.clients at) at w piece s b))
-    (client_follow (slice_get s.ends.clients at) b.judged at (event.Bytes w.link piece) s.moment s.ends s.chances s.links follow)
-
-follows_written : StaysWritten (λ (b : Book). b.judged) Follows
-follows_written = record { stays = follows_so; bytes = bytes_written; given = λ at given after b. refl }
 
 -- ---- at first
 
@@ -156,7 +89,7 @@ fresh_controllers (table ∷ tables) (name ∷ names) judgings left controller z
     let is : first_state table name ≡ c = cc in subst (λ (x : ControllerState). AreKeptIf judgings left controller x.running) is (fresh_kept judgings left controller)
 fresh_controllers (table ∷ tables) (name ∷ names) judgings left controller (suc at) c there = fresh_controllers tables names judgings left controller at c there
 
-first_follows : (plan : Plan) → HoldsIn (Follows []) (first_world plan).state
+first_follows : (plan : Plan) → SeedsFollow [] (first_world plan).state.chances.left (first_world plan).state.ends.controllers
 first_follows plan =
     let left : List (List ℕ) = (first_world plan).state.chances.left in
     record {
@@ -165,8 +98,9 @@ first_follows plan =
     }
 
 -- after every run what each controller keeps of computers follows what was judged
-pub seeds_kept : (plan : Plan) (moves : List Move) → HoldsIn (Follows (past plan moves).book.judged) (past plan moves).world.state
-seeds_kept plan moves = run_stays (λ (b : Book). b.judged) Follows follows_written plan moves (first_follows plan)
+pub seeds_kept : (plan : Plan) (moves : List Move) →
+    SeedsFollow (past plan moves).book.judged (past plan moves).world.state.chances.left (past plan moves).world.state.ends.controllers
+seeds_kept plan moves = run_stays judgings_of (AmongControllers judgings_of Follows follow_on) (controllers_written judgings_of Follows follow_on) plan moves (first_follows plan)
 
 -- in every run each call that was judged met its channel's seed moved so
 seeds_follow : (plan : Plan) (moves : List Move) → AreMoved (past plan moves).book.judged

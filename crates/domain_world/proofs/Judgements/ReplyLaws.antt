@@ -32,7 +32,7 @@ use Rattle.step_notes.specs.Records.{Book, Judging}
 use Rattle.step_notes.specs.ReplySends.{AreSentFor, CarriesReply, IsReplyOfCall, IsSentIf}
 use Rattle.world_moves.specs.declared.bag.BagUnit.{BagUnit}
 use Rattle.world_moves.specs.declared.links.EndId.{EndId}
-use Rattle.world_moves.specs.declared.links.EndId.TheVariants.{Controller, Member, Client}
+use Rattle.world_moves.specs.declared.links.EndId.TheVariants.{Member}
 use Rattle.world_moves.specs.declared.moves.Move.{Move}
 use Rattle.world_moves.specs.declared.plan.Plan.{Plan}
 use Rattle.world_moves.specs.declared.state.State.{State}
@@ -45,7 +45,7 @@ use Rattle.step_notes.proofs.Controllers.ReplyStepLaws.{replies_sent}
 use Rattle.domain_world.proofs.Frames.BagFrameLaws.{IsOfUnit, MarksStay, UnitFact, controller_marks, member_marks, run_stays_marked}
 use Rattle.domain_world.proofs.Frames.FrameLaws.{Fact, StaysWritten}
 use Rattle.domain_world.proofs.Frames.NewUnitLaws.{IsNewUnit}
-use Rattle.domain_world.proofs.Judgements.ReplayLaws.{client_judged, member_judged}
+use Rattle.domain_world.proofs.Frames.EndNoteLaws.{book_by, judged_so}
 
 -- ---- one of more calls
 
@@ -217,20 +217,17 @@ nothing_else = record {
 plain_unit : (judgings : List Judging) (number : ℕ) (unit : BagUnit) → OfUnit judgings number unit Plain
 plain_unit judgings number unit = tt
 
-controller_grows : (found : Option ControllerState) (at : ℕ) (w : Coming) (piece : List ℕ) (s after : State) (b : Book) (number : ℕ) (unit : BagUnit) (mark : Mark) → OfUnit b.judged number unit mark →
-    OfUnit (note_controller found at w piece s after b).judged number unit mark
-controller_grows None at w piece s after b number unit mark is = is
-controller_grows (Some c) at w piece s after b number unit mark is =
+controller_grows : (c : ControllerState) (at : ℕ) (w : Coming) (piece : List ℕ) (s after : State) (b : Book) (number : ℕ) (unit : BagUnit) (mark : Mark) → OfUnit b.judged number unit mark →
+    OfUnit (note_controller (Some c) at w piece s after b).judged number unit mark
+controller_grows c at w piece s after b number unit mark is =
     let new : List Judging = judged_of (answers_of at c w piece s) (numbers_on w.link true s.bag after.bag) in
     of_others mark b.judged (onto new b.judged) number unit.bytes (λ P it. one_older P new b.judged it) is
 
 end_grows : (end : EndId) (w : Coming) (piece : List ℕ) (s after : State) (b : Book) (number : ℕ) (unit : BagUnit) (mark : Mark) → OfUnit b.judged number unit mark →
     OfUnit (note_at (Some end) w piece s after b).judged number unit mark
-end_grows (Controller at) w piece s after b number unit mark is = controller_grows (slice_get s.ends.controllers at) at w piece s after b number unit mark is
-end_grows (Member at) w piece s after b number unit mark is =
-    subst (λ (judgings : List Judging). OfUnit judgings number unit mark) (sym (member_judged (slice_get s.ends.members at) at w piece s after b)) is
-end_grows (Client at) w piece s after b number unit mark is =
-    subst (λ (judgings : List Judging). OfUnit judgings number unit mark) (sym (client_judged (slice_get s.ends.clients at) at w piece s b)) is
+end_grows end w piece s after b number unit mark is =
+    book_by (λ (one : EndId) (now : Book). OfUnit now.judged number unit mark) w piece s after b (λ one. is) (λ at c there. controller_grows c at w piece s after b number unit mark is)
+    (λ at m there. subst (λ (judgings : List Judging). OfUnit judgings number unit mark) (sym (judged_so.members m at w piece s after b)) is) (λ at c there. is) end
 
 -- what the controller sends at that place
 new_reply : (answer : Result (List Action) StepRefused) (c : ControllerState) (at : ℕ) (w : Coming) (piece : List ℕ) (s : State) (numbers : List ℕ) (place number : ℕ) (bytes : List ℕ) (mark : Mark) →

@@ -6,7 +6,7 @@ use Rattle.wire_base.specs.Maps.{lookup, same_number, take_out}
 use Rattle.wire_base.specs.Names.{same_name}
 use Rattle.authenticators.specs.Channels.{ChannelIdentity}
 use Rattle.outside.specs.declared.event.Event.{Event}
-use Rattle.outside.specs.Drawing.{Drawing, IsRest}
+use Rattle.outside.specs.Drawing.{IsRest}
 use Rattle.outside.specs.Machine.{step_by}
 use Rattle.outside.proofs.DrawLaws.{IsRest-later, IsRest-nothing, IsRest-refl, IsRest-trans}
 use Rattle.rpc_units.specs.Stream.{Cut, cut_stream}
@@ -26,7 +26,6 @@ use Rattle.domain_controller.specs.declared.state.Talk.{Talk}
 use Rattle.step_notes.specs.ControllerNotes.{Answered, Where, answer_on, channel_in, has_passed, heard_answer, judged_in, judging_by, judging_of, new_actions, opened_by, opening, passing, units_at, units_by}
 use Rattle.step_notes.specs.Records.{Judging, Network, computer_named}
 use Rattle.step_notes.specs.Served.{units_if_taken, work_after}
-use Rattle.world_moves.specs.Ends.{EndStates, controller_step}
 use Rattle.domain_world.specs.Claims.{moved_on}
 use Rattle.domain_world.specs.Past.{first_of, judged_of, later_of, onto, with_reply}
 use Rattle.step_notes.proofs.ServedLaws.{StaysNoted, served_mapped}
@@ -308,21 +307,20 @@ drawn_follow judgings left rest controllers is follow = record {
   each = λ k c there. kept_apart judgings judgings rest left k c.running is (λ channel same. refl) (follow.each k c there);
 }
 
-pub bytes_follow : (found : Option ControllerState) (judgings : List Judging) (at controller : ℕ) (unit : Option ℕ) (link : ℕ) (piece : List ℕ) (now : ℕ) (ends : EndStates) (chances : Drawing)
-    (numbers : List ℕ) → slice_get ends.controllers controller ≡ found → SeedsFollow judgings chances.left ends.controllers → (c : ControllerState) → found ≡ Some c →
-    SeedsFollow
-    (judged_at link (standing_at at controller unit c now) (units_if_taken (step_of c (event.Bytes link piece) now chances.left).answer (units_by c.running link piece c now chances.left)) numbers judgings)
-    (step_of c (event.Bytes link piece) now chances.left).left (slice_set ends.controllers controller (step_of c (event.Bytes link piece) now chances.left).state)
-bytes_follow found judgings at controller unit link piece now ends chances numbers is follow c there =
-    let kept : AreKeptIf judgings chances.left controller c.running = follow.each controller c (is ∙ there) in
-    controller_put judgings _ chances.left _ ends.controllers controller (step_of c (event.Bytes link piece) now chances.left).state follow
-    (bytes_step c.running judgings at controller unit link piece c now chances.left numbers follow.order kept kept)
+-- a controller hears bytes
+pub bytes_follow : (c : ControllerState) (judgings : List Judging) (at controller : ℕ) (unit : Option ℕ) (link : ℕ) (piece : List ℕ) (now : ℕ) (controllers : List ControllerState)
+    (left : List (List ℕ)) (numbers : List ℕ) → slice_get controllers controller ≡ Some c → SeedsFollow judgings left controllers →
+    SeedsFollow (judged_at link (standing_at at controller unit c now) (units_if_taken (step_of c (event.Bytes link piece) now left).answer (units_by c.running link piece c now left)) numbers judgings)
+    (step_of c (event.Bytes link piece) now left).left (slice_set controllers controller (step_of c (event.Bytes link piece) now left).state)
+bytes_follow c judgings at controller unit link piece now controllers left numbers is follow =
+    let kept : AreKeptIf judgings left controller c.running = follow.each controller c is in
+    controller_put judgings _ left _ controllers controller (step_of c (event.Bytes link piece) now left).state follow
+    (bytes_step c.running judgings at controller unit link piece c now left numbers follow.order kept kept)
 
-pub quiet_follow : (found : Option ControllerState) (judgings : List Judging) (controller : ℕ) (what : Event) (now : ℕ) (ends : EndStates) (chances : Drawing) →
-    slice_get ends.controllers controller ≡ found → IsNoBytes what → SeedsFollow judgings chances.left ends.controllers →
-    SeedsFollow judgings (controller_step found controller what now ends chances).chances.left (controller_step found controller what now ends chances).ends.controllers
-quiet_follow None judgings controller what now ends chances is none follow = follow
-quiet_follow (Some c) judgings controller what now ends chances is none follow =
-    let kept : AreKeptIf judgings chances.left controller c.running = follow.each controller c is in
-    controller_put judgings judgings chances.left _ ends.controllers controller (step_of c what now chances.left).state follow
-    (quiet_step what judgings controller c now chances.left none follow.order kept)
+-- it hears something else
+pub quiet_follow : (c : ControllerState) (judgings : List Judging) (controller : ℕ) (what : Event) (now : ℕ) (controllers : List ControllerState) (left : List (List ℕ)) →
+    slice_get controllers controller ≡ Some c → IsNoBytes what → SeedsFollow judgings left controllers →
+    SeedsFollow judgings (step_of c what now left).left (slice_set controllers controller (step_of c what now left).state)
+quiet_follow c judgings controller what now controllers left is none follow =
+    let kept : AreKeptIf judgings left controller c.running = follow.each controller c is in
+    controller_put judgings judgings left _ controllers controller (step_of c what now left).state follow (quiet_step what judgings controller c now left none follow.order kept)

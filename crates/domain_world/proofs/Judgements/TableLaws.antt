@@ -1,11 +1,9 @@
 -- The accounts of a controller change by the verdicts on the calls that passed there, and by nothing else.
 -- It serves `tables_follow_verdicts`.
-use Rattle.std.proofs.Common.{◌≡◌, ◌==◌, ℕ, Bool, true, false, List, [], ◌∷◌, ◌++◌, length, map, Option, Some, None, Ok, Err, refl, sym, ap, subst, ◌∙◌, slice_get, slice_set}
+use Rattle.std.proofs.Common.{◌≡◌, ◌==◌, ℕ, Bool, true, false, List, [], ◌∷◌, ◌++◌, map, Option, Some, None, Ok, Err, refl, sym, ap, subst, ◌∙◌, slice_get, slice_set}
 use Rattle.std.proofs.lemmas.Bool.{eq-eqb, ne_eqb}
 use Rattle.wire_base.specs.Maps.{lookup, same_number, take_out}
-use Rattle.outside.specs.Drawing.{Drawing}
 use Rattle.outside.specs.Machine.{step_by, then_part}
-use Rattle.outside.specs.declared.event.Event.{Event}
 use Rattle.outside.specs.declared.event.Event.TheVariants as event
 use Rattle.rpc_units.specs.Stream.{Cut, cut_stream}
 use Rattle.logon_stubs.specs.declared.calls.Call.{Call}
@@ -27,31 +25,25 @@ use Rattle.controller_calls.specs.declared.line.Line.{Line}
 use Rattle.domain_controller.specs.declared.state.Running.{Running}
 use Rattle.domain_controller.specs.declared.state.Talk.{Talk}
 use Rattle.domain_controller.proofs.CountLaws.{counts_by_verdict}
-use Rattle.logon_client.specs.State.{State as ClientState}
-use Rattle.member_server.specs.State.{State as MemberState}
-use Rattle.step_notes.specs.ControllerNotes.{Answered, Where, answer_on, channel_in, checked_on, has_passed, heard_answer, judging_by, judging_of, logon_answer, opened_by, opening, passing, units_at, units_by}
+use Rattle.step_notes.specs.ControllerNotes.{Answered, Where, answer_on, channel_in, has_passed, heard_answer, judging_by, judging_of, logon_answer, opened_by, opening, passing, units_at, units_by, checked_on}
 use Rattle.step_notes.specs.Judged.{IsJudgedRight, IsNextOn}
-use Rattle.step_notes.specs.Records.{Book, Judging, Network, computer_named}
+use Rattle.step_notes.specs.Records.{Book, Judging, computer_named, Network}
 use Rattle.step_notes.specs.Served.{units_if_taken, work_after}
-use Rattle.world_moves.specs.declared.links.EndId.{EndId}
-use Rattle.world_moves.specs.declared.links.EndId.TheVariants.{Controller, Member, Client}
-use Rattle.world_moves.specs.declared.links.Route.{Route}
 use Rattle.world_moves.specs.declared.moves.Move.{Move}
 use Rattle.world_moves.specs.declared.plan.Plan.{Plan}
 use Rattle.world_moves.specs.declared.state.State.{State}
-use Rattle.world_moves.specs.Ends.{EndStates, client_step, controller_step, end_step, member_step}
-use Rattle.world_moves.specs.Links.{acceptor_of}
 use Rattle.world_moves.specs.World.{first_world}
 use Rattle.domain_world.specs.Claims.Tables.{AreByEarlier, IsLeft, TablesFollowVerdicts, accounts_after, accounts_if, left_by, left_if, left_on}
-use Rattle.domain_world.specs.Past.{Coming, answers_of, at_controller, first_of, judged_of, later_of, note_at, note_controller, numbers_on, onto, past, with_reply}
+use Rattle.domain_world.specs.Past.{Coming, answers_of, at_controller, first_of, judged_of, later_of, note_controller, numbers_on, onto, past, with_reply}
 use Rattle.step_notes.proofs.Controllers.JudgedStepLaws.{next_of, on_next}
 use Rattle.step_notes.proofs.ServedLaws.{StaysNoted, served_mapped}
 use Rattle.domain_world.proofs.Challenges.MessageOnceLaws.{each_put}
-use Rattle.domain_world.proofs.Frames.FrameLaws.{Fact, HoldsAfter, HoldsIn, IsQuiet, Stays, StaysWritten, run_stays}
-use Rattle.domain_world.proofs.Frames.NoBytesLaws.{IsNoBytes, does_nothing_else}
+use Rattle.domain_world.proofs.Frames.FrameLaws.{run_stays}
+use Rattle.domain_world.proofs.Frames.NoBytesLaws.{does_nothing_else}
+use Rattle.domain_world.proofs.Frames.ControllerFrameLaws.{AmongControllers, ControllersFact, KeepsControllers, controllers_written}
+use Rattle.domain_world.proofs.Frames.EndNoteLaws.{judged_so, judgings_of}
 use Rattle.domain_world.proofs.Judgements.GrantLaws.{first_planned}
 use Rattle.domain_world.proofs.Judgements.JudgedLaws.{calls_right}
-use Rattle.domain_world.proofs.Judgements.ReplayLaws.{client_judged, member_judged}
 
 -- ---- what was judged in a step, in order
 
@@ -225,14 +217,6 @@ step_chains : (controller : ℕ) (c : ControllerState) (w : Coming) (piece : Lis
     StepChains controller c.table (answers_of controller c w piece s) (step_of c (event.Bytes w.link piece) s.moment s.chances.left).state.table
 step_chains controller c w piece s = by_chains c.running (at_controller controller c w s) c w.link piece s.chances.left refl
 
-quiet_no_bytes : (what : Event) → IsQuiet what → IsNoBytes what
-quiet_no_bytes (event.Bytes link piece) quiet = quiet
-quiet_no_bytes (event.Opened link) quiet = tt
-quiet_no_bytes (event.Closed link) quiet = tt
-quiet_no_bytes (event.Dialled link) quiet = tt
-quiet_no_bytes event.DialFailed quiet = tt
-quiet_no_bytes event.Stop quiet = tt
-
 -- ---- what is written down
 
 own_if : (here : Bool) (j : Judging) (before : AccountTable) → here ≡ true → accounts_if here j before ≡ left_by j
@@ -297,8 +281,8 @@ pub record Stand (plan : Plan) (judgings : List Judging) (controllers : List Con
   pub judged : AreByEarlier plan judgings
   pub each : (at : ℕ) (c : ControllerState) → slice_get controllers at ≡ Some c → IsLeft plan at judgings c.table
 
-abbrev pub Stands : Plan → List Judging → Fact
-Stands plan judgings ends chances links = Stand plan judgings ends.controllers
+abbrev pub Stands : Plan → List Judging → ControllersFact
+Stands plan judgings controllers chances = Stand plan judgings controllers
 
 -- a controller with the same accounts is put in its place
 same_put : (plan : Plan) (judgings : List Judging) (controllers : List ControllerState) (at : ℕ) (c new : ControllerState) → slice_get controllers at ≡ Some c → new.table ≡ c.table →
@@ -309,44 +293,11 @@ same_put plan judgings controllers at c new there same stands = record {
       (subst (λ (t : AccountTable). IsLeft plan at judgings t) (sym same) (stands.each at c there));
 }
 
-controller_stands : (found : Option ControllerState) (plan : Plan) (judgings : List Judging) (at : ℕ) (what : Event) (now : ℕ) (ends : EndStates) (chances : Drawing) (links : List Route) → IsNoBytes what →
-    slice_get ends.controllers at ≡ found → Stands plan judgings ends chances links → HoldsAfter (Stands plan judgings) (controller_step found at what now ends chances) links
-controller_stands None plan judgings at what now ends chances links none is stands = stands
-controller_stands (Some c) plan judgings at what now ends chances links none is stands =
-    same_put plan judgings ends.controllers at c (step_of c what now chances.left).state is (does_nothing_else c what now chances.left none).table stands
-
-member_stands : (found : Option MemberState) (plan : Plan) (judgings : List Judging) (at : ℕ) (what : Event) (now : ℕ) (ends : EndStates) (chances : Drawing) (links : List Route) →
-    Stands plan judgings ends chances links → HoldsAfter (Stands plan judgings) (member_step found at what now ends chances) links
-member_stands None plan judgings at what now ends chances links stands = stands
-member_stands (Some m) plan judgings at what now ends chances links stands = stands
-
-client_stands : (found : Option ClientState) (plan : Plan) (judgings : List Judging) (at : ℕ) (what : Event) (now : ℕ) (ends : EndStates) (chances : Drawing) (links : List Route) →
-    Stands plan judgings ends chances links → HoldsAfter (Stands plan judgings) (client_step found at what now ends chances) links
-client_stands None plan judgings at what now ends chances links stands = stands
-client_stands (Some c) plan judgings at what now ends chances links stands = stands
-
--- bytes at a controller apart, whatever an end hears
-end_stands : (end : EndId) (plan : Plan) (judgings : List Judging) (what : Event) (now : ℕ) (ends : EndStates) (chances : Drawing) (links : List Route) → IsNoBytes what →
-    Stands plan judgings ends chances links → HoldsAfter (Stands plan judgings) (end_step end what now ends chances) links
-end_stands (Controller at) plan judgings what now ends chances links none stands = controller_stands (slice_get ends.controllers at) plan judgings at what now ends chances links none refl stands
-end_stands (Member at) plan judgings what now ends chances links none stands = member_stands (slice_get ends.members at) plan judgings at what now ends chances links stands
-end_stands (Client at) plan judgings what now ends chances links none stands = client_stands (slice_get ends.clients at) plan judgings at what now ends chances links stands
-
-stands_so : (plan : Plan) (judgings : List Judging) → Stays (Stands plan judgings)
-stands_so plan judgings = record {
-  hears = λ end what now ends chances links quiet stands. end_stands end plan judgings what now ends chances links (quiet_no_bytes what quiet) stands;
-  opens = λ route now ends chances links stands. end_stands (acceptor_of route) plan judgings (event.Opened (length links)) now ends chances links tt stands;
-  controllers = λ c at ends chances links is stands. same_put plan judgings ends.controllers at c (first_state c.table c.name) is refl stands;
-  members = λ member at ends chances links stands. stands;
-  clients = λ client at ends chances links stands. stands;
-}
-
 -- bytes come at a controller
-controller_bytes : (found : Option ControllerState) (plan : Plan) (at : ℕ) (w : Coming) (piece : List ℕ) (s after : State) (b : Book) → slice_get s.ends.controllers at ≡ found →
-    HoldsIn (Stands plan b.judged) s →
-    HoldsAfter (Stands plan (note_controller found at w piece s after b).judged) (controller_step found at (event.Bytes w.link piece) s.moment s.ends s.chances) s.links
-controller_bytes None plan at w piece s after b is stands = stands
-controller_bytes (Some c) plan at w piece s after b is stands =
+controller_comes : (c : ControllerState) (plan : Plan) (at : ℕ) (w : Coming) (piece : List ℕ) (s after : State) (b : Book) → slice_get s.ends.controllers at ≡ Some c →
+    Stand plan b.judged s.ends.controllers →
+    Stand plan (note_controller (Some c) at w piece s after b).judged (slice_set s.ends.controllers at (step_of c (event.Bytes w.link piece) s.moment s.chances.left).state)
+controller_comes c plan at w piece s after b is stands =
     let new : ControllerState = (step_of c (event.Bytes w.link piece) s.moment s.chances.left).state in
     let now : List Judging = (note_controller (Some c) at w piece s after b).judged in
     let steps = step_chains at c w piece s in
@@ -359,27 +310,23 @@ controller_bytes (Some c) plan at w piece s after b is stands =
           (subst (λ (t : AccountTable). IsLeft plan at now t) (sym steps.1) brings.own);
     }
 
-bytes_stand : (plan : Plan) (end : EndId) (w : Coming) (piece : List ℕ) (s after : State) (b : Book) → HoldsIn (Stands plan b.judged) s →
-    HoldsAfter (Stands plan (note_at (Some end) w piece s after b).judged) (end_step end (event.Bytes w.link piece) s.moment s.ends s.chances) s.links
-bytes_stand plan (Controller at) w piece s after b stands = controller_bytes (slice_get s.ends.controllers at) plan at w piece s after b refl stands
-bytes_stand plan (Member at) w piece s after b stands =
-    subst (λ (judgings : List Judging). HoldsAfter (Stands plan judgings) (end_step (Member at) (event.Bytes w.link piece) s.moment s.ends s.chances) s.links)
-    (sym (member_judged (slice_get s.ends.members at) at w piece s after b))
-    (member_stands (slice_get s.ends.members at) plan b.judged at (event.Bytes w.link piece) s.moment s.ends s.chances s.links stands)
-bytes_stand plan (Client at) w piece s after b stands =
-    subst (λ (judgings : List Judging). HoldsAfter (Stands plan judgings) (end_step (Client at) (event.Bytes w.link piece) s.moment s.ends s.chances) s.links)
-    (sym (client_judged (slice_get s.ends.clients at) at w piece s b))
-    (client_stands (slice_get s.ends.clients at) plan b.judged at (event.Bytes w.link piece) s.moment s.ends s.chances s.links stands)
-
-stands_written : (plan : Plan) → StaysWritten (λ (b : Book). b.judged) (Stands plan)
-stands_written plan = record { stays = stands_so plan; bytes = bytes_stand plan; given = λ at given after b. refl }
+stand_on : (plan : Plan) → KeepsControllers judgings_of (Stands plan)
+stand_on plan = record {
+  of = judged_so;
+  given = λ at given after b. refl;
+  draws = λ judgings controllers chances later on stands. stands;
+  hears = λ judgings c at what now controllers chances none is stands.
+      same_put plan judgings controllers at c (step_of c what now chances.left).state is (does_nothing_else c what now chances.left none).table stands;
+  comes = λ c at w piece s after b is stands. controller_comes c plan at w piece s after b is stands;
+  anew = λ judgings c at controllers chances is stands. same_put plan judgings controllers at c (first_state c.table c.name) is refl stands;
+}
 
 -- ---- at first
 
 one_table : (one other : AccountTable) → Some one ≡ Some other → one ≡ other
 one_table one other is = cc
 
-first_stands : (plan : Plan) → HoldsIn (Stands plan []) (first_world plan).state
+first_stands : (plan : Plan) → Stand plan [] (first_world plan).state.ends.controllers
 first_stands plan = record {
   judged = tt;
   each = λ at c there planned is. one_table c.table planned (sym (first_planned plan.tables plan.controllers at c there).0 ∙ is);
@@ -388,5 +335,6 @@ first_stands plan = record {
 -- in every run accounts change by verdicts alone
 pub tables_follow : (plan : Plan) (moves : List Move) → TablesFollowVerdicts (past plan moves)
 tables_follow plan moves =
-    let stands = run_stays (λ (b : Book). b.judged) (Stands plan) (stands_written plan) plan moves (first_stands plan) in
+    let stands : Stand plan (past plan moves).book.judged (past plan moves).world.state.ends.controllers =
+    run_stays judgings_of (AmongControllers judgings_of (Stands plan) (stand_on plan)) (controllers_written judgings_of (Stands plan) (stand_on plan)) plan moves (first_stands plan) in
     record { judged = stands.judged; stands = stands.each }

@@ -1,6 +1,6 @@
 -- What controllers told in a run are the judgements of the Logon calls that they heard, in their order.
 -- It serves `controllers_pass_the_next`.
-use Rattle.std.proofs.Common.{◌≡◌, ℕ, Bool, true, false, cond, List, [], ◌∷◌, ◌++◌, length, map, Option, Some, None, Ok, Err, refl, sym, ap, ◌∙◌, subst, slice_get}
+use Rattle.std.proofs.Common.{◌≡◌, ℕ, Bool, true, false, cond, List, [], ◌∷◌, ◌++◌, length, map, Option, Some, None, Ok, Err, refl, sym, ap, ◌∙◌, subst}
 use Rattle.std.specs.List.{AllByRecursion}
 use Rattle.std.specs.Prelude.{flat_map}
 use Rattle.std.proofs.lemmas.List.{append_assoc, append-nil, flat_map_more}
@@ -15,7 +15,6 @@ use Rattle.outside.specs.declared.action.Action.{Action}
 use Rattle.outside.specs.declared.action.CloseCause.{CloseCause}
 use Rattle.outside.specs.declared.action.Judged.{Judged}
 use Rattle.outside.specs.declared.event.Event.{Event}
-use Rattle.outside.specs.Drawing.{Drawing}
 use Rattle.outside.specs.Machine.{Stepped, step_by, then_part}
 use Rattle.rpc_units.specs.Numbers.{nca_op_rng_error}
 use Rattle.rpc_units.specs.Stream.{cut_stream, Cut}
@@ -30,7 +29,7 @@ use Rattle.domain_controller.specs.Hearing.{hear}
 use Rattle.domain_controller.specs.Machine.{Desk, account_for, answer_logon, by_heard, channel_for, controller_server, draw_challenge, judge_account, judge_offer, judge_pair, open_channel, put_pair_if, send_fault, send_reply, take_pair}
 use Rattle.domain_controller.specs.Laws.{judges_call}
 use Rattle.domain_controller.specs.State.{State as ControllerState}
-use Rattle.domain_controller.specs.Step.{LinkMap, StepPart, after_units, first_desk, halted, serve_on, start_turn, state_after, step_on}
+use Rattle.domain_controller.specs.Step.{LinkMap, StepPart, after_units, first_desk, halted, serve_on, start_turn, state_after, step_of, step_on}
 use Rattle.domain_controller.specs.declared.hearing.Heard.{Heard}
 use Rattle.controller_calls.specs.declared.line.Line.{Line}
 use Rattle.controller_calls.specs.declared.state.Computers.{Computers}
@@ -38,8 +37,6 @@ use Rattle.controller_calls.specs.declared.state.ChallengePair.{ChallengePair}
 use Rattle.domain_controller.specs.declared.state.Running.{Running}
 use Rattle.domain_controller.specs.declared.state.Talk.{Talk}
 use Rattle.controller_calls.specs.declared.state.Work.{Work}
-use Rattle.logon_client.specs.State.{State as ClientState}
-use Rattle.member_server.specs.State.{State as MemberState}
 use Rattle.step_notes.specs.ControllerNotes.{Answered, Where, answer_on, channel_in, has_passed, heard_answer, judging_by, judging_of, opened_by, opening, passing, units_at, units_by}
 use Rattle.step_notes.specs.Judged.{IsJudgedRight, IsRightOf}
 use Rattle.step_notes.specs.MemberNotes.{turn_units}
@@ -51,18 +48,20 @@ use Rattle.world_moves.specs.declared.moves.Move.{Move}
 use Rattle.world_moves.specs.declared.plan.Plan.{Plan}
 use Rattle.world_moves.specs.declared.state.State.{State}
 use Rattle.world_moves.specs.Acting.{Given, given_by, hear_and_act}
-use Rattle.world_moves.specs.Ends.{EndStates, actions_by, controller_step}
+use Rattle.world_moves.specs.Ends.{EndStep, actions_by, client_step, member_step}
 use Rattle.world_moves.specs.Links.{acceptor_of}
 use Rattle.world_moves.specs.Moving.{begun, with_link}
 use Rattle.domain_world.specs.Claims.{AreRightlyTold, AreTheirJudgements, PassesTheNextCredential, judgements_of_calls}
 use Rattle.domain_world.specs.Past.{Coming, answers_of, controller_of, first_of, judged_of, judgement_by, judgements_in, later_of, note_at, note_client, note_controller, note_member, note_messages, numbers_on, onto, past, with_reply}
 use Rattle.step_notes.proofs.Controllers.JudgedStepLaws.{Told, by_names, how_is}
 use Rattle.domain_world.proofs.Judgements.JudgedLaws.{AreRight, judged_rightly}
-use Rattle.domain_world.proofs.Frames.TurnFrameLaws.{turns_judged, turns_judgements}
-use Rattle.domain_world.proofs.Frames.EndFrameLaws.{EndFact, IsCalm, KeepsEnds, ends_after}
+use Rattle.domain_world.proofs.Frames.TurnFrameLaws.{turns_judgements}
+use Rattle.domain_world.proofs.Frames.EndFrameLaws.{EndFact, KeepsEnds, ends_after}
 use Rattle.step_notes.proofs.ServedLaws.{StaysNoted, served_mapped}
 use Rattle.wire_base.specs.declared.authenticator.Authenticator.{Authenticator}
 use Rattle.domain_world.proofs.Frames.NoBytesLaws.{IsBeside, IsNoBytes, does_nothing_else}
+use Rattle.domain_world.proofs.Frames.EndNoteLaws.{judged_so, noted_by}
+use Rattle.domain_world.proofs.Frames.EventLaws.{calm_no_bytes}
 use Rattle.outside.specs.declared.action.Action.TheVariants as action
 use Rattle.outside.specs.declared.action.CloseCause.TheVariants as close
 use Rattle.outside.specs.declared.action.Judged.TheVariants as judged
@@ -71,6 +70,7 @@ use Rattle.logon_stubs.specs.declared.calls.Call.TheVariants as call
 use Rattle.logon_stubs.specs.declared.calls.Reply.TheVariants as reply
 use Rattle.domain_controller.specs.declared.hearing.Heard.TheVariants as heard
 use Rattle.world_moves.specs.Acting as acting
+use Rattle.world_moves.proofs.EndKindLaws.{is_controller, step_by as end_by}
 
 -- ---- what is told of calls
 
@@ -268,14 +268,6 @@ step_told (Some running) at controller unit link piece c now left =
 
 -- ---- steps that tell no judgement
 
-pub calm_bytes : (what : Event) → IsCalm what → IsNoBytes what
-calm_bytes (event.Bytes link piece) calm = calm
-calm_bytes (event.Opened link) calm = tt
-calm_bytes (event.Closed link) calm = tt
-calm_bytes (event.Dialled link) calm = tt
-calm_bytes event.DialFailed calm = tt
-calm_bytes event.Stop calm = tt
-
 -- such actions tell nothing
 beside_quiet : (controller : ℕ) (actions : List Action) (at : ℕ) → AllByRecursion IsBeside actions → judgements_in (given_by (Controller controller) actions) at ≡ []
 beside_quiet controller [] at all = refl
@@ -286,24 +278,24 @@ beside_quiet controller (action.Close link cause ∷ actions) at all = beside_qu
 beside_quiet controller (action.Told link outcome ∷ actions) at all = absurd all.0
 beside_quiet controller (action.Judged how ∷ actions) at all = absurd all.0
 
-found_quiet : (found : Option ControllerState) (what : Event) (controller at now : ℕ) (ends : EndStates) (chances : Drawing) → IsNoBytes what →
-    judgements_in (given_by (Controller controller) (controller_step found controller what now ends chances).actions) at ≡ []
-found_quiet None what controller at now ends chances none = refl
-found_quiet (Some c) what controller at now ends chances none =
-    beside_quiet controller (controller_step (Some c) controller what now ends chances).actions at (does_nothing_else c what now chances.left none).acts
+controller_quiet : (c : ControllerState) (what : Event) (controller at now : ℕ) (left : List (List ℕ)) → IsNoBytes what →
+    judgements_in (given_by (Controller controller) (actions_by (step_of c what now left).answer)) at ≡ []
+controller_quiet c what controller at now left none = beside_quiet controller (actions_by (step_of c what now left).answer) at (does_nothing_else c what now left none).acts
 
-member_quiet : (member : ℕ) (actions : List Action) (at : ℕ) → judgements_in (given_by (Member member) actions) at ≡ []
-member_quiet member [] at = refl
-member_quiet member (what ∷ actions) at = member_quiet member actions at
-
-client_quiet : (client : ℕ) (actions : List Action) (at : ℕ) → judgements_in (given_by (Client client) actions) at ≡ []
-client_quiet client [] at = refl
-client_quiet client (what ∷ actions) at = client_quiet client actions at
+-- only controllers tell judgements
+others_quiet : (end : EndId) → is_controller end ≡ false → (actions : List Action) (at : ℕ) → judgements_in (given_by end actions) at ≡ []
+others_quiet (Controller controller) other actions at = absurd (let never : true ≡ false = other in cc)
+others_quiet (Member member) other [] at = refl
+others_quiet (Member member) other (what ∷ actions) at = others_quiet (Member member) other actions at
+others_quiet (Client client) other [] at = refl
+others_quiet (Client client) other (what ∷ actions) at = others_quiet (Client client) other actions at
 
 end_quiet : (end : EndId) (what : Event) (s : State) (at : ℕ) → IsNoBytes what → judgements_in (given_by end (acting.hear end what s).actions) at ≡ []
-end_quiet (Controller controller) what s at none = found_quiet (slice_get s.ends.controllers controller) what controller at s.moment s.ends s.chances none
-end_quiet (Member member) what s at none = member_quiet member (acting.hear (Member member) what s).actions at
-end_quiet (Client client) what s at none = client_quiet client (acting.hear (Client client) what s).actions at
+end_quiet end what s at none =
+    end_by (λ (one : EndId) (step : EndStep). judgements_in (given_by one step.actions) at ≡ []) what s.moment s.ends s.chances (λ one. refl)
+    (λ k c is. controller_quiet c what k at s.moment s.chances.left none)
+    (λ k m is. others_quiet (Member k) refl (member_step (Some m) k what s.moment s.ends s.chances).actions at)
+    (λ k c is. others_quiet (Client k) refl (client_step (Some c) k what s.moment s.ends s.chances).actions at) end
 
 -- ---- what is written down as bytes come
 
@@ -349,11 +341,9 @@ none_told : (at : ℕ) (given more : Given) (old new : Book) → AreTold at give
 none_told at given more old new told none judged same =
     more_told at given more old new told (ap tellings judged ∙ ap (λ all. onto all (tellings old.judged)) (sym none)) same
 
-controller_told : (found : Option ControllerState) (controller : ℕ) (w : Coming) (piece : List ℕ) (s after : State) (given : Given) (b : Book) → AreTold w.at given b →
-    AreTold w.at (given ++ given_by (Controller controller) (controller_step found controller (event.Bytes w.link piece) s.moment s.ends s.chances).actions)
-    (note_controller found controller w piece s after b)
-controller_told None controller w piece s after given b told = none_told w.at given [] b b told refl refl refl
-controller_told (Some c) controller w piece s after given b told =
+controller_told : (c : ControllerState) (controller : ℕ) (w : Coming) (piece : List ℕ) (s after : State) (given : Given) (b : Book) → AreTold w.at given b →
+    AreTold w.at (given ++ given_by (Controller controller) (actions_by (step_of c (event.Bytes w.link piece) s.moment s.chances.left).answer)) (note_controller (Some c) controller w piece s after b)
+controller_told c controller w piece s after given b told =
     let numbers : List ℕ = numbers_on w.link true s.bag after.bag in
     more_told w.at given _ b (note_controller (Some c) controller w piece s after b) told
     (tellings_onto (judged_of (answers_of controller c w piece s) numbers) b.judged
@@ -361,25 +351,19 @@ controller_told (Some c) controller w piece s after given b told =
     ∙ sym (step_told c.running w.at controller w.unit w.link piece c s.moment s.chances.left)))
     refl
 
-member_told : (found : Option MemberState) (member : ℕ) (w : Coming) (piece : List ℕ) (s after : State) (given more : Given) (b : Book) → AreTold w.at given b → judgements_in more w.at ≡ [] →
-    AreTold w.at (given ++ more) (note_member found member w piece s after b)
-member_told None member w piece s after given more b told none = none_told w.at given more b b told none refl refl
-member_told (Some m) member w piece s after given more b told none = none_told w.at given more b (note_member (Some m) member w piece s after b) told none
-    (turns_judged (controller_of member s) (turn_units m w.link piece s.moment s.chances.left) w.unit (numbers_on w.link false s.bag after.bag) (note_messages member m w piece s b))
-    (turns_judgements (controller_of member s) (turn_units m w.link piece s.moment s.chances.left) w.unit (numbers_on w.link false s.bag after.bag) (note_messages member m w piece s b))
-
-client_told : (found : Option ClientState) (client : ℕ) (w : Coming) (piece : List ℕ) (s : State) (given more : Given) (b : Book) → AreTold w.at given b → judgements_in more w.at ≡ [] →
-    AreTold w.at (given ++ more) (note_client found client w piece s b)
-client_told None client w piece s given more b told none = none_told w.at given more b b told none refl refl
-client_told (Some c) client w piece s given more b told none = none_told w.at given more b (note_client (Some c) client w piece s b) told none refl refl
-
 end_told : (end : EndId) (w : Coming) (piece : List ℕ) (s after : State) (given : Given) (b : Book) → AreTold w.at given b →
     AreTold w.at (given ++ given_by end (acting.hear end (event.Bytes w.link piece) s).actions) (note_at (Some end) w piece s after b)
-end_told (Controller controller) w piece s after given b told = controller_told (slice_get s.ends.controllers controller) controller w piece s after given b told
-end_told (Member member) w piece s after given b told =
-    member_told (slice_get s.ends.members member) member w piece s after given _ b told (member_quiet member (acting.hear (Member member) (event.Bytes w.link piece) s).actions w.at)
-end_told (Client client) w piece s after given b told =
-    client_told (slice_get s.ends.clients client) client w piece s given _ b told (client_quiet client (acting.hear (Client client) (event.Bytes w.link piece) s).actions w.at)
+end_told end w piece s after given b told =
+    let what : Event = event.Bytes w.link piece in
+    noted_by (λ (one : EndId) (step : EndStep) (now : Book). AreTold w.at (given ++ given_by one step.actions) now) w piece s after b
+    (λ one. none_told w.at given [] b b told refl refl refl) (λ k c is. controller_told c k w piece s after given b told)
+    (λ k m is.
+    let actions : List Action = (member_step (Some m) k what s.moment s.ends s.chances).actions in
+    none_told w.at given (given_by (Member k) actions) b (note_member (Some m) k w piece s after b) told (others_quiet (Member k) refl actions w.at) (judged_so.members m k w piece s after b)
+    (turns_judgements (controller_of k s) (turn_units m w.link piece s.moment s.chances.left) w.unit (numbers_on w.link false s.bag after.bag) (note_messages k m w piece s b)))
+    (λ k c is.
+    let actions : List Action = (client_step (Some c) k what s.moment s.ends s.chances).actions in
+    none_told w.at given (given_by (Client k) actions) b (note_client (Some c) k w piece s b) told (others_quiet (Client k) refl actions w.at) refl refl) end
 
 -- ---- a run
 
@@ -388,7 +372,7 @@ ToldSoFar at on ends given b = AreTold at given b
 
 told_keeps : KeepsEnds ToldSoFar
 told_keeps = record {
-  calm = λ at on end what s given b none told. none_told at given (given_by end (acting.hear end what s).actions) b b told (end_quiet end what s at (calm_bytes what none)) refl refl;
+  calm = λ at on end what s given b none told. none_told at given (given_by end (acting.hear end what s).actions) b b told (end_quiet end what s at (calm_no_bytes what none)) refl refl;
   dialled = λ at end link s given b side told.
       none_told at given (given_by end (acting.hear end (event.Dialled link) s).actions) b b told (end_quiet end (event.Dialled link) s at tt) refl refl;
   opens = λ at route s given b told.
@@ -396,7 +380,7 @@ told_keeps = record {
       let what : Event = event.Opened (length s.links) in
       none_told at given (given_by end (acting.hear end what (with_link route s)).actions) b b told (end_quiet end what (with_link route s) at tt) refl refl;
   begins = λ at client plan s b is told.
-      none_told at [] (given_by (Client client) (begun client plan s).actions) b b told (client_quiet client (begun client plan s).actions at) refl refl;
+      none_told at [] (given_by (Client client) (begun client plan s).actions) b b told (others_quiet (Client client) refl (begun client plan s).actions at) refl refl;
   comes = λ end w piece s given b side came told. end_told end w piece s (hear_and_act end (event.Bytes w.link piece) s).state given b told;
   renews = λ at end s b told. told;
   over = λ at on next s given b told. told;

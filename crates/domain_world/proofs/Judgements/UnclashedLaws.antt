@@ -13,7 +13,6 @@ use Rattle.domain_controller.specs.declared.hearing.Heard.{Heard}
 use Rattle.domain_controller.specs.declared.hearing.Heard.TheVariants as heard
 use Rattle.controller_calls.specs.declared.line.Line.{Line}
 use Rattle.domain_controller.specs.declared.state.Talk.{Talk}
-use Rattle.logon_client.specs.State.{State as ClientState}
 use Rattle.member_server.specs.State.{State as MemberState}
 use Rattle.member_server.specs.Turns.{AtTurn}
 use Rattle.channel_turns.specs.declared.state.TurnTalk.{TurnTalk}
@@ -24,16 +23,16 @@ use Rattle.step_notes.specs.MemberNotes.{turn_units}
 use Rattle.step_notes.specs.Records.{Book, Judging, Network, Sent, computer_named}
 use Rattle.step_notes.specs.Served.{work_after}
 use Rattle.world_moves.specs.declared.links.EndId.{EndId}
-use Rattle.world_moves.specs.declared.links.EndId.TheVariants.{Controller, Member, Client}
 use Rattle.world_moves.specs.declared.moves.Move.{Move}
 use Rattle.world_moves.specs.declared.plan.Plan.{Plan}
 use Rattle.world_moves.specs.declared.state.State.{State}
 use Rattle.domain_world.specs.Accepting.Answered.{PassesAreUnclashed}
-use Rattle.domain_world.specs.Past.{Coming, answers_of, any_clash, at_controller, controller_of, first_of, judged_of, later_of, note_at, note_client, note_controller, note_member, note_messages, note_turns, numbers_on, onto, past, with_reply}
+use Rattle.domain_world.specs.Past.{Coming, answers_of, any_clash, at_controller, controller_of, first_of, judged_of, later_of, note_at, note_controller, note_member, note_messages, note_turns, numbers_on, onto, past, with_reply}
 use Rattle.channel_events.proofs.ListLaws.{all_weaker, got_append}
 use Rattle.domain_world.proofs.Frames.BookFrameLaws.{book_holds}
 use Rattle.domain_world.proofs.Judgements.JudgedLaws.{onto_hold}
 use Rattle.domain_world.proofs.Frames.TurnFrameLaws.{notes_keep}
+use Rattle.domain_world.proofs.Frames.EndNoteLaws.{book_by}
 
 -- ---- what is to hold
 
@@ -126,10 +125,8 @@ judged_fit (one ∷ answers) unit numbers sent noted none =
 
 -- ---- bytes that an end hears
 
-controller_unclashed : (found : Option ControllerState) (at : ℕ) (w : Coming) (piece : List ℕ) (s after : State) (b : Book) → AreUnclashed b →
-    AreUnclashed (note_controller found at w piece s after b)
-controller_unclashed None at w piece s after b all = all
-controller_unclashed (Some c) at w piece s after b all = λ apart.
+controller_unclashed : (c : ControllerState) (at : ℕ) (w : Coming) (piece : List ℕ) (s after : State) (b : Book) → AreUnclashed b → AreUnclashed (note_controller (Some c) at w piece s after b)
+controller_unclashed c at w piece s after b all = λ apart.
     let answers : List Answered = answers_of at c w piece s in
     let both = or_false b.clash (any_clash answers w.unit b.sent) apart in
     let numbers : List ℕ = numbers_on w.link true s.bag after.bag in
@@ -142,21 +139,15 @@ turns_unclashed : (controller : ℕ) (units : List (ServedUnit AtTurn TurnTalk))
 turns_unclashed controller units unit numbers b all =
     notes_keep AreUnclashed unit (λ note served number later so apart. so (or_false later.clash (clashes note.checked unit later.sent) apart).0) controller units numbers b all
 
-member_unclashed : (found : Option MemberState) (at : ℕ) (w : Coming) (piece : List ℕ) (s after : State) (b : Book) → AreUnclashed b →
-    AreUnclashed (note_member found at w piece s after b)
-member_unclashed None at w piece s after b all = all
-member_unclashed (Some m) at w piece s after b all =
+member_unclashed : (m : MemberState) (at : ℕ) (w : Coming) (piece : List ℕ) (s after : State) (b : Book) → AreUnclashed b → AreUnclashed (note_member (Some m) at w piece s after b)
+member_unclashed m at w piece s after b all =
     sent_more (note_turns (controller_of at s) (turn_units m w.link piece s.moment s.chances.left) w.unit (numbers_on w.link false s.bag after.bag) (note_messages at m w piece s b)) _
     (turns_unclashed (controller_of at s) (turn_units m w.link piece s.moment s.chances.left) w.unit (numbers_on w.link false s.bag after.bag) (note_messages at m w piece s b) all)
 
-client_unclashed : (found : Option ClientState) (at : ℕ) (w : Coming) (piece : List ℕ) (s : State) (b : Book) → AreUnclashed b → AreUnclashed (note_client found at w piece s b)
-client_unclashed None at w piece s b all = all
-client_unclashed (Some c) at w piece s b all = all
-
 end_unclashed : (end : EndId) (w : Coming) (piece : List ℕ) (s after : State) (b : Book) → AreUnclashed b → AreUnclashed (note_at (Some end) w piece s after b)
-end_unclashed (Controller at) w piece s after b all = controller_unclashed (slice_get s.ends.controllers at) at w piece s after b all
-end_unclashed (Member at) w piece s after b all = member_unclashed (slice_get s.ends.members at) at w piece s after b all
-end_unclashed (Client at) w piece s after b all = client_unclashed (slice_get s.ends.clients at) at w piece s b all
+end_unclashed end w piece s after b all =
+    book_by (λ (one : EndId) (now : Book). AreUnclashed now) w piece s after b (λ one. all) (λ at c is. controller_unclashed c at w piece s after b all)
+    (λ at m is. member_unclashed m at w piece s after b all) (λ at c is. all) end
 
 -- in every run
 pub passes_unclashed : (plan : Plan) (moves : List Move) → PassesAreUnclashed (past plan moves)

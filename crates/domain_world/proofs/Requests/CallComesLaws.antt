@@ -15,7 +15,6 @@ use Rattle.channel_events.specs.Marks.{Calling, Mark, Opened, Opening, Plain, Re
 use Rattle.channel_events.specs.Requests.{CallsAreApart, IsNoCall}
 use Rattle.channel_events.proofs.ListLaws.{all_weaker, got_append, one_weaker}
 use Rattle.domain_controller.specs.State.{State as ControllerState}
-use Rattle.logon_client.specs.State.{State as ClientState}
 use Rattle.member_server.specs.Machine.{actions_in, at_turn, event_part, halted_state, state_in, step_of, work_of}
 use Rattle.member_server.specs.State.{State as MemberState}
 use Rattle.member_server.specs.Turns.{AtTurn, DialWork}
@@ -37,14 +36,13 @@ use Rattle.world_moves.specs.declared.links.EndId.TheVariants.{Member}
 use Rattle.world_moves.specs.declared.links.Route.{Route}
 use Rattle.world_moves.specs.declared.links.Route.TheVariants.{ToController}
 use Rattle.world_moves.specs.declared.state.State.{State}
-use Rattle.world_moves.specs.Acting.{heard_by, perform_all}
-use Rattle.world_moves.specs.Ends.{EndStep, actions_by, client_step, controller_step, member_step}
+use Rattle.world_moves.specs.Acting.{heard_by, perform_all, unit_on}
+use Rattle.world_moves.specs.Ends.{EndStep, actions_by, controller_step, member_step}
 use Rattle.domain_world.specs.Accepting.Answered.{IsItsWay}
-use Rattle.domain_world.specs.Past.{Coming, answers_of, at_controller, at_member, controller_of, first_of, marks_of, note_client, note_controller, note_messages, note_turns, numbers_on, sent_at}
+use Rattle.domain_world.specs.Past.{Coming, answers_of, at_controller, at_member, controller_of, first_of, marks_of, note_controller, note_messages, note_turns, numbers_on, sent_at}
 use Rattle.domain_world.proofs.Accepting.LetInStepLaws.{IsAcceptedBy, IsDialledBy}
-use Rattle.domain_world.proofs.Frames.MarkPlaceLaws.{unit_on}
 use Rattle.domain_world.proofs.Requests.CallHoldsLaws.{CallsHold, differ_front, marks_append, marks_in, marks_sent, member_changed, sent_more, views_at}
-use Rattle.domain_world.proofs.Requests.CallStepLaws.{KeptSo, client_hears, coherent_if, controller_hears}
+use Rattle.domain_world.proofs.Requests.CallStepLaws.{KeptSo, coherent_if, controller_hears}
 use Rattle.domain_world.proofs.Requests.LooserLaws.{IsPlaced, NoCalls}
 use Rattle.domain_world.proofs.Requests.MarkWayLaws.{answers_way}
 use Rattle.domain_world.proofs.Requests.NewMessageLaws.{new_accepted}
@@ -76,11 +74,9 @@ pub no_calls_sent : (at : ℕ) (marks : List Mark) → NoCalls marks → NoCalls
 no_calls_sent at marks none = subst (λ (all : List Mark). NoCalls all) (sym (marks_sent at marks)) none
 
 -- none of what a controller sends is a call
-pub controller_comes : (n : ℕ) (found : Option ControllerState) (at : ℕ) (w : Coming) (piece : List ℕ) (s after : State) (b : Book) → KeptIn n s b →
-    KeptAfter (n + 1) s (controller_step found at (event.Bytes w.link piece) s.moment s.ends s.chances) (note_controller found at w piece s after b)
-controller_comes n None at w piece s after b kept few differ =
-    controller_hears n s.member_plans s.ends s.links b.sent b.messages None at (event.Bytes w.link piece) s.moment s.chances kept few differ
-controller_comes n (Some c) at w piece s after b kept few differ =
+pub controller_comes : (n : ℕ) (c : ControllerState) (at : ℕ) (w : Coming) (piece : List ℕ) (s after : State) (b : Book) → KeptIn n s b →
+    KeptAfter (n + 1) s (controller_step (Some c) at (event.Bytes w.link piece) s.moment s.ends s.chances) (note_controller (Some c) at w piece s after b)
+controller_comes n c at w piece s after b kept few differ =
     let step : EndStep = controller_step (Some c) at (event.Bytes w.link piece) s.moment s.ends s.chances in
     let new : List BagUnit = drop (length s.bag) after.bag in
     let marks : List Mark = answered_marks (answers_of at c w piece s) in
@@ -89,15 +85,7 @@ controller_comes n (Some c) at w piece s after b kept few differ =
     (answers_way w.link (at_controller at c w s) (units_of_controller c w.link piece s.moment s.chances.left)) in
     sent_more (n + 1) s.member_plans step.ends step.chances.drawn s.links b.sent (map (sent_at w.at) (marks_of w.link true new marks)) b.messages
     (no_calls_sent w.at (marks_of w.link true new marks) (no_calls_marked w.link true new marks none))
-    (controller_hears n s.member_plans s.ends s.links b.sent b.messages (Some c) at (event.Bytes w.link piece) s.moment s.chances kept few differ)
-
--- ---- at a client
-
--- nothing of what a client does is about calls
-pub client_comes : (n : ℕ) (found : Option ClientState) (at : ℕ) (w : Coming) (piece : List ℕ) (s : State) (b : Book) → KeptIn n s b →
-    KeptAfter (n + 1) s (client_step found at (event.Bytes w.link piece) s.moment s.ends s.chances) (note_client found at w piece s b)
-client_comes n None at w piece s b kept = client_hears n s.member_plans s.ends s.links b.sent b.messages None at (event.Bytes w.link piece) s.moment s.chances kept
-client_comes n (Some c) at w piece s b kept = client_hears n s.member_plans s.ends s.links b.sent b.messages (Some c) at (event.Bytes w.link piece) s.moment s.chances kept
+    (controller_hears n s.member_plans s.ends s.links b.sent b.messages c at (event.Bytes w.link piece) s.moment s.chances kept few differ)
 
 -- ---- at a member, on another link than that of its turn
 

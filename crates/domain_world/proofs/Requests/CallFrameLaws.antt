@@ -5,17 +5,14 @@ use Rattle.std.specs.Prelude.{◌-◌, replicate}
 use Rattle.std.specs.List.{AllByRecursion}
 use Rattle.std.proofs.lemmas.Bool.{eqb-true}
 use Rattle.outside.specs.declared.action.Action.{Action}
-use Rattle.outside.specs.declared.action.Action.TheVariants.{Keep, Send, Dial, Close, Told, Judged}
 use Rattle.outside.specs.declared.event.Event.{Event}
 use Rattle.outside.specs.declared.event.Event.TheVariants as event
 use Rattle.channel_client.specs.declared.state.Pending.{Pending}
 use Rattle.channel_events.specs.Marks.{Plain}
 use Rattle.channel_events.specs.Requests.{CallsAreApart, Requests}
 use Rattle.channel_events.proofs.ListLaws.{one_weaker}
-use Rattle.domain_controller.specs.State.{State as ControllerState}
 use Rattle.domain_controller.specs.Step.{first_state}
 use Rattle.logon_client.specs.Machine.{begin_of, fresh_client}
-use Rattle.logon_client.specs.declared.plan.ClientPlan.{ClientPlan}
 use Rattle.member_server.specs.Machine.{fresh_member, step_of}
 use Rattle.member_server.specs.State.{State as MemberState}
 use Rattle.member_server.specs.declared.plan.MemberPlan.{MemberPlan}
@@ -32,25 +29,24 @@ use Rattle.step_notes.proofs.Members.CallKeptLaws.{fresh_asks}
 use Rattle.step_notes.proofs.Members.KeptLogonLaws.{IfDialled, KeptIn as LogonsKept}
 use Rattle.world_moves.specs.declared.links.EndId.{EndId}
 use Rattle.world_moves.specs.declared.links.EndId.TheVariants.{Controller, Member, Client}
-use Rattle.world_moves.specs.declared.links.LinkKind.{LinkKind}
-use Rattle.world_moves.specs.declared.links.LinkKind.TheVariants as kind
 use Rattle.world_moves.specs.declared.links.Route.{Route}
 use Rattle.world_moves.specs.declared.links.Route.TheVariants.{ToController}
 use Rattle.world_moves.specs.declared.moves.Move.{Move}
 use Rattle.world_moves.specs.declared.plan.Plan.{Plan}
 use Rattle.world_moves.specs.declared.state.State.{State}
-use Rattle.world_moves.specs.Acting.{Given, bag_unit, hear, heard_by, hear_and_act, perform_all, perform_quietly, send_on}
+use Rattle.world_moves.specs.Acting.{Given, hear, hear_and_act}
 use Rattle.world_moves.specs.Draws.{DrawsDiffer}
-use Rattle.world_moves.specs.Ends.{actions_by, member_step, renew_client, renew_controller, renew_member}
+use Rattle.world_moves.specs.Ends.{EndStates, EndStep, controller_step, member_step}
 use Rattle.world_moves.specs.Forms.{IsSchedule}
-use Rattle.world_moves.specs.Links.{acceptor_of, is_accepted_by, kind_of}
+use Rattle.world_moves.specs.Links.{acceptor_of, kind_of}
 use Rattle.world_moves.specs.Moving.{begun, renewed, with_link}
 use Rattle.world_moves.specs.World.{first_world}
+use Rattle.world_moves.proofs.EndKindLaws.{IfMember, renew_by, step_by}
 use Rattle.domain_world.specs.Accepting.Carried.{IsWholeUnit}
 use Rattle.domain_world.specs.Accepting.Runs.{AskedIsOut, BagIsWhole, IsOut, IsQuiet, IsQuietTurn, RunsStandSo, Shows, seen_in}
 use Rattle.domain_world.specs.Past.{Coming, Past, controller_of, note_at, note_given, note_member, past, sent_at}
 use Rattle.domain_world.specs.Schedules.{OfSchedules}
-use Rattle.domain_world.proofs.Accepting.LetInStepLaws.{IsDialledBy, Meets, calm_meets, last_accepted, side_meets}
+use Rattle.domain_world.proofs.Accepting.LetInStepLaws.{IsDialledBy, Meets, MeetsMember, calm_meets, last_accepted, side_meets}
 use Rattle.domain_world.proofs.Accepting.Quiet.QuietRunLaws.{one_piece, has_bytes, is_quiet, quiet_first, quiet_keeps}
 use Rattle.domain_world.proofs.Accepting.Quiet.QuietStepLaws.{QuietAction, QuietFact}
 use Rattle.domain_world.proofs.Accepting.RunBeginLaws.{first_apart}
@@ -58,12 +54,13 @@ use Rattle.domain_world.proofs.Frames.BagFrameLaws.{IsServer}
 use Rattle.domain_world.proofs.Frames.ComingLaws.{CameFrom}
 use Rattle.domain_world.proofs.Frames.MarkPlaceLaws.{got_map}
 use Rattle.domain_world.proofs.Frames.StepFrameLaws.{AnyAction, ActionFact, BothFacts, BothFine, HoldsAfterRun, Keeps, NoFact, RunFact, join, run_keeps, with_side}
-use Rattle.domain_world.proofs.Requests.CallComesLaws.{IsWhole, KeptAfter, KeptIn, client_comes, controller_comes, other_comes, whole_comes}
+use Rattle.domain_world.proofs.Requests.CallComesLaws.{IsWhole, KeptAfter, KeptIn, controller_comes, other_comes, whole_comes}
 use Rattle.domain_world.proofs.Requests.CallHoldsLaws.{CallsHold, differ_front, link_more, marks_in, requests_at, sent_more}
-use Rattle.domain_world.proofs.Requests.CallStepLaws.{client_anew, client_hears, controller_anew, controller_hears, member_anew, member_hears}
+use Rattle.domain_world.proofs.Requests.CallStepLaws.{KeptSo, client_anew, client_hears, controller_anew, controller_hears, member_anew, member_hears, none_so}
 use Rattle.domain_world.proofs.Requests.LooserLaws.{NoCalls}
 use Rattle.domain_world.proofs.Requests.OutStepLaws.{IsOther, IsOutIn, MemberHolds, OutFor, none_out}
 use Rattle.domain_world.proofs.Frames.PlacedLaws.{HasBytes}
+use Rattle.domain_world.proofs.Frames.EndNoteLaws.{acted_by, stepped}
 use Rattle.domain_world.proofs.Requests.ByRequesterLaws.{by_requester, by_requester_apart}
 
 -- ---- a unit that comes on the link of a turn is whole, and comes in one piece
@@ -128,24 +125,24 @@ plain_calls at (suc count) zero number timestamp c there = let x = there in cc
 plain_calls at (suc count) (suc k) number timestamp c there = plain_calls at count k number timestamp c there
 
 hears_so : (n : ℕ) (end : EndId) (what : Event) (s : State) (b : Book) → Meets end s.links what → KeptIn n s b → KeptIn (n + 1) (hear end what s).state b
-hears_so n (Controller at) what s b meets kept =
-    controller_hears n s.member_plans s.ends s.links b.sent b.messages (slice_get s.ends.controllers at) at what s.moment s.chances kept
-hears_so n (Client at) what s b meets kept = client_hears n s.member_plans s.ends s.links b.sent b.messages (slice_get s.ends.clients at) at what s.moment s.chances kept
-hears_so n (Member at) what s b meets kept =
-    member_hears n s.member_plans s.ends s.links b.sent b.messages (slice_get s.ends.members at) at what s.moment s.chances refl meets.0 meets.1 kept
+hears_so n end what s b meets kept =
+    step_by (λ (one : EndId) (step : EndStep). IfMember (MeetsMember s.links what) one → KeptAfter (n + 1) s step b) what s.moment s.ends s.chances
+    (λ one its. none_so n s.member_plans s.ends s.links b.sent b.messages s.chances.drawn kept)
+    (λ at c is its. controller_hears n s.member_plans s.ends s.links b.sent b.messages c at what s.moment s.chances kept)
+    (λ at m is its. member_hears n s.member_plans s.ends s.links b.sent b.messages m at what s.moment s.chances is (its at refl).0 (its at refl).1 kept)
+    (λ at c is its. client_hears n s.member_plans s.ends s.links b.sent b.messages c at what s.moment s.chances kept) end meets
 
 -- ---- bytes come
 
-member_comes : (n : ℕ) (found : Option MemberState) (at : ℕ) (w : Coming) (piece : List ℕ) (s after : State) (b : Book) → slice_get s.ends.members at ≡ found → IsQuiet s →
-    CameFrom w.unit s w piece → length b.sent ≡ length s.bag →
-    ((m : MemberState) → found ≡ Some m →
-    after.bag
-    ≡ (perform_all (Member at) (actions_by (step_of m (event.Bytes w.link piece) s.moment s.chances.left).answer)
-    (heard_by (member_step (Some m) at (event.Bytes w.link piece) s.moment s.ends s.chances) s).state).state.bag) →
-    KeptIn n s b → KeptAfter (n + 1) s (member_step found at (event.Bytes w.link piece) s.moment s.ends s.chances) (note_member found at w piece s after b)
-member_comes n None at w piece s after b is quiet came even bag kept =
-    member_hears n s.member_plans s.ends s.links b.sent b.messages None at event.Stop s.moment s.chances is tt tt kept
-member_comes n (Some m) at w piece s after b is quiet came even bag kept = λ few differ.
+-- once a member acted
+abbrev member_after : MemberState → ℕ → Coming → List ℕ → State → State
+member_after m at w piece s = stepped (Member at) (member_step (Some m) at (event.Bytes w.link piece) s.moment s.ends s.chances) s
+
+member_comes : (n : ℕ) (m : MemberState) (at : ℕ) (w : Coming) (piece : List ℕ) (s : State) (b : Book) → slice_get s.ends.members at ≡ Some m → IsQuiet s →
+    CameFrom w.unit s w piece → length b.sent ≡ length s.bag → KeptIn n s b →
+    KeptAfter (n + 1) s (member_step (Some m) at (event.Bytes w.link piece) s.moment s.ends s.chances) (note_member (Some m) at w piece s (member_after m at w piece s) b)
+member_comes n m at w piece s b is quiet came even kept = λ few differ.
+    let after : State = member_after m at w piece s in
     let drawn : List (List ℕ) = (step_of m (event.Bytes w.link piece) s.moment s.chances.left).drawn in
     let holds : CallsHold n s.member_plans s.ends s.chances.drawn s.links b.sent b.messages = kept (omega (arith, few)) (differ_front s.chances.drawn drawn differ) in
     let own : MemberHolds s.links b.sent b.messages (controller_of at s) at m.running = holds.members at m is in
@@ -160,56 +157,27 @@ member_comes n (Some m) at w piece s after b is quiet came even bag kept = λ fe
           let whole : IsWhole w.link piece on.running =
           record { said = on.said; on = on.on; rest = turn.0; none = turn.1; frames = unit.frames; unit = unit.unit; heard = unit.heard } in
           subst (λ (x : MemberState). KeptAfter (n + 1) s (member_step (Some x) at (event.Bytes w.link piece) s.moment s.ends s.chances) (note_member (Some x) at w piece s after b)) (sym same)
-          (whole_comes n at w piece s after b on.running whole dialled even (bag now (ap (λ (x : MemberState). Some x) same)) (is ∙ ap (λ (x : MemberState). Some x) same) kept)
+          (whole_comes n at w piece s after b on.running whole dialled even (ap (λ (x : MemberState). (member_after x at w piece s).bag) same) (is ∙ ap (λ (x : MemberState). Some x) same) kept)
           few differ
     ]
 
 comes_so : (n : ℕ) (end : EndId) (w : Coming) (piece : List ℕ) (s : State) (b : Book) → CameFrom w.unit s w piece → (IsServer end → length b.sent ≡ length s.bag) → IsQuiet s → KeptIn n s b →
     KeptIn (n + 1) (hear end (event.Bytes w.link piece) s).state (note_at (Some end) w piece s (hear_and_act end (event.Bytes w.link piece) s).state b)
-comes_so n (Controller at) w piece s b came even quiet kept =
-    controller_comes n (slice_get s.ends.controllers at) at w piece s (hear_and_act (Controller at) (event.Bytes w.link piece) s).state b kept
-comes_so n (Client at) w piece s b came even quiet kept = client_comes n (slice_get s.ends.clients at) at w piece s b kept
-comes_so n (Member at) w piece s b came even quiet kept =
-    let what : Event = event.Bytes w.link piece in
-    member_comes n (slice_get s.ends.members at) at w piece s (hear_and_act (Member at) what s).state b refl quiet came (even tt)
-    (λ m is. ap (λ (found : Option MemberState).
-    (perform_all (Member at) (member_step found at what s.moment s.ends s.chances).actions (heard_by (member_step found at what s.moment s.ends s.chances) s).state).state.bag) is) kept
+comes_so n end w piece s b came even quiet kept =
+    acted_by (λ (one : EndId) (step : EndStep) (after : State) (now : Book). (IsServer one → length b.sent ≡ length s.bag) → KeptAfter (n + 1) s step now) w piece s b
+    (λ one same. none_so n s.member_plans s.ends s.links b.sent b.messages s.chances.drawn kept)
+    (λ at c is same. controller_comes n c at w piece s (stepped (Controller at) (controller_step (Some c) at (event.Bytes w.link piece) s.moment s.ends s.chances) s) b kept)
+    (λ at m is same. member_comes n m at w piece s b is quiet came (same refl) kept)
+    (λ at c is same. client_hears n s.member_plans s.ends s.links b.sent b.messages c at (event.Bytes w.link piece) s.moment s.chances kept) end even
 
 -- ---- single changes
 
-bag_so : (n : ℕ) (k : LinkKind) (back : Bool) (link : ℕ) (bytes : List ℕ) (s : State) (b : Book) → KeptIn n s b → KeptIn n (bag_unit k back link bytes s) b
-bag_so n kind.Stranger back link bytes s b kept = kept
-bag_so n kind.ToMember back link bytes s b kept = kept
-bag_so n kind.ToController back link bytes s b kept = kept
-
-send_so : (n : ℕ) (route : Option Route) (end : EndId) (link : ℕ) (bytes : List ℕ) (s : State) (b : Book) → KeptIn n s b → KeptIn n (send_on route end link bytes s) b
-send_so n None end link bytes s b kept = kept
-send_so n (Some route) end link bytes s b kept = bag_so n (kind_of route) (is_accepted_by end route) link bytes s b kept
-
-act_so : (n : ℕ) (end : EndId) (what : Action) (s : State) (b : Book) → KeptIn n s b → KeptIn n (perform_quietly end what s) b
-act_so n end (Keep bytes) s b kept = kept
-act_so n end (Send link bytes) s b kept = send_so n (slice_get s.links link) end link bytes s b kept
-act_so n end (Dial peer) s b kept = kept
-act_so n end (Close link cause) s b kept = kept
-act_so n end (Told link outcome) s b kept = kept
-act_so n end (Judged how) s b kept = kept
-
-controller_renewed : (n : ℕ) (found : Option ControllerState) (at : ℕ) (s : State) (b : Book) → KeptIn n s b → KeptIn n (record s { ends = renew_controller found at s.ends }) b
-controller_renewed n None at s b kept = kept
-controller_renewed n (Some c) at s b kept = controller_anew n s.member_plans s.ends s.links b.sent b.messages at (first_state c.table c.name) s.chances.drawn kept
-
-member_renewed : (n : ℕ) (found : Option MemberPlan) (at : ℕ) (s : State) (b : Book) → KeptIn n s b → KeptIn n (record s { ends = renew_member found at s.ends }) b
-member_renewed n None at s b kept = kept
-member_renewed n (Some plan) at s b kept = member_anew n s.member_plans s.ends s.links b.sent b.messages plan at s.chances.drawn kept
-
-client_renewed : (n : ℕ) (found : Option ClientPlan) (at : ℕ) (s : State) (b : Book) → KeptIn n s b → KeptIn n (record s { ends = renew_client found at s.ends }) b
-client_renewed n None at s b kept = kept
-client_renewed n (Some plan) at s b kept = client_anew n s.member_plans s.ends s.links b.sent b.messages n at (fresh_client plan) s.chances.drawn (omega arith) kept
-
 renewed_so : (n : ℕ) (end : EndId) (s : State) (b : Book) → KeptIn n s b → KeptIn n (renewed end s) b
-renewed_so n (Controller at) s b kept = controller_renewed n (slice_get s.ends.controllers at) at s b kept
-renewed_so n (Member at) s b kept = member_renewed n (slice_get s.member_plans at) at s b kept
-renewed_so n (Client at) s b kept = client_renewed n (slice_get s.client_plans at) at s b kept
+renewed_so n end s b kept =
+    renew_by (λ (one : EndId) (ends : EndStates). KeptSo n s.member_plans ends s.chances.drawn s.links b.sent b.messages) s (λ one. kept)
+    (λ at c is. controller_anew n s.member_plans s.ends s.links b.sent b.messages at (first_state c.table c.name) s.chances.drawn kept)
+    (λ at plan is. member_anew n s.member_plans s.ends s.links b.sent b.messages plan at s.chances.drawn kept)
+    (λ at plan is. client_anew n s.member_plans s.ends s.links b.sent b.messages n at (fresh_client plan) s.chances.drawn (omega arith) kept) end
 
 over_so : (n at : ℕ) (given : Given) (s : State) (b : Book) → KeptIn n s b → KeptIn n s (note_given at given s b)
 over_so n at given s b kept = λ few differ.
@@ -240,7 +208,7 @@ calls_keep = record {
     holds = comes_so n end w piece s b came even quiet kept;
     fine = any_fine end s.links (hear end (event.Bytes w.link piece) s).actions;
   };
-  acts = λ n end what s given b fine quiet kept. act_so n end what s b kept;
+  acts = λ n end what s given b fine quiet kept. kept;
   shuts = λ n link s given b quiet kept. kept;
   answers = λ n link there s given b is quiet kept. kept;
   forgets = λ n end s given b quiet kept. kept;

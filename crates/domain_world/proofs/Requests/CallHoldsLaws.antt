@@ -9,7 +9,7 @@ use Rattle.std.proofs.lemmas.List.Elements.{recursion_from_All}
 use Rattle.channel_client.specs.Effects.{View}
 use Rattle.channel_events.specs.Marks.{Calling, Mark}
 use Rattle.channel_events.specs.Requests.{CallsAreApart, Requests}
-use Rattle.channel_events.proofs.ListLaws.{all_weaker, got_append, one_weaker, pairs_first}
+use Rattle.channel_events.proofs.ListLaws.{all_weaker, got_append, got_nothing, one_weaker, pairs_first, some_is}
 use Rattle.member_server.specs.State.{State as MemberState}
 use Rattle.member_server.specs.declared.plan.MemberPlan.{MemberPlan}
 use Rattle.step_notes.specs.Records.{MessageTaken, Sent}
@@ -57,6 +57,11 @@ views_at plans ends k = seen_member (controller_of_plan (slice_get plans k) ends
 -- what the units were made for
 abbrev pub marks_in : List Sent → List Mark
 marks_in sent = map (λ (one : Sent). one.mark) sent
+
+pub mark_there : (sent : List Sent) (n : ℕ) (one : Sent) → slice_get sent n ≡ Some one → slice_get (marks_in sent) n ≡ Some one.mark
+mark_there [] n one there = absurd (got_nothing n one there)
+mark_there (first ∷ sent) zero one there = ap (λ (s : Sent). Some s.mark) (some_is first one there)
+mark_there (first ∷ sent) (suc n) one there = mark_there sent n one there
 
 -- after so many steps of ends, each of which uses two numbers at most
 abbrev pub requests_at : ℕ → List MemberPlan → EndStates → List (List ℕ) → List Sent → Requests ℕ

@@ -66,7 +66,8 @@ module _ (n : ℕ) (plans : List MemberPlan) (ends : EndStates) (links : List Ro
       ends_other n later onward plans ends (record ends { clients = slice_set ends.clients at new }) drawn more links sent messages refl
       (record { controllers = refl; members = refl; clients = length-set ends.clients at new }) (kept (omega (arith, onward, few)) (differ_front drawn more differ))
 
-  none_so : (drawn : List (List ℕ)) → KeptSo n plans ends drawn links sent messages → KeptSo (n + 1) plans ends drawn links sent messages
+  -- an end that isn't there takes no step
+  pub none_so : (drawn : List (List ℕ)) → KeptSo n plans ends drawn links sent messages → KeptSo (n + 1) plans ends drawn links sent messages
   none_so drawn kept few differ = more_steps n (n + 1) plans ends drawn links sent messages (omega arith) (kept (omega (arith, few)) differ)
 
   -- nothing is drawn
@@ -83,27 +84,24 @@ module _ (n : ℕ) (plans : List MemberPlan) (ends : EndStates) (links : List Ro
       (controllers_so n at new drawn [] (omega arith) kept)
 
   -- a step of a controller
-  pub controller_hears : (found : Option ControllerState) (at : ℕ) (what : Event) (now : ℕ) (chances : Drawing) → KeptSo n plans ends chances.drawn links sent messages →
-      KeptSo (n + 1) plans (controller_step found at what now ends chances).ends (controller_step found at what now ends chances).chances.drawn links sent messages
-  controller_hears None at what now chances kept = none_so chances.drawn kept
-  controller_hears (Some c) at what now chances kept =
+  pub controller_hears : (c : ControllerState) (at : ℕ) (what : Event) (now : ℕ) (chances : Drawing) → KeptSo n plans ends chances.drawn links sent messages →
+      KeptSo (n + 1) plans (controller_step (Some c) at what now ends chances).ends (controller_step (Some c) at what now ends chances).chances.drawn links sent messages
+  controller_hears c at what now chances kept =
       controllers_so (n + 1) at (controller_step_of c what now chances.left).state chances.drawn (controller_step_of c what now chances.left).drawn (omega arith) kept
 
   -- a step of a client
-  pub client_hears : (found : Option ClientState) (at : ℕ) (what : Event) (now : ℕ) (chances : Drawing) → KeptSo n plans ends chances.drawn links sent messages →
-      KeptSo (n + 1) plans (client_step found at what now ends chances).ends (client_step found at what now ends chances).chances.drawn links sent messages
-  client_hears None at what now chances kept = none_so chances.drawn kept
-  client_hears (Some c) at what now chances kept =
+  pub client_hears : (c : ClientState) (at : ℕ) (what : Event) (now : ℕ) (chances : Drawing) → KeptSo n plans ends chances.drawn links sent messages →
+      KeptSo (n + 1) plans (client_step (Some c) at what now ends chances).ends (client_step (Some c) at what now ends chances).chances.drawn links sent messages
+  client_hears c at what now chances kept =
       clients_so (n + 1) at (client_step_of c what now chances.left).state chances.drawn (client_step_of c what now chances.left).drawn (omega arith) kept
 
   -- ---- a member
 
   -- a step of a member at which no bytes come
-  pub member_hears : (found : Option MemberState) (at : ℕ) (what : Event) (now : ℕ) (chances : Drawing) → slice_get ends.members at ≡ found → Dials (λ number. IsDialledBy links at number) what →
+  pub member_hears : (m : MemberState) (at : ℕ) (what : Event) (now : ℕ) (chances : Drawing) → slice_get ends.members at ≡ Some m → Dials (λ number. IsDialledBy links at number) what →
       Opens what (λ number p. IsAcceptedBy links at number) → KeptSo n plans ends chances.drawn links sent messages →
-      KeptSo (n + 1) plans (member_step found at what now ends chances).ends (member_step found at what now ends chances).chances.drawn links sent messages
-  member_hears None at what now chances is dials opens kept few differ = none_so chances.drawn kept few differ
-  member_hears (Some m) at what now chances is dials opens kept few differ =
+      KeptSo (n + 1) plans (member_step (Some m) at what now ends chances).ends (member_step (Some m) at what now ends chances).chances.drawn links sent messages
+  member_hears m at what now chances is dials opens kept few differ =
       let controller : ℕ = controller_of_plan (slice_get plans at) ends in
       let drawn : List (List ℕ) = chances.drawn ++ (step_of m what now chances.left).drawn in
       let holds : CallsHold n plans ends chances.drawn links sent messages = kept (omega (arith, few)) (differ_front chances.drawn (step_of m what now chances.left).drawn differ) in

@@ -32,8 +32,9 @@ use Rattle.domain_world.proofs.Challenges.MessageApartLaws.{messages_apart}
 use Rattle.domain_world.proofs.Frames.BagStepLaws.{run_fits}
 use Rattle.domain_world.proofs.Frames.StepFrameLaws.{ActionFact, Keeps, NoFact, RunFact}
 use Rattle.domain_world.proofs.Requests.CalledUnitLaws.{CallSide, CalledIn, IsAskedOn, IsCallAt, IsGood, called_keep}
-use Rattle.domain_world.proofs.Requests.OwnMessageLaws.{AllKept, all_fresh, kept_written, messages_in}
+use Rattle.domain_world.proofs.Requests.OwnMessageLaws.{EachKept, all_fresh, kept_written}
 use Rattle.domain_world.proofs.Frames.PlacedLaws.{HasBytes}
+use Rattle.domain_world.proofs.Frames.EndNoteLaws.{messages_in}
 
 -- ---- the message of a link is one
 
@@ -80,7 +81,7 @@ messages_called Holds Fine keeps gives plan moves has holds =
     let messages : List MessageTaken = (past plan moves).book.messages in
     let bag : List BagUnit = (past plan moves).world.state.bag in
     let called : CalledIn bag (past plan moves).book =
-    run_fits Holds Fine keeps messages_in AllKept kept_written CalledIn (called_keep Holds gives) plan moves has holds (all_fresh [] plan.members) tt in
+    run_fits Holds Fine keeps messages_in EachKept kept_written CalledIn (called_keep Holds gives) plan moves has holds (all_fresh [] plan.members) tt in
     all_zip (IsGood (IsCallAt bag messages)) (AsksOwn messages) (λ (message : MessageTaken). (n : ℕ) → message.call ≡ Some n → IsCalledFor (past plan moves) message n) messages
     (λ message good own n is.
     let at : IsCallAt bag messages message.link n = good n is in

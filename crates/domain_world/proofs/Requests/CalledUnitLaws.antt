@@ -20,8 +20,6 @@ use Rattle.end_links.specs.Links.{LinkState}
 use Rattle.end_links.specs.Sending.{request_of}
 use Rattle.end_links.specs.Serving.{ServedUnit}
 use Rattle.channel_client.specs.Whole.{InRangeRequester}
-use Rattle.domain_controller.specs.State.{State as ControllerState}
-use Rattle.logon_client.specs.State.{State as ClientState}
 use Rattle.member_server.specs.declared.state.AtLink.{AtLink}
 use Rattle.member_server.specs.Turns.{AtTurn}
 use Rattle.channel_turns.specs.declared.state.Dialling.{Dialling}
@@ -43,34 +41,35 @@ use Rattle.step_notes.specs.Records.{Book, MessageTaken}
 use Rattle.step_notes.specs.Served.{talk_after, units_if_taken, work_after}
 use Rattle.world_moves.specs.declared.bag.BagUnit.{BagUnit}
 use Rattle.world_moves.specs.declared.links.EndId.{EndId}
-use Rattle.world_moves.specs.declared.links.EndId.TheVariants.{Controller, Member, Client}
-use Rattle.world_moves.specs.declared.links.LinkKind.TheVariants as kind
+use Rattle.world_moves.specs.declared.links.EndId.TheVariants.{Member}
 use Rattle.world_moves.specs.declared.links.Route.{Route}
 use Rattle.world_moves.specs.declared.links.Route.TheVariants.{ToController}
 use Rattle.world_moves.specs.declared.state.State.{State}
-use Rattle.world_moves.specs.Acting.{Given, Heard, done, heard_by, hear_and_act, perform_all, send_on}
+use Rattle.world_moves.specs.Acting.{Given, Heard, done, hear_and_act, heard_by, perform_all, perform_quietly, unit_on}
 use Rattle.world_moves.specs.Choosing.{places_from}
-use Rattle.world_moves.specs.Ends.{actions_by, member_step}
-use Rattle.world_moves.specs.Links.{is_accepted_by, is_of}
+use Rattle.world_moves.specs.Ends.{EndStep, actions_by, member_step}
+use Rattle.world_moves.specs.Links.{is_accepted_by, is_own, kind_of}
 use Rattle.domain_world.specs.Claims.{info_asked}
 use Rattle.domain_world.specs.Past.{Coming, at_member, change_if, change_message, controller_of, first_of, is_sent_on, later_of, note_at, note_client, note_controller, note_member, note_messages, note_turn, note_turns, numbers_on, with_answer, with_call}
 use Rattle.channel_events.proofs.ListLaws.{all_weaker, got_append, got_last, no_some, some_is}
 use Rattle.step_notes.proofs.Members.KeptLogonLaws.{IfDialled, OfEach, each_found, each_so}
 use Rattle.step_notes.proofs.Members.RequestOrderLaws.{requests_first}
 use Rattle.world_moves.proofs.LinkFrameLaws.{actions_stay, heard_stays}
+use Rattle.world_moves.proofs.QuietLaws.{sent_goes}
 use Rattle.domain_world.proofs.Accepting.LetInLaws.{none_if_taken}
 use Rattle.domain_world.proofs.Accepting.LetInStepLaws.{IsDialledBy}
 use Rattle.domain_world.proofs.Accepting.Messages.MessageNoteLaws.{one_so}
 use Rattle.domain_world.proofs.Frames.BagStepLaws.{BagKeeps, BookFact}
 use Rattle.domain_world.proofs.Frames.ComingLaws.{IsStill, StillHas, StillIn, kept_same, kept_sent}
 use Rattle.domain_world.proofs.Frames.FrameLaws.{HoldsIn}
-use Rattle.domain_world.proofs.Frames.MarkPlaceLaws.{passes, send_goes, unit_on}
+use Rattle.domain_world.proofs.Frames.MarkPlaceLaws.{passes}
 use Rattle.domain_world.proofs.Frames.OpenMadeLaws.{IsMore, MoreOf, goes_on, no_more}
 use Rattle.domain_world.proofs.Frames.StepFrameLaws.{RunFact}
 use Rattle.domain_world.proofs.Requests.CallMessageLaws.{bytes_are, last_is}
 use Rattle.domain_world.proofs.Requests.CallWholeLaws.{IsCallOut, IsLogonSent, IsReadyUnit, OutBy, ReadyIn, ReadyOn, turns_ready}
-use Rattle.domain_world.proofs.Requests.OwnMessageLaws.{AllKept, HasMessage, IsOfLogon, KeptOf, has_still, member_messages, member_stays, messages_in, one_kept}
+use Rattle.domain_world.proofs.Requests.OwnMessageLaws.{EachKept, HasMessage, IsOfLogon, KeptOf, has_still, member_messages, member_stays, one_kept}
 use Rattle.domain_world.proofs.Frames.AllLaws.{all_join, all_flat}
+use Rattle.domain_world.proofs.Frames.EndNoteLaws.{messages_in, noted_by}
 
 -- ---- what it rests on, at each moment between steps of ends
 
@@ -213,7 +212,7 @@ numbers_first link bag unit units later is sent =
     ∙ ap (λ (t : Bool). if t then length bag ∷ places_from (is_sent_on link false) (length bag + 1) units else places_from (is_sent_on link false) (length bag + 1) units) sent
     ∙ ap₂ (λ (n : ℕ) (all : List BagUnit). length bag ∷ places_from (is_sent_on link false) n all) (sym (length-append bag (unit ∷ []))) (sym there)
 
-module _ (route : Route) (end : EndId) (link controller : ℕ) (messages : List MessageTaken) (between : is_of kind.Stranger route ≡ false) (way : is_accepted_by end route ≡ false) where
+module _ (route : Route) (end : EndId) (link controller : ℕ) (messages : List MessageTaken) (own : is_own (kind_of route) ≡ true) (way : is_accepted_by end route ≡ false) where
   abbrev CallIn : State → ℕ → ℕ → Type 0
   CallIn later on n = IsCallAt later.bag messages on n
 
@@ -260,8 +259,8 @@ module _ (route : Route) (end : EndId) (link controller : ℕ) (messages : List 
       let unit : BagUnit = unit_on route end link bytes in
       let u : State = record t { bag = t.bag ++ unit ∷ [] } in
       let goes : (perform_all end more u).state ≡ later =
-      ap (λ (x : State). (perform_all end more x).state) (sym (send_goes route end link bytes t made between))
-      ∙ ap (λ (k : ℕ). (perform_all end more (send_on (slice_get t.links k) end k bytes t)).state) (sym on)
+      ap (λ (x : State). (perform_all end more x).state) (sym (sent_goes route end link bytes t made own))
+      ∙ ap (λ (k : ℕ). (perform_all end more (perform_quietly end (action.Send k bytes) t)).state) (sym on)
       ∙ ap (λ (a : List Action). (perform_all end a t).state) (sym first.3)
       ∙ performed in
       let others : IsMore u.links u.bag (perform_all end more u).state.links (perform_all end more u).state.bag =
@@ -377,41 +376,26 @@ still_called : (old bag : List BagUnit) (b : Book) → StillHas old bag → Call
 still_called old bag b still called =
     good_so (IsCallAt old b.messages) (IsCallAt bag b.messages) (λ link n one. call_still old bag b.messages b.messages link n still (λ logon asked. asked) one) b.messages called
 
-controller_messages : (found : Option ControllerState) (at : ℕ) (w : Coming) (piece : List ℕ) (s after : State) (b : Book) → (note_controller found at w piece s after b).messages ≡ b.messages
-controller_messages None at w piece s after b = refl
-controller_messages (Some c) at w piece s after b = refl
-
-client_messages : (found : Option ClientState) (at : ℕ) (w : Coming) (piece : List ℕ) (s : State) (b : Book) → (note_client found at w piece s b).messages ≡ b.messages
-client_messages None at w piece s b = refl
-client_messages (Some c) at w piece s b = refl
-
 same_called : (bag : List BagUnit) (b now : Book) → now.messages ≡ b.messages → CalledIn bag b → CalledIn bag now
 same_called bag b now same called = subst (λ (messages : List MessageTaken). AllGood (IsCallAt bag messages) messages) (sym same) called
-
-found_called : (found : Option MemberState) (at : ℕ) (w : Coming) (piece : List ℕ) (s : State) (b : Book) → slice_get s.ends.members at ≡ found → CallSide s → HoldsIn (AllKept b.messages) s →
-    CalledIn s.bag b →
-    let after : State = (done (Member at) (heard_by (member_step found at (event.Bytes w.link piece) s.moment s.ends s.chances) s)).state in
-    CalledIn after.bag (note_member found at w piece s after b)
-found_called None at w piece s b is side kept called = called
-found_called (Some m) at w piece s b is side kept called = member_called m at w piece s b is side (one_kept b.messages s.ends.members at m is kept) called
 
 heard_still : (end : EndId) (w : Coming) (piece : List ℕ) (s : State) → StillHas s.bag (hear_and_act end (event.Bytes w.link piece) s).state.bag
 heard_still end w piece s = heard_stays (StillIn s.bag) (kept_sent s.bag) end (event.Bytes w.link piece) s (kept_same s.bag)
 
-end_called : (end : EndId) (w : Coming) (piece : List ℕ) (s : State) (b : Book) → CallSide s → HoldsIn (AllKept b.messages) s → CalledIn s.bag b →
+end_called : (end : EndId) (w : Coming) (piece : List ℕ) (s : State) (b : Book) → CallSide s → HoldsIn (EachKept b.messages) s → CalledIn s.bag b →
     CalledIn (hear_and_act end (event.Bytes w.link piece) s).state.bag (note_at (Some end) w piece s (hear_and_act end (event.Bytes w.link piece) s).state b)
-end_called (Controller at) w piece s b side kept called =
-    let after : State = (hear_and_act (Controller at) (event.Bytes w.link piece) s).state in
-    same_called after.bag b (note_controller (slice_get s.ends.controllers at) at w piece s after b) (controller_messages (slice_get s.ends.controllers at) at w piece s after b)
-    (still_called s.bag after.bag b (heard_still (Controller at) w piece s) called)
-end_called (Member at) w piece s b side kept called = found_called (slice_get s.ends.members at) at w piece s b refl side kept called
-end_called (Client at) w piece s b side kept called =
-    let after : State = (hear_and_act (Client at) (event.Bytes w.link piece) s).state in
-    same_called after.bag b (note_client (slice_get s.ends.clients at) at w piece s b) (client_messages (slice_get s.ends.clients at) at w piece s b)
-    (still_called s.bag after.bag b (heard_still (Client at) w piece s) called)
+end_called end w piece s b side kept called =
+    let after : State = (hear_and_act end (event.Bytes w.link piece) s).state in
+    let others : CalledIn after.bag b = still_called s.bag after.bag b (heard_still end w piece s) called in
+    noted_by (λ (one : EndId) (step : EndStep) (now : Book). after ≡ (done one (heard_by step s)).state → CalledIn after.bag now) w piece s after b (λ one is. others)
+    (λ at c there is. same_called after.bag b (note_controller (Some c) at w piece s after b) refl others)
+    (λ at m there is.
+    subst (λ (t : State). CalledIn t.bag (note_member (Some m) at w piece s t b)) (sym is)
+    (member_called m at w piece s b there side (one_kept b.messages s.ends.members at m there kept) called))
+    (λ at c there is. same_called after.bag b (note_client (Some c) at w piece s b) refl others) end refl
 
 -- where what is carried through each step gives what it rests on
-pub called_keep : (Holds : RunFact) → ((n : ℕ) (s : State) (given : Given) (b : Book) → Holds n s given b → CallSide s) → BagKeeps Holds messages_in AllKept CalledIn
+pub called_keep : (Holds : RunFact) → ((n : ℕ) (s : State) (given : Given) (b : Book) → Holds n s given b → CallSide s) → BagKeeps Holds messages_in EachKept CalledIn
 called_keep Holds gives = record {
   still = still_called;
   comes = λ n end w piece s given b at came bytes marked holds kept called. end_called end w piece s b (gives n s given b holds) kept called;

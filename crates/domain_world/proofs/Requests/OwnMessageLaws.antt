@@ -1,15 +1,12 @@
 -- In every run each logon that a member keeps is that of a message which is written down, on its link; and each member
 -- asks for what it keeps. It goes with what is written down, through each step of an end. It serves
 -- `messages_are_called`.
-use Rattle.std.proofs.Common.{◌≡◌, ℕ, zero, suc, false, List, [], ◌∷◌, ◌++◌, length, map, inl, inr, Option, Some, None, refl, subst, slice_get, slice_set}
+use Rattle.std.proofs.Common.{◌≡◌, ℕ, zero, suc, false, List, [], ◌∷◌, ◌++◌, length, map, inl, inr, Option, Some, refl, subst, slice_get, slice_set}
 use Rattle.std.specs.Prelude.{flat_map}
 use Rattle.std.specs.List.{AllByRecursion}
-use Rattle.outside.specs.Drawing.{Drawing}
 use Rattle.outside.specs.declared.event.Event.{Event}
 use Rattle.outside.specs.declared.event.Event.TheVariants as event
 use Rattle.end_links.specs.Serving.{ServedUnit}
-use Rattle.domain_controller.specs.State.{State as ControllerState}
-use Rattle.logon_client.specs.State.{State as ClientState}
 use Rattle.member_server.specs.Machine.{fresh_member, step_of}
 use Rattle.member_server.specs.State.{State as MemberState}
 use Rattle.member_server.specs.declared.plan.MemberPlan.{MemberPlan}
@@ -22,20 +19,18 @@ use Rattle.channel_events.specs.Marks.{OneOf}
 use Rattle.step_notes.specs.CallLogons.{AsksUnlessStopped}
 use Rattle.step_notes.specs.MemberNotes.{LinkAt, link_of_place, link_units, message_note, taken_link, turn_units}
 use Rattle.step_notes.specs.Records.{Book, MessageTaken}
-use Rattle.world_moves.specs.declared.links.EndId.{EndId}
-use Rattle.world_moves.specs.declared.links.EndId.TheVariants.{Controller, Member, Client}
-use Rattle.world_moves.specs.declared.links.Route.{Route}
 use Rattle.world_moves.specs.declared.state.State.{State}
-use Rattle.world_moves.specs.Ends.{EndStates, client_step, controller_step, end_step, member_step}
-use Rattle.world_moves.specs.Links.{acceptor_of}
-use Rattle.domain_world.specs.Past.{Coming, at_member, change_message, controller_of, note_at, note_client, note_controller, note_member, note_messages, note_turns, numbers_on, with_answer, with_call}
+use Rattle.domain_world.specs.Past.{Coming, at_member, change_message, controller_of, note_member, note_messages, note_turns, numbers_on, with_answer, with_call}
 use Rattle.step_notes.proofs.Members.CallKeptLaws.{fresh_asks, step_asks}
 use Rattle.step_notes.proofs.Members.KeptLogonLaws.{Dials, IsFor, KeptIn, bytes_keep, kept_so, one_before, step_keeps}
 use Rattle.step_notes.proofs.Members.UnservedLaws.{LinksIn, Opens, bytes_took, step_known, took_known}
 use Rattle.domain_world.proofs.Accepting.Messages.MessageNoteLaws.{changed, one_so}
-use Rattle.domain_world.proofs.Frames.FrameLaws.{Fact, HoldsAfter, IsQuiet, Stays, StaysWritten}
+use Rattle.domain_world.proofs.Frames.FrameLaws.{Fact, StaysWritten}
 use Rattle.domain_world.proofs.Frames.NoBytesLaws.{IsNoBytes}
 use Rattle.domain_world.proofs.Frames.TurnFrameLaws.{notes_keep}
+use Rattle.domain_world.proofs.Frames.MemberFrameLaws.{AmongMembers, KeepsMembers, MembersFact, members_written}
+use Rattle.domain_world.proofs.Frames.EndNoteLaws.{messages_in, messages_so}
+use Rattle.domain_world.proofs.Frames.EventLaws.{quiet_no_bytes}
 
 -- ---- the message of a logon
 
@@ -160,8 +155,8 @@ bytes_kept w m piece now left messages kept =
 
 -- ---- all members
 
-abbrev pub AllKept : List MessageTaken → Fact
-AllKept messages ends chances links = AllByRecursion (λ (m : MemberState). KeptOf messages m.running) ends.members
+abbrev pub AllKept : List MessageTaken → MembersFact
+AllKept messages members chances links = AllByRecursion (λ (m : MemberState). KeptOf messages m.running) members
 
 abbrev AllOf : List MessageTaken → List MemberState → Type 0
 AllOf messages members = AllByRecursion (λ (m : MemberState). KeptOf messages m.running) members
@@ -184,44 +179,10 @@ pub all_fresh : (messages : List MessageTaken) (plans : List MemberPlan) → All
 all_fresh messages [] = tt
 all_fresh messages (plan ∷ plans) = (fresh_kept messages plan, all_fresh messages plans)
 
-controller_hears : (messages : List MessageTaken) (found : Option ControllerState) (at : ℕ) (what : Event) (now : ℕ) (ends : EndStates) (chances : Drawing) → AllOf messages ends.members →
-    AllOf messages (controller_step found at what now ends chances).ends.members
-controller_hears messages None at what now ends chances all = all
-controller_hears messages (Some c) at what now ends chances all = all
-
-client_hears : (messages : List MessageTaken) (found : Option ClientState) (at : ℕ) (what : Event) (now : ℕ) (ends : EndStates) (chances : Drawing) → AllOf messages ends.members →
-    AllOf messages (client_step found at what now ends chances).ends.members
-client_hears messages None at what now ends chances all = all
-client_hears messages (Some c) at what now ends chances all = all
-
-member_hears : (messages : List MessageTaken) (found : Option MemberState) (at : ℕ) (what : Event) (now : ℕ) (ends : EndStates) (chances : Drawing) → IsNoBytes what →
-    slice_get ends.members at ≡ found → AllOf messages ends.members → AllOf messages (member_step found at what now ends chances).ends.members
-member_hears messages None at what now ends chances none is all = all
-member_hears messages (Some m) at what now ends chances none is all =
-    set_kept messages ends.members at (step_of m what now chances.left).state (step_kept messages what m now chances.left none (one_kept messages ends.members at m is all)) all
-
-end_hears : (messages : List MessageTaken) (end : EndId) (what : Event) (now : ℕ) (ends : EndStates) (chances : Drawing) (links : List Route) → IsNoBytes what → AllOf messages ends.members →
-    HoldsAfter (AllKept messages) (end_step end what now ends chances) links
-end_hears messages (Controller at) what now ends chances links none all = controller_hears messages (slice_get ends.controllers at) at what now ends chances all
-end_hears messages (Member at) what now ends chances links none all = member_hears messages (slice_get ends.members at) at what now ends chances none refl all
-end_hears messages (Client at) what now ends chances links none all = client_hears messages (slice_get ends.clients at) at what now ends chances all
-
-quiet_none : (what : Event) → IsQuiet what → IsNoBytes what
-quiet_none (event.Bytes link piece) quiet = absurd quiet
-quiet_none (event.Opened link) quiet = absurd quiet
-quiet_none (event.Closed link) quiet = tt
-quiet_none (event.Dialled link) quiet = tt
-quiet_none event.DialFailed quiet = tt
-quiet_none event.Stop quiet = tt
-
-kept_stays : (messages : List MessageTaken) → Stays (AllKept messages)
-kept_stays messages = record {
-  hears = λ end what now ends chances links quiet all. end_hears messages end what now ends chances links (quiet_none what quiet) all;
-  opens = λ route now ends chances links all. end_hears messages (acceptor_of route) (event.Opened (length links)) now ends chances (links ++ route ∷ []) tt all;
-  controllers = λ c at ends chances links is all. all;
-  members = λ plan at ends chances links all. set_kept messages ends.members at (fresh_member plan) (fresh_kept messages plan) all;
-  clients = λ client at ends chances links all. all;
-}
+hear_kept : (messages : List MessageTaken) (m : MemberState) (at : ℕ) (what : Event) (now : ℕ) (members : List MemberState) (left : List (List ℕ)) → IsNoBytes what →
+    slice_get members at ≡ Some m → AllOf messages members → AllOf messages (slice_set members at (step_of m what now left).state)
+hear_kept messages m at what now members left none is all =
+    set_kept messages members at (step_of m what now left).state (step_kept messages what m now left none (one_kept messages members at m is all)) all
 
 -- ---- with what is written down
 
@@ -234,20 +195,9 @@ all_more : (messages more : List MessageTaken) → ((place : ℕ) (logon : Logon
 all_more messages more so [] all = tt
 all_more messages more so (m ∷ members) all = (more_kept messages more so m.running all.0, all_more messages more so members all.1)
 
-controller_bytes : (found : Option ControllerState) (at : ℕ) (w : Coming) (piece : List ℕ) (s after : State) (b : Book) → AllOf b.messages s.ends.members →
-    HoldsAfter (AllKept (note_controller found at w piece s after b).messages) (controller_step found at (event.Bytes w.link piece) s.moment s.ends s.chances) s.links
-controller_bytes None at w piece s after b all = all
-controller_bytes (Some c) at w piece s after b all = all
-
-client_bytes : (found : Option ClientState) (at : ℕ) (w : Coming) (piece : List ℕ) (s : State) (b : Book) → AllOf b.messages s.ends.members →
-    HoldsAfter (AllKept (note_client found at w piece s b).messages) (client_step found at (event.Bytes w.link piece) s.moment s.ends s.chances) s.links
-client_bytes None at w piece s b all = all
-client_bytes (Some c) at w piece s b all = all
-
-member_bytes : (found : Option MemberState) (at : ℕ) (w : Coming) (piece : List ℕ) (s after : State) (b : Book) → slice_get s.ends.members at ≡ found → AllOf b.messages s.ends.members →
-    HoldsAfter (AllKept (note_member found at w piece s after b).messages) (member_step found at (event.Bytes w.link piece) s.moment s.ends s.chances) s.links
-member_bytes None at w piece s after b is all = all
-member_bytes (Some m) at w piece s after b is all =
+member_bytes : (m : MemberState) (at : ℕ) (w : Coming) (piece : List ℕ) (s after : State) (b : Book) → slice_get s.ends.members at ≡ Some m → AllOf b.messages s.ends.members →
+    AllOf (note_member (Some m) at w piece s after b).messages (slice_set s.ends.members at (step_of m (event.Bytes w.link piece) s.moment s.chances.left).state)
+member_bytes m at w piece s after b is all =
     let now : List MessageTaken = member_messages at m w piece s after b in
     let new : MemberState = (step_of m (event.Bytes w.link piece) s.moment s.chances.left).state in
     set_kept now s.ends.members at new
@@ -255,18 +205,21 @@ member_bytes (Some m) at w piece s after b is all =
     (bytes_kept (at_member at w s) m piece s.moment s.chances.left b.messages (one_kept b.messages s.ends.members at m is all)))
     (all_more b.messages now (has_still at m w piece s after b) s.ends.members all)
 
-end_bytes : (end : EndId) (w : Coming) (piece : List ℕ) (s after : State) (b : Book) → AllOf b.messages s.ends.members →
-    HoldsAfter (AllKept (note_at (Some end) w piece s after b).messages) (end_step end (event.Bytes w.link piece) s.moment s.ends s.chances) s.links
-end_bytes (Controller at) w piece s after b all = controller_bytes (slice_get s.ends.controllers at) at w piece s after b all
-end_bytes (Member at) w piece s after b all = member_bytes (slice_get s.ends.members at) at w piece s after b refl all
-end_bytes (Client at) w piece s after b all = client_bytes (slice_get s.ends.clients at) at w piece s b all
-
-abbrev pub messages_in : Book → List MessageTaken
-messages_in b = b.messages
-
-pub kept_written : StaysWritten messages_in AllKept
-kept_written = record {
-  stays = kept_stays;
-  bytes = λ end w piece s after b all. end_bytes end w piece s after b all;
+pub kept_on : KeepsMembers messages_in AllKept
+kept_on = record {
+  of = messages_so;
   given = λ at given after b. refl;
+  draws = λ messages members chances later links on all. all;
+  hears = λ messages m at what now members chances links quiet is all. hear_kept messages m at what now members chances.left (quiet_no_bytes what quiet) is all;
+  opens = λ messages route members chances links all. all;
+  accepts = λ messages m at route now members chances links accepts is all. hear_kept messages m at (event.Opened (length links)) now members chances.left tt is all;
+  comes = λ m at w piece s after b is all. member_bytes m at w piece s after b is all;
+  anew = λ messages plan at members chances links all. set_kept messages members at (fresh_member plan) (fresh_kept messages plan) all;
 }
+
+-- as a fact of all ends
+abbrev pub EachKept : List MessageTaken → Fact
+EachKept messages = AmongMembers messages_in AllKept kept_on messages
+
+pub kept_written : StaysWritten messages_in EachKept
+kept_written = members_written messages_in AllKept kept_on

@@ -193,11 +193,11 @@ module _ (views : ℕ → Option View) (who controller : ℕ) where
       | inr out ↦ none_later (placed_by note (request_note (Opening out.channel u.call) None) out.is placed) (takes marks stands)
     ]
     by_effect (Begins client) note u v old new noted placed takes = absurd noted
-    by_effect (Opens c) note u v old new noted placed takes = none_later (placed_by note (passed_note c None) noted placed) (takes marks stands)
+    by_effect (Opens c) note u v old new noted placed takes = none_later (placed_by note (passed_note c None None) noted placed) (takes marks stands)
     by_effect (Moves c timestamp) note u v old new noted placed takes = absurd noted
     by_effect (Calls c number) note u v old new noted placed takes =
         called c number noted.0 (placed_by note (request_note (Calling c number noted.0) (Some noted.1)) noted.2 placed) takes
-    by_effect (Answers c number) note u v old new noted placed takes = none_later (placed_by note (passed_note c (Some noted.0)) noted.1 placed) (takes marks stands)
+    by_effect (Answers c number) note u v old new noted placed takes = none_later (placed_by note (passed_note c (Some noted.0) (Some number)) noted.1 placed) (takes marks stands)
     by_effect Drops note u v old new noted placed takes = none_later (placed_by note no_note noted placed) (takes marks stands)
 
   taken_so : (s : Requester) (unit : RpcUnit) (marks more : List Mark) (drawn : List (List ℕ)) (uses : ℕ) → uses + 2 < 2 ^ 32 →

@@ -1,6 +1,7 @@
 -- What is written down where a whole unit comes on the link of a member's turn: of all units that it serves, what the
 -- last is taken for, and its request among the new units of the bag. It serves `runs_stand_so`.
 use Rattle.std.proofs.Common.{◌≡◌, ◌⊎◌, ℕ, zero, suc, ◌+◌, Bool, true, false, List, [], ◌∷◌, ◌++◌, drop, length, map, inl, inr, Option, Some, None, Result, Ok, Err, refl, sym, ap, ◌∙◌, subst, slice_get, if◌then◌else◌}
+use Rattle.std.specs.Prelude.{flat_map}
 use Rattle.std.specs.List.{AllByRecursion}
 use Rattle.std.proofs.lemmas.Bool.Decides.{Decides-eqb}
 use Rattle.std.proofs.lemmas.List.{append_assoc, append-nil, drop_at}
@@ -26,21 +27,20 @@ use Rattle.channel_turns.specs.declared.state.TurnTalk.{TurnTalk}
 use Rattle.step_notes.specs.CallLogons.{AreFirst, IsFirstBy}
 use Rattle.step_notes.specs.Marking.{mark_if, turn_marks}
 use Rattle.step_notes.specs.MemberNotes.{TurnNote, no_note, taking_at, taking_note, turn_note, turn_units_by, turn_units_in, turn_units_on}
-use Rattle.step_notes.specs.Records.{Book, Sent}
+use Rattle.step_notes.specs.Records.{Book, RequesterId, Sent}
 use Rattle.step_notes.specs.Served.{units_if_taken, work_after}
 use Rattle.step_notes.specs.TakenWhole.{TakesWhole}
 use Rattle.step_notes.proofs.Members.TurnHeardLaws.{members_take}
 use Rattle.world_moves.specs.declared.bag.BagUnit.{BagUnit}
 use Rattle.world_moves.specs.declared.links.EndId.{EndId}
-use Rattle.world_moves.specs.declared.links.LinkKind.TheVariants as kind
 use Rattle.world_moves.specs.declared.links.Route.{Route}
 use Rattle.world_moves.specs.declared.state.State.{State}
-use Rattle.world_moves.specs.Acting.{perform_all}
+use Rattle.world_moves.specs.Acting.{perform_all, unit_on}
 use Rattle.world_moves.specs.Choosing.{places_from}
-use Rattle.world_moves.specs.Links.{is_of}
+use Rattle.world_moves.specs.Links.{is_own, kind_of}
 use Rattle.world_moves.proofs.LinkFrameLaws.{actions_stay}
-use Rattle.domain_world.specs.Past.{first_of, is_sent_on, later_of, marks_by, marks_of, note_turn, note_turns, numbers_on, sent_at}
-use Rattle.domain_world.proofs.Frames.MarkPlaceLaws.{ArePlain, all_append, front_goes, plain_of_none, unit_on}
+use Rattle.domain_world.specs.Past.{first_of, is_sent_on, later_of, marks_by, marks_of, note_turn, note_turns, numbers_on, sent_at, answers_by}
+use Rattle.domain_world.proofs.Frames.MarkPlaceLaws.{ArePlain, all_append, front_goes, plain_of_none}
 use Rattle.domain_world.proofs.Frames.OpenMadeLaws.{IsMore, MoreOf, goes_on, no_more}
 use Rattle.domain_world.proofs.Requests.LooserLaws.{IfPlaced, IsPlaced, NoCalls, Placed, no_calls}
 use Rattle.domain_world.proofs.Requests.StepApartLaws.{PlacedBy}
@@ -161,6 +161,22 @@ module _ (controller : ℕ) (at : AtTurn) (unit : RpcUnit) where
       ∙ ap (λ (note : TurnNote). mark_if note.sends note.mark ++ []) (last_noted whole.last whole.work whole.takes)
       ∙ append-nil (mark_if note_for.sends note_for.mark)
 
+  -- the answers that are taken
+  answers_before : (who : RequesterId) (n : ℕ) (carried : Option ℕ) (sent : List Sent) (before : List (ServedUnit AtTurn TurnTalk)) (last : ServedUnit AtTurn TurnTalk) → AreNone at before →
+      flat_map (answers_by who n carried sent) (map (turn_note controller) (before ++ last ∷ [])) ≡ answers_by who n carried sent (turn_note controller last) ++ []
+  answers_before who n carried sent [] last none = refl
+  answers_before who n carried sent (served ∷ before) last none =
+      ap (λ (note : TurnNote). answers_by who n carried sent note ++ flat_map (answers_by who n carried sent) (map (turn_note controller) (before ++ last ∷ []))) (none_noted served none.0.0)
+      ∙ answers_before who n carried sent before last none.1
+
+  pub whole_answers : (who : RequesterId) (n : ℕ) (carried : Option ℕ) (sent : List Sent) (left : List (List ℕ)) (units : List (ServedUnit AtTurn TurnTalk)) → TakesWhole at unit left units →
+      flat_map (answers_by who n carried sent) (map (turn_note controller) units) ≡ answers_by who n carried sent note_for
+  whole_answers who n carried sent left units whole =
+      ap (λ (all : List (ServedUnit AtTurn TurnTalk)). flat_map (answers_by who n carried sent) (map (turn_note controller) all)) whole.all
+      ∙ answers_before who n carried sent whole.before whole.last whole.none
+      ∙ ap (λ (note : TurnNote). answers_by who n carried sent note ++ []) (last_noted whole.last whole.work whole.takes)
+      ∙ append-nil (answers_by who n carried sent note_for)
+
   -- so the mark of the request is written down in one place at most
   pub placed_part : (part : Result (Part DialWork) StepRefused) (link : ℕ) (new : List BagUnit) (left : List (List ℕ)) (units : List (ServedUnit AtTurn TurnTalk)) → TakesWhole at unit left units →
       PlacedBy part note_for
@@ -224,7 +240,7 @@ pub record IsFirstNew (own : BagUnit) (before after : List BagUnit) : Type 0 whe
   pub is : after ≡ before ++ own ∷ later
 
 -- where the actions begin with it
-pub sent_first : (route : Route) (end : EndId) (link : ℕ) (bytes : List ℕ) (more actions : List Action) (s : State) → slice_get s.links link ≡ Some route → is_of kind.Stranger route ≡ false →
+pub sent_first : (route : Route) (end : EndId) (link : ℕ) (bytes : List ℕ) (more actions : List Action) (s : State) → slice_get s.links link ≡ Some route → is_own (kind_of route) ≡ true →
     actions ≡ Send link bytes ∷ more → IsFirstNew (unit_on route end link bytes) s.bag (perform_all end actions s).state.bag
 sent_first route end link bytes more actions s made between is =
     let front : List Action = Send link bytes ∷ [] in

@@ -18,7 +18,7 @@ use Rattle.domain_world.specs.Accepting.Sequences.{AreSoFar, CallsOfTurns, HasPa
 use Rattle.domain_world.specs.Claims.SharedSequences.{timestamps_on}
 use Rattle.domain_world.specs.Past.{Past, controller_of}
 use Rattle.domain_world.proofs.Frames.MarkPlaceLaws.{got_map}
-use Rattle.domain_world.proofs.Requests.CallHoldsLaws.{marks_in}
+use Rattle.domain_world.proofs.Requests.CallHoldsLaws.{mark_there, marks_in}
 use Rattle.domain_world.proofs.Sequences.CallTurnLaws.{AllDone, AreFar, AreFarBy, CallsMade, IsCalled, KnowsCalls}
 use Rattle.domain_world.proofs.Sequences.Own.OwnRunLaws.{own_stamps}
 use Rattle.domain_world.proofs.Sequences.Own.OwnTurnLaws.{mine}
@@ -34,12 +34,6 @@ KnowsIf Done marks own controller (Some running) = KnowsCalls Done marks own con
 -- of each member, after a move: its turns are those that are written down
 abbrev pub AllKnow : (ℕ → Type 0) → State → Book → Type 0
 AllKnow Done s b = (k : ℕ) (m : MemberState) → slice_get s.ends.members k ≡ Some m → KnowsIf Done (marks_in b.sent) (mine k b.turns) (controller_of k s) m.running
-
--- what a unit was made for, by what is written down of it
-pub mark_there : (sent : List Sent) (n : ℕ) (one : Sent) → slice_get sent n ≡ Some one → slice_get (marks_in sent) n ≡ Some one.mark
-mark_there [] n one there = absurd (got_nothing n one there)
-mark_there (first ∷ sent) zero one there = ap (λ (s : Sent). Some s.mark) (some_is first one there)
-mark_there (first ∷ sent) (suc n) one there = mark_there sent n one there
 
 module _ (p : Past) (Done : ℕ → Type 0) (passed : (n : ℕ) → Done n → HasPassed p n) where
   abbrev marks : List Mark

@@ -1,6 +1,6 @@
 -- How many dials of a member there are: among what was given, among the dials that wait, and the one that is answered.
 -- It serves `sequences_are_own`.
-use Rattle.std.proofs.Common.{◌≡◌, ℕ, ◌+◌, ◌≤◌, ◌==◌, Bool, true, false, List, [], ◌∷◌, ◌++◌, Option, Some, None, slice_get, refl, ap, ◌∙◌, arith, if◌then◌else◌}
+use Rattle.std.proofs.Common.{◌≡◌, ℕ, ◌+◌, ◌≤◌, Bool, true, false, List, [], ◌∷◌, ◌++◌, Option, Some, None, refl, ap, ◌∙◌, arith, if◌then◌else◌, sym}
 use Rattle.std.specs.Prelude.{not}
 use Rattle.std.specs.List.{filter}
 use Rattle.std.proofs.lemmas.Bool.Decides.{Decides-eqb}
@@ -8,20 +8,15 @@ use Rattle.outside.specs.declared.action.Action.{Action}
 use Rattle.outside.specs.declared.action.Action.TheVariants.{Keep, Send, Dial, Close, Told, Judged}
 use Rattle.member_server.specs.Dials.{dial_of, dials_in}
 use Rattle.world_moves.specs.declared.links.EndId.{EndId}
-use Rattle.world_moves.specs.declared.links.EndId.TheVariants.{Controller, Member, Client}
-use Rattle.world_moves.specs.declared.links.LinkKind.{LinkKind}
-use Rattle.world_moves.specs.declared.links.LinkKind.TheVariants as kind
-use Rattle.world_moves.specs.declared.links.Route.{Route}
+use Rattle.world_moves.specs.declared.links.EndId.TheVariants.{Member}
 use Rattle.world_moves.specs.declared.state.State.{State}
 use Rattle.world_moves.specs.declared.state.WaitingDial.{WaitingDial}
-use Rattle.world_moves.specs.Acting.{Given, bag_unit, given_by, is_of_other, perform_quietly, send_on}
-use Rattle.world_moves.specs.Links.{is_accepted_by, kind_of, same_end}
+use Rattle.world_moves.specs.Acting.{Given, dials_of_action, given_by, is_of_other, perform_quietly}
+use Rattle.world_moves.specs.Links.{same_end}
 
 -- the end is that member
 abbrev pub is_member : ℕ → EndId → Bool
-is_member k (Controller at) = false
-is_member k (Member at) = at == k
-is_member k (Client at) = false
+is_member k end = same_end end (Member k)
 
 abbrev pub one_if : Bool → ℕ
 one_if false = 0
@@ -82,33 +77,19 @@ forgotten_few k end [] = omega arith
 forgotten_few k end (dial ∷ dials) = forgotten_one (is_of_other end dial) k end dial dials (forgotten_few k end dials)
 
 -- the argument: whether it is of that member
-gone_one : (hit : Bool) (k : ℕ) (dial : WaitingDial) (dials : List WaitingDial) → same_end dial.end (Member k) ≡ hit → is_member k dial.end ≡ hit →
+gone_one : (hit : Bool) (k : ℕ) (dial : WaitingDial) (dials : List WaitingDial) → is_member k dial.end ≡ hit →
     waiting_dials k (filter (is_of_other (Member k)) dials) ≡ 0 → waiting_dials k (filter (is_of_other (Member k)) (dial ∷ dials)) ≡ 0
-gone_one true k dial dials is own none =
+gone_one true k dial dials is none =
     ap (λ (hit : Bool). waiting_dials k (if not hit then dial ∷ filter (is_of_other (Member k)) dials else filter (is_of_other (Member k)) dials)) is ∙ none
-gone_one false k dial dials is own none =
+gone_one false k dial dials is none =
     ap (λ (hit : Bool). waiting_dials k (if not hit then dial ∷ filter (is_of_other (Member k)) dials else filter (is_of_other (Member k)) dials)) is
-    ∙ omega (arith, ap one_if own, none)
-
-same_so : (k : ℕ) (end : EndId) → same_end end (Member k) ≡ is_member k end
-same_so k (Controller at) = refl
-same_so k (Member at) = refl
-same_so k (Client at) = refl
+    ∙ omega (arith, ap one_if is, none)
 
 pub gone_all : (k : ℕ) (dials : List WaitingDial) → waiting_dials k (filter (is_of_other (Member k)) dials) ≡ 0
 gone_all k [] = refl
-gone_all k (dial ∷ dials) = gone_one (is_member k dial.end) k dial dials (same_so k dial.end) refl (gone_all k dials)
+gone_all k (dial ∷ dials) = gone_one (is_member k dial.end) k dial dials refl (gone_all k dials)
 
 -- ---- an action is done
-
-bag_dials : (how : LinkKind) (back : Bool) (link : ℕ) (bytes : List ℕ) (s : State) → (bag_unit how back link bytes s).dials ≡ s.dials
-bag_dials kind.Stranger back link bytes s = refl
-bag_dials kind.ToMember back link bytes s = refl
-bag_dials kind.ToController back link bytes s = refl
-
-send_dials : (route : Option Route) (end : EndId) (link : ℕ) (bytes : List ℕ) (s : State) → (send_on route end link bytes s).dials ≡ s.dials
-send_dials None end link bytes s = refl
-send_dials (Some route) end link bytes s = bag_dials (kind_of route) (is_accepted_by end route) link bytes s
 
 pub none_counted : (hit : Bool) (what : Action) → dial_of what ≡ 0 → counted hit what ≡ 0
 none_counted false what none = refl
@@ -118,18 +99,15 @@ one_counted : (hit : Bool) (peer : List ℕ) → counted hit (Dial peer) ≡ one
 one_counted false peer = refl
 one_counted true peer = refl
 
-quiet_done : (k : ℕ) (d : Option EndId) (rest : Given) (end : EndId) (what : Action) (dials later : List WaitingDial) → dial_of what ≡ 0 → later ≡ dials →
-    dials_out k d rest later ≡ dials_out k d ((end, what) ∷ rest) dials
-quiet_done k d rest end what dials later none same = omega (arith, none_counted (is_member k end) what none, ap (λ (l : List WaitingDial). waiting_dials k l) same)
+dials_counted : (k : ℕ) (end : EndId) (what : Action) → waiting_dials k (dials_of_action end what) ≡ counted (is_member k end) what
+dials_counted k end (Dial peer) = omega (arith, one_counted (is_member k end) peer)
+dials_counted k end (Keep bytes) = sym (none_counted (is_member k end) (Keep bytes) refl)
+dials_counted k end (Send link bytes) = sym (none_counted (is_member k end) (Send link bytes) refl)
+dials_counted k end (Close link cause) = sym (none_counted (is_member k end) (Close link cause) refl)
+dials_counted k end (Told link outcome) = sym (none_counted (is_member k end) (Told link outcome) refl)
+dials_counted k end (Judged how) = sym (none_counted (is_member k end) (Judged how) refl)
 
 -- it was out as much before
 pub done_same : (k : ℕ) (d : Option EndId) (rest : Given) (end : EndId) (what : Action) (s : State) →
     dials_out k d rest (perform_quietly end what s).dials ≡ dials_out k d ((end, what) ∷ rest) s.dials
-done_same k d rest end (Keep bytes) s = quiet_done k d rest end (Keep bytes) s.dials s.dials refl refl
-done_same k d rest end (Send link bytes) s =
-    quiet_done k d rest end (Send link bytes) s.dials (send_on (slice_get s.links link) end link bytes s).dials refl (send_dials (slice_get s.links link) end link bytes s)
-done_same k d rest end (Dial peer) s =
-    omega (arith, waiting_append k s.dials (record { end = end; peer = peer } ∷ []), one_counted (is_member k end) peer)
-done_same k d rest end (Close link cause) s = quiet_done k d rest end (Close link cause) s.dials s.dials refl refl
-done_same k d rest end (Told link outcome) s = quiet_done k d rest end (Told link outcome) s.dials s.dials refl refl
-done_same k d rest end (Judged how) s = quiet_done k d rest end (Judged how) s.dials s.dials refl refl
+done_same k d rest end what s = omega (arith, waiting_append k s.dials (dials_of_action end what), dials_counted k end what)

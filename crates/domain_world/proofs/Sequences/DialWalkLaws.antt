@@ -20,7 +20,7 @@ use Rattle.world_moves.specs.Links.{acceptor_of}
 use Rattle.world_moves.specs.Moving.{begun, renewed, with_link, without_first}
 use Rattle.world_moves.specs.World.{first_world}
 use Rattle.domain_world.specs.Past.{turns_in, past}
-use Rattle.domain_world.proofs.Sequences.TurnBookLaws.{bytes_turns}
+use Rattle.domain_world.proofs.Frames.EndNoteLaws.{bytes_turns}
 use Rattle.domain_world.proofs.Frames.MoveFrameLaws.{HoldsAfterMoves, KeepsMoves, MoveFact, NoSide, moves_keep}
 use Rattle.world_moves.specs.declared.plan.Plan.{Plan}
 

@@ -1,14 +1,11 @@
 -- At most one turn is out at each member after every run.
 -- It serves `members_have_one_turn_out`.
-use Rattle.std.proofs.Common.{◌≡◌, ℕ, ◌+◌, Bool, true, false, List, [], ◌∷◌, length, Option, None, refl, ap, subst, ◌∙◌, arith, if◌then◌else◌}
+use Rattle.std.proofs.Common.{◌≡◌, ℕ, ◌+◌, Bool, true, false, List, [], ◌∷◌, length, Option, None, refl, subst, arith, if◌then◌else◌}
 use Rattle.member_server.specs.declared.state.Running.{Running}
-use Rattle.world_moves.specs.declared.links.EndId.{EndId}
-use Rattle.world_moves.specs.declared.links.EndId.TheVariants.{Controller, Member, Client}
 use Rattle.world_moves.specs.declared.moves.Move.{Move}
 use Rattle.world_moves.specs.declared.plan.Plan.{Plan}
 use Rattle.world_moves.specs.declared.state.State.{State}
 use Rattle.world_moves.specs.declared.state.WaitingDial.{WaitingDial}
-use Rattle.world_moves.specs.Links.{same_end}
 use Rattle.domain_world.specs.Claims.SharedSequences.{OneTurnIsOut, dials_of}
 use Rattle.domain_world.specs.Past.{controller_of, past}
 use Rattle.domain_world.proofs.Frames.DrawnRunLaws.{draws_differ}
@@ -20,11 +17,6 @@ use Rattle.domain_world.proofs.Sequences.Own.OwnTurnLaws.{TurnsIf, TurnsOf}
 
 -- ---- the dials of a member are as many as are counted
 
-same_is : (k : ℕ) (end : EndId) → same_end end (Member k) ≡ is_member k end
-same_is k (Controller at) = refl
-same_is k (Member at) = refl
-same_is k (Client at) = refl
-
 one_more : (hit : Bool) (dial : WaitingDial) (dials : List WaitingDial) (n : ℕ) → length dials ≡ n → length (if hit then dial ∷ dials else dials) ≡ one_if hit + n
 one_more true dial dials n is = omega (arith, is)
 one_more false dial dials n is = omega (arith, is)
@@ -32,8 +24,7 @@ one_more false dial dials n is = omega (arith, is)
 dials_count : (k : ℕ) (dials : List WaitingDial) → length (dials_of k dials) ≡ waiting_dials k dials
 dials_count k [] = refl
 dials_count k (dial ∷ dials) =
-    ap (λ (hit : Bool). length (if hit then dial ∷ dials_of k dials else dials_of k dials)) (same_is k dial.end)
-    ∙ one_more (is_member k dial.end) dial (dials_of k dials) (waiting_dials k dials) (dials_count k dials)
+    one_more (is_member k dial.end) dial (dials_of k dials) (waiting_dials k dials) (dials_count k dials)
 
 -- ---- of every run
 

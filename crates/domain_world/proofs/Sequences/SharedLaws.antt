@@ -25,7 +25,7 @@ use Rattle.step_notes.specs.Records.{Judging, Sent}
 use Rattle.world_moves.specs.Draws.{DrawsDiffer}
 use Rattle.step_notes.specs.ReplySends.{IsReplyOfCall}
 use Rattle.domain_world.specs.Claims.Replies.{IsReplyOfOne}
-use Rattle.domain_world.specs.Accepting.Answered.{AnswersAreHeard, IsAnsweredIn, IsProved}
+use Rattle.domain_world.specs.Accepting.Answered.{AnswersAreHeard, IsProved}
 use Rattle.domain_world.proofs.Judgements.ReplyLaws.{replies_carry}
 use Rattle.domain_world.proofs.Judgements.UnclashedLaws.{passes_unclashed}
 use Rattle.domain_world.proofs.Requests.MarkWayLaws.{marks_have_their_way}
@@ -36,7 +36,7 @@ use Rattle.domain_world.specs.Claims.SharedSequences.{IsBeforeTurn, Keeps, Seque
 use Rattle.domain_world.specs.Past.{Past, past}
 use Rattle.domain_world.proofs.Accepting.AnsweredLaws.{AreInUnit, IsMade, StandsFor, both_true, channel_there, in_unit, made_at, no_twice, passed_of, right_at, unit_same}
 use Rattle.domain_world.proofs.Accepting.AnsweredRunLaws.{is_proved}
-use Rattle.domain_world.proofs.Accepting.CarriedLaws.{answered as taken_answered, one_unit}
+use Rattle.domain_world.proofs.Accepting.CarriedLaws.{one_unit, replies_to}
 use Rattle.domain_world.proofs.Accepting.UnitLaws.{heard_in}
 use Rattle.domain_world.proofs.Sequences.Own.OwnRunLaws.{sequences_own}
 use Rattle.domain_world.proofs.Accepting.ListPlaceLaws.{Placed, all_at, placed}
@@ -272,9 +272,7 @@ pub taken_pass : TakenCallsPass
 taken_pass plan moves heard clear n is =
     let p : Past = past plan moves in
     let replies = replies_carry plan moves in
-    let answered : IsAnsweredIn p is.message is.unit =
-    taken_answered p heard.whole (marks_have_their_way plan moves) heard.judged (passes_unclashed plan moves) replies heard.numbers clear is.message is.unit is.taken in
-    let request : answered.request ≡ n = some_is answered.request n (sym answered.call ∙ is.call) in
-    let replied = subst (λ (m : Mark). IsReplyOfOne p.book.judged is.unit is.taken.carrier.bytes m) answered.mark (replies is.unit is.taken.carrier answered.sent is.taken.there answered.there) in
-    one_weaker (λ (j : Judging). (j.reply ≡ Some is.unit) × IsReplyOfCall answered.channel answered.number answered.request j is.taken.carrier.bytes) (IsPassedIn n) p.book.judged
-    (λ j of. (passed_of (has_passed j.how) j answered.channel refl of.1.passed, of.1.came ∙ ap Some request)) replied
+    let its = replies_to p heard.whole (marks_have_their_way plan moves) heard.judged (passes_unclashed plan moves) replies heard.numbers clear is.taken is.turn in
+    let replied = subst (λ (m : Mark). IsReplyOfOne p.book.judged is.taken.reply is.turn.carrier.bytes m) its.mark (replies is.taken.reply is.turn.carrier its.sent is.turn.there its.there) in
+    one_weaker (λ (j : Judging). (j.reply ≡ Some is.taken.reply) × IsReplyOfCall its.channel its.number is.taken.call j is.turn.carrier.bytes) (IsPassedIn n) p.book.judged
+    (λ j of. (passed_of (has_passed j.how) j its.channel refl of.1.passed, of.1.came ∙ ap Some is.call)) replied

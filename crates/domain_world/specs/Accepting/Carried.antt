@@ -19,9 +19,9 @@ use Rattle.logon_stubs.specs.declared.calls.LogonReply.{LogonReply}
 use Rattle.logon_stubs.specs.declared.calls.Reply.TheVariants as reply
 use Rattle.logon_stubs.specs.declared.refused.StubRefused.{StubRefused}
 use Rattle.end_links.specs.Sending.{request_of}
-use Rattle.channel_events.specs.Marks.{Mark, Plain, Opening, Opened, Calling, ReplyTo}
+use Rattle.channel_events.specs.Marks.{Mark, OneOf, Plain, Opening, Opened, Calling, ReplyTo}
 use Rattle.step_notes.specs.Marking.{sent_channel}
-use Rattle.step_notes.specs.Records.{JudgedCall, Judging, MessageTaken, Network, Sent}
+use Rattle.step_notes.specs.Records.{CallTaken, JudgedCall, Judging, MessageTaken, Network, OfMember, RequesterId, Sent}
 use Rattle.world_moves.specs.declared.bag.BagUnit.{BagUnit}
 use Rattle.domain_world.specs.Accepting.Answered.{AnswersAreToCalls, CallsAskForMessages, MarksHaveTheirWay, PassesAreUnclashed, UnitsAreHeardAlike}
 use Rattle.domain_world.specs.Claims.{HasController, info_asked}
@@ -53,9 +53,15 @@ pub record IsWholeUnit (bytes : List ℕ) : Type 0 where
 abbrev pub IsNotJudged : RpcUnit → Type 0
 IsNotJudged unit = (asked : JudgedCall) → call_carried unit.body ≡ Some (call_judged asked) → ⊥
 
--- it can't be read as the reply to a Logon call that has an authenticator
+-- it can be read as the reply to a call that is judged, with an authenticator: to a Logon call, which is the only kind
+pub record IsReadAsAnswer (unit : RpcUnit) : Type 0 where
+  pub read : LogonReply
+  pub given : Authenticator
+  pub reads : reply_of 2 (stub_of unit.body) ≡ Ok (reply.Logon read)
+  pub returned : read.returned ≡ Some given
+
 abbrev pub IsNoAnswer : RpcUnit → Type 0
-IsNoAnswer unit = (r : LogonReply) (given : Authenticator) → reply_of 2 (stub_of unit.body) ≡ Ok (reply.Logon r) → r.returned ≡ Some given → ⊥
+IsNoAnswer unit = IsReadAsAnswer unit → ⊥
 
 -- by what a unit was made for
 abbrev pub IsAsMarked : Mark → RpcUnit → Type 0
@@ -110,37 +116,58 @@ abbrev pub MessagesAreCalled : Past → Type 0
 MessagesAreCalled past =
     AllByRecursion (λ (message : MessageTaken). (n : ℕ) → message.call ≡ Some n → IsCalledFor past message n) past.book.messages
 
--- The unit was taken as the answer in the turn of a message: on a channel that stood, with the controller of the
--- member's plan, on which the call of the message had gone out with that number; and it came back on the turn's link,
--- has the number, can be read as a reply that has an authenticator, and was made for that channel.
-pub record IsTakenInTurn (past : Past) (message : MessageTaken) (u : ℕ) : Type 0 where
+-- the controller is that of which that requester asks
+abbrev pub AsksOf : RequesterId → Past → ℕ → Type 0
+AsksOf (OfMember member) past controller = HasController (slice_get past.plan.members member) past.world.state.ends controller
+
+-- The answer was taken in the turn of its call, whoever asked: on a channel that stood, with the controller of which
+-- the requester asks, on which the call had gone out with that number; and it came back on the turn's link, has the
+-- number, can be read as a reply that has an authenticator, and was made for that channel.
+pub record IsTakenInTurn (past : Past) (taken : CallTaken) : Type 0 where
   pub channel : ChannelIdentity
   pub number : ℕ
   pub timestamp : ℕ
-  pub request : ℕ
   pub out : Sent
-  pub call : message.call ≡ Some request
-  pub asked : slice_get past.book.sent request ≡ Some out
+  pub asked : slice_get past.book.sent taken.call ≡ Some out
   pub mark : out.mark ≡ Calling channel number timestamp
-  pub controller : HasController (slice_get past.plan.members message.member) past.world.state.ends channel.controller
+  pub controller : AsksOf taken.requester past channel.controller
   pub carrier : BagUnit
-  pub there : slice_get past.world.state.bag u ≡ Some carrier
+  pub there : slice_get past.world.state.bag taken.reply ≡ Some carrier
   pub back : carrier.back ≡ true
   pub whole : IsWholeUnit carrier.bytes
   pub has : whole.unit.call ≡ number
-  pub read : LogonReply
-  pub given : Authenticator
-  pub reads : reply_of 2 (stub_of whole.unit.body) ≡ Ok (reply.Logon read)
-  pub returned : read.returned ≡ Some given
+  pub answer : IsReadAsAnswer whole.unit
   pub sent : Sent
-  pub noted : slice_get past.book.sent u ≡ Some sent
+  pub noted : slice_get past.book.sent taken.reply ≡ Some sent
   pub named : ChannelIdentity
   pub made : sent_channel (Some sent) ≡ Some named
   pub same : SameChannel named channel
 
+-- so was each answer that was taken
+abbrev pub AnswersAreTaken : Past → Type 0
+AnswersAreTaken past = past.book.clash ≡ false → AllByRecursion (λ (taken : CallTaken). IsTakenInTurn past taken) past.book.answers
+
+-- the member took that unit as the answer to the call of the message
+pub record IsAnswerFor (message : MessageTaken) (unit : ℕ) (taken : CallTaken) : Type 0 where
+  pub requester : taken.requester ≡ OfMember message.member
+  pub call : message.call ≡ Some taken.call
+  pub reply : taken.reply ≡ unit
+
+-- it is written down so of each message whose answer was taken
+abbrev pub MessagesAreAnswered : Past → Type 0
+MessagesAreAnswered past =
+    past.book.clash ≡ false → AllByRecursion (λ (message : MessageTaken). (unit : ℕ) → message.reply ≡ Some unit →
+    OneOf (IsAnswerFor message unit) past.book.answers) past.book.messages
+
+-- so the answer of the message was taken in the turn of its call
+pub record IsTakenAs (past : Past) (message : MessageTaken) (unit : ℕ) : Type 0 where
+  pub taken : CallTaken
+  pub is : IsAnswerFor message unit taken
+  pub turn : IsTakenInTurn past taken
+
 abbrev pub AnswersAreInTurn : Past → Type 0
 AnswersAreInTurn past =
-    past.book.clash ≡ false → AllByRecursion (λ (message : MessageTaken). (u : ℕ) → message.reply ≡ Some u → IsTakenInTurn past message u)
+    past.book.clash ≡ false → AllByRecursion (λ (message : MessageTaken). (unit : ℕ) → message.reply ≡ Some unit → IsTakenAs past message unit)
     past.book.messages
 
 -- the calls that were made with one client's challenge have different numbers (`Requests`)

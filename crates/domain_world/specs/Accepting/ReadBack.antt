@@ -24,7 +24,7 @@ use Rattle.step_notes.specs.ReplySends.{IsReplyOfCall, reply_passed}
 use Rattle.world_moves.specs.declared.bag.BagUnit.{BagUnit}
 use Rattle.world_moves.specs.Counting.{is_in}
 use Rattle.domain_world.specs.Accepting.Answered.{AnswersAreTold, LetsInAsRead}
-use Rattle.domain_world.specs.Accepting.Carried.{AnswersAreInTurn, IsWholeUnit}
+use Rattle.domain_world.specs.Accepting.Carried.{AnswersAreInTurn, AnswersAreTaken, IsWholeUnit, MessagesAreAnswered}
 use Rattle.domain_world.specs.Past.{Past}
 
 -- a unit that is the reply to a Logon call that was judged in the run, and that passed, is read as the reply that its
@@ -78,8 +78,10 @@ TurnsLetIn past =
     past.book.clash ≡ false → AllByRecursion (λ (told : OutcomeTold). is_in told.outcome ≡ true →
     OneOf (λ (message : MessageTaken). IsLetInInTurn past told message) past.book.messages) past.book.told
 
--- answers are taken in turn, their outcomes are told, and who is let in is so by one
+-- answers are taken in turn, those of messages among them; their outcomes are told, and who is let in is so by one
 pub record TurnsAreHeard (past : Past) : Type 0 where
+  pub taken : AnswersAreTaken past
+  pub answered : MessagesAreAnswered past
   pub turns : AnswersAreInTurn past
   pub told : TurnsAreTold past
   pub let_in : TurnsLetIn past

@@ -7,7 +7,7 @@ use Rattle.authenticators.specs.SecureChannels.{SecureChannelState}
 use Rattle.channel_client.specs.declared.state.Pending.{Pending}
 use Rattle.channel_events.specs.Marks.{Calling, OneOf, ReplyTo}
 use Rattle.step_notes.specs.ControllerNotes.{has_passed}
-use Rattle.step_notes.specs.Records.{JudgedCall, Judging, MessageTaken, RequesterId, Sent, given_in, timestamp_in}
+use Rattle.step_notes.specs.Records.{CallTaken, JudgedCall, Judging, RequesterId, Sent, given_in, timestamp_in}
 use Rattle.world_moves.specs.declared.bag.BagUnit.{BagUnit}
 use Rattle.world_moves.specs.declared.moves.Move.{Move}
 use Rattle.world_moves.specs.declared.plan.Plan.{Plan}
@@ -35,12 +35,11 @@ pub record IsMadeOn (past : Past) (channel : ChannelIdentity) (n timestamp : ℕ
   pub number : ℕ
   pub mark : sent.mark ≡ Calling channel number timestamp
 
--- the answer to it was taken, as that of the message whose call it is
+-- the answer to it was taken
 pub record IsTakenFor (past : Past) (n : ℕ) : Type 0 where
-  pub message : MessageTaken
-  pub call : message.call ≡ Some n
-  pub unit : ℕ
-  pub taken : IsTakenInTurn past message unit
+  pub taken : CallTaken
+  pub call : taken.call ≡ n
+  pub turn : IsTakenInTurn past taken
 
 -- the call passed
 abbrev pub IsPassedIn : ℕ → Judging → Type 0

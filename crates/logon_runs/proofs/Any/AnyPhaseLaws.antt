@@ -18,6 +18,7 @@ use Rattle.logon_runs.specs.Any.AnyPhases.{AnyPhase, AnyPhasesGoOn, Away, IsAble
 use Rattle.logon_runs.proofs.Phases.PhaseLaws.{at_moment, one_waits, same_scene, waits_so}
 use Rattle.logon_runs.proofs.Seen.StartLaws.{starts_are_seen}
 use Rattle.logon_runs.proofs.Seen.TurningSceneLaws.{scenes_turn}
+use Rattle.logon_runs.proofs.Seen.StepOnLaws.{by_step}
 use Rattle.logon_runs.proofs.Any.AnyStartLaws.{any_answers, any_binds, any_challenged, any_connects, any_seen, leads}
 use Rattle.logon_runs.proofs.Any.AnyTurnLaws.{any_acked, any_away, any_binds_held, any_bound, any_calls, any_dials_held, any_halved, any_judged, any_told}
 
@@ -83,17 +84,9 @@ module _ (plan : Plan) (p : Coming) (s : State) where
   let_in_or (inr let_in) = inr (let_in, refl)
 
   goes_so : (what : Move) → IsAble plan p → IsReadyBy plan p s → IsStepOn what → IsAnywhere plan p s → IsOnward plan p s (act s what).state ⊎ (IsLetIn plan p s × (what ≡ move.Onward))
-  goes_so move.Connect able ready steps at = inl (any_connects plan p s at.phase at.left at.moment able ready at.fits at.shows)
-  goes_so move.Onward able ready steps at = let_in_or (any_comes at.phase at.left at.moment able ready at.fits at.shows)
-  goes_so (move.Tick more) able ready steps at = inl (any_ticks at.phase at.left at.moment more at.fits at.shows)
-  goes_so (move.Start number) able ready steps at = absurd steps
-  goes_so (move.Stranger number) able ready steps at = absurd steps
-  goes_so move.FailDial able ready steps at = absurd steps
-  goes_so move.Lose able ready steps at = absurd steps
-  goes_so (move.Deliver unit link) able ready steps at = absurd steps
-  goes_so (move.Hand link back bytes) able ready steps at = absurd steps
-  goes_so (move.Shut number) able ready steps at = absurd steps
-  goes_so (move.Restart number) able ready steps at = absurd steps
+  goes_so what able ready steps at =
+      by_step (λ (one : Move). IsOnward plan p s (act s one).state ⊎ (IsLetIn plan p s × (one ≡ move.Onward))) (inl (any_connects plan p s at.phase at.left at.moment able ready at.fits at.shows))
+      (let_in_or (any_comes at.phase at.left at.moment able ready at.fits at.shows)) (λ more. inl (any_ticks at.phase at.left at.moment more at.fits at.shows)) what steps
 
   -- ---- something waits
 
@@ -118,17 +111,9 @@ module _ (plan : Plan) (p : Coming) (s : State) where
   )
 
   rests_so : (what : Move) → IsStepOn what → (at : IsDone plan p s) → IsDone plan p (act s what).state × ((act s what).state.chances.left ≡ s.chances.left)
-  rests_so move.Connect steps at = done_at _ at at.moment (starts_are_seen.no_dial s _ refl at.shows)
-  rests_so move.Onward steps at = done_at _ at at.moment (starts_are_seen.no_unit s _ refl at.shows)
-  rests_so (move.Tick more) steps at = done_at _ at (moment_after more at.moment) (scenes_turn.ticks s _ more at.shows)
-  rests_so (move.Start number) steps at = absurd steps
-  rests_so (move.Stranger number) steps at = absurd steps
-  rests_so move.FailDial steps at = absurd steps
-  rests_so move.Lose steps at = absurd steps
-  rests_so (move.Deliver unit link) steps at = absurd steps
-  rests_so (move.Hand link back bytes) steps at = absurd steps
-  rests_so (move.Shut number) steps at = absurd steps
-  rests_so (move.Restart number) steps at = absurd steps
+  rests_so what steps at =
+      by_step (λ (one : Move). IsDone plan p (act s one).state × ((act s one).state.chances.left ≡ s.chances.left)) (done_at _ at at.moment (starts_are_seen.no_dial s _ refl at.shows))
+      (done_at _ at at.moment (starts_are_seen.no_unit s _ refl at.shows)) (λ more. done_at _ at (moment_after more at.moment) (scenes_turn.ticks s _ more at.shows)) what steps
 
 pub any_phases_go_on : AnyPhasesGoOn
 any_phases_go_on = record {

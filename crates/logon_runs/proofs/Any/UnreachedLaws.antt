@@ -10,7 +10,6 @@ use Rattle.logon_client.specs.declared.plan.ClientPlan.{ClientPlan}
 use Rattle.world_moves.specs.declared.links.EndId.TheVariants.{Client}
 use Rattle.world_moves.specs.declared.links.Route.{Route}
 use Rattle.world_moves.specs.declared.moves.Move.{Move}
-use Rattle.world_moves.specs.declared.moves.Move.TheVariants as move
 use Rattle.world_moves.specs.declared.plan.Plan.{Plan}
 use Rattle.world_moves.specs.declared.state.State.{State}
 use Rattle.world_moves.specs.declared.state.WaitingDial.{WaitingDial}
@@ -33,6 +32,7 @@ use Rattle.logon_runs.proofs.RestStayLaws.{rest_with}
 use Rattle.logon_runs.proofs.Seen.StartLaws.{starts_are_seen}
 use Rattle.logon_runs.proofs.Seen.StayingLaws.{both_same, ends_stay, starts_same}
 use Rattle.logon_runs.proofs.Seen.TurningSceneLaws.{scenes_turn}
+use Rattle.logon_runs.proofs.Seen.StepOnLaws.{by_step}
 use Rattle.logon_runs.proofs.Any.AnyBeginLaws.{begins_seen}
 use Rattle.logon_runs.proofs.Any.AnyRunLaws.{none_up_to, route_still}
 use Rattle.logon_runs.proofs.Any.RestAgainLaws.{same_or_not, some_same}
@@ -54,21 +54,20 @@ module _ (p : Coming) (left : List (List ℕ)) (s : State) (nobody : route_to (C
 
   shows_on : (now : State) (moment : ℕ) (what : Move) → IsStepOn what → HasSameEnds s now → Shows now (scene_of p Dials left moment) ⊎ Shows now (unanswered p left moment) →
       (later : ℕ) × (Shows (act now what).state (scene_of p Dials left later) ⊎ Shows (act now what).state (unanswered p left later))
-  shows_on now moment move.Connect steps same (inl shows) =
-      (moment, inr (failings_are_seen.client_unreached now (with_its_controller p p.meeting) p.meeting.links left moment (nobody_now now same) shows))
-  shows_on now moment move.Connect steps same (inr shows) = (moment, inr (starts_are_seen.no_dial now (unanswered p left moment) refl shows))
-  shows_on now moment move.Onward steps same (inl shows) = (moment, inl (starts_are_seen.no_unit now (scene_of p Dials left moment) refl shows))
-  shows_on now moment move.Onward steps same (inr shows) = (moment, inr (starts_are_seen.no_unit now (unanswered p left moment) refl shows))
-  shows_on now moment (move.Tick more) steps same (inl shows) = (moment_after more moment, inl (scenes_turn.ticks now (scene_of p Dials left moment) more shows))
-  shows_on now moment (move.Tick more) steps same (inr shows) = (moment_after more moment, inr (scenes_turn.ticks now (unanswered p left moment) more shows))
-  shows_on now moment (move.Start number) steps same shows = absurd steps
-  shows_on now moment (move.Stranger number) steps same shows = absurd steps
-  shows_on now moment move.FailDial steps same shows = absurd steps
-  shows_on now moment move.Lose steps same shows = absurd steps
-  shows_on now moment (move.Deliver unit link) steps same shows = absurd steps
-  shows_on now moment (move.Hand link back bytes) steps same shows = absurd steps
-  shows_on now moment (move.Shut number) steps same shows = absurd steps
-  shows_on now moment (move.Restart number) steps same shows = absurd steps
+  shows_on now moment what steps same shows =
+      by_step (λ (one : Move). (later : ℕ) × (Shows (act now one).state (scene_of p Dials left later) ⊎ Shows (act now one).state (unanswered p left later)))
+      (elim shows [
+        | inl calls ↦ (moment, inr (failings_are_seen.client_unreached now (with_its_controller p p.meeting) p.meeting.links left moment (nobody_now now same) calls))
+        | inr over ↦ (moment, inr (starts_are_seen.no_dial now (unanswered p left moment) refl over))
+      ])
+      (elim shows [
+        | inl calls ↦ (moment, inl (starts_are_seen.no_unit now (scene_of p Dials left moment) refl calls))
+        | inr over ↦ (moment, inr (starts_are_seen.no_unit now (unanswered p left moment) refl over))
+      ])
+      (λ more. elim shows [
+        | inl calls ↦ (moment_after more moment, inl (scenes_turn.ticks now (scene_of p Dials left moment) more calls))
+        | inr over ↦ (moment_after more moment, inr (scenes_turn.ticks now (unanswered p left moment) more over))
+      ]) what steps
 
   -- no link is open, and the dial reaches nobody
   moves_alone : (now : State) (moment : ℕ) (what : Move) → IsStepOn what → HasSameEnds s now → Shows now (scene_of p Dials left moment) ⊎ Shows now (unanswered p left moment) →

@@ -64,7 +64,7 @@ lands_failed s v end peer dials ends actions client member controller shows wait
     let s1 : State = without_first s in
     let s2 : State = (after_hearing ends v.left actions s1).state in
     let s3 : State = perform_all_quietly end actions s2 in
-    let leaves : Leaves end actions s2 s3 = quietly_leave end actions s2 none_close in
+    let leaves : Leaves end actions s2 s3 = quietly_leave end actions s2 in
     let is : (connect s).state ≡ s3 =
     ap (λ (d : List WaitingDial). (connect_first (slice_get d 0) (without_first s)).state) (shows.dials ∙ waits)
     ∙ ap (λ (r : Option Route). (connect_by r end (without_first s)).state) reaches

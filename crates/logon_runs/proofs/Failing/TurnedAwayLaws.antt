@@ -71,6 +71,7 @@ use Rattle.logon_runs.proofs.Seen.StartLaws.{starts_are_seen}
 use Rattle.logon_runs.proofs.Seen.TurnSceneLaws.{turns_are_seen}
 use Rattle.logon_runs.proofs.Seen.TurningSceneLaws.{scenes_turn}
 use Rattle.logon_runs.proofs.Seen.TwoLinkLaws.{turns_have_links}
+use Rattle.logon_runs.proofs.Seen.StepOnLaws.{by_step}
 
 -- ---- the statuses of verdicts
 
@@ -283,18 +284,12 @@ ticks_on p s (Unheard a who e) left moment more shows = scenes_turn.ticks s (awa
 ticks_on p s (Faulted a later e status) left moment more shows = scenes_turn.ticks s (away_scene p (Faulted a later e status) left moment) more shows
 
 goes_so : (p : Coming) (s : State) (what : Move) → IsStepOn what → IsAway p s → IsAway p (act s what).state ⊎ HasEnded p (act s what).state
-goes_so p s move.Connect steps at = inl (record { phase = at.phase; left = at.left; moment = at.moment; fits = at.fits; shows = connects_on p s at.phase at.left at.moment at.shows })
-goes_so p s move.Onward steps at = comes_on p s at.phase at.left at.moment at.fits at.shows
-goes_so p s (move.Tick more) steps at =
-    inl (record { phase = at.phase; left = at.left; moment = moment_after more at.moment; fits = at.fits; shows = ticks_on p s at.phase at.left at.moment more at.shows })
-goes_so p s (move.Start number) steps at = absurd steps
-goes_so p s (move.Stranger number) steps at = absurd steps
-goes_so p s move.FailDial steps at = absurd steps
-goes_so p s move.Lose steps at = absurd steps
-goes_so p s (move.Deliver unit link) steps at = absurd steps
-goes_so p s (move.Hand link back bytes) steps at = absurd steps
-goes_so p s (move.Shut number) steps at = absurd steps
-goes_so p s (move.Restart number) steps at = absurd steps
+goes_so p s what steps at =
+    by_step (λ (one : Move). IsAway p (act s one).state ⊎ HasEnded p (act s one).state)
+    (inl (record { phase = at.phase; left = at.left; moment = at.moment; fits = at.fits; shows = connects_on p s at.phase at.left at.moment at.shows }))
+    (comes_on p s at.phase at.left at.moment at.fits at.shows)
+    (λ more. inl (record { phase = at.phase; left = at.left; moment = moment_after more at.moment; fits = at.fits; shows = ticks_on p s at.phase at.left at.moment more at.shows }))
+    what steps
 
 one_waits : {T : Type 0} (items : List T) (one : T) → items ≡ one ∷ [] → items ≡ [] → ⊥
 one_waits items one are none = absurd cc
@@ -309,17 +304,9 @@ over_at : (p : Coming) (s after : State) (at : HasEnded p s) (moment : ℕ) →
 over_at p s after at moment shows = record { outcome = at.outcome; settled = at.settled; left = at.left; moment = moment; fits = at.fits; shows = shows }
 
 rests_so : (p : Coming) (s : State) (what : Move) → IsStepOn what → HasEnded p s → HasEnded p (act s what).state
-rests_so p s move.Connect steps at = over_at p s _ at at.moment (starts_are_seen.no_dial s _ refl at.shows)
-rests_so p s move.Onward steps at = over_at p s _ at at.moment (starts_are_seen.no_unit s _ refl at.shows)
-rests_so p s (move.Tick more) steps at = over_at p s _ at (moment_after more at.moment) (scenes_turn.ticks s _ more at.shows)
-rests_so p s (move.Start number) steps at = absurd steps
-rests_so p s (move.Stranger number) steps at = absurd steps
-rests_so p s move.FailDial steps at = absurd steps
-rests_so p s move.Lose steps at = absurd steps
-rests_so p s (move.Deliver unit link) steps at = absurd steps
-rests_so p s (move.Hand link back bytes) steps at = absurd steps
-rests_so p s (move.Shut number) steps at = absurd steps
-rests_so p s (move.Restart number) steps at = absurd steps
+rests_so p s what steps at =
+    by_step (λ (one : Move). HasEnded p (act s one).state) (over_at p s _ at at.moment (starts_are_seen.no_dial s _ refl at.shows)) (over_at p s _ at at.moment (starts_are_seen.no_unit s _ refl at.shows))
+    (λ more. over_at p s _ at (moment_after more at.moment) (scenes_turn.ticks s _ more at.shows)) what steps
 
 unreached_so : (p : Coming) (s : State) (a : Asked) (who : WhoAsked p a) (v : TurnAt) (aim : Aim) (left : List (List ℕ)) (moment : ℕ) → InRangeTable p.table → IsTurning p a v →
     route_to (Member p.meeting.at_member) (end_of_peer p.meeting.plan.controller s.ends) ≡ None →
@@ -373,32 +360,15 @@ comes_left p s (Unheard a who e) left moment fits shows = refl
 comes_left p s (Faulted a later e status) left moment fits shows = refl
 
 draws_none : (p : Coming) (s : State) (what : Move) (steps : IsStepOn what) (at : IsAway p s) → after_left p (act s what).state (goes_so p s what steps at) ≡ at.left
-unfolding after_left goes_so
-draws_none p s move.Connect steps at = refl
-draws_none p s move.Onward steps at = comes_left p s at.phase at.left at.moment at.fits at.shows
-draws_none p s (move.Tick more) steps at = refl
-draws_none p s (move.Start number) steps at = absurd steps
-draws_none p s (move.Stranger number) steps at = absurd steps
-draws_none p s move.FailDial steps at = absurd steps
-draws_none p s move.Lose steps at = absurd steps
-draws_none p s (move.Deliver unit link) steps at = absurd steps
-draws_none p s (move.Hand link back bytes) steps at = absurd steps
-draws_none p s (move.Shut number) steps at = absurd steps
-draws_none p s (move.Restart number) steps at = absurd steps
+unfolding after_left goes_so by_step
+draws_none p s what steps at =
+    by_step (λ (one : Move). (on : IsStepOn one) → after_left p (act s one).state (goes_so p s one on at) ≡ at.left) (λ on. refl)
+    (λ on. comes_left p s at.phase at.left at.moment at.fits at.shows) (λ more on. refl) what steps steps
 
 rests_left : (p : Coming) (s : State) (what : Move) (steps : IsStepOn what) (at : HasEnded p s) → (rests_so p s what steps at).left ≡ at.left
-unfolding rests_so over_at
-rests_left p s move.Connect steps at = refl
-rests_left p s move.Onward steps at = refl
-rests_left p s (move.Tick more) steps at = refl
-rests_left p s (move.Start number) steps at = absurd steps
-rests_left p s (move.Stranger number) steps at = absurd steps
-rests_left p s move.FailDial steps at = absurd steps
-rests_left p s move.Lose steps at = absurd steps
-rests_left p s (move.Deliver unit link) steps at = absurd steps
-rests_left p s (move.Hand link back bytes) steps at = absurd steps
-rests_left p s (move.Shut number) steps at = absurd steps
-rests_left p s (move.Restart number) steps at = absurd steps
+unfolding rests_so over_at by_step
+rests_left p s what steps at =
+    by_step (λ (one : Move). (on : IsStepOn one) → (rests_so p s one on at).left ≡ at.left) (λ on. refl) (λ on. refl) (λ more on. refl) what steps steps
 
 refuses_left : (p : Coming) (s : State) (a : Asked) (who : WhoAsked p a) (v : TurnAt) (o c : SecureChannelState) (timestamp : ℕ) (left : List (List ℕ)) (moment status : ℕ) (known : IsKnown p)
     (fits : Fits p (Calls a who v (Third o c timestamp))) (is : verdict_of p.table p.name (info_asked (own p) a) moment ≡ verdict.Status status)

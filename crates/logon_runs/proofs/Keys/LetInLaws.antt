@@ -82,6 +82,7 @@ use Rattle.logon_runs.proofs.Seen.SceneLaws.{scenes_go_on}
 use Rattle.logon_runs.proofs.Seen.StartLaws.{starts_are_seen}
 use Rattle.logon_runs.proofs.Seen.TurnSceneLaws.{closes_turn, heard_back}
 use Rattle.logon_runs.proofs.Seen.TurningSceneLaws.{scenes_turn}
+use Rattle.logon_runs.proofs.Seen.StepOnLaws.{by_step}
 
 -- ---- what comes on the client's link
 
@@ -201,36 +202,21 @@ ticks_on g left s (Asks terms question on bytes) moment more shows = scenes_turn
 ticks_on g left s (Hears terms question on bytes) moment more shows = scenes_turn.ticks s (let_in_scene g (Hears terms question on bytes) left moment) more shows
 
 goes_so : (g : Meeting) (left : List (List ℕ)) (s : State) (what : Move) → IsStepOn what → IsOnLink g left s → GoesOn g left (act s what).state
-goes_so g left s move.Connect steps at =
-    inl (record { can = at.can; joined = at.joined; phase = at.phase; moment = at.moment; fits = at.fits; shows = connects_on g left s at.phase at.moment at.shows })
-goes_so g left s move.Onward steps at = comes_on g left s at.phase at.moment at.can at.joined at.fits at.shows
-goes_so g left s (move.Tick more) steps at =
-    inl (record { can = at.can; joined = at.joined; phase = at.phase; moment = moment_after more at.moment; fits = at.fits; shows = ticks_on g left s at.phase at.moment more at.shows })
-goes_so g left s (move.Start number) steps at = absurd steps
-goes_so g left s (move.Stranger number) steps at = absurd steps
-goes_so g left s move.FailDial steps at = absurd steps
-goes_so g left s move.Lose steps at = absurd steps
-goes_so g left s (move.Deliver unit link) steps at = absurd steps
-goes_so g left s (move.Hand link back bytes) steps at = absurd steps
-goes_so g left s (move.Shut number) steps at = absurd steps
-goes_so g left s (move.Restart number) steps at = absurd steps
+goes_so g left s what steps at =
+    by_step (λ (one : Move). GoesOn g left (act s one).state)
+    (inl (record { can = at.can; joined = at.joined; phase = at.phase; moment = at.moment; fits = at.fits; shows = connects_on g left s at.phase at.moment at.shows }))
+    (comes_on g left s at.phase at.moment at.can at.joined at.fits at.shows)
+    (λ more. inl (record { can = at.can; joined = at.joined; phase = at.phase; moment = moment_after more at.moment; fits = at.fits; shows = ticks_on g left s at.phase at.moment more at.shows }))
+    what steps
 
 over_at : (g : Meeting) (left : List (List ℕ)) (s after : State) (at : HasEndedAt g left s) (moment : ℕ) →
     Shows after (rest_scene g (client_ended g.task at.outcome) g.links left moment []) → HasEndedAt g left after
 over_at g left s after at moment shows = record { outcome = at.outcome; moment = moment; shows = shows }
 
 rests_so : (g : Meeting) (left : List (List ℕ)) (s : State) (what : Move) → IsStepOn what → HasEndedAt g left s → HasEndedAt g left (act s what).state
-rests_so g left s move.Connect steps at = over_at g left s _ at at.moment (starts_are_seen.no_dial s _ refl at.shows)
-rests_so g left s move.Onward steps at = over_at g left s _ at at.moment (starts_are_seen.no_unit s _ refl at.shows)
-rests_so g left s (move.Tick more) steps at = over_at g left s _ at (moment_after more at.moment) (scenes_turn.ticks s _ more at.shows)
-rests_so g left s (move.Start number) steps at = absurd steps
-rests_so g left s (move.Stranger number) steps at = absurd steps
-rests_so g left s move.FailDial steps at = absurd steps
-rests_so g left s move.Lose steps at = absurd steps
-rests_so g left s (move.Deliver unit link) steps at = absurd steps
-rests_so g left s (move.Hand link back bytes) steps at = absurd steps
-rests_so g left s (move.Shut number) steps at = absurd steps
-rests_so g left s (move.Restart number) steps at = absurd steps
+rests_so g left s what steps at =
+    by_step (λ (one : Move). HasEndedAt g left (act s one).state) (over_at g left s _ at at.moment (starts_are_seen.no_dial s _ refl at.shows))
+    (over_at g left s _ at at.moment (starts_are_seen.no_unit s _ refl at.shows)) (λ more. over_at g left s _ at (moment_after more at.moment) (scenes_turn.ticks s _ more at.shows)) what steps
 
 waits_so : (g : Meeting) (left : List (List ℕ)) (s : State) (phase : LetInPhase) (moment : ℕ) → Shows s (let_in_scene g phase left moment) → waiting s.bag ≡ [] → ⊥
 waits_so g left s (Asks terms question on bytes) moment shows none = one_waits (waiting s.bag) _ [] shows.units none

@@ -5,17 +5,21 @@ use Rattle.world_moves.specs.declared.moves.Move.{Move}
 use Rattle.world_moves.specs.declared.moves.Move.TheVariants as move
 use Rattle.world_moves.specs.declared.state.State.{State}
 use Rattle.world_moves.specs.Moving.{act, moment_after, onward, tick}
-use Rattle.logon_runs.specs.Phases.{Progress, Aim, First, Second, Third, TurnAt, WhoAsked, HasUser, HasUserAt, MayLogOnAt, ArrivesAt, ComesTo, ComesSoFar, Coming, progress_after, progress_of, progress_onward, Fits, IsOver, IsReady, IsUnderWay, IsKnown, LogonPhase, PhasesGoOn, scene_of, with_its_controller}
+use Rattle.logon_runs.specs.Phases.{Aim, ArrivesAt, ComesSoFar, ComesTo, Coming, First, Fits, HasUser, HasUserAt, IsKnown, IsOver, IsReady, IsUnderWay, LogonPhase, MayLogOnAt, PhasesGoOn, Progress, Second, Third, TurnAt, WhoAsked, key_at, meeting_at, progress_after, progress_of, progress_onward, scene_of, told_of, with_its_controller}
 use Rattle.logon_runs.specs.Phases.{Acked, Answers, Binds, BindsBefore, BindsHeld, Calls, Challenged, Dials, DialsBefore, DialsHeld, Echoed, Echoes, Granted, Halved, Named, Proved}
-use Rattle.logon_runs.specs.Seen.Others.{IsStepOn}
+use Rattle.logon_runs.specs.Seen.Others.{IsStepOn, is_onward}
 use Rattle.logon_runs.specs.Runs.{Asked}
 use Rattle.logon_runs.specs.Scenes.{Scene, Shows}
 use Rattle.logon_runs.specs.Seen.WaitingUnits.{waiting}
+use Rattle.logon_runs.specs.Seen.LinkScenes.{rest_scene}
 use Rattle.logon_runs.proofs.Seen.StartLaws.{starts_are_seen}
 use Rattle.logon_runs.proofs.Seen.TurningSceneLaws.{scenes_turn}
+use Rattle.logon_runs.proofs.Seen.StepOnLaws.{by_step, if_so}
 use Rattle.logon_runs.proofs.Phases.PhaseStartLaws.{ComesBy, left_seen, answers_on, binds_on, challenged_on, connects_on, under}
 use Rattle.logon_runs.proofs.Phases.PhaseTurnLaws.{acked_on, binds_held, bound_on, calls_on, dials_held, halved_on, proved_on}
 use Rattle.logon_runs.proofs.Phases.PhaseEndLaws.{echoed_on, echoes_on, granted_on, named_on}
+use Rattle.logon_steps.specs.ClientSteps.{client_ended}
+use Rattle.logon_client.specs.declared.outcome.ClientOutcome.TheVariants.{In}
 
 -- ---- a unit comes
 
@@ -78,62 +82,24 @@ ticks_on p s phase left moment more fits shows =
 
 goes_so : (p : Coming) (s : State) (what : Move) → IsKnown p → IsReady p s → IsStepOn what → (at : IsUnderWay p s) → HasUserAt p s at.phase what → ArrivesAt p at.phase what →
     ComesBy p (progress_after what at.phase) s (act s what).state
-goes_so p s move.Connect known ready goes at user arrives = connects_on p s at.phase at.left at.moment ready at.fits at.shows
-goes_so p s move.Onward known ready goes at user arrives = comes_on p s at.phase at.left at.moment known ready at.fits user arrives at.shows
-goes_so p s (move.Tick more) known ready goes at user arrives = ticks_on p s at.phase at.left at.moment more at.fits at.shows
-goes_so p s (move.Start number) known ready goes at user arrives = absurd goes
-goes_so p s (move.Stranger number) known ready goes at user arrives = absurd goes
-goes_so p s move.FailDial known ready goes at user arrives = absurd goes
-goes_so p s move.Lose known ready goes at user arrives = absurd goes
-goes_so p s (move.Deliver unit link) known ready goes at user arrives = absurd goes
-goes_so p s (move.Hand link back bytes) known ready goes at user arrives = absurd goes
-goes_so p s (move.Shut number) known ready goes at user arrives = absurd goes
-goes_so p s (move.Restart number) known ready goes at user arrives = absurd goes
+goes_so p s what known ready goes at =
+    by_step (λ (one : Move). HasUserAt p s at.phase one → ArrivesAt p at.phase one → ComesBy p (progress_after one at.phase) s (act s one).state)
+    (λ user arrives. connects_on p s at.phase at.left at.moment ready at.fits at.shows)
+    (λ user arrives. comes_on p s at.phase at.left at.moment known ready at.fits user arrives at.shows)
+    (λ more user arrives. ticks_on p s at.phase at.left at.moment more at.fits at.shows) what goes
 
 -- ---- once it is over
 
+-- so it is later, at another moment
+over_at : (p : Coming) (s after : State) (over : IsOver p s) (moment : ℕ) →
+    Shows after (rest_scene (meeting_at p over.ending) (client_ended p.meeting.task (In (told_of p) (key_at p over.asked) p.meeting.task.echo)) over.ending.links over.left moment []) →
+    (later : IsOver p after) × (later.asked ≡ over.asked)
+over_at p s after over moment shows = (record { asked = over.asked; ending = over.ending; left = over.left; moment = moment; fits = over.fits; shows = shows }, refl)
+
 rests_so : (p : Coming) (s : State) (what : Move) → IsStepOn what → (over : IsOver p s) → (later : IsOver p (act s what).state) × (later.asked ≡ over.asked)
-rests_so p s move.Connect goes over = (
-  record {
-    asked = over.asked;
-    ending = over.ending;
-    left = over.left;
-    moment = over.moment;
-    fits = over.fits;
-    shows = starts_are_seen.no_dial s _ refl over.shows;
-  },
-  refl,
-)
-rests_so p s move.Onward goes over = (
-  record {
-    asked = over.asked;
-    ending = over.ending;
-    left = over.left;
-    moment = over.moment;
-    fits = over.fits;
-    shows = starts_are_seen.no_unit s _ refl over.shows;
-  },
-  refl,
-)
-rests_so p s (move.Tick more) goes over = (
-  record {
-    asked = over.asked;
-    ending = over.ending;
-    left = over.left;
-    moment = moment_after more over.moment;
-    fits = over.fits;
-    shows = scenes_turn.ticks s _ more over.shows;
-  },
-  refl,
-)
-rests_so p s (move.Start number) goes over = absurd goes
-rests_so p s (move.Stranger number) goes over = absurd goes
-rests_so p s move.FailDial goes over = absurd goes
-rests_so p s move.Lose goes over = absurd goes
-rests_so p s (move.Deliver unit link) goes over = absurd goes
-rests_so p s (move.Hand link back bytes) goes over = absurd goes
-rests_so p s (move.Shut number) goes over = absurd goes
-rests_so p s (move.Restart number) goes over = absurd goes
+rests_so p s what goes over =
+    by_step (λ (one : Move). (later : IsOver p (act s one).state) × (later.asked ≡ over.asked)) (over_at p s _ over over.moment (starts_are_seen.no_dial s _ refl over.shows))
+    (over_at p s _ over over.moment (starts_are_seen.no_unit s _ refl over.shows)) (λ more. over_at p s _ over (moment_after more over.moment) (scenes_turn.ticks s _ more over.shows)) what goes
 
 -- whatever is told
 comes_of : (p : Coming) (far : Progress) (s : State) → ComesSoFar p far s → ComesTo p s
@@ -168,17 +134,7 @@ waits_so p s (Echoed a e talk one other back) left moment shows dials units = on
 user_at_call : (p : Coming) (s : State) (a : Asked) (who : WhoAsked p a) (v : TurnAt) (aim : Aim) (what : Move) → HasUser p → MayLogOnAt p s → HasUserAt p s (Calls a who v aim) what
 user_at_call p s a who v (First client) what user may = tt
 user_at_call p s a who v (Second client server) what user may = tt
-user_at_call p s a who v (Third o c timestamp) move.Onward user may = (user, may)
-user_at_call p s a who v (Third o c timestamp) move.Connect user may = tt
-user_at_call p s a who v (Third o c timestamp) (move.Tick more) user may = tt
-user_at_call p s a who v (Third o c timestamp) (move.Start number) user may = tt
-user_at_call p s a who v (Third o c timestamp) (move.Stranger number) user may = tt
-user_at_call p s a who v (Third o c timestamp) move.FailDial user may = tt
-user_at_call p s a who v (Third o c timestamp) move.Lose user may = tt
-user_at_call p s a who v (Third o c timestamp) (move.Deliver unit link) user may = tt
-user_at_call p s a who v (Third o c timestamp) (move.Hand link back bytes) user may = tt
-user_at_call p s a who v (Third o c timestamp) (move.Shut number) user may = tt
-user_at_call p s a who v (Third o c timestamp) (move.Restart number) user may = tt
+user_at_call p s a who v (Third o c timestamp) what user may = if_so (is_onward what) (HasUser p × MayLogOnAt p s) (user, may)
 
 user_at : (p : Coming) (s : State) (phase : LogonPhase p) (what : Move) → HasUser p → MayLogOnAt p s → HasUserAt p s phase what
 user_at p s Dials what user may = tt

@@ -23,6 +23,7 @@ use Rattle.world_moves.specs.declared.links.Route.{Route}
 use Rattle.world_moves.specs.declared.links.Route.TheVariants.{ToMember}
 use Rattle.world_moves.specs.Links.{OpenMap, accepted, answered}
 use Rattle.world_moves.specs.Moving.{connect, onward}
+use Rattle.world_moves.specs.Acting.{sent_if}
 use Rattle.logon_steps.specs.Answers.{answer_for, auth3_for, drawn_of, terms_for}
 use Rattle.logon_steps.specs.ClientSteps.{client_at, client_ended}
 use Rattle.logon_steps.specs.MemoCalls.{logged_on, with_session}
@@ -34,7 +35,7 @@ use Rattle.logon_steps.proofs.MemberLinkLaws.{links_step}
 use Rattle.logon_steps.proofs.StreamLaws.{same}
 use Rattle.logon_steps.proofs.TurningLaws.{ComesAtOnce, unit_comes}
 use Rattle.logon_runs.specs.Seen.LinkScenes.{IsJoined, Meeting, MeetingsAreSeen, its_link, joined, meeting_scene, rest_scene, unit_down, unit_up}
-use Rattle.logon_runs.specs.Scenes.{HasFirst, Shows, sent_if}
+use Rattle.logon_runs.specs.Scenes.{HasFirst, Shows}
 use Rattle.logon_runs.specs.Seen.Turnings.{ClosesTo}
 use Rattle.logon_runs.proofs.Seen.SceneLaws.{scenes_go_on}
 use Rattle.logon_runs.proofs.Seen.TurningSceneLaws.{scenes_turn}

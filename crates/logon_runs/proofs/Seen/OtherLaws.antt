@@ -3,7 +3,6 @@
 use Rattle.std.proofs.Common.{◌≡◌, ◌≢◌, ℕ, zero, suc, Bool, true, false, List, [], ◌∷◌, ◌++◌, length, Option, Some, None, refl, sym, ap, subst, ◌∙◌, slice_get, slice_set, if◌then◌else◌}
 use Rattle.wire_base.specs.Maps.{lookup, put, same_number, take_out}
 use Rattle.outside.specs.declared.action.Action.{Action}
-use Rattle.outside.specs.declared.action.Action.TheVariants.{Keep, Send, Dial, Close, Told, Judged}
 use Rattle.outside.specs.declared.event.Event.{Event}
 use Rattle.outside.specs.declared.event.Event.TheVariants as event
 use Rattle.domain_controller.specs.State.{State as ControllerState}
@@ -15,22 +14,21 @@ use Rattle.member_server.specs.State.{State as MemberState}
 use Rattle.member_server.specs.Machine.{step_of as member_step_of}
 use Rattle.world_moves.specs.declared.bag.BagUnit.{BagUnit}
 use Rattle.world_moves.specs.declared.links.EndId.{EndId}
-use Rattle.world_moves.specs.declared.links.EndId.TheVariants.{Controller, Member, Client}
-use Rattle.world_moves.specs.declared.links.LinkKind.{LinkKind}
-use Rattle.world_moves.specs.declared.links.LinkKind.TheVariants as kind
+use Rattle.world_moves.specs.declared.links.EndId.TheVariants.{Client}
 use Rattle.world_moves.specs.declared.links.OpenLink.{OpenLink}
 use Rattle.world_moves.specs.declared.links.Route.{Route}
 use Rattle.world_moves.specs.declared.links.Route.TheVariants.{Stranger, ToController, ToMember}
 use Rattle.world_moves.specs.declared.moves.Move.{Move}
-use Rattle.world_moves.specs.declared.moves.Move.TheVariants as move
 use Rattle.world_moves.specs.declared.state.State.{State}
 use Rattle.world_moves.specs.declared.state.WaitingDial.{WaitingDial}
-use Rattle.world_moves.specs.Acting.{Heard, bag_unit, close_open, closed_at, forget, hear, heard_by, hear_and_act, hear_and_act_if, perform, perform_all, perform_all_quietly, perform_quietly, piece_comes, pieces_come, send_on, shut_link}
+use Rattle.world_moves.specs.Acting.{Heard, close_open, closed_at, forget, hear, hear_and_act, hear_and_act_if, heard_by, link_closed, perform, perform_all, perform_all_quietly, perform_by, perform_quietly, piece_comes, pieces_come, shut_link}
 use Rattle.world_moves.specs.Bag.{first_waiting, pieces_of}
-use Rattle.world_moves.specs.Ends.{client_step, controller_step, member_step}
-use Rattle.world_moves.specs.Links.{OpenMap, accepted, acceptor_of, answered, dialler_of, end_if, forget_end, hearer_of, hearer_on, is_accepted_by, kind_of, other_hearer}
+use Rattle.world_moves.specs.Ends.{EndStep, client_done, controller_done, member_done}
+use Rattle.world_moves.specs.Links.{OpenMap, accepted, acceptor_of, answered, dialler_of, end_if, forget_end, hearer_of, hearer_on, is_accepted_by, other_hearer}
 use Rattle.world_moves.specs.Moving.{act, answer_by, answered_link, begun, come_by, come_on_own, connect_by, connect_first, end_of_peer, onward_by, open_link, route_to, settle, start_at, start_by, with_link, without_first}
+use Rattle.world_moves.proofs.EndKindLaws.{step_by}
 use Rattle.logon_runs.specs.Seen.Others.{AreAmong, IsAmong, IsDialAmong, IsOneOf, IsRoutedAmong, IsStepOn, OthersAreLeft, OthersStay, Three}
+use Rattle.logon_runs.proofs.Seen.StepOnLaws.{by_step}
 
 -- ---- lists
 
@@ -104,27 +102,24 @@ both_stay t s between after first then_so = record {
 -- ---- an end hears something
 
 module _ (t : Three) (what : Event) (s : State) (are : AreAmong t s.open_links) where
-  controller_heard : (found : Option ControllerState) (at : ℕ) → at ≡ t.controller → OthersStay t s (heard_by (controller_step found at what s.moment s.ends s.chances) s).state
-  controller_heard None at is = of_same t s _ refl are
-  controller_heard (Some c) at is = record {
+  controller_heard : (at : ℕ) (c : ControllerState) → at ≡ t.controller → OthersStay t s (heard_by (controller_done (controller_step_of c what s.moment s.chances.left) at s.ends s.chances) s).state
+  controller_heard at c is = record {
     controllers = λ other apart. got_other s.ends.controllers at other (controller_step_of c what s.moment s.chances.left).state (λ same. apart (same ∙ is));
     members = λ other apart. refl;
     clients = λ other apart. refl;
     links = are;
   }
 
-  member_heard : (found : Option MemberState) (at : ℕ) → at ≡ t.member → OthersStay t s (heard_by (member_step found at what s.moment s.ends s.chances) s).state
-  member_heard None at is = of_same t s _ refl are
-  member_heard (Some m) at is = record {
+  member_heard : (at : ℕ) (m : MemberState) → at ≡ t.member → OthersStay t s (heard_by (member_done (member_step_of m what s.moment s.chances.left) at s.ends s.chances) s).state
+  member_heard at m is = record {
     controllers = λ other apart. refl;
     members = λ other apart. got_other s.ends.members at other (member_step_of m what s.moment s.chances.left).state (λ same. apart (same ∙ is));
     clients = λ other apart. refl;
     links = are;
   }
 
-  client_heard : (found : Option ClientState) (at : ℕ) → at ≡ t.client → OthersStay t s (heard_by (client_step found at what s.moment s.ends s.chances) s).state
-  client_heard None at is = of_same t s _ refl are
-  client_heard (Some c) at is = record {
+  client_heard : (at : ℕ) (c : ClientState) → at ≡ t.client → OthersStay t s (heard_by (client_done (client_step_of c what s.moment s.chances.left) at s.ends s.chances) s).state
+  client_heard at c is = record {
     controllers = λ other apart. refl;
     members = λ other apart. refl;
     clients = λ other apart. got_other s.ends.clients at other (client_step_of c what s.moment s.chances.left).state (λ same. apart (same ∙ is));
@@ -132,28 +127,14 @@ module _ (t : Three) (what : Event) (s : State) (are : AreAmong t s.open_links) 
   }
 
   heard_stays : (end : EndId) → IsOneOf t end → OthersStay t s (hear end what s).state
-  heard_stays (Controller at) is = controller_heard (slice_get s.ends.controllers at) at is
-  heard_stays (Member at) is = member_heard (slice_get s.ends.members at) at is
-  heard_stays (Client at) is = client_heard (slice_get s.ends.clients at) at is
+  heard_stays =
+      step_by (λ (end : EndId) (step : EndStep). IsOneOf t end → OthersStay t s (heard_by step s).state) what s.moment s.ends s.chances (λ end is. of_same t s _ refl are)
+      (λ at c there is. controller_heard at c is) (λ at m there is. member_heard at m is) (λ at c there is. client_heard at c is)
 
 -- ---- what it then does
 
-bag_stays : (t : Three) (k : LinkKind) (back : Bool) (link : ℕ) (bytes : List ℕ) (s : State) → AreAmong t s.open_links → OthersStay t s (bag_unit k back link bytes s)
-bag_stays t kind.Stranger back link bytes s are = staying t s are
-bag_stays t kind.ToMember back link bytes s are = of_same t s _ refl are
-bag_stays t kind.ToController back link bytes s are = of_same t s _ refl are
-
-send_stays : (t : Three) (route : Option Route) (end : EndId) (link : ℕ) (bytes : List ℕ) (s : State) → AreAmong t s.open_links → OthersStay t s (send_on route end link bytes s)
-send_stays t None end link bytes s are = staying t s are
-send_stays t (Some route) end link bytes s are = bag_stays t (kind_of route) (is_accepted_by end route) link bytes s are
-
 quiet_stays : (t : Three) (end : EndId) (what : Action) (s : State) → AreAmong t s.open_links → OthersStay t s (perform_quietly end what s)
-quiet_stays t end (Keep bytes) s are = staying t s are
-quiet_stays t end (Send link bytes) s are = send_stays t (slice_get s.links link) end link bytes s are
-quiet_stays t end (Dial peer) s are = of_same t s _ refl are
-quiet_stays t end (Close link cause) s are = staying t s are
-quiet_stays t end (Told link outcome) s are = staying t s are
-quiet_stays t end (Judged how) s are = staying t s are
+quiet_stays t end what s are = of_same t s (perform_quietly end what s) refl are
 
 all_quiet_stays : (t : Three) (end : EndId) (actions : List Action) (s : State) → AreAmong t s.open_links → OthersStay t s (perform_all_quietly end actions s)
 all_quiet_stays t end [] s are = staying t s are
@@ -202,13 +183,12 @@ close_stays t (Some there) end link s is are =
     let less : AreAmong t (shut_link link s).open_links = without t link s.open_links are in
     both_stay t s (shut_link link s) _ (of_same t s _ refl less) (closed_stays t (other_hearer end there) link (shut_link link s) (hearer_so t (is_accepted_by end there.route) there is) less)
 
+perform_by_stays : (t : Three) (closed : Option ℕ) (end : EndId) (what : Action) (s : State) → AreAmong t s.open_links → OthersStay t s (perform_by closed end what s).state
+perform_by_stays t None end what s are = quiet_stays t end what s are
+perform_by_stays t (Some link) end what s are = close_stays t (lookup same_number link s.open_links) end link s (found t link s.open_links are) are
+
 perform_stays : (t : Three) (end : EndId) (what : Action) (s : State) → AreAmong t s.open_links → OthersStay t s (perform end what s).state
-perform_stays t end (Keep bytes) s are = staying t s are
-perform_stays t end (Close link cause) s are = close_stays t (lookup same_number link s.open_links) end link s (found t link s.open_links are) are
-perform_stays t end (Send link bytes) s are = quiet_stays t end (Send link bytes) s are
-perform_stays t end (Dial peer) s are = quiet_stays t end (Dial peer) s are
-perform_stays t end (Told link outcome) s are = staying t s are
-perform_stays t end (Judged how) s are = staying t s are
+perform_stays t end what s are = perform_by_stays t (link_closed what) end what s are
 
 actions_stay : (t : Three) (end : EndId) (actions : List Action) (s : State) → AreAmong t s.open_links → OthersStay t s (perform_all end actions s).state
 actions_stay t end [] s are = staying t s are
@@ -290,18 +270,10 @@ without_first_is t s (Some first) is = is
 -- ---- a move
 
 steps_stay : (t : Three) (s : State) (what : Move) → IsStepOn what → AreAmong t s.open_links → IsDialAmong t s (slice_get s.dials 0) → OthersStay t s (act s what).state
-steps_stay t s move.Connect steps are is =
-    both_stay t s (without_first s) _ (of_same t s _ refl are) (connect_first_stays t (slice_get s.dials 0) (without_first s) (without_first_is t s (slice_get s.dials 0) is) are)
-steps_stay t s move.Onward steps are is = onward_stays t (first_waiting s.bag) s are
-steps_stay t s (move.Tick more) steps are is = of_same t s _ refl are
-steps_stay t s (move.Start number) steps are is = absurd steps
-steps_stay t s (move.Stranger number) steps are is = absurd steps
-steps_stay t s move.FailDial steps are is = absurd steps
-steps_stay t s move.Lose steps are is = absurd steps
-steps_stay t s (move.Deliver unit link) steps are is = absurd steps
-steps_stay t s (move.Hand link back bytes) steps are is = absurd steps
-steps_stay t s (move.Shut number) steps are is = absurd steps
-steps_stay t s (move.Restart number) steps are is = absurd steps
+steps_stay t s what steps are is =
+    by_step (λ (what : Move). OthersStay t s (act s what).state)
+    (both_stay t s (without_first s) _ (of_same t s _ refl are) (connect_first_stays t (slice_get s.dials 0) (without_first s) (without_first_is t s (slice_get s.dials 0) is) are))
+    (onward_stays t (first_waiting s.bag) s are) (λ more. of_same t s _ refl are) what steps
 
 start_by_stays : (t : Three) (plan : Option ClientPlan) (s : State) → s.open_links ≡ [] → OthersStay t s (start_by plan t.client s).state
 start_by_stays t None s none = staying t s (subst (AreAmong t) (sym none) tt)

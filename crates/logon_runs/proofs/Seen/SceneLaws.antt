@@ -18,15 +18,15 @@ use Rattle.world_moves.specs.declared.bag.BagUnit.{BagUnit}
 use Rattle.world_moves.specs.declared.links.EndId.{EndId}
 use Rattle.world_moves.specs.declared.links.EndId.TheVariants.{Controller, Member, Client}
 use Rattle.world_moves.specs.declared.links.Route.{Route}
-use Rattle.world_moves.specs.declared.links.Route.TheVariants.{ToMember, ToController, Stranger}
 use Rattle.world_moves.specs.declared.state.State.{State}
 use Rattle.world_moves.specs.declared.state.WaitingDial.{WaitingDial}
-use Rattle.world_moves.specs.Acting.{Heard, done, hear, perform_all, perform_all_quietly, perform_quietly, send_on}
+use Rattle.world_moves.specs.Acting.{Heard, dials_of_action, done, hear, link_closed, perform_all, perform_all_quietly, perform_by, perform_quietly, unit_on, units_of_action}
 use Rattle.world_moves.specs.Ends.{EndStates}
 use Rattle.world_moves.specs.Links.{OpenMap}
 use Rattle.world_moves.specs.Moving.{onward, settle}
-use Rattle.logon_runs.specs.Scenes.{HasFirst, IsNoClose, Scene, ScenesGoOn, Shows, dials_made, dials_of_action, sent_if, units_of_action, units_sent, with_actions}
-use Rattle.logon_runs.specs.Seen.WaitingUnits.{Comes, after_hearing, unit_on, waiting, with_client_at, with_controller_at, with_member_at}
+use Rattle.world_moves.proofs.QuietLaws.{units_by}
+use Rattle.logon_runs.specs.Scenes.{HasFirst, IsNoClose, Scene, ScenesGoOn, Shows, dials_made, units_sent, with_actions}
+use Rattle.logon_runs.specs.Seen.WaitingUnits.{Comes, after_hearing, waiting, with_client_at, with_controller_at, with_member_at}
 use Rattle.logon_runs.proofs.Seen.WaitingLaws.{waiting_comes}
 
 -- ---- lists of ends
@@ -38,14 +38,19 @@ got_same (item ∷ items) (suc at) one other found = got_same items at one other
 
 -- ---- actions that close nothing
 
+closes_none : (what : Action) → IsNoClose what → link_closed what ≡ None
+closes_none (action.Keep bytes) none = refl
+closes_none (action.Send link bytes) none = refl
+closes_none (action.Dial peer) none = refl
+closes_none (action.Close link cause) none = absurd none
+closes_none (action.Told link what) none = refl
+closes_none (action.Judged how) none = refl
+
 pub performed_quietly : (end : EndId) (actions : List Action) (s : State) → AllByRecursion IsNoClose actions → (perform_all end actions s).state ≡ perform_all_quietly end actions s
 performed_quietly end [] s none_close = refl
-performed_quietly end (action.Keep bytes ∷ actions) s none_close = performed_quietly end actions s none_close.1
-performed_quietly end (action.Send link bytes ∷ actions) s none_close = performed_quietly end actions (perform_quietly end (action.Send link bytes) s) none_close.1
-performed_quietly end (action.Dial peer ∷ actions) s none_close = performed_quietly end actions (perform_quietly end (action.Dial peer) s) none_close.1
-performed_quietly end (action.Close link cause ∷ actions) s none_close = absurd none_close.0
-performed_quietly end (action.Told link what ∷ actions) s none_close = performed_quietly end actions s none_close.1
-performed_quietly end (action.Judged how ∷ actions) s none_close = performed_quietly end actions s none_close.1
+performed_quietly end (what ∷ actions) s none_close =
+    ap (λ (closed : Option ℕ). (perform_all end actions (perform_by closed end what s).state).state) (closes_none what none_close.0)
+    ∙ performed_quietly end actions (perform_quietly end what s) none_close.1
 
 -- what they change
 pub record Leaves (end : EndId) (actions : List Action) (s after : State) : Type 0 where
@@ -57,45 +62,28 @@ pub record Leaves (end : EndId) (actions : List Action) (s after : State) : Type
   pub left : after.chances ≡ s.chances
   pub moment : after.moment ≡ s.moment
 
-sends_leave : (route : Option Route) (end : EndId) (link : ℕ) (bytes : List ℕ) (s : State) →
-    waiting (send_on route end link bytes s).bag ≡ waiting s.bag ++ sent_if route end link bytes
-sends_leave None end link bytes s = sym (append-nil (waiting s.bag))
-sends_leave (Some (Stranger to)) end link bytes s = sym (append-nil (waiting s.bag))
-sends_leave (Some (ToMember client member)) end link bytes s = waiting_comes.added s.bag (unit_on (ToMember client member) end link bytes) refl
-sends_leave (Some (ToController member controller)) end link bytes s = waiting_comes.added s.bag (unit_on (ToController member controller) end link bytes) refl
+-- the units that an action sends wait behind the others
+sends_leave : (end : EndId) (what : Action) (s : State) → waiting (perform_quietly end what s).bag ≡ waiting s.bag ++ units_of_action s.links end what
+sends_leave end what s =
+    units_by (λ (units : List BagUnit). waiting (s.bag ++ units) ≡ waiting s.bag ++ units) s.links end what
+    (ap (λ (bag : List BagUnit). waiting bag) (append-nil s.bag) ∙ sym (append-nil (waiting s.bag)))
+    (λ link bytes route sends made own. waiting_comes.added s.bag (unit_on route end link bytes) refl)
 
 -- one more before the others
-more_leave : (end : EndId) (what : Action) (actions : List Action) (s next after : State) → next.ends ≡ s.ends → next.links ≡ s.links → next.open_links ≡ s.open_links →
-    waiting next.bag ≡ waiting s.bag ++ units_of_action s.links end what → next.dials ≡ s.dials ++ dials_of_action end what → next.chances ≡ s.chances → next.moment ≡ s.moment →
-    Leaves end actions next after → Leaves end (what ∷ actions) s after
-more_leave end what actions s next after ends links opened units dials left moment leaves = record {
-  ends = leaves.ends ∙ ends;
-  links = leaves.links ∙ links;
-  opened = leaves.opened ∙ opened;
-  units = leaves.units ∙ ap₂ (λ (u : List BagUnit) (l : List Route). u ++ units_sent l end actions) units links
+more_leave : (end : EndId) (what : Action) (actions : List Action) (s after : State) → Leaves end actions (perform_quietly end what s) after → Leaves end (what ∷ actions) s after
+more_leave end what actions s after leaves = record {
+  ends = leaves.ends;
+  links = leaves.links;
+  opened = leaves.opened;
+  units = leaves.units ∙ ap (λ (u : List BagUnit). u ++ units_sent s.links end actions) (sends_leave end what s)
       ∙ append_assoc (waiting s.bag) (units_of_action s.links end what) (units_sent s.links end actions);
-  dials = leaves.dials ∙ ap (λ (d : List WaitingDial). d ++ dials_made end actions) dials ∙ append_assoc s.dials (dials_of_action end what) (dials_made end actions);
-  left = leaves.left ∙ left;
-  moment = leaves.moment ∙ moment;
+  dials = leaves.dials ∙ append_assoc s.dials (dials_of_action end what) (dials_made end actions);
+  left = leaves.left;
+  moment = leaves.moment;
 }
 
-sent_alone : (route : Option Route) (end : EndId) (link : ℕ) (bytes : List ℕ) (s : State) (actions : List Action) (after : State) →
-    slice_get s.links link ≡ route → Leaves end actions (send_on route end link bytes s) after → Leaves end (action.Send link bytes ∷ actions) s after
-sent_alone None end link bytes s actions after is leaves =
-    more_leave end (action.Send link bytes) actions s (send_on None end link bytes s) after refl refl refl
-    (sends_leave None end link bytes s ∙ ap (λ (r : Option Route). waiting s.bag ++ sent_if r end link bytes) (sym is)) (sym (append-nil s.dials)) refl refl leaves
-sent_alone (Some (Stranger to)) end link bytes s actions after is leaves =
-    more_leave end (action.Send link bytes) actions s (send_on (Some (Stranger to)) end link bytes s) after refl refl refl
-    (sends_leave (Some (Stranger to)) end link bytes s ∙ ap (λ (r : Option Route). waiting s.bag ++ sent_if r end link bytes) (sym is)) (sym (append-nil s.dials)) refl refl leaves
-sent_alone (Some (ToMember client member)) end link bytes s actions after is leaves =
-    more_leave end (action.Send link bytes) actions s (send_on (Some (ToMember client member)) end link bytes s) after refl refl refl
-    (sends_leave (Some (ToMember client member)) end link bytes s ∙ ap (λ (r : Option Route). waiting s.bag ++ sent_if r end link bytes) (sym is)) (sym (append-nil s.dials)) refl refl leaves
-sent_alone (Some (ToController member controller)) end link bytes s actions after is leaves =
-    more_leave end (action.Send link bytes) actions s (send_on (Some (ToController member controller)) end link bytes s) after refl refl refl
-    (sends_leave (Some (ToController member controller)) end link bytes s ∙ ap (λ (r : Option Route). waiting s.bag ++ sent_if r end link bytes) (sym is)) (sym (append-nil s.dials)) refl refl leaves
-
-pub quietly_leave : (end : EndId) (actions : List Action) (s : State) → AllByRecursion IsNoClose actions → Leaves end actions s (perform_all_quietly end actions s)
-quietly_leave end [] s none_close = record {
+pub quietly_leave : (end : EndId) (actions : List Action) (s : State) → Leaves end actions s (perform_all_quietly end actions s)
+quietly_leave end [] s = record {
   ends = refl;
   links = refl;
   opened = refl;
@@ -104,18 +92,8 @@ quietly_leave end [] s none_close = record {
   left = refl;
   moment = refl;
 }
-quietly_leave end (action.Keep bytes ∷ actions) s none_close =
-    more_leave end (action.Keep bytes) actions s s _ refl refl refl (sym (append-nil (waiting s.bag))) (sym (append-nil s.dials)) refl refl (quietly_leave end actions s none_close.1)
-quietly_leave end (action.Send link bytes ∷ actions) s none_close =
-    sent_alone (slice_get s.links link) end link bytes s actions _ refl (quietly_leave end actions (send_on (slice_get s.links link) end link bytes s) none_close.1)
-quietly_leave end (action.Dial peer ∷ actions) s none_close =
-    more_leave end (action.Dial peer) actions s (perform_quietly end (action.Dial peer) s) _ refl refl refl (sym (append-nil (waiting s.bag))) refl refl refl
-    (quietly_leave end actions (perform_quietly end (action.Dial peer) s) none_close.1)
-quietly_leave end (action.Close link cause ∷ actions) s none_close = absurd none_close.0
-quietly_leave end (action.Told link what ∷ actions) s none_close =
-    more_leave end (action.Told link what) actions s s _ refl refl refl (sym (append-nil (waiting s.bag))) (sym (append-nil s.dials)) refl refl (quietly_leave end actions s none_close.1)
-quietly_leave end (action.Judged how ∷ actions) s none_close =
-    more_leave end (action.Judged how) actions s s _ refl refl refl (sym (append-nil (waiting s.bag))) (sym (append-nil s.dials)) refl refl (quietly_leave end actions s none_close.1)
+quietly_leave end (what ∷ actions) s =
+    more_leave end what actions s (perform_all_quietly end actions (perform_quietly end what s)) (quietly_leave end actions (perform_quietly end what s))
 
 -- ---- a unit comes, and what its end then does is done
 
@@ -131,7 +109,7 @@ lands s v unit later end ends left actions client member controller shows comes 
     let s1 : State = settle comes.number s in
     let s2 : State = (after_hearing ends left actions s1).state in
     let s3 : State = perform_all_quietly end actions s2 in
-    let leaves : Leaves end actions s2 s3 = quietly_leave end actions s2 none_close in
+    let leaves : Leaves end actions s2 s3 = quietly_leave end actions s2 in
     let is : (onward s).state ≡ s3 = comes.state ∙ ap (λ (h : Heard). (done end h).state) heard ∙ performed_quietly end actions s2 none_close in
     subst (λ (t : State). Shows t (with_actions end actions left (seen client member controller later v))) (sym is) (record {
       client = ap (λ (e : EndStates). slice_get e.clients v.at_client) leaves.ends ∙ is_client;

@@ -1,6 +1,6 @@
 -- A client's start where no link is open, and moves that find nothing to do.
 -- Of `starts_are_seen`.
-use Rattle.std.proofs.Common.{◌≡◌, ℕ, List, [], ◌∷◌, ◌++◌, drop, filter, Option, Some, sym, ap, subst, ◌∙◌, slice_get}
+use Rattle.std.proofs.Common.{◌≡◌, ℕ, List, [], ◌∷◌, ◌++◌, drop, filter, Option, Some, sym, ap, subst, ◌∙◌, slice_get, append-nil}
 use Rattle.outside.specs.declared.action.Action.TheVariants as action
 use Rattle.logon_client.specs.declared.plan.ClientPlan.{ClientPlan}
 use Rattle.logon_client.specs.declared.state.ClientLink.TheVariants as client_standing
@@ -8,6 +8,7 @@ use Rattle.logon_client.specs.Machine.{Beginning}
 use Rattle.world_moves.specs.declared.links.EndId.TheVariants.{Client}
 use Rattle.world_moves.specs.declared.state.State.{State}
 use Rattle.world_moves.specs.declared.state.WaitingDial.{WaitingDial}
+use Rattle.world_moves.specs.declared.bag.BagUnit.{BagUnit}
 use Rattle.world_moves.specs.Acting.{Acted, Heard, done, forget, is_of_other}
 use Rattle.world_moves.specs.Counting.{add_counts, counts_of}
 use Rattle.world_moves.specs.Ends.{with_client}
@@ -18,6 +19,7 @@ use Rattle.logon_steps.proofs.ClientStepLaws.{clients_step}
 use Rattle.logon_runs.specs.Seen.LinkScenes.{rest_scene}
 use Rattle.logon_runs.specs.Scenes.{Shows}
 use Rattle.logon_runs.specs.Seen.Starts.{StartsAreSeen}
+use Rattle.logon_runs.specs.Seen.WaitingUnits.{waiting}
 use Rattle.logon_runs.proofs.Seen.SceneLaws.{got_same}
 use Rattle.logon_runs.proofs.Seen.WaitingLaws.{waiting_comes}
 
@@ -46,7 +48,7 @@ starts_are_seen = record {
         controller = shows.controller;
         links = shows.links;
         opened = ap (λ (o : OpenMap). forget_end (Client g.at_client) o) shows.opened;
-        units = shows.units;
+        units = ap (λ (bag : List BagUnit). waiting bag) (append-nil s.bag) ∙ shows.units;
         dials = ap (λ (dials : List WaitingDial). filter (is_of_other (Client g.at_client)) dials ++ record { end = Client g.at_client; peer = g.task.server } ∷ []) shows.dials;
         left = shows.left;
         moment = shows.moment;

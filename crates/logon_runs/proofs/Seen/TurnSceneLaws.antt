@@ -33,6 +33,7 @@ use Rattle.world_moves.specs.declared.links.Route.{Route}
 use Rattle.world_moves.specs.declared.links.Route.TheVariants.{ToController}
 use Rattle.world_moves.specs.declared.state.State.{State}
 use Rattle.world_moves.specs.Moving.{connect, onward}
+use Rattle.world_moves.specs.Acting.{sent_if}
 use Rattle.logon_steps.specs.ControllerTurns.{one_link, reply_bytes, turn_link}
 use Rattle.logon_steps.specs.MemberTurns.{logons_in_turn, member_at, on_turn}
 use Rattle.logon_steps.specs.Turning.{IsTurnReply, turn_ack, turn_request}
@@ -40,7 +41,7 @@ use Rattle.logon_steps.proofs.ControllerTurnLaws.{controllers_step}
 use Rattle.logon_steps.proofs.MemberTurnLaws.{turns_step}
 use Rattle.logon_steps.proofs.StreamLaws.{same}
 use Rattle.logon_steps.proofs.TurningLaws.{ComesAtOnce, request_comes, response_comes, turn_ack_sends, turn_bind_sends, unit_comes}
-use Rattle.logon_runs.specs.Scenes.{HasFirst, Shows, sent_if}
+use Rattle.logon_runs.specs.Scenes.{HasFirst, Shows}
 use Rattle.logon_runs.specs.Seen.TurnScenes.{IsBetween, Turn, TurnsAreSeen, dial_scene, next_turn, turn_scene, with_accounts, unit_back, unit_there}
 use Rattle.logon_runs.specs.Seen.Turnings.{ClosesTo}
 use Rattle.logon_runs.proofs.Seen.SceneLaws.{scenes_go_on}

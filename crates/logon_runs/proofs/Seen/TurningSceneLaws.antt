@@ -53,7 +53,7 @@ lands_closing s v unit later end other ends others left link cause actions clien
     let s2 : State = (after_hearing ends left all s1).state in
     let s3 : State = both_heard ends others left all link s1 in
     let s4 : State = perform_all_quietly end actions s3 in
-    let leaves : Leaves end actions s3 s4 = quietly_leave end actions s3 none_close in
+    let leaves : Leaves end actions s3 s4 = quietly_leave end actions s3 in
     let is : (onward s).state ≡ s4 =
     comes.state
     ∙ ap (λ (h : Heard). (done end h).state) heard
@@ -92,7 +92,7 @@ lands_dialled s v end peer dials route acceptors ends actions client member cont
     let s3 : State = answered_link n (accepted route) s2 in
     let s4 : State = (after_hearing ends v.left actions s3).state in
     let s5 : State = perform_all_quietly end actions s4 in
-    let leaves : Leaves end actions s4 s5 = quietly_leave end actions s4 none_close in
+    let leaves : Leaves end actions s4 s5 = quietly_leave end actions s4 in
     let open_is : s2.open_links ≡ v.opened ++ (length v.links, accepted route) ∷ [] =
     ap₂ (λ (o : OpenMap) (l : List Route). o ++ (length l, accepted route) ∷ []) shows.opened shows.links in
     let is : (connect s).state ≡ s5 =

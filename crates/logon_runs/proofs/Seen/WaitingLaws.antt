@@ -17,11 +17,13 @@ use Rattle.world_moves.specs.declared.links.EndId.{EndId}
 use Rattle.world_moves.specs.declared.links.OpenLink.{OpenLink}
 use Rattle.world_moves.specs.declared.links.Route.{Route}
 use Rattle.world_moves.specs.declared.state.State.{State}
-use Rattle.world_moves.specs.Acting.{Acted, heard_by, hear_and_act, hear_and_act_if, nothing_done, pieces_come, send_on, then_act}
+use Rattle.world_moves.specs.declared.state.WaitingDial.{WaitingDial}
+use Rattle.world_moves.specs.Acting.{Acted, hear_and_act, hear_and_act_if, heard_by, nothing_done, pieces_come, sent_if, then_act, unit_if, unit_on}
 use Rattle.world_moves.specs.Bag.{first_waiting, is_waiting, pieces_in, pieces_of, settle_at, settle_by, settled}
 use Rattle.world_moves.specs.Ends.{client_done, client_step, controller_done, controller_step, member_done, member_step}
 use Rattle.world_moves.specs.Links.{hearer_of, hearer_on}
 use Rattle.world_moves.specs.Moving.{come_by, come_on_own, onward, onward_by, settle}
+use Rattle.world_moves.proofs.QuietLaws.{sent_goes}
 use Rattle.logon_runs.specs.Seen.WaitingUnits.{Comes, IsOldest, WaitingComes, waiting}
 
 -- ---- the bag
@@ -172,8 +174,5 @@ waiting_comes = record {
   client = λ s at client after what left actions found step.
       ap (λ (c : Option ClientState). heard_by (client_step c at what s.moment s.ends s.chances) s) found
       ∙ ap (λ (stepped : Stepped ClientState). heard_by (client_done stepped at s.ends s.chances) s) step;
-  to_member = λ s end link client member bytes found.
-      ap (λ (route : Option Route). nothing_done (send_on route end link bytes s)) found;
-  to_controller = λ s end link member controller bytes found.
-      ap (λ (route : Option Route). nothing_done (send_on route end link bytes s)) found;
+  sent = λ s end link route bytes found own. ap nothing_done (sent_goes route end link bytes s found own);
 }

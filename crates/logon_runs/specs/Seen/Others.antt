@@ -1,5 +1,5 @@
 -- That the moves of one logon change its client, its member and its controller alone (this project's own choice).
-use Rattle.std.specs.Prelude.{ℕ, ◌≡◌, ◌≢◌, [], Option, Some, None, length, slice_get}
+use Rattle.std.specs.Prelude.{ℕ, ◌≡◌, ◌≢◌, Bool, true, false, [], Option, Some, None, length, slice_get}
 use Rattle.std.specs.List.{AllByRecursion}
 use Rattle.world_moves.specs.declared.links.EndId.{EndId}
 use Rattle.world_moves.specs.declared.links.EndId.TheVariants.{Controller, Member, Client}
@@ -51,6 +51,16 @@ IsStepOn move.Connect = Unit {0}
 IsStepOn move.Onward = Unit {0}
 IsStepOn (move.Tick more) = Unit {0}
 IsStepOn _ = ⊥
+
+-- a unit comes at it, the oldest one
+abbrev pub is_onward : Move → Bool
+is_onward move.Onward = true
+is_onward _ = false
+
+-- What is said where a test passes: else nothing is.
+abbrev pub IfSo : Bool → Type 0 → Type 0
+IfSo false Fact = Unit {0}
+IfSo true Fact = Fact
 
 -- all other ends are as before, and the links that are open are between the three
 pub record OthersStay (t : Three) (s after : State) : Type 0 where

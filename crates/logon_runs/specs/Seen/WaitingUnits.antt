@@ -1,6 +1,6 @@
 -- What waits in a world, and what comes of it at the moves between which nothing is lost (this
 -- project's own choice).
-use Rattle.std.specs.Prelude.{ℕ, ◌≡◌, ◌≤◌, ◌<◌, false, List, [], ◌∷◌, ◌++◌, filter, length, Some, None, slice_get, slice_set}
+use Rattle.std.specs.Prelude.{ℕ, ◌≡◌, ◌≤◌, ◌<◌, false, List, [], ◌∷◌, ◌++◌, filter, length, Some, None, slice_get, slice_set, true}
 use Rattle.wire_base.specs.Maps.{lookup, same_number}
 use Rattle.outside.specs.declared.action.Action.{Action}
 use Rattle.outside.specs.declared.action.Action.TheVariants as action
@@ -19,13 +19,12 @@ use Rattle.world_moves.specs.declared.links.EndId.{EndId}
 use Rattle.world_moves.specs.declared.links.EndId.TheVariants.{Controller, Member, Client}
 use Rattle.world_moves.specs.declared.links.OpenLink.{OpenLink}
 use Rattle.world_moves.specs.declared.links.Route.{Route}
-use Rattle.world_moves.specs.declared.links.Route.TheVariants.{ToMember, ToController}
 use Rattle.world_moves.specs.declared.state.State.{State}
-use Rattle.world_moves.specs.Acting.{Heard, hear, hear_and_act, perform, nothing_done}
+use Rattle.world_moves.specs.Acting.{Heard, hear, hear_and_act, nothing_done, perform, unit_on}
 use Rattle.world_moves.specs.Bag.{first_waiting, is_waiting, settle_at}
 use Rattle.world_moves.specs.Counting.{add_counts, counts_of}
 use Rattle.world_moves.specs.Ends.{EndStates, drawn_on}
-use Rattle.world_moves.specs.Links.{hearer_on, is_accepted_by, kind_of}
+use Rattle.world_moves.specs.Links.{hearer_on, is_own, kind_of}
 use Rattle.world_moves.specs.Moving.{onward, settle}
 
 -- the units that are neither delivered nor lost, in order
@@ -67,10 +66,6 @@ after_hearing ends left actions s = record {
   actions = actions;
 }
 
--- a unit that an end sends on a link between own ends
-abbrev pub unit_on : Route → EndId → ℕ → List ℕ → BagUnit
-unit_on route end link bytes = record { bytes = bytes; link = link; kind = kind_of route; back = is_accepted_by end route; is_settled = false }
-
 -- the unit is in the bag, behind the others
 abbrev pub with_unit : BagUnit → State → State
 with_unit unit s = record s { bag = s.bag ++ unit ∷ [] }
@@ -97,7 +92,5 @@ pub record WaitingComes : Type 0 where
       slice_get s.ends.clients at ≡ Some client → client_step_of client what s.moment s.chances.left ≡ whole_step s.chances.left left actions after →
       hear (Client at) what s ≡ after_hearing (with_client_at at after s.ends) left actions s
   -- a unit goes into the bag on a link between own ends
-  pub to_member : (s : State) (end : EndId) (link client member : ℕ) (bytes : List ℕ) → slice_get s.links link ≡ Some (ToMember client member) →
-      perform end (action.Send link bytes) s ≡ nothing_done (with_unit (unit_on (ToMember client member) end link bytes) s)
-  pub to_controller : (s : State) (end : EndId) (link member controller : ℕ) (bytes : List ℕ) → slice_get s.links link ≡ Some (ToController member controller) →
-      perform end (action.Send link bytes) s ≡ nothing_done (with_unit (unit_on (ToController member controller) end link bytes) s)
+  pub sent : (s : State) (end : EndId) (link : ℕ) (route : Route) (bytes : List ℕ) → slice_get s.links link ≡ Some route → is_own (kind_of route) ≡ true →
+      perform end (action.Send link bytes) s ≡ nothing_done (with_unit (unit_on route end link bytes) s)

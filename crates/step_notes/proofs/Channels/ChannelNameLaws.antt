@@ -34,7 +34,7 @@ use Rattle.account_table.specs.LookUps.{knows_in}
 use Rattle.account_table.specs.declared.account.Account.{Account}
 use Rattle.end_links.specs.Binding.{limit_of}
 use Rattle.end_links.specs.Serving.{ServedPart}
-use Rattle.channel_client.specs.Effects.{stands_in, step_in}
+use Rattle.channel_client.specs.Effects.{number_in, stands_in, step_in}
 use Rattle.channel_client.specs.Machine.{Taking, act, ask_by, auth_call, begin_with, can_start, challenge_call, hear, hear_ack, hear_body, hear_by, is_accepting, judge, judge_auth, judge_awaited, judge_challenge, judge_credential, judge_flags, judge_level, judge_logon, judge_return, judge_status, level_asked, offered_flags, place_of, question_of, server_credential, settle, start_by, wait_for, waiting_limit}
 use Rattle.channel_client.specs.State.{Requester}
 use Rattle.channel_client.specs.declared.answers.Taken.TheVariants as taken
@@ -325,7 +325,7 @@ abbrev pub IsOpenedAsAsked : ℕ → Requester → Taking → Type 0
 IsOpenedAsAsked controller s taking =
     (client : List ℕ) × (server : List ℕ) × (s.standing ≡ standing.Half client server)
     × (standing_channel controller taking.state ≡ Some (half_channel controller s client server))
-    × (taking_note (Some taking) controller s ≡ passed_note (half_channel controller s client server) None)
+    × (taking_note (Some taking) controller s ≡ passed_note (half_channel controller s client server) None None)
 
 opened_settles : (j : Judgement) (controller : ℕ) (s : Requester) → Fits j s.standing s.caller.secret → (settle j s).taken ≡ taken.Opened → IsOpenedAsAsked controller s (settle j s)
 opened_settles (judgement.Half client server) controller s fit is = absurd cc
@@ -334,7 +334,7 @@ opened_settles (judgement.Opened o) controller s fit is = (
   fit.1,
   fit.2,
   ap (λ (x : SecureChannelState). Some (channel_of controller s.caller.computer x)) fit.3,
-  ap (λ (x : SecureChannelState). passed_note (channel_of controller s.caller.computer x) None) fit.3,
+  ap (λ (x : SecureChannelState). passed_note (channel_of controller s.caller.computer x) None None) fit.3,
 )
 opened_settles (judgement.Answer o v) controller s fit is = absurd cc
 opened_settles (judgement.Drop cause) controller s fit is = absurd cc
@@ -376,7 +376,7 @@ abbrev pub IsTakenOn : ℕ → Requester → ℕ → Taking → Type 0
 IsTakenOn controller s place taking =
     (channel : ChannelIdentity) × (standing_channel controller s ≡ Some channel)
     × (standing_channel controller taking.state ≡ Some channel)
-    × (taking_note (Some taking) controller s ≡ passed_note channel (Some place))
+    × (taking_note (Some taking) controller s ≡ passed_note channel (Some place) (Some (number_in s.turn)))
 
 answer_settles : (j : Judgement) (controller : ℕ) (s : Requester) (place : ℕ) → Fits j s.standing s.caller.secret → place_answered (settle j s).taken ≡ Some place → IsTakenOn controller s place (settle j s)
 answer_settles (judgement.Half client server) controller s place fit is = absurd cc
@@ -386,7 +386,7 @@ answer_settles (judgement.Answer o v) controller s place fit is =
       channel_of controller s.caller.computer fit.0,
       ap (stands_in controller s.caller.computer) fit.1,
       ap (λ (x : SecureChannelState). Some (channel_of controller s.caller.computer x)) fit.2,
-      ap₂ (λ (x : SecureChannelState) (p : ℕ). passed_note (channel_of controller s.caller.computer x) (Some p)) fit.2 same,
+      ap₂ (λ (x : SecureChannelState) (p : ℕ). passed_note (channel_of controller s.caller.computer x) (Some p) (Some (number_in s.turn))) fit.2 same,
     )
 answer_settles (judgement.Drop cause) controller s place fit is = absurd cc
 

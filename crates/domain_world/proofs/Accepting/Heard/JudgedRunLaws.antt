@@ -19,7 +19,7 @@ use Rattle.step_notes.proofs.Controllers.JudgedInRangeLaws.{replies_are_read}
 use Rattle.domain_controller.specs.Hearing.{hear as hear_unit}
 use Rattle.world_moves.specs.declared.bag.BagUnit.{BagUnit}
 use Rattle.world_moves.specs.declared.links.EndId.{EndId}
-use Rattle.world_moves.specs.declared.links.EndId.TheVariants.{Controller, Member, Client}
+use Rattle.world_moves.specs.declared.links.EndId.TheVariants.{Controller, Client}
 use Rattle.world_moves.specs.declared.moves.Move.{Move}
 use Rattle.world_moves.specs.declared.plan.Plan.{Plan}
 use Rattle.world_moves.specs.declared.state.State.{State}
@@ -41,8 +41,8 @@ use Rattle.domain_world.proofs.Frames.ComingLaws.{CameFrom}
 use Rattle.domain_world.proofs.Frames.LeftLaws.{eights_of}
 use Rattle.domain_world.proofs.Frames.OpenMadeLaws.{IsAtSide}
 use Rattle.domain_world.proofs.Frames.StepFrameLaws.{BothFacts, BothFine, HasHeard, HoldsAfterRun, Keeps, join, run_keeps}
+use Rattle.domain_world.proofs.Frames.EndNoteLaws.{book_by, judged_so}
 use Rattle.domain_world.proofs.Judgements.JudgedLaws.{HoldsIf, are_if_taken, judged_hold, onto_hold}
-use Rattle.domain_world.proofs.Judgements.ReplayLaws.{client_judged, member_judged}
 
 -- ---- the answers of a controller
 
@@ -79,10 +79,9 @@ units_so (Some number) c at s w piece is quiet stand own side came bytes =
     running_so c s w piece number whole (CarriedIf s.bag w.unit) (λ n asked numbered carries. unit_so s number w piece whole is bytes n asked numbered carries) c.running own.well
 
 module _ (at : ℕ) (w : Coming) (piece : List ℕ) (s after : State) (quiet : QuietState s) where
-  controller_stand : (found : Option ControllerState) (js : List Judging) (b : Book) → b.judged ≡ js → slice_get s.ends.controllers at ≡ found → JudgedStand s.bag js →
-      IsAtSide s.links w.link w.back (Controller at) → CameFrom w.unit s w piece → AreBytes piece → AllByRecursion (IsJudgedWell s.bag) (note_controller found at w piece s after b).judged
-  controller_stand None js b same is stand side came bytes = subst (λ (all : List Judging). AllByRecursion (IsJudgedWell s.bag) all) (sym same) stand.judged
-  controller_stand (Some c) js b same is stand side came bytes =
+  controller_stand : (c : ControllerState) (b : Book) → slice_get s.ends.controllers at ≡ Some c → JudgedStand s.bag b.judged → IsAtSide s.links w.link w.back (Controller at) →
+      CameFrom w.unit s w piece → AreBytes piece → AllByRecursion (IsJudgedWell s.bag) (note_controller (Some c) at w piece s after b).judged
+  controller_stand c b is stand side came bytes =
       let own : ControllerIsQuiet s.links c = quiet.controllers at c is in
       let answers : List Answered = answers_of at c w piece s in
       let units : List (ServedUnit Desk Talk) = units_of_controller c w.link piece s.moment s.chances.left in
@@ -97,16 +96,14 @@ module _ (at : ℕ) (w : Coming) (piece : List ℕ) (s after : State) (quiet : Q
       (both_all (IsCarriedBy s.bag) IsJudgedInRange (IsJudgedWell s.bag) (λ j one other. record { carried = one; range = other }) answers
       (served_carried s.bag (at_controller at c w s) w.link units carried)
       (replies_are_read.judged c w.at at w.unit w.link piece s.moment s.chances.left own.range quiet.moment (eights_of s.chances.left quiet.blocks))))
-      (subst (λ (all : List Judging). AllByRecursion (IsJudgedWell s.bag) all) (sym same) stand.judged)
+      stand.judged
 
 end_stand : (end : EndId) (w : Coming) (piece : List ℕ) (s after : State) (b : Book) → QuietState s → JudgedStand s.bag b.judged → IsAtSide s.links w.link w.back end → CameFrom w.unit s w piece →
     AreBytes piece → JudgedStand s.bag (note_at (Some end) w piece s after b).judged
-end_stand (Controller at) w piece s after b quiet stand side came bytes =
-    record { kinds = stand.kinds; judged = controller_stand at w piece s after quiet (slice_get s.ends.controllers at) b.judged b refl refl stand side came bytes }
-end_stand (Member at) w piece s after b quiet stand side came bytes =
-    subst (λ (js : List Judging). JudgedStand s.bag js) (sym (member_judged (slice_get s.ends.members at) at w piece s after b)) stand
-end_stand (Client at) w piece s after b quiet stand side came bytes =
-    subst (λ (js : List Judging). JudgedStand s.bag js) (sym (client_judged (slice_get s.ends.clients at) at w piece s b)) stand
+end_stand end w piece s after b quiet stand side came bytes =
+    book_by (λ (one : EndId) (now : Book). IsAtSide s.links w.link w.back one → JudgedStand s.bag now.judged) w piece s after b (λ one at_side. stand)
+    (λ at c is at_side. record { kinds = stand.kinds; judged = controller_stand at w piece s after quiet c b is stand at_side came bytes })
+    (λ at m is at_side. subst (λ (js : List Judging). JudgedStand s.bag js) (sym (judged_so.members m at w piece s after b)) stand) (λ at c is at_side. stand) end side
 
 -- ---- all moves
 
@@ -137,7 +134,7 @@ judged_keeps = record {
 -- ---- a run
 
 pub judged_first : JudgedStand [] []
-judged_first = record { kinds = λ n unit there is. absurd (got_nothing n unit there); judged = tt }
+judged_first = record { kinds = λ n unit there. absurd (got_nothing n unit there); judged = tt }
 
 module _ (plan : Plan) (moves : List Move) (is : IsSchedule plan moves) (short : AreShortUnits (past plan moves).world.state.bag) (bytes : HaveBytes (past plan moves).world.state.bag) where
   pub judged_stand : JudgedStand (past plan moves).world.state.bag (past plan moves).book.judged

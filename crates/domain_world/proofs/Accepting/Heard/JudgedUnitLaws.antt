@@ -1,12 +1,11 @@
 -- In every schedule each call that a controller judged, and that came in a unit of the bag, is the call which
 -- that unit carries, whole; and each is judged in ranges. It serves `calls_are_judged_as_carried`,
 -- `replies_are_read_back` and `marked_units_are_whole`.
-use Rattle.std.proofs.Common.{◌≡◌, ℕ, ◌<◌, ◌^◌, Bool, true, false, List, [], ◌∷◌, ◌++◌, inl, inr, Option, Some, None, Result, Ok, Err, slice_get, refl, sym, ap, subst, ◌∙◌}
+use Rattle.std.proofs.Common.{◌≡◌, ℕ, ◌<◌, ◌^◌, Bool, true, false, List, [], ◌∷◌, ◌++◌, inl, inr, Option, Some, None, Result, Ok, Err, slice_get, refl, sym, ap, subst, ◌∙◌, append-nil}
 use Rattle.std.specs.List.{AllByRecursion}
 use Rattle.wire_base.specs.Maps.{lookup, same_number}
 use Rattle.wire_base.specs.Numbers.{AreBytes}
 use Rattle.outside.specs.declared.action.Action.{Action}
-use Rattle.outside.specs.declared.action.Action.TheVariants.{Keep, Send, Dial, Close, Told, Judged}
 use Rattle.rpc_units.specs.declared.unit.Body.{Body}
 use Rattle.rpc_units.specs.declared.unit.Body.TheVariants.{Bind, BindAck, BindNak, Auth3, Request, Response, Fault}
 use Rattle.rpc_units.specs.declared.unit.Unit.{Unit as RpcUnit}
@@ -38,21 +37,21 @@ use Rattle.step_notes.proofs.Controllers.JudgedCallLaws.{if_network}
 use Rattle.world_moves.specs.declared.bag.BagUnit.{BagUnit}
 use Rattle.world_moves.specs.declared.links.EndId.{EndId}
 use Rattle.world_moves.specs.declared.links.EndId.TheVariants.{Controller}
-use Rattle.world_moves.specs.declared.links.LinkKind.{LinkKind}
 use Rattle.world_moves.specs.declared.links.LinkKind.TheVariants as kind
 use Rattle.world_moves.specs.declared.links.Route.{Route}
 use Rattle.world_moves.specs.declared.links.Route.TheVariants.{ToMember, ToController, Stranger}
 use Rattle.world_moves.specs.declared.state.State.{State}
-use Rattle.world_moves.specs.Acting.{bag_unit, perform_quietly, send_on}
+use Rattle.world_moves.specs.Acting.{perform_quietly, unit_on}
 use Rattle.world_moves.specs.Bag.{settle_at}
-use Rattle.world_moves.specs.Links.{is_accepted_by, kind_of}
-use Rattle.domain_world.specs.Accepting.Carried.{IsWholeUnit, call_carried, call_judged, call_read}
+use Rattle.world_moves.specs.Links.{is_own, kind_of}
+use Rattle.world_moves.proofs.QuietLaws.{units_by as sent_by}
+use Rattle.domain_world.specs.Accepting.Carried.{IsWholeUnit, call_carried, call_read, call_judged}
 use Rattle.domain_world.specs.Accepting.Runs.{IsOfMember}
 use Rattle.domain_world.specs.Past.{Coming}
 use Rattle.channel_events.proofs.ListLaws.{at_end, got_append, some_is}
 use Rattle.domain_world.proofs.Accepting.Heard.HeardUnitLaws.{heard_level}
 use Rattle.domain_world.proofs.Accepting.Quiet.QuietListenLaws.{ListensWell, WellUnlessStopped, entries_found}
-use Rattle.domain_world.proofs.Accepting.Quiet.QuietRunLaws.{one_piece, whole_by}
+use Rattle.domain_world.proofs.Accepting.Quiet.QuietRunLaws.{one_piece}
 use Rattle.domain_world.proofs.Accepting.Quiet.QuietStepLaws.{IsMade, WholeBag}
 use Rattle.domain_world.proofs.Frames.ComingLaws.{IsPieceOf, IsStill, StillHas, kept_settled}
 use Rattle.domain_world.proofs.Frames.MarkPlaceLaws.{got_beside, settled_length}
@@ -79,12 +78,12 @@ pub record IsJudgedWell (bag : List BagUnit) (j : Judging) : Type 0 where
   pub carried : CarriedIf bag j.unit j.number j.asked
   pub range : IsJudgedInRange j
 
--- no unit of the bag is a stranger's
-abbrev pub NoStrangers : List BagUnit → Type 0
-NoStrangers bag = (n : ℕ) (unit : BagUnit) → slice_get bag n ≡ Some unit → unit.kind ≡ kind.Stranger → ⊥
+-- each unit of the bag went on a link of ends of this world
+abbrev pub AreOwn : List BagUnit → Type 0
+AreOwn bag = (n : ℕ) (unit : BagUnit) → slice_get bag n ≡ Some unit → is_own unit.kind ≡ true
 
 pub record JudgedStand (bag : List BagUnit) (js : List Judging) : Type 0 where
-  pub kinds : NoStrangers bag
+  pub kinds : AreOwn bag
   pub judged : AllByRecursion (IsJudgedWell bag) js
 
 abbrev pub JudgedFact : RunFact
@@ -117,62 +116,48 @@ all_still old bag [] still all = tt
 all_still old bag (j ∷ js) still all =
     (record { carried = λ n is. carried_still old bag j.number j.asked n still (all.0.carried n is); range = all.0.range }, all_still old bag js still all.1)
 
-none_strange : (old bag : List BagUnit) → ((n : ℕ) (unit : BagUnit) → slice_get bag n ≡ Some unit → (before : BagUnit) × (slice_get old n ≡ Some before) × (unit.kind ≡ before.kind)) → NoStrangers old →
-    NoStrangers bag
-none_strange old bag each none n unit there is = let before = each n unit there in none n before.0 before.1 (sym before.2 ∙ is)
+all_own : (old bag : List BagUnit) → ((n : ℕ) (unit : BagUnit) → slice_get bag n ≡ Some unit → (before : BagUnit) × (slice_get old n ≡ Some before) × (unit.kind ≡ before.kind)) → AreOwn old → AreOwn bag
+all_own old bag each own n unit there = let before = each n unit there in ap is_own before.2 ∙ own n before.0 before.1
 
-settled_kinds : (number : ℕ) (bag : List BagUnit) → NoStrangers bag → NoStrangers (settle_at number bag)
-settled_kinds number bag none =
-    none_strange bag (settle_at number bag)
+settled_kinds : (number : ℕ) (bag : List BagUnit) → AreOwn bag → AreOwn (settle_at number bag)
+settled_kinds number bag own =
+    all_own bag (settle_at number bag)
     (λ n unit there.
     let before : (old : BagUnit) × (slice_get bag n ≡ Some old) = got_beside (settle_at number bag) bag n unit (settled_length number bag) there in
     let now : IsStill before.0 (settle_at number bag) n = kept_settled number bag n before.0 before.1 in
     let same : now.now ≡ unit = some_is now.now unit (sym now.there ∙ there) in
-    (before.0, before.1, sym (ap (λ (u : BagUnit). u.kind) same) ∙ now.kind)) none
+    (before.0, before.1, sym (ap (λ (u : BagUnit). u.kind) same) ∙ now.kind)) own
 
 pub settled_stand : (number : ℕ) (bag : List BagUnit) (js : List Judging) → JudgedStand bag js → JudgedStand (settle_at number bag) js
 settled_stand number bag js stand =
     record { kinds = settled_kinds number bag stand.kinds; judged = all_still bag (settle_at number bag) js (kept_settled number bag) stand.judged }
 
-more_stand : (bag : List BagUnit) (unit : BagUnit) (js : List Judging) → (unit.kind ≡ kind.Stranger → ⊥) → JudgedStand bag js → JudgedStand (bag ++ unit ∷ []) js
-more_stand bag unit js other stand = record {
-  kinds = λ n one there is.
+more_stand : (bag : List BagUnit) (unit : BagUnit) (js : List Judging) → is_own unit.kind ≡ true → JudgedStand bag js → JudgedStand (bag ++ unit ∷ []) js
+more_stand bag unit js own stand = record {
+  kinds = λ n one there.
       elim (at_end bag unit one n there) [
-        | inl old ↦ stand.kinds n one old is
-        | inr new ↦ other (ap (λ (u : BagUnit). u.kind) new.1 ∙ is)
+        | inl old ↦ stand.kinds n one old
+        | inr new ↦ ap (λ (u : BagUnit). is_own u.kind) (sym new.1) ∙ own
       ];
   judged = all_still bag (bag ++ unit ∷ []) js
       (λ n one there. record { now = one; there = got_append bag (unit ∷ []) n one there; bytes = refl; link = refl; kind = refl; back = refl }) stand.judged;
 }
 
-bag_stand : (k : LinkKind) (back : Bool) (link : ℕ) (bytes : List ℕ) (s : State) (js : List Judging) → JudgedStand s.bag js → JudgedStand (bag_unit k back link bytes s).bag js
-bag_stand kind.Stranger back link bytes s js stand = stand
-bag_stand kind.ToMember back link bytes s js stand =
-    more_stand s.bag (record { bytes = bytes; link = link; kind = kind.ToMember; back = back; is_settled = false }) js (λ is. let never = is in cc) stand
-bag_stand kind.ToController back link bytes s js stand =
-    more_stand s.bag (record { bytes = bytes; link = link; kind = kind.ToController; back = back; is_settled = false }) js (λ is. let never = is in cc) stand
-
-send_stand : (route : Option Route) (end : EndId) (link : ℕ) (bytes : List ℕ) (s : State) (js : List Judging) → JudgedStand s.bag js → JudgedStand (send_on route end link bytes s).bag js
-send_stand None end link bytes s js stand = stand
-send_stand (Some route) end link bytes s js stand = bag_stand (kind_of route) (is_accepted_by end route) link bytes s js stand
-
 pub acts_stand : (end : EndId) (what : Action) (s : State) (js : List Judging) → JudgedStand s.bag js → JudgedStand (perform_quietly end what s).bag js
-acts_stand end (Keep bytes) s js stand = stand
-acts_stand end (Send link bytes) s js stand = send_stand (slice_get s.links link) end link bytes s js stand
-acts_stand end (Dial peer) s js stand = stand
-acts_stand end (Close link cause) s js stand = stand
-acts_stand end (Told link outcome) s js stand = stand
-acts_stand end (Judged how) s js stand = stand
+acts_stand end what s js stand =
+    sent_by (λ (units : List BagUnit). JudgedStand (s.bag ++ units) js) s.links end what
+    (subst (λ (bag : List BagUnit). JudgedStand bag js) (sym (append-nil s.bag)) stand)
+    (λ link bytes route sends made own. more_stand s.bag (unit_on route end link bytes) js own stand)
 
 -- ---- where a piece comes from that a controller hears
 
 -- a controller hears on links to it and on a stranger's, and on no other
-pub route_of : (back : Bool) (route : Route) (at : ℕ) → side_of back route ≡ Some (Controller at) → (kind_of route ≡ kind.Stranger → ⊥) → (member : ℕ) × (route ≡ ToController member at)
-route_of back (Stranger to) at is between = absurd (between refl)
-route_of false (ToController member controller) at is between = (member, ap (λ (n : ℕ). ToController member n) (let same : controller ≡ at = cc in same))
-route_of true (ToController member controller) at is between = absurd cc
-route_of false (ToMember one server) at is between = absurd cc
-route_of true (ToMember one server) at is between = absurd cc
+pub route_of : (back : Bool) (route : Route) (at : ℕ) → side_of back route ≡ Some (Controller at) → is_own (kind_of route) ≡ true → (member : ℕ) × (route ≡ ToController member at)
+route_of back (Stranger to) at is own = absurd (let never : false ≡ true = own in cc)
+route_of false (ToController member controller) at is own = (member, ap (λ (n : ℕ). ToController member n) (let same : controller ≡ at = cc in same))
+route_of true (ToController member controller) at is own = absurd cc
+route_of false (ToMember one server) at is own = absurd cc
+route_of true (ToMember one server) at is own = absurd cc
 
 -- the piece is a whole unit of the bag, on a link that a member dialled
 pub record IsWholeCarried (s : State) (number : ℕ) (w : Coming) (piece : List ℕ) : Type 0 where
@@ -182,13 +167,13 @@ pub record IsWholeCarried (s : State) (number : ℕ) (w : Coming) (piece : List 
   pub send : IsWholeSend unit.bytes
   pub own : IsOfMember s.links w.link
 
-pub whole_carried : (s : State) (number at : ℕ) (w : Coming) (piece : List ℕ) → WholeBag s.bag → NoStrangers s.bag → IsAtSide s.links w.link w.back (Controller at) → IsPieceOf s number w piece →
+pub whole_carried : (s : State) (number at : ℕ) (w : Coming) (piece : List ℕ) → WholeBag s.bag → AreOwn s.bag → IsAtSide s.links w.link w.back (Controller at) → IsPieceOf s number w piece →
     IsWholeCarried s number w piece
-whole_carried s number at w piece whole none side came =
+whole_carried s number at w piece whole own side came =
     let same_route : side.route ≡ came.route = some_is side.route came.route (sym side.made ∙ came.made) in
-    let route = route_of w.back side.route at side.side (λ strange. none number came.unit came.there (sym came.same_kind ∙ ap kind_of (sym same_route) ∙ strange)) in
+    let route = route_of w.back side.route at side.side (ap (λ (r : Route). is_own (kind_of r)) same_route ∙ ap is_own came.same_kind ∙ own number came.unit came.there) in
     let is : came.unit.kind ≡ kind.ToController = sym came.same_kind ∙ ap kind_of (sym same_route) ∙ ap kind_of route.1 in
-    let send : IsWholeSend came.unit.bytes = whole_by came.unit.kind came.unit.bytes is (whole number came.unit came.there) in
+    let send : IsWholeSend came.unit.bytes = whole number came.unit came.there is in
     record {
       unit = came.unit;
       there = came.there;

@@ -22,7 +22,6 @@ use Rattle.domain_controller.specs.ReadBack.{IsReadBack, heard_reply, opened_rep
 use Rattle.domain_controller.specs.State.{State as ControllerState}
 use Rattle.domain_controller.proofs.AloneLaws.{number_fits, reply_alone}
 use Rattle.domain_controller.proofs.ReadBackLaws.{replies_are_read_back}
-use Rattle.logon_client.specs.State.{State as ClientState}
 use Rattle.member_server.specs.State.{State as MemberState}
 use Rattle.member_server.specs.declared.state.Running.{Running}
 use Rattle.end_links.specs.Sending.{request_of}
@@ -40,7 +39,6 @@ use Rattle.step_notes.proofs.Controllers.JudgedInRangeLaws.{replies_are_read}
 use Rattle.world_moves.specs.declared.bag.BagUnit.{BagUnit}
 use Rattle.world_moves.specs.declared.links.EndId.{EndId}
 use Rattle.world_moves.specs.declared.links.EndId.TheVariants.{Controller, Member, Client}
-use Rattle.world_moves.specs.declared.links.LinkKind.{LinkKind}
 use Rattle.world_moves.specs.declared.links.LinkKind.TheVariants as kind
 use Rattle.world_moves.specs.declared.links.Route.{Route}
 use Rattle.world_moves.specs.declared.links.Route.TheVariants.{ToController}
@@ -49,13 +47,13 @@ use Rattle.world_moves.specs.declared.plan.Plan.{Plan}
 use Rattle.world_moves.specs.declared.state.State.{State}
 use Rattle.world_moves.specs.Acting.{Given, Heard, done, heard_by, hear_and_act}
 use Rattle.world_moves.specs.Bag.{AreShortUnits, HaveBytes}
-use Rattle.world_moves.specs.Ends.{controller_step, member_step}
+use Rattle.world_moves.specs.Ends.{EndStep, client_step, controller_step, member_step}
 use Rattle.world_moves.specs.Forms.{IsSchedule}
-use Rattle.world_moves.specs.Links.{kind_of, same_kind}
-use Rattle.world_moves.proofs.LinkFrameLaws.{IsOnLink, actions_stay, heard_stays}
-use Rattle.domain_world.specs.Accepting.Carried.{IsAsMarked, IsNoAnswer, IsNotJudged, IsPlain, MarkedUnitsAreWhole, call_judged}
+use Rattle.world_moves.specs.Links.{is_own, kind_of}
+use Rattle.world_moves.proofs.LinkFrameLaws.{IsOnLink, actions_stay}
+use Rattle.domain_world.specs.Accepting.Carried.{IsAsMarked, IsNoAnswer, IsPlain, MarkedUnitsAreWhole, IsNotJudged, call_judged}
 use Rattle.domain_world.specs.Claims.Replies.{IsReplyOfOne}
-use Rattle.domain_world.specs.Past.{Coming, at_controller, controller_of, marks_of, note_at, note_client, note_controller, note_given, note_member, note_messages, note_turns, numbers_on, past, sent_at}
+use Rattle.domain_world.specs.Past.{Coming, at_controller, controller_of, marks_of, note_at, note_controller, note_given, note_member, note_messages, note_turns, numbers_on, past, sent_at}
 use Rattle.channel_events.proofs.ListLaws.{got_append, got_nothing, some_is}
 use Rattle.domain_world.proofs.Accepting.Heard.HeardFrontLaws.{IsOfRequest, of_request, opens_no_logon, reply_no_call}
 use Rattle.domain_world.proofs.Accepting.Heard.HeardUnitLaws.{heard_stub}
@@ -64,7 +62,7 @@ use Rattle.domain_world.proofs.Accepting.Heard.JudgedUnitLaws.{IsCarriedCall, Is
 use Rattle.domain_world.proofs.Accepting.LetInStepLaws.{IsDialledBy}
 use Rattle.domain_world.proofs.Accepting.Heard.MarkSentLaws.{CarriesMark, IsRequestSent, SendsIf, controller_sends, member_sends}
 use Rattle.domain_world.proofs.Accepting.ListPlaceLaws.{Placed, all_at, placed}
-use Rattle.domain_world.proofs.Accepting.Quiet.QuietRunLaws.{comes_whole, has_bytes, quiet_first, quiet_keeps, whole_by}
+use Rattle.domain_world.proofs.Accepting.Quiet.QuietRunLaws.{comes_whole, has_bytes, quiet_first, quiet_keeps}
 use Rattle.domain_world.proofs.Accepting.Quiet.QuietStepLaws.{MemberIsQuiet, QuietAction, QuietFact, QuietState}
 use Rattle.domain_world.proofs.Accepting.Quiet.QuietTurnLaws.{IfOn}
 use Rattle.domain_world.proofs.Frames.BagFrameLaws.{IsOfUnit, IsServer, OfEachUnit, UnitFact, controller_marks, goes_on_with, member_marks, no_part, no_side, nothing_written}
@@ -78,6 +76,7 @@ use Rattle.domain_world.proofs.Frames.StepFrameLaws.{HoldsAfterRun, run_keeps}
 use Rattle.domain_world.proofs.Judgements.ReplyLaws.{replies_carry}
 use Rattle.domain_world.proofs.Frames.TurnFrameLaws.{turns_sent}
 use Rattle.domain_world.proofs.Frames.PlacedLaws.{bytes_in, HasBytes}
+use Rattle.domain_world.proofs.Frames.EndNoteLaws.{acted_by}
 
 -- ---- what is to hold of each unit
 
@@ -146,16 +145,14 @@ controller_kind : (links : List Route) (unit : BagUnit) (link : ℕ) (back : Boo
     unit.kind ≡ kind.ToController
 controller_kind links unit link back at on here side =
     let same : on.route ≡ side.route = some_is on.route side.route (sym on.made ∙ ap (λ (n : ℕ). slice_get links n) here ∙ side.made) in
-    let route = route_of back side.route at side.side
-    (λ strange. let never : true ≡ false = sym (ap (λ (k : LinkKind). same_kind k kind.Stranger) (ap kind_of same ∙ strange)) ∙ on.between in cc) in
+    let route = route_of back side.route at side.side (ap (λ (r : Route). is_own (kind_of r)) (sym same) ∙ on.own) in
     member_kind links unit link route.0 at on here (side.made ∙ ap (λ (r : Route). Some r) route.1)
 
-controller_fits : (found : Option ControllerState) (at : ℕ) (w : Coming) (piece : List ℕ) (s : State) (b : Book) → IsAtSide s.links w.link w.back (Controller at) → length b.sent ≡ length s.bag →
+controller_fits : (c : ControllerState) (at : ℕ) (w : Coming) (piece : List ℕ) (s : State) (b : Book) → IsAtSide s.links w.link w.back (Controller at) → length b.sent ≡ length s.bag →
     MarksFit s.bag b →
-    let after : State = (done (Controller at) (heard_by (controller_step found at (event.Bytes w.link piece) s.moment s.ends s.chances) s)).state in
-    MarksFit after.bag (note_controller found at w piece s after b)
-controller_fits None at w piece s b side same each = each
-controller_fits (Some c) at w piece s b side same each =
+    let after : State = (done (Controller at) (heard_by (controller_step (Some c) at (event.Bytes w.link piece) s.moment s.ends s.chances) s)).state in
+    MarksFit after.bag (note_controller (Some c) at w piece s after b)
+controller_fits c at w piece s b side same each =
     let heard : Heard = heard_by (controller_step (Some c) at (event.Bytes w.link piece) s.moment s.ends s.chances) s in
     let after : State = (done (Controller at) heard).state in
     let more : IsMore s.links s.bag after.links after.bag = actions_stay (MoreOf s.links s.bag) (goes_on s.links s.bag) (Controller at) heard.actions heard.state (no_more s.links s.bag) in
@@ -175,12 +172,11 @@ known_running links k None running is quiet = absurd (let never = is in cc)
 known_running links k (Some one) running is quiet =
     subst (λ (x : Running). InRangeRequester x.logons.channel × IfOn (IsDialledBy links k) x.dialling) (some_is one running is) (quiet.range.channel, quiet.turn)
 
-member_fits : (found : Option MemberState) (at : ℕ) (w : Coming) (piece : List ℕ) (s : State) (b : Book) → slice_get s.ends.members at ≡ found → QuietState s → CameFrom w.unit s w piece →
+member_fits : (m : MemberState) (at : ℕ) (w : Coming) (piece : List ℕ) (s : State) (b : Book) → slice_get s.ends.members at ≡ Some m → QuietState s → CameFrom w.unit s w piece →
     length b.sent ≡ length s.bag → MarksFit s.bag b →
-    let after : State = (done (Member at) (heard_by (member_step found at (event.Bytes w.link piece) s.moment s.ends s.chances) s)).state in
-    MarksFit after.bag (note_member found at w piece s after b)
-member_fits None at w piece s b is quiet came same each = each
-member_fits (Some m) at w piece s b is quiet came same each =
+    let after : State = (done (Member at) (heard_by (member_step (Some m) at (event.Bytes w.link piece) s.moment s.ends s.chances) s)).state in
+    MarksFit after.bag (note_member (Some m) at w piece s after b)
+member_fits m at w piece s b is quiet came same each =
     let heard : Heard = heard_by (member_step (Some m) at (event.Bytes w.link piece) s.moment s.ends s.chances) s in
     let after : State = (done (Member at) heard).state in
     let marks : List Mark = member_marks at m w piece s in
@@ -205,22 +201,21 @@ member_fits (Some m) at w piece s b is quiet came same each =
       ]
     ]) each)
 
-client_sent : (found : Option ClientState) (client : ℕ) (w : Coming) (piece : List ℕ) (s : State) (b : Book) → (note_client found client w piece s b).sent ≡ b.sent
-client_sent None client w piece s b = refl
-client_sent (Some c) client w piece s b = refl
-
 end_fits : (end : EndId) (w : Coming) (piece : List ℕ) (s : State) (b : Book) → IsAtSide s.links w.link w.back end → CameFrom w.unit s w piece → (IsServer end → length b.sent ≡ length s.bag) →
     QuietState s → MarksFit s.bag b →
     MarksFit (hear_and_act end (event.Bytes w.link piece) s).state.bag (note_at (Some end) w piece s (hear_and_act end (event.Bytes w.link piece) s).state b)
-end_fits (Controller at) w piece s b side came same quiet each = controller_fits (slice_get s.ends.controllers at) at w piece s b side (same tt) each
-end_fits (Member at) w piece s b side came same quiet each = member_fits (slice_get s.ends.members at) at w piece s b refl quiet came (same tt) each
-end_fits (Client at) w piece s b side came same quiet each =
-    let after : State = (hear_and_act (Client at) (event.Bytes w.link piece) s).state in
-    let more : IsMore s.links s.bag after.links after.bag = heard_stays (MoreOf s.links s.bag) (goes_on s.links s.bag) (Client at) (event.Bytes w.link piece) s (no_more s.links s.bag) in
-    subst (λ (sent : List Sent). OfEachUnit OfMark tt after.bag sent) (sym (client_sent (slice_get s.ends.clients at) at w piece s b))
-    (still_fit s.bag after.bag b
+end_fits end w piece s b side came same quiet each =
+    acted_by (λ (one : EndId) (step : EndStep) (after : State) (now : Book).
+    IsAtSide s.links w.link w.back one → (IsServer one → length b.sent ≡ length s.bag) → MarksFit after.bag now) w piece s b (λ one here even. each)
+    (λ at c is here even. controller_fits c at w piece s b here (even refl) each) (λ at m is here even. member_fits m at w piece s b is quiet came (even refl) each)
+    (λ at c is here even.
+    let heard : Heard = heard_by (client_step (Some c) at (event.Bytes w.link piece) s.moment s.ends s.chances) s in
+    let after : State = (done (Client at) heard).state in
+    let more : IsMore s.links s.bag after.links after.bag = actions_stay (MoreOf s.links s.bag) (goes_on s.links s.bag) (Client at) heard.actions heard.state (no_more s.links s.bag) in
+    still_fit s.bag after.bag b
     (λ number one there.
-    record { now = one; there = ap (λ (all : List BagUnit). slice_get all number) more.is ∙ got_append s.bag more.units number one there; bytes = refl; link = refl; kind = refl; back = refl }) each)
+    record { now = one; there = ap (λ (all : List BagUnit). slice_get all number) more.is ∙ got_append s.bag more.units number one there; bytes = refl; link = refl; kind = refl; back = refl })
+    each) end side same
 
 pub marks_keep : BagKeeps QuietFact no_part no_side MarksFit
 marks_keep = record {
@@ -249,11 +244,11 @@ opened_is bytes frames unit opens heard =
     (subst (λ (b : List ℕ). IsHeard b frames unit) opens.frames heard)
 
 opened_no_answer : (bytes : List ℕ) (frames : List RpcUnit) (unit : RpcUnit) → IsOpeningReply bytes → IsHeard bytes frames unit → IsNoAnswer unit
-opened_no_answer bytes frames unit opens heard read given reads returned =
+opened_no_answer bytes frames unit opens heard answer =
     let back : IsReadBack (opened_reply (cred_of opens.key opens.server) opens.offered) = replies_are_read_back.opened opens.key opens.server opens.offered in
     let stub : List ℕ = written_reply (opened_reply (cred_of opens.key opens.server) opens.offered) in
-    answers_are_long.apart _ read given (cred_block opens.key opens.server).0 back.bytes
-    (subst (λ (s : List ℕ). reply_of 2 s ≡ Ok (reply.Logon read)) (ap (λ (u : RpcUnit). stub_of u.body) (opened_is bytes frames unit opens heard)) reads) returned
+    answers_are_long.apart _ answer.read answer.given (cred_block opens.key opens.server).0 back.bytes
+    (subst (λ (s : List ℕ). reply_of 2 s ≡ Ok (reply.Logon answer.read)) (ap (λ (u : RpcUnit). stub_of u.body) (opened_is bytes frames unit opens heard)) answer.reads) answer.returned
 
 module _ (bag : List BagUnit) (js : List Judging) (stand : JudgedStand bag js) (n : ℕ) (bytes : List ℕ) (frames : List RpcUnit) (unit : RpcUnit) (are : AreBytes bytes) (heard : IsHeard bytes frames unit) where
   reply_marked : (channel : ChannelIdentity) (number request : ℕ) → IsReplyOfOne js n bytes (ReplyTo channel number request) → IsAsMarked (ReplyTo channel number request) unit
@@ -307,7 +302,7 @@ marked_whole plan moves is short bytes n unit one there noted not =
     let same : had.unit ≡ unit = some_is had.unit unit (sym had.there ∙ there) in
     let fits : (unit.kind ≡ kind.ToController) × CarriesMark one.mark unit.bytes =
     subst (λ (u : BagUnit). (u.kind ≡ kind.ToController) × CarriesMark one.mark u.bytes) same (had.holds not) in
-    let send : IsWholeSend unit.bytes = whole_by unit.kind unit.bytes fits.0 (quiet.bag n unit there) in
+    let send : IsWholeSend unit.bytes = quiet.bag n unit there fits.0 in
     record {
       whole = record { frames = send.frames; unit = send.unit; heard = send.heard };
       marked = as_marked bag (past plan moves).book.judged (judged_stand plan moves is short bytes) n unit.bytes send.frames send.unit (bytes_in bag has.bytes n unit there) send.heard one.mark fits.1

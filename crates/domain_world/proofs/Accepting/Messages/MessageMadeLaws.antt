@@ -1,6 +1,6 @@
 -- In every schedule each AUTHENTICATE that a client made is the answer of its plan to the CHALLENGE that it heard.
 -- It serves `messages_are_made`.
-use Rattle.std.proofs.Common.{◌≡◌, ◌<◌, ◌^◌, ℕ, zero, suc, List, [], ◌∷◌, length, map, All, Option, Some, None, refl, sym, subst, arith, inl, inr, slice_get, slice_set}
+use Rattle.std.proofs.Common.{◌≡◌, ◌<◌, ◌^◌, ℕ, zero, suc, List, [], ◌∷◌, length, map, All, Some, refl, sym, subst, arith, inl, inr, slice_get, slice_set}
 use Rattle.std.specs.Prelude.{flat_map}
 use Rattle.std.specs.List.{AllByRecursion}
 use Rattle.std.proofs.lemmas.Bool.{cases_lt}
@@ -10,33 +10,31 @@ use Rattle.wire_base.specs.Units.{AreUnits}
 use Rattle.outside.specs.Drawing.{Drawing}
 use Rattle.outside.specs.declared.event.Event.{Event}
 use Rattle.outside.specs.declared.event.Event.TheVariants as event
-use Rattle.domain_controller.specs.State.{State as ControllerState}
 use Rattle.logon_client.specs.Machine.{begin_of, fresh_client, step_of as client_step_of}
 use Rattle.logon_client.specs.State.{State as ClientState}
 use Rattle.logon_client.specs.declared.plan.ClientPlan.{ClientPlan}
-use Rattle.member_server.specs.State.{State as MemberState}
 use Rattle.step_notes.specs.ClientNotes.{ClientAt, made_note, units_of_client}
 use Rattle.step_notes.specs.Records.{Book, MessageMade}
 use Rattle.world_moves.specs.declared.links.EndId.{EndId}
-use Rattle.world_moves.specs.declared.links.EndId.TheVariants.{Controller, Member, Client}
 use Rattle.world_moves.specs.declared.links.Route.{Route}
 use Rattle.world_moves.specs.declared.moves.Move.{Move}
 use Rattle.world_moves.specs.declared.plan.Plan.{Plan}
 use Rattle.world_moves.specs.declared.state.State.{State}
-use Rattle.world_moves.specs.Ends.{EndStates, client_step, controller_step, end_step, member_step}
+use Rattle.world_moves.specs.Ends.{EndStates, EndStep, client_step, end_step, member_step}
 use Rattle.world_moves.specs.Forms.{IsClientPlan, IsSchedule}
 use Rattle.world_moves.specs.Links.{acceptor_of}
 use Rattle.world_moves.specs.World.{first_world}
+use Rattle.world_moves.proofs.EndKindLaws.{step_by}
 use Rattle.domain_world.specs.Accepting.KeysMade.{IsMadeFrom, MessagesAreMade}
 use Rattle.domain_world.specs.Past.{Coming, note_at, note_client, past}
 use Rattle.domain_world.proofs.Accepting.Messages.ClientOfferLaws.{AreMadeFrom, HasNames}
 use Rattle.domain_world.proofs.Accepting.Messages.ClientPlanLaws.{TaskIn, client_made, task_stays}
 use Rattle.domain_world.proofs.Accepting.ListPlaceLaws.{all_at}
 use Rattle.domain_world.proofs.Challenges.MessageOnceLaws.{each_put}
-use Rattle.domain_world.proofs.Frames.ClientFrameLaws.{controller_made, member_made}
 use Rattle.domain_world.proofs.Frames.FrameLaws.{HoldsAfter, HoldsByPlans, PlannedFact, StaysByPlans, StaysWrittenByPlans, run_stays_by_plans}
-use Rattle.domain_world.proofs.Frames.LeftLaws.{AreEights, client_left, controller_left, first_eights, member_left}
+use Rattle.domain_world.proofs.Frames.LeftLaws.{AreEights, eights_after, end_draws, first_eights}
 use Rattle.domain_world.proofs.Frames.AllLaws.{all_join}
+use Rattle.domain_world.proofs.Frames.EndNoteLaws.{made_so, noted_by}
 
 -- The names of the clients' plans are texts, clients go by such plans, each challenge that is left has 8 bytes, and
 -- each message that was made is the answer of its plan.
@@ -60,32 +58,29 @@ client_put made plans clients left rest at new kept eights names = record {
   from = kept.from;
 }
 
+-- what is left is less
+left_so : (made : List MessageMade) (plans : List ClientPlan) (clients : List ClientState) (left rest : List (List ℕ)) → AreAnswers made plans clients left → AreEights rest →
+    AreAnswers made plans clients rest
+left_so made plans clients left rest kept eights = record { names = kept.names; each = kept.each; eights = eights; from = kept.from }
+
 -- ---- an end hears something
 
-controller_answers : (found : Option ControllerState) (made : List MessageMade) (at : ℕ) (what : Event) (now : ℕ) (plans : List ClientPlan) (ends : EndStates) (chances : Drawing)
-    (links : List Route) → Answers made plans ends chances links → HoldsAfter (Answers made plans) (controller_step found at what now ends chances) links
-controller_answers None made at what now plans ends chances links kept = kept
-controller_answers (Some c) made at what now plans ends chances links kept =
-    record { names = kept.names; each = kept.each; eights = controller_left (Some c) at what now ends chances kept.eights; from = kept.from }
+-- so it is once an end took that step, where what is left has eights
+abbrev AnswersAfter : List MessageMade → List ClientPlan → EndStep → Type 0
+AnswersAfter made plans step = AreEights step.chances.left → AreAnswers made plans step.ends.clients step.chances.left
 
-member_answers : (found : Option MemberState) (made : List MessageMade) (at : ℕ) (what : Event) (now : ℕ) (plans : List ClientPlan) (ends : EndStates) (chances : Drawing)
-    (links : List Route) → Answers made plans ends chances links → HoldsAfter (Answers made plans) (member_step found at what now ends chances) links
-member_answers None made at what now plans ends chances links kept = kept
-member_answers (Some m) made at what now plans ends chances links kept =
-    record { names = kept.names; each = kept.each; eights = member_left (Some m) at what now ends chances kept.eights; from = kept.from }
-
-client_answers : (found : Option ClientState) (made : List MessageMade) (at : ℕ) (what : Event) (now : ℕ) (plans : List ClientPlan) (ends : EndStates) (chances : Drawing)
-    (links : List Route) → slice_get ends.clients at ≡ found → Answers made plans ends chances links → HoldsAfter (Answers made plans) (client_step found at what now ends chances) links
-client_answers None made at what now plans ends chances links is kept = kept
-client_answers (Some c) made at what now plans ends chances links is kept =
+client_answers : (c : ClientState) (made : List MessageMade) (at : ℕ) (what : Event) (now : ℕ) (plans : List ClientPlan) (ends : EndStates) (chances : Drawing) →
+    slice_get ends.clients at ≡ Some c → AreAnswers made plans ends.clients chances.left → AnswersAfter made plans (client_step (Some c) at what now ends chances)
+client_answers c made at what now plans ends chances is kept eights =
     client_put made plans ends.clients chances.left (client_step_of c what now chances.left).left at (client_step_of c what now chances.left).state kept
-    (client_left (Some c) at what now ends chances kept.eights) (task_stays HasNames c what now chances.left (kept.each at c is))
+    eights (task_stays HasNames c what now chances.left (kept.each at c is))
 
 hear_answers : (end : EndId) (made : List MessageMade) (what : Event) (now : ℕ) (plans : List ClientPlan) (ends : EndStates) (chances : Drawing) (links : List Route) →
     Answers made plans ends chances links → HoldsAfter (Answers made plans) (end_step end what now ends chances) links
-hear_answers (Controller at) made what now plans ends chances links kept = controller_answers (slice_get ends.controllers at) made at what now plans ends chances links kept
-hear_answers (Member at) made what now plans ends chances links kept = member_answers (slice_get ends.members at) made at what now plans ends chances links kept
-hear_answers (Client at) made what now plans ends chances links kept = client_answers (slice_get ends.clients at) made at what now plans ends chances links refl kept
+hear_answers end made what now plans ends chances links kept =
+    step_by (λ (one : EndId) (step : EndStep). AnswersAfter made plans step) what now ends chances (λ one eights. kept)
+    (λ at c is. left_so made plans ends.clients chances.left _ kept) (λ at m is. left_so made plans ends.clients chances.left _ kept)
+    (λ at c is. client_answers c made at what now plans ends chances is kept) end (eights_after chances _ (end_draws end what now ends chances) kept.eights)
 
 answers_stay : (made : List MessageMade) → StaysByPlans (Answers made)
 answers_stay made = record {
@@ -101,11 +96,10 @@ answers_stay made = record {
 
 -- ---- bytes come
 
-client_heard : (found : Option ClientState) (at : ℕ) (w : Coming) (piece : List ℕ) (s : State) (b : Book) → slice_get s.ends.clients at ≡ found → HoldsByPlans (Answers b.made) s →
-    HoldsAfter (Answers (note_client found at w piece s b).made s.client_plans) (client_step found at (event.Bytes w.link piece) s.moment s.ends s.chances) s.links
-client_heard None at w piece s b is kept = kept
-client_heard (Some c) at w piece s b is kept =
-    let went = client_answers (Some c) b.made at (event.Bytes w.link piece) s.moment s.client_plans s.ends s.chances s.links is kept in
+client_heard : (c : ClientState) (at : ℕ) (w : Coming) (piece : List ℕ) (s : State) (b : Book) → slice_get s.ends.clients at ≡ Some c → HoldsByPlans (Answers b.made) s →
+    AnswersAfter (note_client (Some c) at w piece s b).made s.client_plans (client_step (Some c) at (event.Bytes w.link piece) s.moment s.ends s.chances)
+client_heard c at w piece s b is kept eights =
+    let went = client_answers c b.made at (event.Bytes w.link piece) s.moment s.client_plans s.ends s.chances is kept eights in
     let l : ClientAt = record { at = w.at; client = at; link = w.link } in
     record {
       names = went.names;
@@ -117,15 +111,14 @@ client_heard (Some c) at w piece s b is kept =
 
 end_heard : (end : EndId) (w : Coming) (piece : List ℕ) (s after : State) (b : Book) → HoldsByPlans (Answers b.made) s →
     HoldsAfter (Answers (note_at (Some end) w piece s after b).made s.client_plans) (end_step end (event.Bytes w.link piece) s.moment s.ends s.chances) s.links
-end_heard (Controller at) w piece s after b kept =
-    subst (λ (made : List MessageMade). HoldsAfter (Answers made s.client_plans) (end_step (Controller at) (event.Bytes w.link piece) s.moment s.ends s.chances) s.links)
-    (sym (controller_made (slice_get s.ends.controllers at) at w piece s after b))
-    (controller_answers (slice_get s.ends.controllers at) b.made at (event.Bytes w.link piece) s.moment s.client_plans s.ends s.chances s.links kept)
-end_heard (Member at) w piece s after b kept =
-    subst (λ (made : List MessageMade). HoldsAfter (Answers made s.client_plans) (end_step (Member at) (event.Bytes w.link piece) s.moment s.ends s.chances) s.links)
-    (sym (member_made (slice_get s.ends.members at) at w piece s after b))
-    (member_answers (slice_get s.ends.members at) b.made at (event.Bytes w.link piece) s.moment s.client_plans s.ends s.chances s.links kept)
-end_heard (Client at) w piece s after b kept = client_heard (slice_get s.ends.clients at) at w piece s b refl kept
+end_heard end w piece s after b kept =
+    noted_by (λ (one : EndId) (step : EndStep) (now : Book). AnswersAfter now.made s.client_plans step) w piece s after b (λ one eights. kept)
+    (λ at c is. left_so b.made s.client_plans s.ends.clients s.chances.left _ kept)
+    (λ at m is eights.
+    let left : List (List ℕ) = (member_step (Some m) at (event.Bytes w.link piece) s.moment s.ends s.chances).chances.left in
+    subst (λ (made : List MessageMade). AreAnswers made s.client_plans s.ends.clients left) (sym (made_so.members m at w piece s after b))
+    (left_so b.made s.client_plans s.ends.clients s.chances.left left kept eights))
+    (λ at c is. client_heard c at w piece s b is kept) end (eights_after s.chances _ (end_draws end (event.Bytes w.link piece) s.moment s.ends s.chances) kept.eights)
 
 -- ---- a run
 

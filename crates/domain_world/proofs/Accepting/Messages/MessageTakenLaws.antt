@@ -7,12 +7,9 @@ use Rattle.std.proofs.lemmas.List.{append-nil}
 use Rattle.std.proofs.lemmas.List.Elements.{All-from_recursion}
 use Rattle.std.proofs.lemmas.List.Quantifiers.{all_pairs_push}
 use Rattle.std.proofs.lemmas.Option.{slice_get_within}
-use Rattle.outside.specs.Drawing.{Drawing}
 use Rattle.outside.specs.declared.event.Event.{Event}
 use Rattle.outside.specs.declared.event.Event.TheVariants as event
 use Rattle.end_links.specs.Serving.{ServedUnit}
-use Rattle.domain_controller.specs.State.{State as ControllerState}
-use Rattle.logon_client.specs.State.{State as ClientState}
 use Rattle.ntlm_flags.specs.Flags.{agreed_flags}
 use Rattle.member_server.specs.Machine.{fresh_member, step_of}
 use Rattle.member_server.specs.State.{State as MemberState}
@@ -26,27 +23,27 @@ use Rattle.channel_events.specs.Marks.{OneOf}
 use Rattle.step_notes.specs.MemberNotes.{LinkAt, TurnNote, challenge_note, link_of_place, link_units, message_note, taken_link, turn_units}
 use Rattle.step_notes.specs.Records.{Book, ChallengeSent, MessageTaken, blank}
 use Rattle.step_notes.proofs.Members.UnservedLaws.{LinksIn, Opens, in_so, step_known}
-use Rattle.world_moves.specs.declared.links.EndId.{EndId}
-use Rattle.world_moves.specs.declared.links.EndId.TheVariants.{Controller, Member, Client}
+use Rattle.step_notes.proofs.Members.RestLaws.{member_leaves}
+use Rattle.world_moves.specs.declared.links.EndId.TheVariants.{Member}
 use Rattle.world_moves.specs.declared.links.Route.{Route}
 use Rattle.world_moves.specs.declared.moves.Move.{Move}
 use Rattle.world_moves.specs.declared.plan.Plan.{Plan}
 use Rattle.world_moves.specs.declared.state.State.{State}
-use Rattle.world_moves.specs.Ends.{EndStates, client_step, controller_step, end_step, member_step}
 use Rattle.world_moves.specs.Links.{acceptor_of}
 use Rattle.world_moves.specs.World.{first_world}
 use Rattle.domain_world.specs.Accepting.KeysMade.{IsTakenAsSent, MessagesAreTakenAsSent}
-use Rattle.domain_world.specs.Past.{Coming, Past, at_member, change_if, change_message, controller_of, note_at, note_client, note_controller, note_member, note_messages, note_turn, note_turns, numbers_on, past, with_answer, with_call}
+use Rattle.domain_world.specs.Past.{Coming, Past, at_member, change_if, change_message, controller_of, note_member, note_messages, note_turn, note_turns, numbers_on, past, with_answer, with_call}
 use Rattle.channel_events.proofs.ListLaws.{got_behind}
 use Rattle.domain_world.proofs.Accepting.Messages.ChallengeLinkLaws.{BytesCome, KnownAfter, KnownAt, ReadOf, bytes_come, so_far}
 use Rattle.domain_world.proofs.Accepting.Messages.ChallengeReadLaws.{AreTakenWith, IsTakenWith}
 use Rattle.domain_world.proofs.Accepting.ListPlaceLaws.{all_at, all_by_place, apart_same, placed}
 use Rattle.domain_world.proofs.Challenges.MessageOnceLaws.{each_put, fresh_links, member_is, quiet_opens, route_is}
 use Rattle.domain_world.proofs.Challenges.OwnLinkLaws.{IsLinkIn, IsTakenIn, all_so, all_taken, link_more, one_behind, one_earlier}
-use Rattle.domain_world.proofs.Frames.FrameLaws.{Fact, HoldsAfter, HoldsIn, Stays, StaysWritten, run_stays}
-use Rattle.domain_world.proofs.Frames.LeftLaws.{AreEights, client_left, controller_left, first_eights, member_left}
+use Rattle.domain_world.proofs.Frames.FrameLaws.{run_stays}
+use Rattle.domain_world.proofs.Frames.LeftLaws.{AreEights, eights_after, eights_rest, first_eights}
 use Rattle.domain_world.proofs.Frames.TurnFrameLaws.{notes_keep}
 use Rattle.domain_world.proofs.Frames.AllLaws.{all_join}
+use Rattle.domain_world.proofs.Frames.MemberFrameLaws.{AmongMembers, KeepsMembers, MembersFact, members_written}
 
 -- ---- what is kept
 
@@ -80,8 +77,8 @@ pub record AreAsSent (written : Written) (members : List MemberState) (links : L
   pub eights : AreEights left
 
 -- so it is by the parts of a world
-abbrev pub Sends : Written → Fact
-Sends written ends chances links = AreAsSent written ends.members links chances.left
+abbrev pub Sends : Written → MembersFact
+Sends written members chances links = AreAsSent written members links chances.left
 
 -- fewer challenges are left
 less_left : (written : Written) (members : List MemberState) (links : List Route) (left rest : List (List ℕ)) → AreAsSent written members links left → AreEights rest →
@@ -117,61 +114,23 @@ link_made written members links left route kept = record {
   eights = kept.eights;
 }
 
--- ---- an end hears something
+-- ---- a member hears something
 
-controller_sends : (found : Option ControllerState) (written : Written) (at : ℕ) (what : Event) (now : ℕ) (ends : EndStates) (chances : Drawing) (links : List Route) →
-    Sends written ends chances links → HoldsAfter (Sends written) (controller_step found at what now ends chances) links
-controller_sends None written at what now ends chances links kept = kept
-controller_sends (Some c) written at what now ends chances links kept =
-    less_left written ends.members links chances.left (controller_step (Some c) at what now ends chances).chances.left kept (controller_left (Some c) at what now ends chances kept.eights)
-
-client_sends : (found : Option ClientState) (written : Written) (at : ℕ) (what : Event) (now : ℕ) (ends : EndStates) (chances : Drawing) (links : List Route) →
-    Sends written ends chances links → HoldsAfter (Sends written) (client_step found at what now ends chances) links
-client_sends None written at what now ends chances links kept = kept
-client_sends (Some c) written at what now ends chances links kept =
-    less_left written ends.members links chances.left (client_step (Some c) at what now ends chances).chances.left kept (client_left (Some c) at what now ends chances kept.eights)
-
-member_sends : (found : Option MemberState) (written : Written) (at : ℕ) (what : Event) (now : ℕ) (ends : EndStates) (chances : Drawing) (links : List Route) →
-    slice_get ends.members at ≡ found → Opens what (KnownAt (IsUnsent written.challenges links at) (IsSentSo written.challenges)) → Sends written ends chances links →
-    HoldsAfter (Sends written) (member_step found at what now ends chances) links
-member_sends None written at what now ends chances links is opens kept = kept
-member_sends (Some m) written at what now ends chances links is opens kept =
-    member_put written ends.members links chances.left (step_of m what now chances.left).left at (step_of m what now chances.left).state kept
-    (member_left (Some m) at what now ends chances kept.eights)
-    (step_known (KnownAt (IsUnsent written.challenges links at) (IsSentSo written.challenges)) what m now chances.left opens (kept.each at m is))
-
--- the end that accepted the link is that member, where it is one
-abbrev pub IsKnownAt : EndId → Written → List Route → ℕ → Phase → Type 0
-IsKnownAt (Controller at) written links link p = Unit {0}
-IsKnownAt (Member at) written links link p = KnownAt (IsUnsent written.challenges links at) (IsSentSo written.challenges) link p
-IsKnownAt (Client at) written links link p = Unit {0}
+hear_sends : (written : Written) (m : MemberState) (at : ℕ) (what : Event) (now : ℕ) (members : List MemberState) (left : List (List ℕ)) (links : List Route) → slice_get members at ≡ Some m →
+    Opens what (KnownAt (IsUnsent written.challenges links at) (IsSentSo written.challenges)) → AreAsSent written members links left →
+    AreAsSent written (slice_set members at (step_of m what now left).state) links (step_of m what now left).left
+hear_sends written m at what now members left links is opens kept =
+    member_put written members links left (step_of m what now left).left at (step_of m what now left).state kept
+    (eights_rest (step_of m what now left).left left (member_leaves m what now left) kept.eights)
+    (step_known (KnownAt (IsUnsent written.challenges links at) (IsSentSo written.challenges)) what m now left opens (kept.each at m is))
 
 -- on a link that was just made no CHALLENGE was sent
-last_unsent : (end : EndId) (written : Written) (links : List Route) (route : Route) → acceptor_of route ≡ end →
-    AllByRecursion (λ (sent : ChallengeSent). sent.link < length links) written.challenges → IsKnownAt end written (links ++ route ∷ []) (length links) phase.Fresh
-last_unsent (Controller at) written links route is below = tt
-last_unsent (Client at) written links route is below = tt
-last_unsent (Member at) written links route is below = (
+last_unsent : (written : Written) (links : List Route) (route : Route) (at : ℕ) → acceptor_of route ≡ Member at → AllByRecursion (λ (sent : ChallengeSent). sent.link < length links) written.challenges →
+    KnownAt (IsUnsent written.challenges (links ++ route ∷ []) at) (IsSentSo written.challenges) (length links) phase.Fresh
+last_unsent written links route at is below = (
   record { route = route; at = got_behind links route []; acceptor = is },
   all_so (λ (sent : ChallengeSent). sent.link < length links) (λ (sent : ChallengeSent). sent.link ≢ length links) (λ sent lt same. omega (arith, lt, same)) written.challenges below,
 )
-
-hear_sends : (end : EndId) (written : Written) (what : Event) (now : ℕ) (ends : EndStates) (chances : Drawing) (links : List Route) →
-    Opens what (IsKnownAt end written links) → Sends written ends chances links → HoldsAfter (Sends written) (end_step end what now ends chances) links
-hear_sends (Controller at) written what now ends chances links opens kept = controller_sends (slice_get ends.controllers at) written at what now ends chances links kept
-hear_sends (Member at) written what now ends chances links opens kept = member_sends (slice_get ends.members at) written at what now ends chances links refl opens kept
-hear_sends (Client at) written what now ends chances links opens kept = client_sends (slice_get ends.clients at) written at what now ends chances links kept
-
-sends_stay : (written : Written) → Stays (Sends written)
-sends_stay written = record {
-  hears = λ end what now ends chances links quiet kept. hear_sends end written what now ends chances links (quiet_opens what (IsKnownAt end written links) quiet) kept;
-  opens = λ route now ends chances links kept.
-      hear_sends (acceptor_of route) written (event.Opened (length links)) now ends chances (links ++ route ∷ [])
-      (last_unsent (acceptor_of route) written links route refl kept.below) (link_made written ends.members links chances.left route kept);
-  controllers = λ c at ends chances links is kept. kept;
-  members = λ plan at ends chances links kept. member_put written ends.members links chances.left chances.left at (fresh_member plan) kept kept.eights tt;
-  clients = λ client at ends chances links kept. kept;
-}
 
 -- ---- bytes come: what was sent and taken is written down
 
@@ -302,19 +261,11 @@ turns_for : (controller : ℕ) (units : List (ServedUnit AtTurn TurnTalk)) (unit
 turns_for controller units unit numbers b members links left kept =
     notes_keep (λ (later : Book). IsSoOf later members links left) unit (λ note served number later so. turn_for note served unit number later members links left so) controller units numbers b kept
 
-controller_written : (found : Option ControllerState) (controller : ℕ) (w : Coming) (piece : List ℕ) (s after : State) (b : Book) →
-    written_of (note_controller found controller w piece s after b) ≡ written_of b
-controller_written None controller w piece s after b = refl
-controller_written (Some c) controller w piece s after b = refl
-
-client_written : (found : Option ClientState) (client : ℕ) (w : Coming) (piece : List ℕ) (s : State) (b : Book) → written_of (note_client found client w piece s b) ≡ written_of b
-client_written None client w piece s b = refl
-client_written (Some c) client w piece s b = refl
-
-member_heard : (found : Option MemberState) (at : ℕ) (w : Coming) (piece : List ℕ) (s after : State) (b : Book) → slice_get s.ends.members at ≡ found → HoldsIn (Sends (written_of b)) s →
-    HoldsAfter (Sends (written_of (note_member found at w piece s after b))) (member_step found at (event.Bytes w.link piece) s.moment s.ends s.chances) s.links
-member_heard None at w piece s after b is kept = kept
-member_heard (Some m) at w piece s after b is kept =
+member_heard : (m : MemberState) (at : ℕ) (w : Coming) (piece : List ℕ) (s after : State) (b : Book) → slice_get s.ends.members at ≡ Some m →
+    AreAsSent (written_of b) s.ends.members s.links s.chances.left →
+    AreAsSent (written_of (note_member (Some m) at w piece s after b)) (slice_set s.ends.members at (step_of m (event.Bytes w.link piece) s.moment s.chances.left).state) s.links
+    (step_of m (event.Bytes w.link piece) s.moment s.chances.left).left
+member_heard m at w piece s after b is kept =
     let l : LinkAt = at_member at w s in
     let units : List (ServedUnit AtLink Talk) = link_units m w.link piece s.moment s.chances.left in
     let what : Event = event.Bytes w.link piece in
@@ -322,28 +273,29 @@ member_heard (Some m) at w piece s after b is kept =
     turns_for (controller_of at s) (turn_units m w.link piece s.moment s.chances.left) w.unit (numbers_on w.link false s.bag after.bag) (note_messages at m w piece s b) (slice_set s.ends.members at new)
     s.links (step_of m what s.moment s.chances.left).left
     (member_came (written_of b) (flat_map (challenge_note l) units) (flat_map (message_note l) units) s.ends.members s.links s.chances.left (step_of m what s.moment s.chances.left).left at w.link new kept
-    (member_left (Some m) at what s.moment s.ends s.chances kept.eights)
+    (eights_rest (step_of m what s.moment s.chances.left).left s.chances.left (member_leaves m what s.moment s.chances.left) kept.eights)
     (all_so (IsTakenIn l (flat_map (taken_link l) units)) (λ (one : MessageTaken). one.link ≡ w.link) (λ one its. its.0) (flat_map (message_note l) units) (all_taken l units))
     (bytes_come l (IsUnsent b.challenges s.links at) (IsSentSo b.challenges) piece s.moment s.chances.left kept.eights m (kept.each at m is)))
 
-end_heard : (end : EndId) (w : Coming) (piece : List ℕ) (s after : State) (b : Book) → HoldsIn (Sends (written_of b)) s →
-    HoldsAfter (Sends (written_of (note_at (Some end) w piece s after b))) (end_step end (event.Bytes w.link piece) s.moment s.ends s.chances) s.links
-end_heard (Controller at) w piece s after b kept =
-    subst (λ (written : Written). HoldsAfter (Sends written) (end_step (Controller at) (event.Bytes w.link piece) s.moment s.ends s.chances) s.links)
-    (sym (controller_written (slice_get s.ends.controllers at) at w piece s after b))
-    (controller_sends (slice_get s.ends.controllers at) (written_of b) at (event.Bytes w.link piece) s.moment s.ends s.chances s.links kept)
-end_heard (Client at) w piece s after b kept =
-    subst (λ (written : Written). HoldsAfter (Sends written) (end_step (Client at) (event.Bytes w.link piece) s.moment s.ends s.chances) s.links)
-    (sym (client_written (slice_get s.ends.clients at) at w piece s b))
-    (client_sends (slice_get s.ends.clients at) (written_of b) at (event.Bytes w.link piece) s.moment s.ends s.chances s.links kept)
-end_heard (Member at) w piece s after b kept = member_heard (slice_get s.ends.members at) at w piece s after b refl kept
-
 -- ---- a run
 
-sends_written : StaysWritten written_of Sends
-sends_written = record { stays = sends_stay; bytes = end_heard; given = λ at given after b. refl }
+sends_on : KeepsMembers written_of Sends
+sends_on = record {
+  of = record { controllers = λ c at w piece s after b. refl; clients = λ c at w piece s b. refl };
+  given = λ at given after b. refl;
+  draws = λ written members chances later links on kept. less_left written members links chances.left later.left kept (eights_after chances later on kept.eights);
+  hears = λ written m at what now members chances links quiet is kept.
+      hear_sends written m at what now members chances.left links is
+      (quiet_opens what (KnownAt (IsUnsent written.challenges links at) (IsSentSo written.challenges)) quiet) kept;
+  opens = λ written route members chances links kept. link_made written members links chances.left route kept;
+  accepts = λ written m at route now members chances links accepts is kept.
+      hear_sends written m at (event.Opened (length links)) now members chances.left (links ++ route ∷ []) is (last_unsent written links route at accepts kept.below)
+      (link_made written members links chances.left route kept);
+  comes = λ m at w piece s after b is kept. member_heard m at w piece s after b is kept;
+  anew = λ written plan at members chances links kept. member_put written members links chances.left chances.left at (fresh_member plan) kept kept.eights tt;
+}
 
-first_sends : (plan : Plan) → HoldsIn (Sends (written_of blank)) (first_world plan).state
+first_sends : (plan : Plan) → AreAsSent (written_of blank) (first_world plan).state.ends.members (first_world plan).state.links (first_world plan).state.chances.left
 first_sends plan = record {
   below = tt;
   apart = λ i j d lt within. absurd (omega (arith, within));
@@ -371,7 +323,8 @@ sent_for challenges apart message its l sent there same =
 pub messages_taken : (plan : Plan) (moves : List Move) → MessagesAreTakenAsSent (past plan moves)
 messages_taken plan moves =
     let run : Past = past plan moves in
-    let kept : HoldsIn (Sends (written_of run.book)) run.world.state = run_stays written_of Sends sends_written plan moves (first_sends plan) in
+    let kept : AreAsSent (written_of run.book) run.world.state.ends.members run.world.state.links run.world.state.chances.left =
+    run_stays written_of (AmongMembers written_of Sends sends_on) (members_written written_of Sends sends_on) plan moves (first_sends plan) in
     all_by_place (λ (message : MessageTaken). AllByRecursion (λ (sent : ChallengeSent). sent.link ≡ message.link → IsTakenAsSent message sent) run.book.challenges) run.book.messages
     (λ k message here. all_by_place (λ (sent : ChallengeSent). sent.link ≡ message.link → IsTakenAsSent message sent) run.book.challenges
     (λ l sent there same. sent_for run.book.challenges kept.apart message (all_at (IsForSent run.book.challenges) run.book.messages k message kept.messages here) l sent there same))

@@ -15,17 +15,17 @@ use Rattle.world_moves.specs.declared.moves.Move.TheVariants as move
 use Rattle.domain_world.specs.Accepting.Runs.{IsQuiet, IsQuietLink, IsQuietTurn}
 use Rattle.domain_world.specs.Past.{past}
 use Rattle.domain_world.specs.Schedules.{OfSchedules}
-use Rattle.domain_world.proofs.Accepting.Quiet.QuietStepLaws.{ClientIsQuiet, ControllerIsQuiet, IsClients, IsMade, MemberIsQuiet, Meets, QuietAction, QuietFact, QuietState, StandsQuiet, WholeBag, WholeIfCarried, end_steps, with_bag}
+use Rattle.domain_world.proofs.Accepting.Quiet.QuietStepLaws.{ClientIsQuiet, ControllerIsQuiet, IsClients, IsMade, Meets, MeetsMember, MemberIsQuiet, QuietAction, QuietFact, QuietState, StandsQuiet, WholeBag, WholeIfCarried, end_steps, with_bag}
 use Rattle.domain_world.proofs.Frames.LeftLaws.{first_left_blocks}
 use Rattle.domain_world.proofs.Frames.StepFrameLaws.{HoldsAfterRun, run_keeps}
-use Rattle.std.proofs.Common.{◌≡◌, ℕ, zero, suc, ◌+◌, ◌<◌, ◌≤◌, ◌^◌, Bool, true, false, List, [], ◌∷◌, ◌++◌, drop, length, map, min, nat_le, inl, inr, Option, Some, None, slice_get, slice_set, if◌then◌else◌, refl, sym, ap, subst, ◌∙◌, arith}
+use Rattle.std.proofs.Common.{◌≡◌, ℕ, zero, suc, ◌+◌, ◌<◌, ◌≤◌, ◌^◌, Bool, true, false, List, [], ◌∷◌, ◌++◌, drop, length, map, min, nat_le, inl, inr, Option, Some, None, slice_get, slice_set, if◌then◌else◌, refl, sym, ap, subst, ◌∙◌, arith, append-nil}
 use Rattle.std.specs.Prelude.{All}
 use Rattle.std.specs.List.{AllByRecursion}
 use Rattle.wire_base.specs.Names.{IsName}
 use Rattle.wire_base.specs.Numbers.{AreBytes}
 use Rattle.wire_base.proofs.NumberLaws.{bytes_from_all}
 use Rattle.outside.specs.declared.action.Action.{Action}
-use Rattle.outside.specs.declared.action.Action.TheVariants.{Keep, Send, Dial, Close, Told, Judged}
+use Rattle.outside.specs.declared.action.Action.TheVariants.{Send}
 use Rattle.outside.specs.declared.event.Event.{Event}
 use Rattle.outside.specs.declared.event.Event.TheVariants as event
 use Rattle.account_table.specs.AccountTable.{AccountTable}
@@ -37,7 +37,7 @@ use Rattle.domain_controller.proofs.WholeLaws.{sends_are_whole}
 use Rattle.logon_client.specs.Machine as client
 use Rattle.logon_client.specs.State.{State as ClientState}
 use Rattle.logon_client.specs.declared.plan.ClientPlan.{ClientPlan}
-use Rattle.logon_client.proofs.SendLaws.{AtUnlessStopped}
+use Rattle.logon_client.proofs.SendLaws.{AtUnlessStopped, DialledAt}
 use Rattle.member_server.specs.Machine as member
 use Rattle.member_server.specs.State.{State as MemberState}
 use Rattle.member_server.specs.declared.plan.MemberPlan.{MemberPlan}
@@ -47,33 +47,35 @@ use Rattle.member_server.proofs.WholeLaws.{members_send_whole}
 use Rattle.step_notes.specs.Records.{Book}
 use Rattle.world_moves.specs.declared.bag.BagUnit.{BagUnit}
 use Rattle.world_moves.specs.declared.links.EndId.{EndId}
-use Rattle.world_moves.specs.declared.links.EndId.TheVariants.{Controller, Member, Client}
+use Rattle.world_moves.specs.declared.links.EndId.TheVariants.{Member, Client}
 use Rattle.world_moves.specs.declared.links.LinkKind.{LinkKind}
 use Rattle.world_moves.specs.declared.links.LinkKind.TheVariants as kind
 use Rattle.world_moves.specs.declared.links.Route.{Route}
 use Rattle.world_moves.specs.declared.links.Route.TheVariants.{ToMember, ToController, Stranger}
 use Rattle.world_moves.specs.declared.plan.Plan.{Plan}
 use Rattle.world_moves.specs.declared.state.State.{State}
-use Rattle.world_moves.specs.Acting.{Given, bag_unit, hear, perform_quietly, send_on}
+use Rattle.world_moves.specs.Acting.{Given, hear, perform_quietly, unit_on}
 use Rattle.world_moves.specs.Bag.{piece_limit, pieces_in, pieces_of, settle_at}
-use Rattle.world_moves.specs.Ends.{EndStates, renew_client, renew_controller, renew_member}
+use Rattle.world_moves.specs.Ends.{EndStates, renew_controller, renew_member}
 use Rattle.world_moves.specs.Forms.{HasForms, IsMemberPlan, IsTable}
-use Rattle.world_moves.specs.Links.{acceptor_of, dialler_of, is_accepted_by, kind_of}
+use Rattle.world_moves.specs.Links.{acceptor_of, dialler_of, kind_of}
 use Rattle.world_moves.specs.Moving.{renewed, settle, with_link}
 use Rattle.world_moves.specs.World.{first_controllers, first_world}
 use Rattle.world_moves.proofs.RangeLaws.{table_in_range}
+use Rattle.world_moves.proofs.QuietLaws.{units_by}
+use Rattle.world_moves.proofs.EndKindLaws.{renew_by}
 use Rattle.domain_world.specs.Accepting.Runs.{IsOfMember}
 use Rattle.domain_world.specs.Past.{Coming}
 use Rattle.channel_events.proofs.ListLaws.{at_end, got_append, got_last, got_nothing, some_is}
 use Rattle.domain_world.proofs.Accepting.LetInStepLaws.{IsAcceptedBy, IsDialledBy}
-use Rattle.domain_world.proofs.Accepting.Quiet.QuietListenLaws.{ListensWell, WellUnlessStopped, entries_so}
+use Rattle.domain_world.proofs.Accepting.Quiet.QuietListenLaws.{ListensWell, OpensWell, WellUnlessStopped, entries_so}
 use Rattle.domain_world.proofs.Accepting.Quiet.QuietTurnLaws.{IfOn, IsOneUnit}
 use Rattle.domain_world.proofs.Challenges.MessageOnceLaws.{each_put}
 use Rattle.domain_world.proofs.Frames.ComingLaws.{CameFrom, IsStill, kept_settled}
 use Rattle.domain_world.proofs.Frames.MarkPlaceLaws.{got_beside, settled_length}
 use Rattle.domain_world.proofs.Frames.OpenMadeLaws.{IsAtSide}
 use Rattle.domain_world.proofs.Frames.StepFrameLaws.{HasHeard, Keeps, NoFact}
-use Rattle.domain_world.proofs.Frames.EndFrameLaws.{IsCalm}
+use Rattle.domain_world.proofs.Frames.EndFrameLaws.{IsCalm, by_calm}
 use Rattle.domain_world.proofs.Frames.PlacedLaws.{HandsBytes, HasBytes}
 
 -- ---- links
@@ -147,10 +149,12 @@ link_made plans links bag ends moment left route quiet = record {
 
 -- the end accepted the link that was just made
 last_meets : (end : EndId) (route : Route) (links : List Route) → acceptor_of route ≡ end → Meets end (links ++ route ∷ []) (event.Opened (length links))
-last_meets (Controller at) route links is = (route, got_last links route)
-last_meets (Member k) route links is =
-    (tt, tt, (λ number opened. subst (λ (n : ℕ). IsAcceptedBy (links ++ route ∷ []) k n) (some_is (length links) number opened) (record { route = route; at = got_last links route; acceptor = is })))
-last_meets (Client k) route links is = tt
+last_meets end route links is = record {
+  controllers = λ at same. (route, got_last links route);
+  members = λ k same.
+      (tt, tt, (λ number opened. subst (λ (n : ℕ). IsAcceptedBy (links ++ route ∷ []) k n) (some_is (length links) number opened) (record { route = route; at = got_last links route; acceptor = is ∙ same })));
+  clients = λ k same. tt;
+}
 
 no_link : (number : ℕ) (P : Type 0) → None ≡ Some number → P
 no_link number P is = absurd (let never = is in cc)
@@ -167,25 +171,25 @@ clients_route (Stranger to) k is = absurd cc
 
 -- the end dialled the link that is answered
 dialled_meets : (end : EndId) (links : List Route) (link : ℕ) → IsAtSide links link true end → Meets end links (event.Dialled link)
-dialled_meets (Controller at) links link side = tt
-dialled_meets (Member k) links link side =
-    let route = members_route side.route k side.side in
-    (record { controller = route.0; at = side.made ∙ ap (λ (r : Route). Some r) route.1 }, tt, (λ number opened. no_link number (IsAcceptedBy links k number) opened))
-dialled_meets (Client k) links link side = let route = clients_route side.route k side.side in (route.0, side.made ∙ ap (λ (r : Route). Some r) route.1)
+dialled_meets end links link side = record {
+  controllers = λ at same. tt;
+  members = λ k same.
+      let route = members_route side.route k (side.side ∙ ap (λ (one : EndId). Some one) same) in
+      (record { controller = route.0; at = side.made ∙ ap (λ (r : Route). Some r) route.1 }, tt, (λ number opened. no_link number (IsAcceptedBy links k number) opened));
+  clients = λ k same. let route = clients_route side.route k (side.side ∙ ap (λ (one : EndId). Some one) same) in (route.0, side.made ∙ ap (λ (r : Route). Some r) route.1);
+}
+
+calm_member : (links : List Route) (k : ℕ) (what : Event) → IsCalm what → MeetsMember links what k
+calm_member links k =
+    by_calm (λ (one : Event). MeetsMember links one k) (λ link. (tt, tt, (λ number opened. no_link number (IsAcceptedBy links k number) opened)))
+    (tt, tt, (λ number opened. no_link number (IsAcceptedBy links k number) opened)) (tt, tt, (λ number opened. no_link number (IsAcceptedBy links k number) opened))
 
 calm_meets : (end : EndId) (links : List Route) (what : Event) → IsCalm what → Meets end links what
-calm_meets (Controller at) links (event.Closed link) calm = tt
-calm_meets (Controller at) links event.DialFailed calm = tt
-calm_meets (Controller at) links event.Stop calm = tt
-calm_meets (Member k) links (event.Closed link) calm = (tt, tt, (λ number opened. no_link number (IsAcceptedBy links k number) opened))
-calm_meets (Member k) links event.DialFailed calm = (tt, tt, (λ number opened. no_link number (IsAcceptedBy links k number) opened))
-calm_meets (Member k) links event.Stop calm = (tt, tt, (λ number opened. no_link number (IsAcceptedBy links k number) opened))
-calm_meets (Client k) links (event.Closed link) calm = tt
-calm_meets (Client k) links event.DialFailed calm = tt
-calm_meets (Client k) links event.Stop calm = tt
-calm_meets end links (event.Bytes link piece) calm = absurd calm
-calm_meets end links (event.Opened link) calm = absurd calm
-calm_meets end links (event.Dialled link) calm = absurd calm
+calm_meets end links what calm = record {
+  controllers = λ at same. by_calm (λ (one : Event). OpensWell (IsOfMember links) (IsMade links) one) (λ link. tt) tt tt what calm;
+  members = λ k same. calm_member links k what calm;
+  clients = λ k same. by_calm (λ (one : Event). DialledAt (IsClients links k) one) (λ link. tt) tt tt what calm;
+}
 
 -- ---- bytes come
 
@@ -203,26 +207,23 @@ one_piece (byte ∷ bytes) piece few one =
       | inr later ↦ absurd (none_later (length bytes) (drop piece_limit (byte ∷ bytes)) piece (drop_all piece_limit (byte ∷ bytes) few) later)
     ]
 
-pub whole_by : (k : LinkKind) (bytes : List ℕ) → k ≡ kind.ToController → WholeIfCarried k bytes → IsWholeSend bytes
-whole_by kind.ToController bytes is whole = whole
-whole_by kind.ToMember bytes is whole = absurd (let never = is in cc)
-whole_by kind.Stranger bytes is whole = absurd (let never = is in cc)
-
 -- what comes on a link between a member and a controller is one whole unit
 pub comes_whole : (unit : Option ℕ) (s : State) (w : Coming) (piece : List ℕ) → WholeBag s.bag → CameFrom unit s w piece → IsOfMember s.links w.link → IsOneUnit piece
 comes_whole None s w piece whole came own = absurd (came own.0 own.1 own.2)
 comes_whole (Some number) s w piece whole came own =
     let route : came.route ≡ ToController own.0 own.1 = some_is came.route (ToController own.0 own.1) (sym came.made ∙ own.2) in
     let is : came.unit.kind ≡ kind.ToController = sym came.same_kind ∙ ap kind_of route in
-    let send : IsWholeSend came.unit.bytes = whole_by came.unit.kind came.unit.bytes is (whole number came.unit came.there) in
+    let send : IsWholeSend came.unit.bytes = whole number came.unit came.there is in
     let same : came.unit.bytes ≡ piece = one_piece came.unit.bytes piece send.few came.part in
     subst IsOneUnit same (record { frames = send.frames; unit = send.unit; heard = send.heard })
 
 bytes_meet : (end : EndId) (s : State) (w : Coming) (piece : List ℕ) → WholeBag s.bag → CameFrom w.unit s w piece → AreBytes piece → Meets end s.links (event.Bytes w.link piece)
-bytes_meet (Controller at) s w piece whole came bytes = λ own. comes_whole w.unit s w piece whole came own
-bytes_meet (Member k) s w piece whole came bytes =
-    ((λ own. comes_whole w.unit s w piece whole came (k, own.controller, own.at)), bytes, (λ number opened. no_link number (IsAcceptedBy s.links k number) opened))
-bytes_meet (Client k) s w piece whole came bytes = tt
+bytes_meet end s w piece whole came bytes = record {
+  controllers = λ at same own. comes_whole w.unit s w piece whole came own;
+  members = λ k same.
+      ((λ own. comes_whole w.unit s w piece whole came (k, own.controller, own.at)), bytes, (λ number opened. no_link number (IsAcceptedBy s.links k number) opened));
+  clients = λ k same. tt;
+}
 
 -- ---- an action is done
 
@@ -233,34 +234,25 @@ bag_more bag unit whole last n one there =
       | inr new ↦ subst (λ (u : BagUnit). WholeIfCarried u.kind u.bytes) new.1 last
     ]
 
-carried : (route : Route) (bytes : List ℕ) → ((member controller : ℕ) → route ≡ ToController member controller → IsWholeSend bytes) → WholeIfCarried (kind_of route) bytes
-carried (ToMember one server) bytes whole = tt
-carried (ToController member controller) bytes whole = whole member controller refl
-carried (Stranger to) bytes whole = tt
+-- a link of that kind is between a member and a controller
+members_link : (route : Route) → kind_of route ≡ kind.ToController → (member : ℕ) × ((controller : ℕ) × (route ≡ ToController member controller))
+members_link (ToController member controller) is = (member, (controller, refl))
+members_link (ToMember one server) is = absurd (let never = is in cc)
+members_link (Stranger to) is = absurd (let never = is in cc)
 
-bag_sent : (k : LinkKind) (back : Bool) (link : ℕ) (bytes : List ℕ) (s : State) → WholeIfCarried k bytes → QuietState s → QuietState (bag_unit k back link bytes s)
-bag_sent kind.Stranger back link bytes s whole quiet = quiet
-bag_sent kind.ToMember back link bytes s whole quiet =
-    with_bag s (bag_unit kind.ToMember back link bytes s).bag quiet
-    (bag_more s.bag (record { bytes = bytes; link = link; kind = kind.ToMember; back = back; is_settled = false }) quiet.bag whole)
-bag_sent kind.ToController back link bytes s whole quiet =
-    with_bag s (bag_unit kind.ToController back link bytes s).bag quiet
-    (bag_more s.bag (record { bytes = bytes; link = link; kind = kind.ToController; back = back; is_settled = false }) quiet.bag whole)
-
-send_quiet : (route : Option Route) (end : EndId) (link : ℕ) (bytes : List ℕ) (s : State) → slice_get s.links link ≡ route → (IsOfMember s.links link → IsWholeSend bytes) → QuietState s →
-    QuietState (send_on route end link bytes s)
-send_quiet None end link bytes s is whole quiet = quiet
-send_quiet (Some route) end link bytes s is whole quiet =
-    bag_sent (kind_of route) (is_accepted_by end route) link bytes s
-    (carried route bytes (λ member controller same. whole (member, controller, is ∙ ap (λ (r : Route). Some r) same))) quiet
+-- the units that an action sends are whole where it may be done
+sent_whole : (end : EndId) (links : List Route) (what : Action) (link : ℕ) (bytes : List ℕ) (route : Route) → what ≡ Send link bytes → QuietAction end links what → slice_get links link ≡ Some route →
+    WholeIfCarried (kind_of route) bytes
+sent_whole end links what link bytes route is fine made on =
+    let own = members_link route on in
+    subst (QuietAction end links) is fine (own.0, own.1.0, made ∙ ap (λ (r : Route). Some r) own.1.1)
 
 action_quiet : (end : EndId) (what : Action) (s : State) → QuietAction end s.links what → QuietState s → QuietState (perform_quietly end what s)
-action_quiet end (Keep bytes) s fine quiet = quiet
-action_quiet end (Send link bytes) s fine quiet = send_quiet (slice_get s.links link) end link bytes s refl fine quiet
-action_quiet end (Dial peer) s fine quiet = quiet
-action_quiet end (Close link cause) s fine quiet = quiet
-action_quiet end (Told link outcome) s fine quiet = quiet
-action_quiet end (Judged how) s fine quiet = quiet
+action_quiet end what s fine quiet =
+    units_by (λ (units : List BagUnit). StandsQuiet s.member_plans s.links (s.bag ++ units) s.ends s.moment s.chances.left) s.links end what
+    (with_bag s (s.bag ++ []) quiet (subst WholeBag (sym (append-nil s.bag)) quiet.bag))
+    (λ link bytes route sends made own.
+    with_bag s (s.bag ++ unit_on route end link bytes ∷ []) quiet (bag_more s.bag (unit_on route end link bytes) quiet.bag (sent_whole end s.links what link bytes route sends fine made)))
 
 -- ---- one thing changes
 
@@ -288,10 +280,9 @@ with_ends s ends quiet controllers members clients = record {
   plans = quiet.plans;
 }
 
-controller_renewed : (found : Option ControllerState) (at : ℕ) (s : State) → slice_get s.ends.controllers at ≡ found → QuietState s →
-    StandsQuiet s.member_plans s.links s.bag (renew_controller found at s.ends) s.moment s.chances.left
-controller_renewed None at s is quiet = quiet
-controller_renewed (Some c) at s is quiet =
+controller_renewed : (c : ControllerState) (at : ℕ) (s : State) → slice_get s.ends.controllers at ≡ Some c → QuietState s →
+    StandsQuiet s.member_plans s.links s.bag (renew_controller (Some c) at s.ends) s.moment s.chances.left
+controller_renewed c at s is quiet =
     let was : ControllerIsQuiet s.links c = quiet.controllers at c is in
     with_ends s (renew_controller (Some c) at s.ends) quiet
     (each_put (λ i (one : ControllerState). ControllerIsQuiet s.links one) s.ends.controllers at (controller.first_state c.table c.name)
@@ -301,10 +292,9 @@ controller_renewed (Some c) at s is quiet =
 fresh_quiet : (links : List Route) (k : ℕ) (plan : MemberPlan) → IsName plan.computer → MemberIsQuiet links k (member.fresh_member plan).running
 fresh_quiet links k plan name = record { range = members_send_whole.first plan name; turn = tt; accepted = tt }
 
-member_renewed : (plan : Option MemberPlan) (at : ℕ) (s : State) → slice_get s.member_plans at ≡ plan → QuietState s →
-    StandsQuiet s.member_plans s.links s.bag (renew_member plan at s.ends) s.moment s.chances.left
-member_renewed None at s is quiet = quiet
-member_renewed (Some plan) at s is quiet =
+member_renewed : (plan : MemberPlan) (at : ℕ) (s : State) → slice_get s.member_plans at ≡ Some plan → QuietState s →
+    StandsQuiet s.member_plans s.links s.bag (renew_member (Some plan) at s.ends) s.moment s.chances.left
+member_renewed plan at s is quiet =
     with_ends s (renew_member (Some plan) at s.ends) quiet quiet.controllers
     (each_put (λ i (one : MemberState). MemberIsQuiet s.links i one.running) s.ends.members at (member.fresh_member plan) (λ i one other there. quiet.members i one there)
     (fresh_quiet s.links at plan (quiet.plans at plan is))) quiet.clients
@@ -315,14 +305,10 @@ client_put at new s is quiet =
     with_ends s (record s.ends { clients = slice_set s.ends.clients at new }) quiet quiet.controllers quiet.members
     (each_put (λ i (one : ClientState). ClientIsQuiet s.links i one) s.ends.clients at new (λ i one other there. quiet.clients i one there) is)
 
-client_renewed : (plan : Option ClientPlan) (at : ℕ) (s : State) → QuietState s → StandsQuiet s.member_plans s.links s.bag (renew_client plan at s.ends) s.moment s.chances.left
-client_renewed None at s quiet = quiet
-client_renewed (Some plan) at s quiet = client_put at (client.fresh_client plan) s tt quiet
-
 renewed_quiet : (end : EndId) (s : State) → QuietState s → QuietState (renewed end s)
-renewed_quiet (Controller at) s quiet = controller_renewed (slice_get s.ends.controllers at) at s refl quiet
-renewed_quiet (Member at) s quiet = member_renewed (slice_get s.member_plans at) at s refl quiet
-renewed_quiet (Client at) s quiet = client_renewed (slice_get s.client_plans at) at s quiet
+renewed_quiet end s quiet =
+    renew_by (λ (one : EndId) (ends : EndStates). StandsQuiet s.member_plans s.links s.bag ends s.moment s.chances.left) s (λ one. quiet) (λ at c is. controller_renewed c at s is quiet)
+    (λ at plan is. member_renewed plan at s is quiet) (λ at plan is. client_put at (client.fresh_client plan) s tt quiet) end
 
 moment_by : (early : Bool) (more now : ℕ) → now < 2 ^ 64 → (if early then min (now + more) (2 ^ 63) else now) < 2 ^ 64
 moment_by true more now below = omega arith
@@ -454,7 +440,7 @@ quiet_links links (Some one) running is well =
 
 pub is_quiet : (s : State) → QuietState s → IsQuiet s
 is_quiet s quiet = record {
-  bag = λ n unit there is. let send : IsWholeSend unit.bytes = whole_by unit.kind unit.bytes is (quiet.bag n unit there) in
+  bag = λ n unit there is. let send : IsWholeSend unit.bytes = quiet.bag n unit there is in
       (record { frames = send.frames; unit = send.unit; heard = send.heard }, send.few);
   controllers = λ i c running there is. quiet_links s.links c.running running is (quiet.controllers i c there).well;
   members = λ k m running there is. quiet_running s.links k m.running running is (quiet.members k m there);

@@ -9,7 +9,6 @@ use Rattle.outside.specs.declared.action.Action.{Action}
 use Rattle.outside.specs.declared.action.Action.TheVariants.{Keep, Send, Dial, Close, Told, Judged}
 use Rattle.outside.specs.declared.action.StepRefused.{StepRefused}
 use Rattle.outside.specs.declared.event.Event.{Event}
-use Rattle.outside.specs.declared.event.Event.TheVariants as event
 use Rattle.end_links.specs.Links.{LinkState}
 use Rattle.end_links.specs.Whole.{IsWholeIfSent, IsWholeSend}
 use Rattle.end_loop.specs.Runs.{actions_of, taken_actions}
@@ -34,10 +33,11 @@ use Rattle.world_moves.specs.declared.links.EndId.TheVariants.{Controller, Membe
 use Rattle.world_moves.specs.declared.links.LinkKind.{LinkKind}
 use Rattle.world_moves.specs.declared.links.LinkKind.TheVariants as kind
 use Rattle.world_moves.specs.declared.links.Route.{Route}
-use Rattle.world_moves.specs.declared.links.Route.TheVariants.{ToMember, ToController, Stranger}
+use Rattle.world_moves.specs.declared.links.Route.TheVariants.{ToMember, ToController}
 use Rattle.world_moves.specs.declared.state.State.{State}
-use Rattle.world_moves.specs.Ends.{EndStates, actions_by, client_step, controller_step, end_step, member_step}
+use Rattle.world_moves.specs.Ends.{EndStates, EndStep, actions_by, client_step, controller_step, end_step, member_step}
 use Rattle.world_moves.specs.Links.{acceptor_of}
+use Rattle.world_moves.proofs.EndKindLaws.{IfClient, IfController, IfMember, step_by}
 use Rattle.domain_world.specs.Accepting.Runs.{IsOfMember}
 use Rattle.channel_events.proofs.ListLaws.{some_is}
 use Rattle.domain_world.proofs.Accepting.LetInStepLaws.{IsAcceptedBy, IsDialledBy}
@@ -74,10 +74,9 @@ MemberIsQuiet links k (Some running) = RunningIsQuiet links k running
 abbrev pub ClientIsQuiet : List Route → ℕ → ClientState → Type 0
 ClientIsQuiet links k c = AtUnlessStopped (IsClients links k) c.running
 
+-- what goes between a member and a controller is whole
 abbrev pub WholeIfCarried : LinkKind → List ℕ → Type 0
-WholeIfCarried kind.ToController bytes = IsWholeSend bytes
-WholeIfCarried kind.ToMember bytes = Unit {0}
-WholeIfCarried kind.Stranger bytes = Unit {0}
+WholeIfCarried k bytes = k ≡ kind.ToController → IsWholeSend bytes
 
 abbrev pub WholeBag : List BagUnit → Type 0
 WholeBag bag = (n : ℕ) (unit : BagUnit) → slice_get bag n ≡ Some unit → WholeIfCarried unit.kind unit.bytes
@@ -166,23 +165,25 @@ client_quiet end links k (Judged how ∷ actions) all = (tt, client_quiet end li
 
 -- ---- one end's step
 
--- what must be known of an event
-abbrev pub Meets : EndId → List Route → Event → Type 0
-Meets (Controller at) links what = OpensWell (IsOfMember links) (IsMade links) what
-Meets (Member k) links what = ComesWell (IsDialledBy links k) what × BringsBytes what × ((number : ℕ) → opened_link what ≡ Some number → IsAcceptedBy links k number)
-Meets (Client k) links what = DialledAt (IsClients links k) what
+-- what must be known of an event, by the end that it comes to
+abbrev pub MeetsMember : List Route → Event → ℕ → Type 0
+MeetsMember links what k = ComesWell (IsDialledBy links k) what × BringsBytes what × ((number : ℕ) → opened_link what ≡ Some number → IsAcceptedBy links k number)
+
+pub record Meets (end : EndId) (links : List Route) (what : Event) : Type 0 where
+  pub controllers : IfController (λ (at : ℕ). OpensWell (IsOfMember links) (IsMade links) what) end
+  pub members : IfMember (MeetsMember links what) end
+  pub clients : IfClient (λ (k : ℕ). DialledAt (IsClients links k) what) end
 
 pub record HasStepped (end : EndId) (plans : List MemberPlan) (links : List Route) (bag : List BagUnit) (moment : ℕ) (ends : EndStates) (left : List (List ℕ)) (actions : List Action) : Type 0 where
   pub stands : StandsQuiet plans links bag ends moment left
   pub fine : AllByRecursion (QuietAction end links) actions
 
 module _ (plans : List MemberPlan) (links : List Route) (bag : List BagUnit) (moment : ℕ) (ends : EndStates) (chances : Drawing) (quiet : StandsQuiet plans links bag ends moment chances.left) where
-  controller_steps : (found : Option ControllerState) (at : ℕ) (what : Event) → slice_get ends.controllers at ≡ found → OpensWell (IsOfMember links) (IsMade links) what →
-      AreBlocks (controller_step found at what moment ends chances).chances.left →
-      HasStepped (Controller at) plans links bag moment (controller_step found at what moment ends chances).ends (controller_step found at what moment ends chances).chances.left
-      (controller_step found at what moment ends chances).actions
-  controller_steps None at what is meets blocks = record { stands = quiet; fine = tt }
-  controller_steps (Some c) at what is meets blocks =
+  controller_steps : (c : ControllerState) (at : ℕ) (what : Event) → slice_get ends.controllers at ≡ Some c → OpensWell (IsOfMember links) (IsMade links) what →
+      AreBlocks (controller_step (Some c) at what moment ends chances).chances.left →
+      HasStepped (Controller at) plans links bag moment (controller_step (Some c) at what moment ends chances).ends (controller_step (Some c) at what moment ends chances).chances.left
+      (controller_step (Some c) at what moment ends chances).actions
+  controller_steps c at what is meets blocks =
       let was : ControllerIsQuiet links c = quiet.controllers at c is in
       let step : Stepped ControllerState = controller.step_of c what moment chances.left in
       record {
@@ -213,7 +214,7 @@ module _ (plans : List MemberPlan) (links : List Route) (bag : List BagUnit) (mo
         (λ number link is. elim is [ inl was ↦ accepted_such (IsAcceptedBy links k) running number accepted was | inr opened ↦ opens number opened ]) after.links accepts;
   }
 
-  running_steps : (r : Option Running) (m : MemberState) (k : ℕ) (what : Event) → m.running ≡ r → MemberIsQuiet links k r → Meets (Member k) links what →
+  running_steps : (r : Option Running) (m : MemberState) (k : ℕ) (what : Event) → m.running ≡ r → MemberIsQuiet links k r → MeetsMember links what k →
       MemberIsQuiet links k (member.step_of m what moment chances.left).state.running
       × AllByRecursion (QuietAction (Member k) links) (actions_by (member.step_of m what moment chances.left).answer)
   running_steps None m k what is was meets =
@@ -232,12 +233,11 @@ module _ (plans : List MemberPlan) (links : List Route) (bag : List BagUnit) (mo
             (actions_of (member.step_of m what moment chances.left)) (members_send_whole.sends m running what moment chances.left is was.range range)),
       )
 
-  member_steps : (found : Option MemberState) (k : ℕ) (what : Event) → slice_get ends.members k ≡ found → Meets (Member k) links what →
-      AreBlocks (member_step found k what moment ends chances).chances.left →
-      HasStepped (Member k) plans links bag moment (member_step found k what moment ends chances).ends (member_step found k what moment ends chances).chances.left
-      (member_step found k what moment ends chances).actions
-  member_steps None k what is meets blocks = record { stands = quiet; fine = tt }
-  member_steps (Some m) k what is meets blocks =
+  member_steps : (m : MemberState) (k : ℕ) (what : Event) → slice_get ends.members k ≡ Some m → MeetsMember links what k →
+      AreBlocks (member_step (Some m) k what moment ends chances).chances.left →
+      HasStepped (Member k) plans links bag moment (member_step (Some m) k what moment ends chances).ends (member_step (Some m) k what moment ends chances).chances.left
+      (member_step (Some m) k what moment ends chances).actions
+  member_steps m k what is meets blocks =
       let both = running_steps m.running m k what refl (quiet.members k m is) meets in
       record {
         stands = record {
@@ -253,12 +253,11 @@ module _ (plans : List MemberPlan) (links : List Route) (bag : List BagUnit) (mo
         fine = both.1;
       }
 
-  client_steps : (found : Option ClientState) (k : ℕ) (what : Event) → slice_get ends.clients k ≡ found → DialledAt (IsClients links k) what →
-      AreBlocks (client_step found k what moment ends chances).chances.left →
-      HasStepped (Client k) plans links bag moment (client_step found k what moment ends chances).ends (client_step found k what moment ends chances).chances.left
-      (client_step found k what moment ends chances).actions
-  client_steps None k what is meets blocks = record { stands = quiet; fine = tt }
-  client_steps (Some c) k what is meets blocks =
+  client_steps : (c : ClientState) (k : ℕ) (what : Event) → slice_get ends.clients k ≡ Some c → DialledAt (IsClients links k) what →
+      AreBlocks (client_step (Some c) k what moment ends chances).chances.left →
+      HasStepped (Client k) plans links bag moment (client_step (Some c) k what moment ends chances).ends (client_step (Some c) k what moment ends chances).chances.left
+      (client_step (Some c) k what moment ends chances).actions
+  client_steps c k what is meets blocks =
       let sends : SendsAt (IsClients links k) (client.step_of c what moment chances.left) = client_sends (IsClients links k) c what moment chances.left meets (quiet.clients k c is) in
       record {
         stands = record {
@@ -281,6 +280,8 @@ module _ (plans : List MemberPlan) (links : List Route) (bag : List BagUnit) (mo
 
   pub end_steps : (end : EndId) (what : Event) → Meets end links what →
       HasStepped end plans links bag moment (end_step end what moment ends chances).ends (end_step end what moment ends chances).chances.left (end_step end what moment ends chances).actions
-  end_steps (Controller at) what meets = controller_steps (slice_get ends.controllers at) at what refl meets (left_blocks (Controller at) what)
-  end_steps (Member k) what meets = member_steps (slice_get ends.members k) k what refl meets (left_blocks (Member k) what)
-  end_steps (Client k) what meets = client_steps (slice_get ends.clients k) k what refl meets (left_blocks (Client k) what)
+  end_steps end what meets =
+      step_by (λ (one : EndId) (step : EndStep). Meets one links what → AreBlocks step.chances.left → HasStepped one plans links bag moment step.ends step.chances.left step.actions) what moment
+      ends chances (λ one its blocks. record { stands = quiet; fine = tt }) (λ at c is its blocks. controller_steps c at what is (its.controllers at refl) blocks)
+      (λ k m is its blocks. member_steps m k what is (its.members k refl) blocks) (λ k c is its blocks. client_steps c k what is (its.clients k refl) blocks) end meets
+      (left_blocks end what)

@@ -6,12 +6,12 @@ use Rattle.member_server.specs.State.{State as MemberState}
 use Rattle.member_server.specs.declared.state.Logon.{Logon}
 use Rattle.channel_events.specs.Marks.{OneOf}
 use Rattle.channel_events.proofs.ListLaws.{all_weaker, one_with, some_is}
-use Rattle.step_notes.specs.Records.{Book, MessageTaken, OutcomeTold}
+use Rattle.step_notes.specs.Records.{Book, CallTaken, MessageTaken, OutcomeTold}
 use Rattle.step_notes.proofs.Members.KeptLogonLaws.{KeptIn, kept_so, one_before}
 use Rattle.world_moves.specs.declared.plan.Plan.{Plan}
 use Rattle.world_moves.specs.declared.state.State.{State}
 use Rattle.world_moves.specs.Counting.{is_in}
-use Rattle.domain_world.specs.Accepting.Carried.{IsTakenInTurn}
+use Rattle.domain_world.specs.Accepting.Carried.{IsAnswerFor, IsTakenInTurn}
 use Rattle.domain_world.specs.Accepting.ReadBack.{IsLetInInTurn, IsToldInTurn}
 use Rattle.domain_world.specs.Past.{change_message, with_answer, with_call}
 use Rattle.domain_world.proofs.Accepting.Turns.TurnFactLaws.{Any, HasFree, IsAnswered, IsFree, IsKnown, TurnFacts, past_at}
@@ -29,18 +29,19 @@ one_after P (item ∷ items) more one = inr (one_after P items more one)
 no_reply : (reply : Option ℕ) (u : ℕ) → reply ≡ None → reply ≡ Some u → ⊥
 no_reply reply u none is = let both : None ≡ Some u = sym none ∙ is in absurd (let x = both in cc)
 
-module _ (plan : Plan) (t : State) (d : Book) (messages : List MessageTaken) (told : List OutcomeTold) where
+module _ (plan : Plan) (t : State) (d : Book) (messages : List MessageTaken) (answers : List CallTaken) (told : List OutcomeTold) where
   -- where none of them has its answer
   pub called_facts : (found number : Option ℕ) → ((link : ℕ) → found ≡ Some link → AllByRecursion (λ (message : MessageTaken). message.link ≡ link → message.reply ≡ None) messages) →
-      TurnFacts plan t d messages told → TurnFacts plan t d (change_message found (with_call number) messages) told
+      TurnFacts plan t d messages answers told → TurnFacts plan t d (change_message found (with_call number) messages) answers told
   called_facts None number free facts = facts
   called_facts (Some link) number free facts =
       let Open : MessageTaken → Type 0 = λ (message : MessageTaken). message.link ≡ link → message.reply ≡ None in
       let own : AllByRecursion Open messages = free link refl in
       record {
-        answered = each_changed link (with_call number) (λ (message : MessageTaken). IsAnswered plan t d told message × Open message) (IsAnswered plan t d told)
+        taken = facts.taken;
+        answered = each_changed link (with_call number) (λ (message : MessageTaken). IsAnswered plan t d answers told message × Open message) (IsAnswered plan t d answers told)
             (λ message here fits u reply. absurd (no_reply message.reply u (fits.1 here) reply)) (λ message differs fits. fits.0) messages
-            (all_pair (IsAnswered plan t d told) Open messages facts.answered own);
+            (all_pair (IsAnswered plan t d answers told) Open messages facts.answered own);
         let_in = all_weaker (IsKnown plan t d messages) (IsKnown plan t d (change_message (Some link) (with_call number) messages)) told
             (λ one known is.
             one_changed link (with_call number) (λ (message : MessageTaken). IsLetInInTurn (past_at plan t d) one message × Open message) (IsLetInInTurn (past_at plan t d) one)
@@ -55,15 +56,15 @@ module _ (plan : Plan) (t : State) (d : Book) (messages : List MessageTaken) (to
             (λ number own. own) m.running (facts.free k m there);
       }
 
-  module _ (member place : ℕ) (logon : Logon) (u : ℕ) (more : List OutcomeTold) where
+  module _ (member place : ℕ) (logon : Logon) (u : ℕ) (more : List OutcomeTold) (new : List CallTaken) where
     -- the message of that logon
     abbrev pub Own : MessageTaken → Type 0
     Own message = message.link ≡ logon.link → IsFree member place logon message
 
-    -- with its answer, it was taken in its turn, and is told
+    -- its answer is one of the new ones, and is told
     abbrev pub Taken : MessageTaken → Type 0
     Taken message =
-        message.link ≡ logon.link → IsTakenInTurn (past_at plan t d) (with_answer (Some u) message) u
+        message.link ≡ logon.link → OneOf (IsAnswerFor (with_answer (Some u) message) u) new
         × OneOf (λ (one : OutcomeTold). IsToldInTurn (past_at plan t d) (with_answer (Some u) message) u one) more
 
     abbrev pub LetIn : OutcomeTold → Type 0
@@ -74,22 +75,25 @@ module _ (plan : Plan) (t : State) (d : Book) (messages : List MessageTaken) (to
     KeepOthers = (k : ℕ) (m : MemberState) → slice_get t.ends.members k ≡ Some m → KeptIn (λ (p : ℕ) (l : Logon). HasFree k messages p l × (k ≡ member → p ≡ place → ⊥)) Any m.running
 
     -- where the answer of that message is written down
-    pub answered_facts : AllByRecursion Own messages → AllByRecursion Taken messages → AllByRecursion LetIn more → HasFree member messages place logon → KeepOthers →
-        TurnFacts plan t d messages told → TurnFacts plan t d (change_message (Some logon.link) (with_answer (Some u)) messages) (told ++ more)
-    answered_facts own taken let_in has others facts =
+    pub answered_facts : AllByRecursion (IsTakenInTurn (past_at plan t d)) new → AllByRecursion Own messages → AllByRecursion Taken messages → AllByRecursion LetIn more → HasFree member messages place logon →
+        KeepOthers → TurnFacts plan t d messages answers told →
+        TurnFacts plan t d (change_message (Some logon.link) (with_answer (Some u)) messages) (answers ++ new) (told ++ more)
+    answered_facts in_turn own taken let_in has others facts =
         let link : ℕ = logon.link in
         let after : List MessageTaken = change_message (Some link) (with_answer (Some u)) messages in
         let one_told : MessageTaken → ℕ → OutcomeTold → Type 0 = λ message n one. IsToldInTurn (past_at plan t d) message n one in
         record {
-          answered = each_changed link (with_answer (Some u)) (λ (message : MessageTaken). IsAnswered plan t d told message × Taken message) (IsAnswered plan t d (told ++ more))
+          taken = all_join (IsTakenInTurn (past_at plan t d)) answers new facts.taken in_turn;
+          answered = each_changed link (with_answer (Some u)) (λ (message : MessageTaken). IsAnswered plan t d answers told message × Taken message)
+              (IsAnswered plan t d (answers ++ new) (told ++ more))
               (λ message here fits n reply.
               let its = fits.1 here in
-              subst (λ (x : ℕ). IsTakenInTurn (past_at plan t d) (with_answer (Some u) message) x × OneOf (one_told (with_answer (Some u) message) x) (told ++ more)) (some_is u n reply)
-              (its.0, one_after (one_told (with_answer (Some u) message) u) told more its.1))
+              subst (λ (x : ℕ). OneOf (IsAnswerFor (with_answer (Some u) message) x) (answers ++ new) × OneOf (one_told (with_answer (Some u) message) x) (told ++ more)) (some_is u n reply)
+              (one_after (IsAnswerFor (with_answer (Some u) message) u) answers new its.0, one_after (one_told (with_answer (Some u) message) u) told more its.1))
               (λ message differs fits n reply.
               let its = fits.0 n reply in
-              (its.0, one_before (one_told message n) told more its.1)) messages
-              (all_pair (IsAnswered plan t d told) Taken messages facts.answered taken);
+              (one_before (IsAnswerFor message n) answers new its.0, one_before (one_told message n) told more its.1)) messages
+              (all_pair (IsAnswered plan t d answers told) Taken messages facts.answered taken);
           let_in = all_join (IsKnown plan t d after) told more
               (all_weaker (IsKnown plan t d messages) (IsKnown plan t d after) told
               (λ one known is.

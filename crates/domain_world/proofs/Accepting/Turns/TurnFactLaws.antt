@@ -13,7 +13,7 @@ use Rattle.member_server.specs.State.{State as MemberState}
 use Rattle.channel_events.specs.Marks.{OneOf}
 use Rattle.channel_events.proofs.ListLaws.{all_weaker, one_weaker}
 use Rattle.step_notes.specs.Marking.{sent_channel}
-use Rattle.step_notes.specs.Records.{Book, MessageTaken, OutcomeTold, Sent}
+use Rattle.step_notes.specs.Records.{Book, CallTaken, MessageTaken, OfMember, OutcomeTold, RequesterId, Sent}
 use Rattle.step_notes.proofs.Members.KeptLogonLaws.{KeptIn, one_before}
 use Rattle.world_moves.specs.declared.bag.BagUnit.{BagUnit}
 use Rattle.world_moves.specs.declared.plan.Plan.{Plan}
@@ -22,7 +22,7 @@ use Rattle.world_moves.specs.Counting.{is_in}
 use Rattle.world_moves.specs.Ends.{EndStates, end_at, end_in}
 use Rattle.world_moves.specs.Moving.{end_of_peer}
 use Rattle.world_moves.specs.World.{World}
-use Rattle.domain_world.specs.Accepting.Carried.{IsTakenInTurn}
+use Rattle.domain_world.specs.Accepting.Carried.{AsksOf, IsAnswerFor, IsTakenInTurn}
 use Rattle.domain_world.specs.Accepting.ReadBack.{IsLetInInTurn, IsReadIn, IsToldInTurn}
 use Rattle.domain_world.specs.Claims.{HasController}
 use Rattle.domain_world.specs.Past.{Past}
@@ -83,10 +83,10 @@ world_in s = record { state = s; moves = 0; stopped = false }
 abbrev pub past_at : Plan → State → Book → Past
 past_at plan s b = record { plan = plan; world = world_in s; book = b }
 
--- where the answer of a message was taken, it was in its turn, and its outcome is told
-abbrev pub IsAnswered : Plan → State → Book → List OutcomeTold → MessageTaken → Type 0
-IsAnswered plan s b told message =
-    (u : ℕ) → message.reply ≡ Some u → IsTakenInTurn (past_at plan s b) message u × OneOf (λ (one : OutcomeTold). IsToldInTurn (past_at plan s b) message u one) told
+-- where the answer of a message was taken, it is one of these, and its outcome is told
+abbrev pub IsAnswered : Plan → State → Book → List CallTaken → List OutcomeTold → MessageTaken → Type 0
+IsAnswered plan s b answers told message =
+    (u : ℕ) → message.reply ≡ Some u → OneOf (IsAnswerFor message u) answers × OneOf (λ (one : OutcomeTold). IsToldInTurn (past_at plan s b) message u one) told
 
 -- whoever is let in is so by the answer of a message
 abbrev pub IsKnown : Plan → State → Book → List MessageTaken → OutcomeTold → Type 0
@@ -110,9 +110,11 @@ Any number = Unit {0}
 abbrev pub KeepFree : List MemberState → List MessageTaken → Type 0
 KeepFree members messages = (k : ℕ) (m : MemberState) → slice_get members k ≡ Some m → KeptIn (HasFree k messages) Any m.running
 
--- the argument b: what is written down of units of the bag
-pub record TurnFacts (plan : Plan) (s : State) (b : Book) (messages : List MessageTaken) (told : List OutcomeTold) : Type 0 where
-  pub answered : AllByRecursion (IsAnswered plan s b told) messages
+-- each answer was taken in the turn of its call, whoever asked; the argument b: what is written down of units of the
+-- bag
+pub record TurnFacts (plan : Plan) (s : State) (b : Book) (messages : List MessageTaken) (answers : List CallTaken) (told : List OutcomeTold) : Type 0 where
+  pub taken : AllByRecursion (IsTakenInTurn (past_at plan s b)) answers
+  pub answered : AllByRecursion (IsAnswered plan s b answers told) messages
   pub let_in : AllByRecursion (IsKnown plan s b messages) told
   pub free : KeepFree s.ends.members messages
 
@@ -159,19 +161,20 @@ abbrev pub past_of : Plan → World → Book → Past
 past_of plan world b = record { plan = plan; world = world; book = b }
 
 module _ (plan : Plan) (v w : World) (b d : Book) (grows : GrowsTo v.state w.state b d) where
-  pub taken_stays : (message : MessageTaken) (u : ℕ) → IsTakenInTurn (past_of plan v b) message u → IsTakenInTurn (past_of plan w d) message u
-  taken_stays message u is =
-      let now : IsStill is.carrier w.state.bag u = grows.bag u is.carrier is.there in
+  asks_stay : (who : RequesterId) (controller : ℕ) → AsksOf who (past_of plan v b) controller → AsksOf who (past_of plan w d) controller
+  asks_stay (OfMember member) controller asks = controller_stays (slice_get plan.members member) v.state.ends w.state.ends controller grows.ends asks
+
+  pub taken_stays : (taken : CallTaken) → IsTakenInTurn (past_of plan v b) taken → IsTakenInTurn (past_of plan w d) taken
+  taken_stays taken is =
+      let now : IsStill is.carrier w.state.bag taken.reply = grows.bag taken.reply is.carrier is.there in
       record {
         channel = is.channel;
         number = is.number;
         timestamp = is.timestamp;
-        request = is.request;
         out = is.out;
-        call = is.call;
-        asked = grows.sent is.request is.out is.asked;
+        asked = grows.sent taken.call is.out is.asked;
         mark = is.mark;
-        controller = controller_stays (slice_get plan.members message.member) v.state.ends w.state.ends is.channel.controller grows.ends is.controller;
+        controller = asks_stay taken.requester is.channel.controller is.controller;
         carrier = now.now;
         there = now.there;
         back = now.back ∙ is.back;
@@ -181,12 +184,9 @@ module _ (plan : Plan) (v w : World) (b d : Book) (grows : GrowsTo v.state w.sta
           heard = subst (λ (bytes : List ℕ). IsHeard bytes is.whole.frames is.whole.unit) (sym now.bytes) is.whole.heard;
         };
         has = is.has;
-        read = is.read;
-        given = is.given;
-        reads = is.reads;
-        returned = is.returned;
+        answer = is.answer;
         sent = is.sent;
-        noted = grows.sent u is.sent is.noted;
+        noted = grows.sent taken.reply is.sent is.noted;
         named = is.named;
         made = is.made;
         same = is.same;
@@ -232,10 +232,10 @@ module _ (plan : Plan) (s t : State) (b d : Book) (grows : GrowsTo s t b d) wher
   abbrev after : World
   after = world_in t
 
-  pub answered_stays : (told more : List OutcomeTold) (message : MessageTaken) → IsAnswered plan s b told message → IsAnswered plan t d (told ++ more) message
-  answered_stays told more message answered = λ u reply.
+  pub answered_stays : (answers : List CallTaken) (told more : List OutcomeTold) (message : MessageTaken) → IsAnswered plan s b answers told message → IsAnswered plan t d answers (told ++ more) message
+  answered_stays answers told more message answered = λ u reply.
       let its = answered u reply in (
-        taken_stays plan before after b d grows message u its.0,
+        its.0,
         one_before (λ (one : OutcomeTold). IsToldInTurn (past_at plan t d) message u one) told more
             (one_weaker (λ (one : OutcomeTold). IsToldInTurn (past_at plan s b) message u one) (λ (one : OutcomeTold). IsToldInTurn (past_at plan t d) message u one) told
             (told_stays plan before after b d grows message u) its.1),
@@ -248,13 +248,28 @@ module _ (plan : Plan) (s t : State) (b d : Book) (grows : GrowsTo s t b d) wher
       onward (λ (message : MessageTaken). IsLetInInTurn (past_at plan s b) told message) (λ (message : MessageTaken). IsLetInInTurn (past_at plan t d) told message)
       (let_in_stays plan before after b d grows told) (λ message let_in. (let_in.unit, let_in.reply)) (known is)
 
+  pub all_stay : (answers : List CallTaken) → AllByRecursion (IsTakenInTurn (past_at plan s b)) answers → AllByRecursion (IsTakenInTurn (past_at plan t d)) answers
+  all_stay answers all = all_weaker (IsTakenInTurn (past_at plan s b)) (IsTakenInTurn (past_at plan t d)) answers (taken_stays plan before after b d grows) all
+
   -- where no more is written down of messages
-  pub facts_stay : (messages : List MessageTaken) (told more : List OutcomeTold) → AllByRecursion (IsKnown plan t d messages) more → KeepFree t.ends.members messages →
-      TurnFacts plan s b messages told → TurnFacts plan t d messages (told ++ more)
-  facts_stay messages told more known free facts = record {
-    answered = all_weaker (IsAnswered plan s b told) (IsAnswered plan t d (told ++ more)) messages (answered_stays told more) facts.answered;
+  pub facts_stay : (messages : List MessageTaken) (answers : List CallTaken) (told more : List OutcomeTold) → AllByRecursion (IsKnown plan t d messages) more → KeepFree t.ends.members messages →
+      TurnFacts plan s b messages answers told → TurnFacts plan t d messages answers (told ++ more)
+  facts_stay messages answers told more known free facts = record {
+    taken = all_stay answers facts.taken;
+    answered = all_weaker (IsAnswered plan s b answers told) (IsAnswered plan t d answers (told ++ more)) messages (answered_stays answers told more) facts.answered;
     let_in = all_join (IsKnown plan t d messages) told more
         (all_weaker (IsKnown plan s b messages) (IsKnown plan t d messages) told
         (λ one is. known_stays messages messages one (λ P Q so reply any. one_weaker P Q messages so any) is) facts.let_in) known;
     free = free;
   }
+
+-- more answers were taken
+pub answers_more : (plan : Plan) (t : State) (d : Book) (messages : List MessageTaken) (answers new : List CallTaken) (told : List OutcomeTold) → AllByRecursion (IsTakenInTurn (past_at plan t d)) new →
+    TurnFacts plan t d messages answers told → TurnFacts plan t d messages (answers ++ new) told
+answers_more plan t d messages answers new told in_turn facts = record {
+  taken = all_join (IsTakenInTurn (past_at plan t d)) answers new facts.taken in_turn;
+  answered = all_weaker (IsAnswered plan t d answers told) (IsAnswered plan t d (answers ++ new) told) messages
+      (λ message answered u reply. (one_before (IsAnswerFor message u) answers new (answered u reply).0, (answered u reply).1)) facts.answered;
+  let_in = facts.let_in;
+  free = facts.free;
+}

@@ -1,50 +1,45 @@
 -- Through all moves, the answer of each message was taken in its turn, its outcome is told, and whoever is let in is so
 -- by such an answer: three of the facts of `UnitsAreHeard`. What they rest on is `TurnSide` of TurnSideLaws.
 -- It serves `schedules_are_heard`.
-use Rattle.std.proofs.Common.{◌≡◌, ℕ, zero, suc, ◌+◌, Bool, List, [], ◌∷◌, map, length, Option, Some, None, refl, sym, subst, ◌∙◌, slice_get, true, false}
+use Rattle.std.proofs.Common.{◌≡◌, ℕ, zero, suc, ◌+◌, List, [], ◌∷◌, map, length, Some, refl, sym, subst, ◌∙◌, slice_get, true, false, ◌++◌}
 use Rattle.std.proofs.lemmas.List.{append-nil, length-set}
-use Rattle.outside.specs.declared.action.Action.{Action}
-use Rattle.outside.specs.declared.action.Action.TheVariants as action
+use Rattle.std.specs.List.{AllByRecursion}
 use Rattle.outside.specs.declared.event.Event.{Event}
 use Rattle.outside.specs.declared.event.Event.TheVariants as event
-use Rattle.domain_controller.specs.State.{State as ControllerState}
-use Rattle.logon_client.specs.State.{State as ClientState}
 use Rattle.logon_client.specs.declared.plan.ClientPlan.{ClientPlan}
 use Rattle.member_server.specs.Machine.{fresh_member}
 use Rattle.member_server.specs.State.{State as MemberState}
 use Rattle.member_server.specs.declared.plan.MemberPlan.{MemberPlan}
 use Rattle.channel_events.specs.Marks.{OneOf}
-use Rattle.channel_events.proofs.ListLaws.{all_weaker, got_append, got_nothing, one_weaker, some_is}
-use Rattle.step_notes.specs.Records.{Book, MessageTaken, OutcomeTold, blank}
+use Rattle.channel_events.proofs.ListLaws.{all_weaker, got_append, got_nothing, one_weaker, some_is, one_found}
+use Rattle.step_notes.specs.Records.{Book, MessageTaken, OutcomeTold, Sent, blank}
 use Rattle.step_notes.proofs.Members.KeptLogonLaws.{Dials, KeptIn}
 use Rattle.world_moves.specs.declared.bag.BagUnit.{BagUnit}
 use Rattle.world_moves.specs.declared.links.EndId.{EndId}
-use Rattle.world_moves.specs.declared.links.EndId.TheVariants.{Controller, Member, Client}
-use Rattle.world_moves.specs.declared.links.LinkKind.{LinkKind}
-use Rattle.world_moves.specs.declared.links.LinkKind.TheVariants as kind
-use Rattle.world_moves.specs.declared.links.Route.{Route}
+use Rattle.world_moves.specs.declared.links.EndId.TheVariants.{Controller, Client}
 use Rattle.world_moves.specs.declared.moves.Move.{Move}
 use Rattle.world_moves.specs.declared.plan.Plan.{Plan}
 use Rattle.world_moves.specs.declared.state.State.{State}
-use Rattle.world_moves.specs.Acting.{Given, Heard, bag_unit, forget, given_by, hear, heard_by, hear_and_act, perform_quietly, send_on, shut_link}
+use Rattle.world_moves.specs.Acting.{Given, forget, given_by, hear, heard_by, hear_and_act, perform_quietly, shut_link}
 use Rattle.world_moves.specs.Counting.{is_in}
-use Rattle.world_moves.specs.Ends.{EndStates, member_step}
-use Rattle.world_moves.specs.Links.{acceptor_of, is_accepted_by, kind_of}
+use Rattle.world_moves.specs.Ends.{EndStates, EndStep, client_step, controller_step, no_step}
+use Rattle.world_moves.specs.Links.{acceptor_of}
 use Rattle.world_moves.specs.Moving.{answered_link, begun, renewed, settle, tick, with_link, without_first}
 use Rattle.world_moves.specs.World.{World, first_world}
-use Rattle.domain_world.specs.Accepting.Carried.{IsTakenInTurn}
+use Rattle.domain_world.specs.Accepting.Carried.{IsAnswerFor, IsTakenAs, IsTakenInTurn}
 use Rattle.domain_world.specs.Accepting.ReadBack.{IsLetInInTurn, IsToldInTurn, TurnsAreHeard}
-use Rattle.domain_world.specs.Past.{Coming, Past, any_clash, answers_of, note_at, note_client, note_controller, note_given, note_member, past}
+use Rattle.domain_world.specs.Past.{Coming, Past, answers_of, any_clash, note_at, note_client, note_controller, note_given, past, told_in}
 use Rattle.domain_world.proofs.Accepting.Turns.TurnFactLaws.{Any, AreApart, GrowsTo, HasFree, IsAnswered, IsKnown, KeepFree, MarksAreKnown, SameEnds, TurnFacts, apart_from, let_in_stays, marks_before, past_at, taken_stays, told_stays, world_in}
 use Rattle.domain_world.proofs.Accepting.Turns.TurnNotedLaws.{or_false}
-use Rattle.domain_world.proofs.Accepting.Turns.TurnQuietLaws.{action_still, acts_stay, changed_stays, client_members, clients_tell, controller_members, controllers_tell, hear_grows, others_hear, over_grows, over_stays, quiet_hears, renew_same, renew_stays, same_ends, told_yet}
+use Rattle.domain_world.proofs.Accepting.Turns.TurnQuietLaws.{action_still, acts_stay, changed_stays, hear_grows, others_hear, others_tell, over_grows, over_stays, quiet_hears, renew_same, renew_stays, same_ends, step_same, told_yet}
 use Rattle.domain_world.proofs.Accepting.Turns.TurnMarkLaws.{marks_known}
 use Rattle.domain_world.proofs.Accepting.Turns.TurnSideLaws.{TurnSide, member_comes}
 use Rattle.domain_world.proofs.Challenges.MessageApartLaws.{links_in, messages_apart}
 use Rattle.domain_world.proofs.Frames.ComingLaws.{CameFrom, StillHas, kept_same, kept_settled}
 use Rattle.domain_world.proofs.Frames.OpenMadeLaws.{IsAtSide}
 use Rattle.domain_world.proofs.Frames.StepFrameLaws.{AnyAction, all_any, HasHeard, Keeps, RunFact}
-use Rattle.domain_world.proofs.Frames.EndFrameLaws.{IsCalm}
+use Rattle.domain_world.proofs.Frames.EndFrameLaws.{IsCalm, by_calm}
+use Rattle.domain_world.proofs.Frames.EndNoteLaws.{noted_by}
 
 -- ---- what is to hold
 
@@ -56,34 +51,10 @@ TurnsRestOn plan n s given b = TurnSide plan s b
 -- made by controllers that are there, which all hold of what is earlier where they hold of what is later, the facts
 -- hold, of what was told also in this move.
 abbrev pub TurnsHold : Plan → RunFact
-TurnsHold plan n s given b = (s.member_plans ≡ plan.members) × (b.clash ≡ false → AreApart (links_in b.messages) → MarksAreKnown s b → TurnFacts plan s b b.messages (told_yet given b))
+TurnsHold plan n s given b = (s.member_plans ≡ plan.members) × (b.clash ≡ false → AreApart (links_in b.messages) → MarksAreKnown s b → TurnFacts plan s b b.messages b.answers (told_yet given b))
 
 calm_dials : (what : Event) → IsCalm what → Dials Any what
-calm_dials (event.Bytes link piece) calm = absurd calm
-calm_dials (event.Opened link) calm = absurd calm
-calm_dials (event.Dialled link) calm = absurd calm
-calm_dials (event.Closed link) calm = tt
-calm_dials event.DialFailed calm = tt
-calm_dials event.Stop calm = tt
-
--- ---- an action leaves the plans
-
-bag_plans : (k : LinkKind) (back : Bool) (link : ℕ) (bytes : List ℕ) (s : State) → (bag_unit k back link bytes s).member_plans ≡ s.member_plans
-bag_plans kind.Stranger back link bytes s = refl
-bag_plans kind.ToMember back link bytes s = refl
-bag_plans kind.ToController back link bytes s = refl
-
-sent_plans : (route : Option Route) (end : EndId) (link : ℕ) (bytes : List ℕ) (s : State) → (send_on route end link bytes s).member_plans ≡ s.member_plans
-sent_plans None end link bytes s = refl
-sent_plans (Some route) end link bytes s = bag_plans (kind_of route) (is_accepted_by end route) link bytes s
-
-pub action_plans : (end : EndId) (what : Action) (s : State) → (perform_quietly end what s).member_plans ≡ s.member_plans
-action_plans end (action.Keep bytes) s = refl
-action_plans end (action.Send link bytes) s = sent_plans (slice_get s.links link) end link bytes s
-action_plans end (action.Dial peer) s = refl
-action_plans end (action.Close link cause) s = refl
-action_plans end (action.Told link how) s = refl
-action_plans end (action.Judged how) s = refl
+calm_dials = by_calm (Dials Any) (λ link. tt) tt tt
 
 -- ---- through all moves
 
@@ -99,7 +70,7 @@ module _ (plan : Plan) where
   }
 
   changed : (n : ℕ) (s t : State) (given : Given) (b : Book) → t.member_plans ≡ s.member_plans → StillHas s.bag t.bag → SameEnds s.ends t.ends →
-      (TurnFacts plan s b b.messages (told_yet given b) → TurnFacts plan t b b.messages (told_yet given b)) → TurnsHold plan n s given b → TurnsHold plan n t given b
+      (TurnFacts plan s b b.messages b.answers (told_yet given b) → TurnFacts plan t b b.messages b.answers (told_yet given b)) → TurnsHold plan n s given b → TurnsHold plan n t given b
   changed n s t given b plans still same so holds =
       (plans ∙ holds.0, λ unclashed apart marks. so (holds.1 unclashed apart (marks_before s t b b (record { bag = still; sent = λ k one there. there; ends = same }) marks)))
 
@@ -113,92 +84,52 @@ module _ (plan : Plan) where
 
   -- ---- bytes come
 
-  controller_comes : (found : Option ControllerState) (at n : ℕ) (w : Coming) (piece : List ℕ) (s after : State) (given : Given) (b : Book) → TurnsHold plan n s given b →
-      HasHeard (TurnsHold plan) AnyAction (n + 1) (Controller at) (hear (Controller at) (event.Bytes w.link piece) s) given (note_controller found at w piece s after b)
-  controller_comes None at n w piece s after given b holds =
-      let what : Event = event.Bytes w.link piece in
-      record {
-        holds = (
-          holds.0,
-          λ unclashed apart marks.
-              (let grows : GrowsTo s (hear (Controller at) what s).state b b = hear_grows (Controller at) what s b b (λ k one there. there) in
-              others_hear plan s (hear (Controller at) what s).state b b given (given_by (Controller at) (hear (Controller at) what s).actions) grows
-              (controller_members (slice_get s.ends.controllers at) at what s.moment s.ends s.chances) refl (controllers_tell at (hear (Controller at) what s).actions)
-              (holds.1 unclashed apart (marks_before s (hear (Controller at) what s).state b b grows marks))),
-        );
-        fine = all_any (hear (Controller at) what s).actions;
-      }
-  controller_comes (Some c) at n w piece s after given b holds =
-      let what : Event = event.Bytes w.link piece in
-      let d : Book = note_controller (Some c) at w piece s after b in
-      record {
-        holds = (
-          holds.0,
-          λ unclashed apart marks.
-              (let grows : GrowsTo s (hear (Controller at) what s).state b d = hear_grows (Controller at) what s b d (λ k one there. got_append b.sent _ k one there) in
-              others_hear plan s (hear (Controller at) what s).state b d given (given_by (Controller at) (hear (Controller at) what s).actions) grows
-              (controller_members (slice_get s.ends.controllers at) at what s.moment s.ends s.chances) refl (controllers_tell at (hear (Controller at) what s).actions)
-              (holds.1 (or_false b.clash (any_clash (answers_of at c w piece s) w.unit b.sent) unclashed).0 apart (marks_before s (hear (Controller at) what s).state b d grows marks))),
-        );
-        fine = all_any (hear (Controller at) what s).actions;
-      }
-
-  client_comes : (found : Option ClientState) (at n : ℕ) (w : Coming) (piece : List ℕ) (s : State) (given : Given) (b : Book) → TurnsHold plan n s given b →
-      HasHeard (TurnsHold plan) AnyAction (n + 1) (Client at) (hear (Client at) (event.Bytes w.link piece) s) given (note_client found at w piece s b)
-  client_comes None at n w piece s given b holds =
-      let what : Event = event.Bytes w.link piece in
-      record {
-        holds = (
-          holds.0,
-          λ unclashed apart marks.
-              (let grows : GrowsTo s (hear (Client at) what s).state b b = hear_grows (Client at) what s b b (λ k one there. there) in
-              others_hear plan s (hear (Client at) what s).state b b given (given_by (Client at) (hear (Client at) what s).actions) grows
-              (client_members (slice_get s.ends.clients at) at what s.moment s.ends s.chances) refl (clients_tell at (hear (Client at) what s).actions)
-              (holds.1 unclashed apart (marks_before s (hear (Client at) what s).state b b grows marks))),
-        );
-        fine = all_any (hear (Client at) what s).actions;
-      }
-  client_comes (Some c) at n w piece s given b holds =
-      let what : Event = event.Bytes w.link piece in
-      let d : Book = note_client (Some c) at w piece s b in
-      record {
-        holds = (
-          holds.0,
-          λ unclashed apart marks.
-              (let grows : GrowsTo s (hear (Client at) what s).state b d = hear_grows (Client at) what s b d (λ k one there. there) in
-              others_hear plan s (hear (Client at) what s).state b d given (given_by (Client at) (hear (Client at) what s).actions) grows
-              (client_members (slice_get s.ends.clients at) at what s.moment s.ends s.chances) refl (clients_tell at (hear (Client at) what s).actions)
-              (holds.1 unclashed apart (marks_before s (hear (Client at) what s).state b d grows marks))),
-        );
-        fine = all_any (hear (Client at) what s).actions;
-      }
-
-  member_hears : (found : Option MemberState) (at n : ℕ) (w : Coming) (piece : List ℕ) (s after : State) (given : Given) (b : Book) → slice_get s.ends.members at ≡ found →
-      CameFrom w.unit s w piece → IsAtSide s.links w.link w.back (Member at) → TurnSide plan s b → TurnsHold plan n s given b →
-      HasHeard (TurnsHold plan) AnyAction (n + 1) (Member at) (heard_by (member_step found at (event.Bytes w.link piece) s.moment s.ends s.chances) s) given (note_member found at w piece s after b)
-  member_hears None at n w piece s after given b there came side rests holds =
-      let t : Heard = heard_by (member_step None at (event.Bytes w.link piece) s.moment s.ends s.chances) s in
-      record {
-        holds = (
-          holds.0,
-          λ unclashed apart marks.
-              (let grows : GrowsTo s t.state b b = record { bag = kept_same s.bag; sent = λ k one is. is; ends = same_ends s.ends } in
-              others_hear plan s t.state b b given [] grows refl refl refl (holds.1 unclashed apart (marks_before s t.state b b grows marks))),
-        );
-        fine = tt;
-      }
-  member_hears (Some m) at n w piece s after given b there came side rests holds =
-      let t : Heard = heard_by (member_step (Some m) at (event.Bytes w.link piece) s.moment s.ends s.chances) s in
-      record {
-        holds = (holds.0, λ unclashed apart marks. member_comes plan at w piece s after given b rests m there came side holds.0 unclashed apart marks holds.1);
-        fine = all_any t.actions;
-      }
+  -- at an end that tells of no logon
+  others_come : (end : EndId) (step : EndStep) (s : State) (given : Given) (b d : Book) → step.ends.members ≡ s.ends.members → told_in (given_by end step.actions) 0 ≡ [] →
+      ((k : ℕ) (one : Sent) → slice_get b.sent k ≡ Some one → slice_get d.sent k ≡ Some one) → d.told ≡ b.told → SameEnds s.ends step.ends →
+      (MarksAreKnown s b → TurnFacts plan s b b.messages b.answers (told_yet given b)) → MarksAreKnown (heard_by step s).state d →
+      TurnFacts plan (heard_by step s).state d b.messages b.answers (told_yet (given ++ given_by end step.actions) d)
+  others_come end step s given b d members none sent told same facts marks =
+      let grows : GrowsTo s (heard_by step s).state b d = record { bag = kept_same s.bag; sent = sent; ends = same } in
+      others_hear plan s (heard_by step s).state b d given (given_by end step.actions) grows members told none (facts (marks_before s (heard_by step s).state b d grows marks))
 
   end_comes : (end : EndId) (n : ℕ) (w : Coming) (piece : List ℕ) (s after : State) (given : Given) (b : Book) → IsAtSide s.links w.link w.back end → CameFrom w.unit s w piece → TurnSide plan s b →
       TurnsHold plan n s given b → HasHeard (TurnsHold plan) AnyAction (n + 1) end (hear end (event.Bytes w.link piece) s) given (note_at (Some end) w piece s after b)
-  end_comes (Controller at) n w piece s after given b side came rests holds = controller_comes (slice_get s.ends.controllers at) at n w piece s after given b holds
-  end_comes (Member at) n w piece s after given b side came rests holds = member_hears (slice_get s.ends.members at) at n w piece s after given b refl came side rests holds
-  end_comes (Client at) n w piece s after given b side came rests holds = client_comes (slice_get s.ends.clients at) at n w piece s given b holds
+  end_comes end n w piece s after given b side came rests holds =
+      let what : Event = event.Bytes w.link piece in
+      noted_by (λ (one : EndId) (step : EndStep) (now : Book).
+      IsAtSide s.links w.link w.back one → SameEnds s.ends step.ends → HasHeard (TurnsHold plan) AnyAction (n + 1) one (heard_by step s) given now) w piece s after b
+      (λ one there same. record {
+        holds = (
+          holds.0,
+          λ unclashed apart marks. others_come one (no_step s.ends s.chances) s given b b refl refl (λ k sent is. is) refl same (λ before. holds.1 unclashed apart before) marks,
+        );
+        fine = tt;
+      })
+      (λ at c is there same. record {
+        holds = (
+          holds.0,
+          λ unclashed apart marks.
+              others_come (Controller at) (controller_step (Some c) at what s.moment s.ends s.chances) s given b (note_controller (Some c) at w piece s after b) refl
+              (others_tell (Controller at) refl (controller_step (Some c) at what s.moment s.ends s.chances).actions)
+              (λ k sent got. got_append b.sent _ k sent got) refl same (λ before. holds.1 (or_false b.clash (any_clash (answers_of at c w piece s) w.unit b.sent) unclashed).0 apart before) marks,
+        );
+        fine = all_any _;
+      })
+      (λ at m is there same. record {
+        holds = (holds.0, λ unclashed apart marks. member_comes plan at w piece s after given b rests m is came there holds.0 unclashed apart marks holds.1);
+        fine = all_any _;
+      })
+      (λ at c is there same. record {
+        holds = (
+          holds.0,
+          λ unclashed apart marks.
+              others_come (Client at) (client_step (Some c) at what s.moment s.ends s.chances) s given b (note_client (Some c) at w piece s b) refl
+              (others_tell (Client at) refl (client_step (Some c) at what s.moment s.ends s.chances).actions)
+              (λ k sent got. got) refl same (λ before. holds.1 unclashed apart before) marks,
+        );
+        fine = all_any _;
+      }) end side (step_same end what s.moment s.ends s.chances)
 
   -- a client begins
   client_begins : (n client : ℕ) (own : ClientPlan) (s : State) (given : Given) (b : Book) → TurnsHold plan n s given b →
@@ -212,7 +143,7 @@ module _ (plan : Plan) where
             sent = λ k one there. there;
             ends = record { controllers = refl; members = refl; clients = sym (length-set s.ends.clients client _) };
           } in
-          others_hear plan s (begun client own s).state b b given (given_by (Client client) (begun client own s).actions) grows refl refl (clients_tell client (begun client own s).actions)
+          others_hear plan s (begun client own s).state b b given (given_by (Client client) (begun client own s).actions) grows refl refl (others_tell (Client client) refl (begun client own s).actions)
           (holds.1 unclashed apart (marks_before s (begun client own s).state b b grows marks))),
     );
     fine = all_any (begun client own s).actions;
@@ -229,8 +160,7 @@ module _ (plan : Plan) where
     comes = λ n end w piece s given b side came bytes marked rests holds.
         end_comes end n w piece s (hear_and_act end (event.Bytes w.link piece) s).state given b side came rests holds;
     acts = λ n end what s given b fine rests holds.
-        changed n s (perform_quietly end what s) given b (action_plans end what s) (action_still end what s).0 (subst (λ (x : EndStates). SameEnds s.ends x) (sym (action_still end what s).1) (same_ends s.ends))
-        (acts_stay plan end what s given b) holds;
+        changed n s (perform_quietly end what s) given b refl (action_still end what s) (same_ends s.ends) (acts_stay plan end what s given b) holds;
     shuts = λ n link s given b rests holds. beside n s (shut_link link s) given b refl refl refl holds;
     answers = λ n link there s given b is rests holds. beside n s (answered_link link there s) given b refl refl refl holds;
     forgets = λ n end s given b rests holds. beside n s (forget end s) given b refl refl refl holds;
@@ -255,6 +185,7 @@ pub turns_begin : (plan : Plan) → TurnsHold plan 0 (first_world plan).state []
 turns_begin plan = (
   refl,
   λ unclashed apart marks. record {
+    taken = tt;
     answered = tt;
     let_in = tt;
     free = λ k m there. fresh_kept plan.members (λ (x : MemberState). KeptIn (HasFree k []) Any x.running) (λ own. (tt, tt)) k m there;
@@ -270,14 +201,22 @@ turns_of n plan moves holds =
     let s : State = p.world.state in
     let v : World = world_in s in
     let grows : GrowsTo s s b b = record { bag = kept_same s.bag; sent = λ k one there. there; ends = same_ends s.ends } in
-    let facts : b.clash ≡ false → TurnFacts plan s b b.messages b.told = λ unclashed.
-    subst (λ (told : List OutcomeTold). TurnFacts plan s b b.messages told) (append-nil b.told) (holds.1 unclashed (apart_from b.messages (messages_apart plan moves)) (marks_known plan moves)) in
+    let facts : b.clash ≡ false → TurnFacts plan s b b.messages b.answers b.told = λ unclashed.
+    subst (λ (told : List OutcomeTold). TurnFacts plan s b b.messages b.answers told) (append-nil b.told) (holds.1 unclashed (apart_from b.messages (messages_apart plan moves)) (marks_known plan moves)) in
+    let taken : b.clash ≡ false → AllByRecursion (IsTakenInTurn p) b.answers = λ unclashed.
+    all_weaker (IsTakenInTurn (past_at plan s b)) (IsTakenInTurn p) b.answers (taken_stays plan v p.world b b grows) (facts unclashed).taken in
     record {
+      taken = taken;
+      answered = λ unclashed.
+          all_weaker (IsAnswered plan s b b.answers b.told) (λ (message : MessageTaken). (u : ℕ) → message.reply ≡ Some u → OneOf (IsAnswerFor message u) b.answers) b.messages
+          (λ message answered u reply. (answered u reply).0) (facts unclashed).answered;
       turns = λ unclashed.
-          all_weaker (IsAnswered plan s b b.told) (λ (message : MessageTaken). (u : ℕ) → message.reply ≡ Some u → IsTakenInTurn p message u) b.messages
-          (λ message answered u reply. taken_stays plan v p.world b b grows message u (answered u reply).0) (facts unclashed).answered;
+          all_weaker (IsAnswered plan s b b.answers b.told) (λ (message : MessageTaken). (u : ℕ) → message.reply ≡ Some u → IsTakenAs p message u) b.messages
+          (λ message answered u reply.
+          let found = one_found (IsAnswerFor message u) (IsTakenInTurn p) b.answers (taken unclashed) (answered u reply).0 in
+          record { taken = found.0; is = found.1; turn = found.2 }) (facts unclashed).answered;
       told = λ unclashed.
-          all_weaker (IsAnswered plan s b b.told)
+          all_weaker (IsAnswered plan s b b.answers b.told)
           (λ (message : MessageTaken). (u : ℕ) → message.reply ≡ Some u → OneOf (λ (told : OutcomeTold). IsToldInTurn p message u told) b.told) b.messages
           (λ message answered u reply.
           one_weaker (λ (told : OutcomeTold). IsToldInTurn (past_at plan s b) message u told) (λ (told : OutcomeTold). IsToldInTurn p message u told) b.told

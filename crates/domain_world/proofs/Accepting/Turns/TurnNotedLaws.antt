@@ -35,15 +35,15 @@ use Rattle.channel_events.proofs.ListLaws.{one_with}
 use Rattle.step_notes.specs.ChannelNames.{place_answered}
 use Rattle.step_notes.specs.Marking.{clashes, is_channel, sent_channel}
 use Rattle.step_notes.specs.MemberNotes.{LinkAt, TurnNote, asked_note, is_challenged, link_units, message_after, message_at, message_by, message_kept, message_note, taken_note, taking_note, turn_note, turn_units_in}
-use Rattle.step_notes.specs.Records.{Book, MessageTaken, Sent}
+use Rattle.step_notes.specs.Records.{Book, MessageTaken, RequesterId, Sent}
 use Rattle.step_notes.specs.Served.{talk_after, work_after}
 use Rattle.step_notes.specs.TakenWhole.{TakesWhole}
 use Rattle.step_notes.proofs.Members.KeptLogonLaws.{HasFor, IsFor, KeptIn, bytes_keep, kept_so}
 use Rattle.step_notes.proofs.Members.UnservedLaws.{LinksIn}
-use Rattle.domain_world.specs.Past.{change_if, change_message, first_of, later_of, note_turn, note_turns}
+use Rattle.domain_world.specs.Past.{answer_on_channel, answers_by, change_if, change_message, first_of, later_of, note_turn, note_turns}
 use Rattle.domain_world.proofs.Accepting.Heard.AnswerReadLaws.{HearsWhole}
 use Rattle.domain_world.proofs.Accepting.Turns.TurnFactLaws.{Any, HasFree, IsFree}
-use Rattle.domain_world.proofs.Requests.WholeNotedLaws.{last_noted, note_for, whole_messages, whole_units}
+use Rattle.domain_world.proofs.Requests.WholeNotedLaws.{last_noted, note_for, whole_answers, whole_messages, whole_units}
 use Rattle.domain_world.proofs.Requests.WholeOutLaws.{noted}
 use Rattle.domain_world.proofs.Frames.AllLaws.{all_flat}
 
@@ -169,6 +169,15 @@ turn_noted controller running number bytes unit left carried numbers b hears =
       clash = taken_clash controller at unit left units carried numbers b whole;
     }
 
+-- the answers that are written down of it
+pub turn_answers : (controller : ℕ) (running : Running) (number : ℕ) (bytes : List ℕ) (unit : RpcUnit) (left : List (List ℕ)) (who : RequesterId) (n : ℕ) (carried : Option ℕ) (sent : List Sent) →
+    HearsWhole running number bytes unit →
+    flat_map (answers_by who n carried sent) (map (turn_note controller) (turn_units_in (Some running) number bytes left))
+    ≡ answers_by who n carried sent (taking_note (Some (take_of running.logons.channel unit)) controller running.logons.channel)
+turn_answers controller running number bytes unit left who n carried sent hears =
+    whole_answers controller (at_turn number (work_of running)) unit who n carried sent left (turn_units_in (Some running) number bytes left)
+    (whole_units running number hears.said bytes hears.frames unit left hears.on hears.rest hears.none hears.heard)
+
 -- ---- which answer is written down
 
 asked_none : (s : Option Step) (how : Standing) (controller : ℕ) (before after : Requester) → (asked_note s how controller before after).answered ≡ None
@@ -189,6 +198,36 @@ answered_is taken.Half controller before after = refl
 answered_is taken.Opened controller before after = refl
 answered_is (taken.Answer place verdict) controller before after = refl
 answered_is (taken.Dropped place cause) controller before after = refl
+
+asked_no_reply : (s : Option Step) (how : Standing) (controller : ℕ) (before after : Requester) → (asked_note s how controller before after).replied ≡ None
+asked_no_reply None how controller before after = refl
+asked_no_reply (Some (step.Bind c)) how controller before after = refl
+asked_no_reply (Some (step.Reply (question.Challenge client))) how controller before after = refl
+asked_no_reply (Some (step.Reply question.Authenticate)) standing.Nothing controller before after = refl
+asked_no_reply (Some (step.Reply question.Authenticate)) (standing.Half client server) controller before after = refl
+asked_no_reply (Some (step.Reply question.Authenticate)) (standing.Open o) controller before after = refl
+asked_no_reply (Some (step.Reply question.Logon)) standing.Nothing controller before after = refl
+asked_no_reply (Some (step.Reply question.Logon)) (standing.Half client server) controller before after = refl
+asked_no_reply (Some (step.Reply question.Logon)) (standing.Open o) controller before after = refl
+
+-- what answers no place answers no call
+no_reply : (t : Taken) (controller : ℕ) (before after : Requester) → place_answered t ≡ None → (taken_note t controller before after).replied ≡ None
+no_reply (taken.Skip right) controller before after none = refl
+no_reply (taken.Next right frames) controller before after none = asked_no_reply _ after.standing controller before after
+no_reply taken.Half controller before after none = refl
+no_reply taken.Opened controller before after none = refl
+no_reply (taken.Answer place verdict) controller before after none = absurd (let x = none in cc)
+no_reply (taken.Dropped place cause) controller before after none = refl
+
+none_on : (checked : Option ChannelIdentity) (who : RequesterId) (at : ℕ) (unit : Option ℕ) (sent : List Sent) → answer_on_channel checked None who at unit sent ≡ []
+none_on None who at unit sent = refl
+none_on (Some channel) who at unit sent = refl
+
+pub none_taken : (t : Taken) (controller : ℕ) (before after : Requester) (who : RequesterId) (at : ℕ) (unit : Option ℕ) (sent : List Sent) → place_answered t ≡ None →
+    answers_by who at unit sent (taken_note t controller before after) ≡ []
+none_taken t controller before after who at unit sent none =
+    ap (λ (replied : Option ℕ). answer_on_channel (taken_note t controller before after).checked replied who at unit sent) (no_reply t controller before after none)
+    ∙ none_on (taken_note t controller before after).checked who at unit sent
 
 -- ---- no clash: the unit was made for that channel
 

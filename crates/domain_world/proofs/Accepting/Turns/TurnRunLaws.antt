@@ -1,9 +1,7 @@
 -- In every schedule answers are taken in turn and told: what that rests on holds of each state, since calls stay apart
 -- there, what is under way is whole, and draws differ. It serves `answers_are_taken_in_turn`.
-use Rattle.std.proofs.Common.{◌≡◌, ℕ, Bool, ◌+◌, ◌-◌, List, [], ◌++◌, length, Option, Some, None, slice_get, refl, ap, sym, subst, ◌∙◌, arith}
+use Rattle.std.proofs.Common.{◌≡◌, ℕ, ◌+◌, ◌-◌, List, [], ◌++◌, length, Option, Some, ap, sym, subst, ◌∙◌, arith}
 use Rattle.outside.specs.Counter.{most_draws}
-use Rattle.outside.specs.declared.action.Action.{Action}
-use Rattle.outside.specs.declared.action.Action.TheVariants.{Keep, Send, Dial, Close, Told, Judged}
 use Rattle.outside.specs.declared.event.Event.TheVariants as event
 use Rattle.outside.proofs.CounterLaws.{challenges_from-distinct, challenges_from-none}
 use Rattle.member_server.specs.declared.state.Logon.{Logon}
@@ -11,21 +9,18 @@ use Rattle.member_server.specs.declared.state.Running.{Running}
 use Rattle.step_notes.specs.ChannelNames.{standing_channel}
 use Rattle.step_notes.specs.Records.{Book, blank}
 use Rattle.step_notes.proofs.Members.KeptLogonLaws.{kept_so}
-use Rattle.world_moves.specs.declared.links.EndId.{EndId}
-use Rattle.world_moves.specs.declared.links.LinkKind.{LinkKind}
-use Rattle.world_moves.specs.declared.links.LinkKind.TheVariants as kind
-use Rattle.world_moves.specs.declared.links.Route.{Route}
 use Rattle.world_moves.specs.declared.moves.Move.{Move}
 use Rattle.world_moves.specs.declared.plan.Plan.{Plan}
 use Rattle.world_moves.specs.declared.state.State.{State}
-use Rattle.world_moves.specs.Acting.{Given, bag_unit, hear, perform_quietly, send_on}
+use Rattle.world_moves.specs.Acting.{Given, hear}
 use Rattle.world_moves.specs.Moving.{begun, with_link}
 use Rattle.world_moves.specs.Forms.{IsSchedule}
-use Rattle.world_moves.specs.Links.{acceptor_of, is_accepted_by, kind_of}
+use Rattle.world_moves.specs.Links.{acceptor_of}
 use Rattle.world_moves.specs.World.{first_world}
 use Rattle.domain_world.specs.Accepting.ReadBack.{TurnsAreHeard}
 use Rattle.domain_world.specs.Accepting.Runs.{AskedIsOut, IsOut}
 use Rattle.domain_world.specs.Past.{controller_of, past}
+use Rattle.channel_events.specs.Marks.{Mark}
 use Rattle.channel_events.proofs.ListLaws.{one_weaker}
 use Rattle.domain_world.specs.Schedules.{OfSchedules}
 use Rattle.domain_world.proofs.Accepting.LetInStepLaws.{IsDialledBy}
@@ -36,7 +31,7 @@ use Rattle.domain_world.proofs.Accepting.Turns.TurnKeepLaws.{TurnsHold, TurnsRes
 use Rattle.domain_world.proofs.Frames.DrawnRunLaws.{all_of, end_all, given_all}
 use Rattle.domain_world.proofs.Frames.StepFrameLaws.{ActionFact, AnyAction, BothFacts, BothFine, HoldsAfterRun, Keeps, NoFact, RunFact, WhileFew, all_any, join, run_keeps, while_few, with_side}
 use Rattle.domain_world.proofs.Requests.CallFrameLaws.{CallsKept, QuietSide, calls_keep, first_calls, out_of}
-use Rattle.domain_world.proofs.Requests.CallHoldsLaws.{CallsHold, differ_front}
+use Rattle.domain_world.proofs.Requests.CallHoldsLaws.{CallsHold, differ_front, mark_there}
 use Rattle.domain_world.proofs.Requests.CallStepLaws.{most_steps}
 use Rattle.domain_world.proofs.Requests.OutStepLaws.{HasOne, IsOutIn, OutFor}
 use Rattle.domain_world.proofs.Requests.StepApartLaws.{Differ}
@@ -46,23 +41,6 @@ use Rattle.domain_world.proofs.Requests.StepApartLaws.{Differ}
 abbrev DrawnOf : Plan → RunFact
 DrawnOf plan n s given b = all_of s.chances ≡ given_all plan
 
-bag_chances : (k : LinkKind) (back : Bool) (link : ℕ) (bytes : List ℕ) (s : State) → (bag_unit k back link bytes s).chances ≡ s.chances
-bag_chances kind.Stranger back link bytes s = refl
-bag_chances kind.ToMember back link bytes s = refl
-bag_chances kind.ToController back link bytes s = refl
-
-send_chances : (route : Option Route) (end : EndId) (link : ℕ) (bytes : List ℕ) (s : State) → (send_on route end link bytes s).chances ≡ s.chances
-send_chances None end link bytes s = refl
-send_chances (Some route) end link bytes s = bag_chances (kind_of route) (is_accepted_by end route) link bytes s
-
-pub action_chances : (end : EndId) (what : Action) (s : State) → (perform_quietly end what s).chances ≡ s.chances
-action_chances end (Keep bytes) s = refl
-action_chances end (Send link bytes) s = send_chances (slice_get s.links link) end link bytes s
-action_chances end (Dial peer) s = refl
-action_chances end (Close link cause) s = refl
-action_chances end (Told link outcome) s = refl
-action_chances end (Judged how) s = refl
-
 drawn_keep : (plan : Plan) → Keeps NoFact (DrawnOf plan) AnyAction
 drawn_keep plan = record {
   calm = λ n end what s given b calm none is. record { holds = end_all end what s.moment s.ends s.chances ∙ is; fine = all_any (hear end what s).actions };
@@ -71,7 +49,7 @@ drawn_keep plan = record {
       record { holds = end_all (acceptor_of route) (event.Opened (length s.links)) s.moment s.ends s.chances ∙ is; fine = all_any (hear (acceptor_of route) (event.Opened (length s.links)) (with_link route s)).actions };
   begins = λ n client own s given b there none is. record { holds = is; fine = all_any (begun client own s).actions };
   comes = λ n end w piece s given b at came bytes marked none is. record { holds = end_all end (event.Bytes w.link piece) s.moment s.ends s.chances ∙ is; fine = all_any (hear end (event.Bytes w.link piece) s).actions };
-  acts = λ n end what s given b fine none is. ap all_of (action_chances end what s) ∙ is;
+  acts = λ n end what s given b fine none is. is;
   shuts = λ n link s given b none is. is;
   answers = λ n link there s given b found none is. is;
   forgets = λ n end s given b none is. is;
@@ -125,6 +103,9 @@ rests_on plan n s given b known few =
           (λ place logon one. tt) (λ number dialled. dialled) m.running (holds.members k m there).kept;
       accepts = λ k m there. (holds.members k m there).accepts;
       out = out_at plan n s b holds;
+      numbers = λ one other number timestamp later c d sent another there also mark mark_too same.
+          holds.apart.distinct one other number timestamp later c d (mark_there b.sent one sent there ∙ ap (λ (m : Mark). Some m) mark)
+          (mark_there b.sent other another also ∙ ap (λ (m : Mark). Some m) mark_too) same;
     }
 
 -- ---- a run

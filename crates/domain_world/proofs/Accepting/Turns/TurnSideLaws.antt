@@ -1,10 +1,10 @@
 -- What holds of messages whose answer was taken, and of what is told, where bytes come at a member; and what it rests
 -- on. It serves `schedules_are_heard`.
 use Rattle.std.proofs.Common.{◌≡◌, ◌⊎◌, ℕ, ◌<◌, ◌≤◌, ◌==◌, Bool, true, false, List, [], ◌++◌, length, inl, inr, Option, Some, None, Result, Ok, Err, refl, sym, ap, subst, ◌∙◌, slice_get, arith}
-use Rattle.std.specs.Prelude.{flat_map}
+use Rattle.std.specs.Prelude.{flat_map, map}
 use Rattle.std.specs.List.{AllByRecursion}
 use Rattle.std.proofs.lemmas.Bool.{eqb-true}
-use Rattle.std.proofs.lemmas.List.{append-nil}
+use Rattle.std.proofs.lemmas.List.{append-nil, length-set}
 use Rattle.outside.specs.Machine.{Part, Stepped, step_by}
 use Rattle.outside.specs.declared.action.Action.{Action}
 use Rattle.outside.specs.declared.action.StepRefused.{StepRefused}
@@ -31,8 +31,8 @@ use Rattle.channel_events.proofs.ListLaws.{all_weaker, got_append, one_weaker, s
 use Rattle.step_notes.specs.CallLogons.{AsksUnlessStopped}
 use Rattle.step_notes.specs.ChannelNames.{standing_channel}
 use Rattle.step_notes.specs.Marking.{clashes}
-use Rattle.step_notes.specs.MemberNotes.{is_turn_link, link_units, message_note, taking_note, turn_units, turn_units_by, turn_units_in, turn_units_on}
-use Rattle.step_notes.specs.Records.{Book, MessageTaken, OutcomeTold, Sent}
+use Rattle.step_notes.specs.MemberNotes.{TurnNote, is_turn_link, link_units, message_note, taking_note, turn_note, turn_units, turn_units_by, turn_units_in, turn_units_on}
+use Rattle.step_notes.specs.Records.{Book, CallTaken, MessageTaken, OfMember, OutcomeTold, Sent}
 use Rattle.step_notes.specs.Served.{units_if_taken}
 use Rattle.step_notes.proofs.Members.KeptLogonLaws.{IfDialled, KeptIn, each_so, kept_so, one_before}
 use Rattle.step_notes.proofs.Members.UnservedLaws.{LinksIn, in_so}
@@ -46,23 +46,23 @@ use Rattle.world_moves.specs.Acting.{Given, Heard, given_by, heard_by}
 use Rattle.world_moves.specs.Ends.{EndStates, actions_by, member_step}
 use Rattle.world_moves.specs.Links.{kind_of}
 use Rattle.world_moves.specs.Moving.{end_of_peer}
-use Rattle.domain_world.specs.Accepting.Carried.{IsWholeUnit}
+use Rattle.domain_world.specs.Accepting.Carried.{CallsHaveNumbers, IsWholeUnit}
 use Rattle.domain_world.specs.Accepting.ReadBack.{IsLetInInTurn}
 use Rattle.domain_world.specs.Accepting.Runs.{AskedIsOut, IsOut, IsQuiet, IsQuietTurn}
 use Rattle.domain_world.specs.Claims.{HasController}
-use Rattle.domain_world.specs.Past.{Coming, at_member, controller_number, controller_of, controller_of_plan, first_of, note_member, note_messages, note_turns, numbers_on, told_in}
+use Rattle.domain_world.specs.Past.{Coming, answers_by, at_member, controller_number, controller_of, controller_of_plan, first_of, note_member, note_messages, note_turns, numbers_on, told_in}
 use Rattle.domain_world.proofs.Accepting.Heard.AnswerReadLaws.{HearsWhole}
 use Rattle.domain_world.proofs.Accepting.LetInStepLaws.{IsAcceptedBy, IsDialledBy}
 use Rattle.domain_world.proofs.Accepting.Quiet.QuietRunLaws.{one_piece}
-use Rattle.domain_world.proofs.Accepting.Turns.TurnFactLaws.{Any, AreApart, GrowsTo, HasFree, IsAnswered, IsKnown, MarksAreKnown, SameEnds, TurnFacts, answered_stays, apart_front, controller_stays, facts_stay, known_stays, marks_before, past_at}
-use Rattle.domain_world.proofs.Accepting.Turns.TurnNotedLaws.{IsTurnNoted, bytes_free, or_false, turn_noted, units_new}
-use Rattle.domain_world.proofs.Accepting.Turns.TurnQuietLaws.{IsSilent, free_put, member_silent, members_same, same_ends, told_yet, yet_more}
+use Rattle.domain_world.proofs.Accepting.Turns.TurnFactLaws.{Any, AreApart, GrowsTo, HasFree, IsAnswered, IsKnown, MarksAreKnown, SameEnds, TurnFacts, answered_stays, apart_front, controller_stays, facts_stay, known_stays, marks_before, past_at, all_stay}
+use Rattle.domain_world.proofs.Accepting.Turns.TurnNotedLaws.{IsTurnNoted, bytes_free, or_false, turn_noted, units_new, turn_answers}
+use Rattle.domain_world.proofs.Accepting.Turns.TurnQuietLaws.{IsSilent, free_put, member_silent, same_ends, told_yet, yet_more}
 use Rattle.domain_world.proofs.Accepting.Turns.TurnWholeLaws.{ComesWhole, whole_facts}
 use Rattle.domain_world.proofs.Challenges.MessageApartLaws.{links_append, links_in, turns_links}
 use Rattle.domain_world.proofs.Challenges.MessageOnceLaws.{set_cases}
 use Rattle.domain_world.proofs.Frames.ComingLaws.{CameFrom, IsPieceOf, kept_same}
 use Rattle.domain_world.proofs.Frames.OpenMadeLaws.{IsAtSide, side_of}
-use Rattle.domain_world.proofs.Frames.TurnFrameLaws.{notes_keep, turns_sent, turns_told}
+use Rattle.domain_world.proofs.Frames.TurnFrameLaws.{notes_keep, turns_answers, turns_sent, turns_told}
 use Rattle.domain_world.proofs.Requests.WholeOutLaws.{noted as noted_by}
 use Rattle.domain_world.proofs.Accepting.LetInLaws.{none_if_taken}
 use Rattle.domain_world.proofs.Frames.AllLaws.{all_join}
@@ -70,14 +70,15 @@ use Rattle.domain_world.proofs.Frames.AllLaws.{all_join}
 -- ---- what the facts rest on, at each time of a run
 
 -- What is under way is whole and nothing is open on the link of a turn; each member asks for what it keeps, dialled the
--- link of its turn, and accepted those whose challenge hasn't served; and a Logon call that is out is that of its
--- message.
+-- link of its turn, and accepted those whose challenge hasn't served; a Logon call that is out is that of its message;
+-- and the calls of a channel have different numbers.
 pub record TurnSide (plan : Plan) (s : State) (b : Book) : Type 0 where
   pub quiet : IsQuiet s
   pub asks : (k : ℕ) (m : MemberState) → slice_get s.ends.members k ≡ Some m → AsksUnlessStopped m.running
   pub dialled : (k : ℕ) (m : MemberState) → slice_get s.ends.members k ≡ Some m → KeptIn (λ (place : ℕ) (logon : Logon). Unit {0}) (λ (number : ℕ). IsDialledBy s.links k number) m.running
   pub accepts : (k : ℕ) (m : MemberState) → slice_get s.ends.members k ≡ Some m → LinksIn (λ (number : ℕ) (p : Phase). IsAcceptedBy s.links k number) m.running
   pub out : AskedIsOut (past_at plan s b)
+  pub numbers : CallsHaveNumbers (past_at plan s b)
 
 -- ---- the controller of a plan
 
@@ -180,19 +181,20 @@ module _ (plan : Plan) (k : ℕ) (w : Coming) (piece : List ℕ) (s after : Stat
       (subst (λ (units : List Sent). slice_get units n ≡ Some one) (sym (turns_sent (controller_of k s) (units_of r) w.unit numbers (first_book r))) there)
 
   pub ends_same : (r : Option Running) → SameEnds s.ends (heard r).state.ends
-  ends_same r = members_same (Some (member r)) k what s.moment s.ends s.chances
+  ends_same r = record { controllers = refl; members = sym (length-set s.ends.members k _); clients = refl }
 
   -- with the messages that are taken then
   pub first_facts : (r : Option Running) (told : List OutcomeTold) → slice_get s.ends.members k ≡ Some (member r) → LinksIn (λ (number : ℕ) (p : Phase). IsAcceptedBy s.links k number) r →
-      TurnFacts plan s b b.messages told → TurnFacts plan (heard r).state (book_after r) (messages_in r) told
+      TurnFacts plan s b b.messages b.answers told → TurnFacts plan (heard r).state (book_after r) (messages_in r) b.answers told
   first_facts r told there accepts facts =
       let t : State = (heard r).state in
       let d : Book = book_after r in
       let grows : GrowsTo s t b d = record { bag = kept_same s.bag; sent = sent_stays r; ends = ends_same r } in
-      subst (λ (all : List OutcomeTold). TurnFacts plan t d (messages_in r) all) (append-nil told) (record {
-        answered = all_join (IsAnswered plan t d (told ++ [])) b.messages (new_in r)
-            (all_weaker (IsAnswered plan s b told) (IsAnswered plan t d (told ++ [])) b.messages (answered_stays plan s t b d grows told []) facts.answered)
-            (all_weaker (λ (message : MessageTaken). message.reply ≡ None) (IsAnswered plan t d (told ++ [])) (new_in r)
+      subst (λ (all : List OutcomeTold). TurnFacts plan t d (messages_in r) b.answers all) (append-nil told) (record {
+        taken = all_stay plan s t b d grows b.answers facts.taken;
+        answered = all_join (IsAnswered plan t d b.answers (told ++ [])) b.messages (new_in r)
+            (all_weaker (IsAnswered plan s b b.answers told) (IsAnswered plan t d b.answers (told ++ [])) b.messages (answered_stays plan s t b d grows b.answers told []) facts.answered)
+            (all_weaker (λ (message : MessageTaken). message.reply ≡ None) (IsAnswered plan t d b.answers (told ++ [])) (new_in r)
             (λ message none u reply. let both : None ≡ Some u = sym none ∙ reply in absurd (let x = both in cc))
             (units_new (at_member k w s) (link_units (member r) w.link piece s.moment s.chances.left)));
         let_in = all_join (IsKnown plan t d (messages_in r)) told []
@@ -207,34 +209,47 @@ module _ (plan : Plan) (k : ℕ) (w : Coming) (piece : List ℕ) (s after : Stat
 
   -- where nothing is let in
   more_facts : (r : Option Running) (messages : List MessageTaken) (told : List OutcomeTold) → AllByRecursion (IsKnown plan (heard r).state (book_after r) messages) (more_told r) →
-      TurnFacts plan (heard r).state (book_after r) messages told → TurnFacts plan (heard r).state (book_after r) messages (told ++ more_told r)
+      TurnFacts plan (heard r).state (book_after r) messages b.answers told → TurnFacts plan (heard r).state (book_after r) messages b.answers (told ++ more_told r)
   more_facts r messages told known facts =
       let t : State = (heard r).state in
       let d : Book = book_after r in
-      facts_stay plan t t d d (record { bag = kept_same t.bag; sent = λ n one there. there; ends = same_ends t.ends }) messages told (more_told r) known facts.free facts
+      facts_stay plan t t d d (record { bag = kept_same t.bag; sent = λ n one there. there; ends = same_ends t.ends }) messages b.answers told (more_told r) known facts.free facts
+
+  -- which answers are written down
+  answers_from : (r : Option Running) →
+      (book_after r).answers ≡ b.answers ++ flat_map (answers_by (OfMember k) w.at w.unit b.sent) (map (turn_note (controller_of k s)) (units_of r))
+  answers_from r =
+      let notes : List TurnNote = map (turn_note (controller_of k s)) (units_of r) in
+      ap (λ (old : List CallTaken). old ++ flat_map (answers_by (OfMember k) w.at w.unit (turn_book r).sent) notes) (turns_answers (controller_of k s) (units_of r) w.unit numbers (first_book r))
+      ∙ ap (λ (sent : List Sent). b.answers ++ flat_map (answers_by (OfMember k) w.at w.unit sent) notes) (turns_sent (controller_of k s) (units_of r) w.unit numbers (first_book r))
 
   -- as it is written down
-  as_noted : (r : Option Running) (messages : List MessageTaken) → (book_after r).messages ≡ messages → TurnFacts plan (heard r).state (book_after r) messages (told_yet given b ++ more_told r) →
-      TurnFacts plan (heard r).state (book_after r) (book_after r).messages (told_yet (given ++ given_by (Member k) (heard r).actions) (book_after r))
-  as_noted r messages is facts =
+  as_noted : (r : Option Running) (messages : List MessageTaken) (answers : List CallTaken) → (book_after r).messages ≡ messages → (book_after r).answers ≡ answers →
+      TurnFacts plan (heard r).state (book_after r) messages answers (told_yet given b ++ more_told r) →
+      TurnFacts plan (heard r).state (book_after r) (book_after r).messages (book_after r).answers (told_yet (given ++ given_by (Member k) (heard r).actions) (book_after r))
+  as_noted r messages answers is also facts =
       let t : State = (heard r).state in
       let d : Book = book_after r in
       let same : told_yet (given ++ given_by (Member k) (heard r).actions) d ≡ told_yet given b ++ more_told r =
       yet_more given (given_by (Member k) (heard r).actions) d
       ∙ ap (λ (old : List OutcomeTold). (old ++ told_in given 0) ++ more_told r) (turns_told (controller_of k s) (units_of r) w.unit numbers (first_book r)) in
-      subst (λ (all : List OutcomeTold). TurnFacts plan t d d.messages all) (sym same) (subst (λ (m : List MessageTaken). TurnFacts plan t d m (told_yet given b ++ more_told r)) (sym is) facts)
+      subst (λ (all : List OutcomeTold). TurnFacts plan t d d.messages d.answers all) (sym same)
+      (subst (λ (m : List MessageTaken). TurnFacts plan t d m d.answers (told_yet given b ++ more_told r)) (sym is)
+      (subst (λ (all : List CallTaken). TurnFacts plan t d messages all (told_yet given b ++ more_told r)) (sym also) facts))
 
   -- no unit of the turn
   without_units : (r : Option Running) → units_of r ≡ [] → AllByRecursion (IsKnown plan (heard r).state (book_after r) (messages_in r)) (more_told r) →
-      TurnFacts plan (heard r).state (book_after r) (messages_in r) (told_yet given b) →
-      TurnFacts plan (heard r).state (book_after r) (book_after r).messages (told_yet (given ++ given_by (Member k) (heard r).actions) (book_after r))
+      TurnFacts plan (heard r).state (book_after r) (messages_in r) b.answers (told_yet given b) →
+      TurnFacts plan (heard r).state (book_after r) (book_after r).messages (book_after r).answers (told_yet (given ++ given_by (Member k) (heard r).actions) (book_after r))
   without_units r none known facts =
-      as_noted r (messages_in r)
+      as_noted r (messages_in r) b.answers
       (ap (λ (units : List (ServedUnit AtTurn TurnTalk)). (note_turns (controller_of k s) units w.unit numbers (first_book r)).messages) none)
-      (more_facts r (messages_in r) (told_yet given b) known facts)
+      (answers_from r
+      ∙ ap (λ (units : List (ServedUnit AtTurn TurnTalk)). b.answers ++ flat_map (answers_by (OfMember k) w.at w.unit b.sent) (map (turn_note (controller_of k s)) units)) none
+      ∙ append-nil b.answers) (more_facts r (messages_in r) (told_yet given b) known facts)
 
-  other_comes : (r : Option Running) → IsOther r w.link → TurnFacts plan (heard r).state (book_after r) (messages_in r) (told_yet given b) →
-      TurnFacts plan (heard r).state (book_after r) (book_after r).messages (told_yet (given ++ given_by (Member k) (heard r).actions) (book_after r))
+  other_comes : (r : Option Running) → IsOther r w.link → TurnFacts plan (heard r).state (book_after r) (messages_in r) b.answers (told_yet given b) →
+      TurnFacts plan (heard r).state (book_after r) (book_after r).messages (book_after r).answers (told_yet (given ++ given_by (Member k) (heard r).actions) (book_after r))
   other_comes r other facts =
       without_units r
       (ap (λ (units : List (ServedUnit AtTurn TurnTalk)). units_if_taken (stepped r).answer units) (other_units r w.link piece s.chances.left other) ∙ none_if_taken (stepped r).answer)
@@ -264,7 +279,7 @@ module _ (plan : Plan) (k : ℕ) (w : Coming) (piece : List ℕ) (s after : Stat
     pub is_back : IsAtSide s.links w.link w.back (Member k) → w.back ≡ true
     is_back at = back_by w.back at.route (some_is at.route (ToController k dialled_on.controller) (sym at.made ∙ dialled_on.at)) at.side
 
-    module _ (u : ℕ) (piece_of : IsPieceOf s u w piece) (back : w.back ≡ true) (facts : TurnFacts plan s b b.messages (told_yet given b)) (carried : w.unit ≡ Some u)
+    module _ (u : ℕ) (piece_of : IsPieceOf s u w piece) (back : w.back ≡ true) (facts : TurnFacts plan s b b.messages b.answers (told_yet given b)) (carried : w.unit ≡ Some u)
         (unclashed : (book_after run).clash ≡ false) (apart : AreApart (links_in (messages_in run))) (plans : s.member_plans ≡ plan.members) (marks : MarksAreKnown (heard run).state (book_after run)) where
       -- the unit
       pub whole : IsWholeUnit piece_of.unit.bytes × (length piece_of.unit.bytes ≤ 65536)
@@ -286,7 +301,7 @@ module _ (plan : Plan) (k : ℕ) (w : Coming) (piece : List ℕ) (s after : Stat
         heard = subst (λ (bytes : List ℕ). IsHeard bytes whole.0.frames whole.0.unit) same_bytes whole.0.heard;
       }
 
-      pub before : TurnFacts plan (heard run).state (book_after run) (messages_in run) (told_yet given b)
+      before : TurnFacts plan (heard run).state (book_after run) (messages_in run) b.answers (told_yet given b)
       before = first_facts run (told_yet given b) there (side.accepts k (member run) there) facts
 
       abbrev pub part_of : Result (Part DialWork) StepRefused
@@ -296,7 +311,7 @@ module _ (plan : Plan) (k : ℕ) (w : Coming) (piece : List ℕ) (s after : Stat
       answer_to part = (step_by actions_in state_in halted_state s.chances.left part).answer
 
       refused : (why : StepRefused) → part_of ≡ Err why →
-          TurnFacts plan (heard run).state (book_after run) (book_after run).messages (told_yet (given ++ given_by (Member k) (heard run).actions) (book_after run))
+          TurnFacts plan (heard run).state (book_after run) (book_after run).messages (book_after run).answers (told_yet (given ++ given_by (Member k) (heard run).actions) (book_after run))
       refused why is =
           without_units run (ap (λ (part : Result (Part DialWork) StepRefused). units_if_taken (answer_to part) (turn_units_in run w.link piece s.chances.left)) is)
           (subst (λ (part : Result (Part DialWork) StepRefused). AllByRecursion (IsKnown plan (heard run).state (book_after run) (messages_in run)) (told_in (given_by (Member k) (actions_by (answer_to part))) 0))
@@ -308,6 +323,16 @@ module _ (plan : Plan) (k : ℕ) (w : Coming) (piece : List ℕ) (s after : Stat
           IsTurnNoted (controller_of k s) running whole.0.unit w.unit (first_of numbers) (first_book run) (note_turns (controller_of k s) units w.unit numbers (first_book run)))
           (sym (ap (λ (part : Result (Part DialWork) StepRefused). units_if_taken (answer_to part) (turn_units_in run w.link piece s.chances.left)) is))
           (turn_noted (controller_of k s) running w.link piece whole.0.unit s.chances.left w.unit numbers (first_book run) hears)
+
+      answers_noted : (part : Part DialWork) → part_of ≡ Ok part →
+          (book_after run).answers ≡ b.answers ++ answers_by (OfMember k) w.at (Some u) b.sent (taking_note (Some (take_of running.logons.channel whole.0.unit)) (controller_of k s) running.logons.channel)
+      answers_noted part is =
+          answers_from run
+          ∙ ap (λ (part : Result (Part DialWork) StepRefused).
+          b.answers ++ flat_map (answers_by (OfMember k) w.at w.unit b.sent) (map (turn_note (controller_of k s)) (units_if_taken (answer_to part) (turn_units_in run w.link piece s.chances.left)))) is
+          ∙ ap (λ (all : List CallTaken). b.answers ++ all) (turn_answers (controller_of k s) running w.link piece whole.0.unit s.chances.left (OfMember k) w.at w.unit b.sent hears)
+          ∙ ap (λ (unit : Option ℕ).
+          b.answers ++ answers_by (OfMember k) w.at unit b.sent (taking_note (Some (take_of running.logons.channel whole.0.unit)) (controller_of k s) running.logons.channel)) carried
 
       -- all that is known as a whole unit comes
       pub comes : (part : Part DialWork) → part_of ≡ Ok part →
@@ -329,6 +354,7 @@ module _ (plan : Plan) (k : ℕ) (w : Coming) (piece : List ℕ) (s after : Stat
         out = λ pending logon turn asked kept.
             one_before (IsOut (past_at plan s b) k pending logon (standing_channel (controller_of k s) running.logons.channel)) b.messages (new_in run)
             (side.out k (member run) running pending logon there refl turn asked kept);
+        numbers = side.numbers;
         done = is;
         lets_in = subst (λ (part : Result (Part DialWork) StepRefused). AllByRecursion (IsTold running what) (actions_by (answer_to part))) is
             (lets_in_the_granted.told (member run) running what s.moment s.chances.left refl);
@@ -340,29 +366,31 @@ module _ (plan : Plan) (k : ℕ) (w : Coming) (piece : List ℕ) (s after : Stat
       }
 
       taken : (part : Part DialWork) → part_of ≡ Ok part →
-          TurnFacts plan (heard run).state (book_after run) (book_after run).messages (told_yet (given ++ given_by (Member k) (heard run).actions) (book_after run))
+          TurnFacts plan (heard run).state (book_after run) (book_after run).messages (book_after run).answers (told_yet (given ++ given_by (Member k) (heard run).actions) (book_after run))
       taken part is =
           let note = taking_note (Some (take_of running.logons.channel whole.0.unit)) (controller_of k s) running.logons.channel in
           let after : List MessageTaken = noted_by note running.logons (Some u) (first_of numbers) (messages_in run) in
-          as_noted run after
+          let answers : List CallTaken = b.answers ++ answers_by (OfMember k) w.at (Some u) b.sent note in
+          as_noted run after answers
           ((noted part is).messages ∙ ap (λ (unit : Option ℕ). noted_by note running.logons unit (first_of numbers) (messages_in run)) carried)
-          (subst (λ (answer : Result (List Action) StepRefused). TurnFacts plan (heard run).state (book_after run) after (told_yet given b ++ told_in (given_by (Member k) (actions_by answer)) 0))
+          (answers_noted part is)
+          (subst (λ (answer : Result (List Action) StepRefused). TurnFacts plan (heard run).state (book_after run) after answers (told_yet given b ++ told_in (given_by (Member k) (actions_by answer)) 0))
           (sym (ap answer_to is))
-          (whole_facts plan k w.link u s (heard run).state b (book_after run) (messages_in run) running piece whole.0.unit (controller_of k s) s.moment s.chances.left part (comes part is) (told_yet given b)
-          before (first_of numbers)))
+          (whole_facts plan k w.link u s (heard run).state b (book_after run) (messages_in run) running piece whole.0.unit (controller_of k s) s.moment s.chances.left part (comes part is) w.at
+          b.answers (told_yet given b) before (first_of numbers)))
 
-      turn_comes : TurnFacts plan (heard run).state (book_after run) (book_after run).messages (told_yet (given ++ given_by (Member k) (heard run).actions) (book_after run))
+      turn_comes : TurnFacts plan (heard run).state (book_after run) (book_after run).messages (book_after run).answers (told_yet (given ++ given_by (Member k) (heard run).actions) (book_after run))
       turn_comes = elim (part_cases part_of) [ inl ok ↦ taken ok.0 ok.1 | inr err ↦ refused err.0 err.1 ]
 
-    from_bag : (unit : Option ℕ) → w.unit ≡ unit → CameFrom unit s w piece → IsAtSide s.links w.link w.back (Member k) → TurnFacts plan s b b.messages (told_yet given b) → (book_after run).clash ≡ false →
+    from_bag : (unit : Option ℕ) → w.unit ≡ unit → CameFrom unit s w piece → IsAtSide s.links w.link w.back (Member k) → TurnFacts plan s b b.messages b.answers (told_yet given b) → (book_after run).clash ≡ false →
         AreApart (links_in (messages_in run)) → s.member_plans ≡ plan.members → MarksAreKnown (heard run).state (book_after run) →
-        TurnFacts plan (heard run).state (book_after run) (book_after run).messages (told_yet (given ++ given_by (Member k) (heard run).actions) (book_after run))
+        TurnFacts plan (heard run).state (book_after run) (book_after run).messages (book_after run).answers (told_yet (given ++ given_by (Member k) (heard run).actions) (book_after run))
     from_bag None is came at facts unclashed apart plans marks = absurd (came k dialled_on.controller dialled_on.at)
     from_bag (Some u) is came at facts unclashed apart plans marks = turn_comes u came (is_back at) facts is unclashed apart plans marks
 
   running_comes : TurnSide plan s b → (r : Option Running) → slice_get s.ends.members k ≡ Some (member r) → CameFrom w.unit s w piece → IsAtSide s.links w.link w.back (Member k) → s.member_plans ≡ plan.members →
-      (book_after r).clash ≡ false → AreApart (links_in (messages_in r)) → MarksAreKnown (heard r).state (book_after r) → TurnFacts plan s b b.messages (told_yet given b) →
-      TurnFacts plan (heard r).state (book_after r) (book_after r).messages (told_yet (given ++ given_by (Member k) (heard r).actions) (book_after r))
+      (book_after r).clash ≡ false → AreApart (links_in (messages_in r)) → MarksAreKnown (heard r).state (book_after r) → TurnFacts plan s b b.messages b.answers (told_yet given b) →
+      TurnFacts plan (heard r).state (book_after r) (book_after r).messages (book_after r).answers (told_yet (given ++ given_by (Member k) (heard r).actions) (book_after r))
   running_comes side None there came at plans unclashed apart marks facts = other_comes None tt (first_facts None (told_yet given b) there (side.accepts k (member None) there) facts)
   running_comes side (Some running) there came at plans unclashed apart marks facts = elim (turn_cases running.dialling w.link) [
     | inl other ↦ other_comes (Some running) other (first_facts (Some running) (told_yet given b) there (side.accepts k (member (Some running)) there) facts)
@@ -373,9 +401,9 @@ module _ (plan : Plan) (k : ℕ) (w : Coming) (piece : List ℕ) (s after : Stat
   pub member_comes : TurnSide plan s b → (m : MemberState) → slice_get s.ends.members k ≡ Some m → CameFrom w.unit s w piece → IsAtSide s.links w.link w.back (Member k) → s.member_plans ≡ plan.members →
       (note_member (Some m) k w piece s after b).clash ≡ false → AreApart (links_in (note_member (Some m) k w piece s after b).messages) →
       MarksAreKnown (heard_by (member_step (Some m) k (event.Bytes w.link piece) s.moment s.ends s.chances) s).state (note_member (Some m) k w piece s after b) →
-      (b.clash ≡ false → AreApart (links_in b.messages) → MarksAreKnown s b → TurnFacts plan s b b.messages (told_yet given b)) →
+      (b.clash ≡ false → AreApart (links_in b.messages) → MarksAreKnown s b → TurnFacts plan s b b.messages b.answers (told_yet given b)) →
       let t = heard_by (member_step (Some m) k (event.Bytes w.link piece) s.moment s.ends s.chances) s in
-      TurnFacts plan t.state (note_member (Some m) k w piece s after b) (note_member (Some m) k w piece s after b).messages
+      TurnFacts plan t.state (note_member (Some m) k w piece s after b) (note_member (Some m) k w piece s after b).messages (note_member (Some m) k w piece s after b).answers
       (told_yet (given ++ given_by (Member k) t.actions) (note_member (Some m) k w piece s after b))
   member_comes side m there came at plans unclashed apart marks facts =
       let first : AreApart (links_in (messages_in m.running)) =

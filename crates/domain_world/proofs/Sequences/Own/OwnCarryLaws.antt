@@ -5,9 +5,7 @@ use Rattle.std.proofs.lemmas.List.{length-set}
 use Rattle.outside.specs.Drawing.{Drawing}
 use Rattle.outside.specs.declared.action.Action.{Action}
 use Rattle.outside.specs.declared.event.Event.{Event}
-use Rattle.outside.specs.declared.event.Event.TheVariants as event
 use Rattle.channel_events.specs.Marks.{Mark}
-use Rattle.domain_controller.specs.State.{State as ControllerState}
 use Rattle.logon_client.specs.declared.plan.ClientPlan.{ClientPlan}
 use Rattle.member_server.specs.Laws.{heard_in}
 use Rattle.member_server.specs.Machine.{fresh_member}
@@ -18,13 +16,14 @@ use Rattle.member_server.specs.declared.state.Running.{Running}
 use Rattle.member_server.proofs.AskedLaws.{asks_what_waits}
 use Rattle.step_notes.specs.Records.{Book, ChannelTurn, Sent, blank}
 use Rattle.world_moves.specs.declared.links.EndId.{EndId}
-use Rattle.world_moves.specs.declared.links.EndId.TheVariants.{Controller, Member, Client}
+use Rattle.world_moves.specs.declared.links.EndId.TheVariants.{Client}
 use Rattle.world_moves.specs.declared.plan.Plan.{Plan}
 use Rattle.world_moves.specs.declared.state.State.{State}
 use Rattle.world_moves.specs.Acting.{Given, given_by}
 use Rattle.world_moves.specs.Ends.{EndStates, renew_client, renew_controller, renew_member}
 use Rattle.world_moves.specs.Moving.{begun, renewed}
 use Rattle.world_moves.specs.World.{first_world}
+use Rattle.world_moves.proofs.EndKindLaws.{renew_by}
 use Rattle.domain_world.specs.Accepting.Sequences.{IsTakenFor}
 use Rattle.domain_world.specs.Past.{controller_of}
 use Rattle.domain_world.proofs.Accepting.Turns.TurnFactLaws.{AreApart, GrowsTo, SameEnds, marks_before, past_at}
@@ -33,8 +32,10 @@ use Rattle.domain_world.proofs.Challenges.MessageApartLaws.{links_in}
 use Rattle.domain_world.proofs.Challenges.MessageOnceLaws.{set_cases}
 use Rattle.domain_world.proofs.Frames.ComingLaws.{StillHas, kept_same}
 use Rattle.domain_world.proofs.Frames.MarkPlaceLaws.{got_map}
+use Rattle.domain_world.proofs.Frames.EventLaws.{by_no_bytes}
+use Rattle.domain_world.proofs.Frames.NoBytesLaws.{IsNoBytes}
 use Rattle.domain_world.proofs.Requests.CallHoldsLaws.{marks_in}
-use Rattle.domain_world.proofs.Requests.StepApartLaws.{Differ}
+use Rattle.domain_world.proofs.Requests.StepApartLaws.{Differ, HearsNone}
 use Rattle.domain_world.proofs.Sequences.DialCountLaws.{given_append, given_other}
 use Rattle.domain_world.proofs.Sequences.Own.OwnFrameLaws.{StillDrawn, mine_drawn}
 use Rattle.domain_world.proofs.Sequences.Own.OwnKeepLaws.{OwnHolds}
@@ -44,19 +45,11 @@ use Rattle.domain_world.proofs.Sequences.SeedTurnLaws.{turned_blank}
 
 -- ---- events at which no bytes come
 
-abbrev pub IsNoBytes : Event → Type 0
-IsNoBytes (event.Bytes link piece) = ⊥
-IsNoBytes _ = Unit {0}
-
 none_heard : (what : Event) (how : Dialling) → IsNoBytes what → heard_in what how ≡ []
-none_heard (event.Opened link) how none = refl
-none_heard (event.Bytes link piece) how none = absurd none
-none_heard (event.Closed link) how none = refl
-none_heard (event.Dialled link) how none = refl
-none_heard event.DialFailed how none = refl
-none_heard event.Stop how none = refl
+none_heard what how =
+    by_no_bytes (λ (one : Event). heard_in one how ≡ []) (λ link. refl) (λ link. refl) (λ link. refl) refl refl what
 
-none_in : (r : Option Running) (what : Event) → IsNoBytes what → HearsIf (Some (record { running = r })) what
+none_in : (r : Option Running) (what : Event) → IsNoBytes what → HearsNone r what
 none_in None what none = tt
 none_in (Some running) what none = none_heard what running.dialling none
 
@@ -121,18 +114,9 @@ module _ (plan : Plan) where
         all_stay plan s (record s { ends = ends }) b b given given refl (record { bag = kept_same s.bag; sent = λ k one there. there; ends = same }) (λ challenge was. was) refl members (λ k. refl)
         (λ n number timestamp e there. there) old
 
-    controller_anew : (found : Option ControllerState) (at : ℕ) → SameEnds s.ends (renew_controller found at s.ends) → OwnFacts plan s given b →
-        OwnFacts plan (record s { ends = renew_controller found at s.ends }) given b
-    controller_anew None at same old = others_same s.ends refl same old
-    controller_anew (Some c) at same old = others_same (renew_controller (Some c) at s.ends) refl same old
-
-    client_anew : (found : Option ClientPlan) (at : ℕ) → SameEnds s.ends (renew_client found at s.ends) → OwnFacts plan s given b → OwnFacts plan (record s { ends = renew_client found at s.ends }) given b
-    client_anew None at same old = others_same s.ends refl same old
-    client_anew (Some own) at same old = others_same (renew_client (Some own) at s.ends) refl same old
-
-    member_anew : (found : Option MemberPlan) (at : ℕ) → SameEnds s.ends (renew_member found at s.ends) → OwnFacts plan s given b → OwnFacts plan (record s { ends = renew_member found at s.ends }) given b
-    member_anew None at same old = others_same s.ends refl same old
-    member_anew (Some own) at same old =
+    member_anew : (own : MemberPlan) (at : ℕ) → SameEnds s.ends (renew_member (Some own) at s.ends) → OwnFacts plan s given b →
+        OwnFacts plan (record s { ends = renew_member (Some own) at s.ends }) given b
+    member_anew own at same old =
         let t : State = record s { ends = renew_member (Some own) at s.ends } in
         let grows : GrowsTo s t b b = record { bag = kept_same s.bag; sent = λ k one there. there; ends = same } in
         record {
@@ -149,9 +133,10 @@ module _ (plan : Plan) where
         }
 
     end_anew : (end : EndId) → OwnFacts plan s given b → OwnFacts plan (renewed end s) given b
-    end_anew (Controller at) old = controller_anew (slice_get s.ends.controllers at) at (renew_same (Controller at) s) old
-    end_anew (Member at) old = member_anew (slice_get s.member_plans at) at (renew_same (Member at) s) old
-    end_anew (Client at) old = client_anew (slice_get s.client_plans at) at (renew_same (Client at) s) old
+    end_anew end old =
+        renew_by (λ (one : EndId) (ends : EndStates). SameEnds s.ends ends → OwnFacts plan (record s { ends = ends }) given b) s (λ one same. others_same s.ends refl same old)
+        (λ at c is same. others_same (renew_controller (Some c) at s.ends) refl same old) (λ at own is same. member_anew own at same old)
+        (λ at own is same. others_same (renew_client (Some own) at s.ends) refl same old) end (renew_same end s)
 
   pub own_anew : (n : ℕ) (end : EndId) (s : State) (given : Given) (b : Book) → OwnHolds plan n s given b → OwnHolds plan n (renewed end s) given b
   own_anew n end s given b known few unclashed apart marks differ =

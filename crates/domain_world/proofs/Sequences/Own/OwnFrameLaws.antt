@@ -24,7 +24,8 @@ use Rattle.world_moves.specs.declared.links.EndId.TheVariants.{Controller, Membe
 use Rattle.world_moves.specs.declared.state.State.{State}
 use Rattle.world_moves.specs.declared.state.WaitingDial.{WaitingDial}
 use Rattle.world_moves.specs.Acting.{Given, given_by, hear}
-use Rattle.world_moves.specs.Ends.{EndStates, EndStep, actions_by, client_step, controller_step, member_step, with_client}
+use Rattle.world_moves.specs.Ends.{EndStates, EndStep, actions_by, client_step, controller_step, end_step, member_step, with_client}
+use Rattle.world_moves.proofs.EndKindLaws.{step_by}
 use Rattle.domain_world.specs.Past.{controller_of_plan}
 use Rattle.domain_world.proofs.Challenges.MessageOnceLaws.{set_cases}
 use Rattle.domain_world.proofs.Requests.CallHoldsLaws.{SameNumbers, controller_same, differ_front}
@@ -117,19 +118,17 @@ module _ (plans : List MemberPlan) (ends : EndStates) (dials : List WaitingDial)
   abbrev Heard : EndId → EndStep → Type 0
   Heard end step = TurnsKnown later (given_by end step.actions ++ rest) plans step.ends dials step.chances (given ++ given_by end step.actions) turns
 
-  controller_hears : (found : Option ControllerState) (at : ℕ) (what : Event) (now : ℕ) (chances : Drawing) → (Differ chances.drawn → Before chances.drawn) →
-      Heard (Controller at) (controller_step found at what now ends chances)
-  controller_hears None at what now chances known differ = nothing_heard (Controller at) chances.drawn (known differ)
-  controller_hears (Some c) at what now chances known differ =
+  controller_hears : (c : ControllerState) (at : ℕ) (what : Event) (now : ℕ) (chances : Drawing) → (Differ chances.drawn → Before chances.drawn) →
+      Heard (Controller at) (controller_step (Some c) at what now ends chances)
+  controller_hears c at what now chances known differ =
       let step = controller_step_of c what now chances.left in
       others_hold (record ends { controllers = slice_set ends.controllers at step.state }) (Controller at) (actions_by step.answer) chances.drawn (chances.drawn ++ step.drawn) refl
       (record { controllers = length-set ends.controllers at step.state; members = refl; clients = refl }) (λ k m there. given_other k (Controller at) (actions_by step.answer) refl)
       (λ challenge is. drawn_still challenge chances.drawn step.drawn is) (known (differ_front chances.drawn step.drawn differ))
 
-  client_hears : (found : Option ClientState) (at : ℕ) (what : Event) (now : ℕ) (chances : Drawing) → (Differ chances.drawn → Before chances.drawn) →
-      Heard (Client at) (client_step found at what now ends chances)
-  client_hears None at what now chances known differ = nothing_heard (Client at) chances.drawn (known differ)
-  client_hears (Some c) at what now chances known differ =
+  client_hears : (c : ClientState) (at : ℕ) (what : Event) (now : ℕ) (chances : Drawing) → (Differ chances.drawn → Before chances.drawn) →
+      Heard (Client at) (client_step (Some c) at what now ends chances)
+  client_hears c at what now chances known differ =
       let step = client_step_of c what now chances.left in
       others_hold (record ends { clients = slice_set ends.clients at step.state }) (Client at) (actions_by step.answer) chances.drawn (chances.drawn ++ step.drawn) refl
       (record { controllers = refl; members = refl; clients = length-set ends.clients at step.state }) (λ k m there. given_other k (Client at) (actions_by step.answer) refl)
@@ -142,10 +141,9 @@ module _ (plans : List MemberPlan) (ends : EndStates) (dials : List WaitingDial)
       by false is = refl
       by true is = absurd (differs (sym ((Decides-eqb at k).0 is)))
 
-  member_hears : (found : Option MemberState) (at : ℕ) (what : Event) (now : ℕ) (chances : Drawing) → slice_get ends.members at ≡ found →
-      Answers (Member at) what d later rest → (Differ chances.drawn → Before chances.drawn) → Heard (Member at) (member_step found at what now ends chances)
-  member_hears None at what now chances is answers known differ = nothing_heard (Member at) chances.drawn (known differ)
-  member_hears (Some m) at what now chances is answers known differ =
+  member_hears : (m : MemberState) (at : ℕ) (what : Event) (now : ℕ) (chances : Drawing) → slice_get ends.members at ≡ Some m →
+      Answers (Member at) what d later rest → (Differ chances.drawn → Before chances.drawn) → Heard (Member at) (member_step (Some m) at what now ends chances)
+  member_hears m at what now chances is answers known differ =
       let step = step_of m what now chances.left in
       let after : List (List ℕ) = chances.drawn ++ step.drawn in
       let actions : List Action = actions_by step.answer in
@@ -174,18 +172,19 @@ module _ (plans : List MemberPlan) (ends : EndStates) (dials : List WaitingDial)
             ]);
       }
 
+  end_hears : (end : EndId) (what : Event) (now : ℕ) (chances : Drawing) → Answers end what d later rest → (Differ chances.drawn → Before chances.drawn) → Heard end (end_step end what now ends chances)
+  end_hears end what now chances answers known =
+      step_by (λ (one : EndId) (step : EndStep). Answers one what d later rest → Heard one step) what now ends chances (λ one its differ. nothing_heard one chances.drawn (known differ))
+      (λ at c is its. controller_hears c at what now chances known) (λ at m is its. member_hears m at what now chances is its known)
+      (λ at c is its. client_hears c at what now chances known) end answers
+
 -- an end hears something
 pub hear_holds : (d later : Option EndId) (rest : Given) (end : EndId) (what : Event) (s : State) (given : Given) (turns : List ChannelTurn) →
     Answers end what d later rest → TurnsKnown d rest s.member_plans s.ends s.dials s.chances given turns →
     let heard = hear end what s in
     TurnsKnown later (given_by end heard.actions ++ rest) heard.state.member_plans heard.state.ends heard.state.dials heard.state.chances (given ++ given_by end heard.actions) turns
-hear_holds d later rest (Controller at) what s given turns answers known =
-    controller_hears s.member_plans s.ends s.dials d later rest given turns (λ k. answers_less k (Controller at) what d later rest answers) (slice_get s.ends.controllers at) at what s.moment s.chances known
-hear_holds d later rest (Client at) what s given turns answers known =
-    client_hears s.member_plans s.ends s.dials d later rest given turns (λ k. answers_less k (Client at) what d later rest answers) (slice_get s.ends.clients at) at what s.moment s.chances known
-hear_holds d later rest (Member at) what s given turns answers known =
-    member_hears s.member_plans s.ends s.dials d later rest given turns (λ k. answers_less k (Member at) what d later rest answers) (slice_get s.ends.members at) at what s.moment s.chances
-    refl answers known
+hear_holds d later rest end what s given turns answers known =
+    end_hears s.member_plans s.ends s.dials d later rest given turns (λ k. answers_less k end what d later rest answers) end what s.moment s.chances answers known
 
 -- a client begins
 pub begin_holds : (client : ℕ) (state : ClientState) (actions : List Action) (plans : List MemberPlan) (ends : EndStates) (dials : List WaitingDial) (chances : Drawing) (turns : List ChannelTurn) →

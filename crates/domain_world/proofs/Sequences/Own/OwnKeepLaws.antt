@@ -1,39 +1,34 @@
 -- What is known of the calls of members' turns is kept through all that happens in a run, where it is kept as bytes
 -- come at a member. It serves `sequences_are_shared`.
 use Rattle.std.proofs.Common.{◌≡◌, ℕ, ◌+◌, ◌-◌, ◌≤◌, false, List, [], ◌++◌, length, replicate, Option, Some, None, slice_get, refl, sym, subst, arith}
-use Rattle.std.proofs.lemmas.List.{append-nil}
 use Rattle.outside.specs.Drawing.{Drawing}
-use Rattle.outside.specs.declared.action.Action.{Action}
 use Rattle.outside.specs.declared.event.Event.{Event}
-use Rattle.outside.specs.declared.event.Event.TheVariants as event
 use Rattle.channel_events.specs.Marks.{Mark, Calling, Plain}
-use Rattle.domain_controller.specs.State.{State as ControllerState}
-use Rattle.logon_client.specs.State.{State as ClientState}
-use Rattle.member_server.specs.Machine.{step_of}
 use Rattle.member_server.specs.State.{State as MemberState}
 use Rattle.member_server.specs.declared.state.Running.{Running}
 use Rattle.step_notes.specs.Records.{Book}
-use Rattle.domain_controller.specs.Step.{step_of as controller_step_of}
-use Rattle.logon_client.specs.Machine.{step_of as client_step_of}
 use Rattle.world_moves.specs.declared.links.EndId.{EndId}
-use Rattle.world_moves.specs.declared.links.EndId.TheVariants.{Controller, Member, Client}
+use Rattle.world_moves.specs.declared.links.EndId.TheVariants.{Controller, Client}
 use Rattle.world_moves.specs.declared.plan.Plan.{Plan}
 use Rattle.world_moves.specs.declared.state.State.{State}
-use Rattle.world_moves.specs.Acting.{Given, given_by, hear}
-use Rattle.world_moves.specs.Ends.{EndStates, client_step, controller_step, end_step, member_step}
+use Rattle.world_moves.specs.Acting.{Given, given_by, hear, heard_by}
+use Rattle.world_moves.specs.Ends.{EndStep, client_step, controller_step, no_step}
+use Rattle.world_moves.proofs.EndKindLaws.{IfMember, step_by}
 use Rattle.domain_world.specs.Accepting.Sequences.{IsTakenFor}
 use Rattle.domain_world.specs.Past.{controller_of, note_given, sent_at, turns_in}
-use Rattle.domain_world.proofs.Accepting.Turns.TurnFactLaws.{AreApart, MarksAreKnown, marks_before, past_at}
-use Rattle.domain_world.proofs.Accepting.Turns.TurnQuietLaws.{client_members, controller_members, hear_grows, over_grows}
+use Rattle.domain_world.proofs.Accepting.Turns.TurnFactLaws.{AreApart, MarksAreKnown, SameEnds, marks_before, past_at}
+use Rattle.domain_world.proofs.Accepting.Turns.TurnQuietLaws.{hear_grows, over_grows, step_same}
 use Rattle.domain_world.proofs.Challenges.MessageApartLaws.{links_in}
 use Rattle.domain_world.proofs.Frames.StepFrameLaws.{RunFact}
+use Rattle.domain_world.proofs.Frames.ComingLaws.{kept_same}
+use Rattle.domain_world.proofs.Frames.LeftLaws.{DrawsOn, end_draws}
 use Rattle.domain_world.proofs.Requests.CallFrameLaws.{plain_calls}
 use Rattle.domain_world.proofs.Requests.CallHoldsLaws.{differ_front, marks_append, marks_in}
 use Rattle.domain_world.proofs.Requests.CallStepLaws.{most_steps}
 use Rattle.domain_world.proofs.Requests.LooserLaws.{calls_before}
 use Rattle.domain_world.proofs.Requests.StepApartLaws.{Differ}
 use Rattle.domain_world.proofs.Sequences.CallStepLaws.{own_grows}
-use Rattle.domain_world.proofs.Sequences.DialCountLaws.{given_append, given_other}
+use Rattle.domain_world.proofs.Sequences.DialCountLaws.{given_append, given_dials, given_other}
 use Rattle.domain_world.proofs.Sequences.DialWalkLaws.{AtState}
 use Rattle.domain_world.proofs.Sequences.Own.OwnFrameLaws.{StillDrawn, TurnsHold, TurnsKnown}
 use Rattle.domain_world.proofs.Sequences.Own.OwnOverLaws.{own_over}
@@ -52,27 +47,6 @@ OwnHolds plan n s given b =
 
 -- ---- what is drawn in a step
 
-pub record DrawsOn (chances later : Drawing) : Type 0 where
-  pub more : List (List ℕ)
-  pub is : later.drawn ≡ chances.drawn ++ more
-
-controller_draws : (found : Option ControllerState) (at : ℕ) (what : Event) (now : ℕ) (ends : EndStates) (chances : Drawing) → DrawsOn chances (controller_step found at what now ends chances).chances
-controller_draws None at what now ends chances = record { more = []; is = sym (append-nil chances.drawn) }
-controller_draws (Some c) at what now ends chances = record { more = (controller_step_of c what now chances.left).drawn; is = refl }
-
-client_draws : (found : Option ClientState) (at : ℕ) (what : Event) (now : ℕ) (ends : EndStates) (chances : Drawing) → DrawsOn chances (client_step found at what now ends chances).chances
-client_draws None at what now ends chances = record { more = []; is = sym (append-nil chances.drawn) }
-client_draws (Some c) at what now ends chances = record { more = (client_step_of c what now chances.left).drawn; is = refl }
-
-member_draws : (found : Option MemberState) (at : ℕ) (what : Event) (now : ℕ) (ends : EndStates) (chances : Drawing) → DrawsOn chances (member_step found at what now ends chances).chances
-member_draws None at what now ends chances = record { more = []; is = sym (append-nil chances.drawn) }
-member_draws (Some m) at what now ends chances = record { more = (step_of m what now chances.left).drawn; is = refl }
-
-pub end_draws : (end : EndId) (what : Event) (now : ℕ) (ends : EndStates) (chances : Drawing) → DrawsOn chances (end_step end what now ends chances).chances
-end_draws (Controller at) what now ends chances = controller_draws (slice_get ends.controllers at) at what now ends chances
-end_draws (Client at) what now ends chances = client_draws (slice_get ends.clients at) at what now ends chances
-end_draws (Member at) what now ends chances = member_draws (slice_get ends.members at) at what now ends chances
-
 pub draws_still : (chances later : Drawing) → DrawsOn chances later → StillDrawn chances.drawn later.drawn
 draws_still chances later on = subst (λ (all : List (List ℕ)). StillDrawn chances.drawn all) (sym on.is) (λ challenge was. drawn_still challenge chances.drawn on.more was)
 
@@ -83,29 +57,31 @@ draws_before chances later on differ = differ_front chances.drawn on.more (subst
 
 -- no whole unit comes on the link of its turn, where it is a member
 abbrev pub HearsNoUnit : EndId → Event → State → Type 0
-HearsNoUnit (Controller at) what s = Unit {0}
-HearsNoUnit (Client at) what s = Unit {0}
-HearsNoUnit (Member at) what s = HearsIf (slice_get s.ends.members at) what
+HearsNoUnit end what s = IfMember (λ (at : ℕ). HearsIf (slice_get s.ends.members at) what) end
 
 module _ (plan : Plan) where
+  -- an end that is no member
+  others_hear : (end : EndId) (step : EndStep) (s : State) (given : Given) (b : Book) → step.ends.members ≡ s.ends.members → ((k : ℕ) → given_dials k (given_by end step.actions) ≡ 0) →
+      SameEnds s.ends step.ends → DrawsOn s.chances step.chances → (Differ s.chances.drawn → OwnFacts plan s given b) → Differ step.chances.drawn →
+      OwnFacts plan (heard_by step s).state (given ++ given_by end step.actions) b
+  others_hear end step s given b members none same draws known differ =
+      all_stay plan s (heard_by step s).state b b given (given ++ given_by end step.actions) refl (record { bag = kept_same s.bag; sent = λ k one there. there; ends = same })
+      (draws_still s.chances step.chances draws) refl members (λ k. omega (arith, given_append k given (given_by end step.actions), none k)) (λ n number timestamp e there. there)
+      (known (draws_before s.chances step.chances draws differ))
+
   end_hears : (end : EndId) (what : Event) (s : State) (given : Given) (b : Book) → HearsNoUnit end what s → (Differ s.chances.drawn → OwnFacts plan s given b) →
       Differ (hear end what s).state.chances.drawn → OwnFacts plan (hear end what s).state (given ++ given_by end (hear end what s).actions) b
-  end_hears (Controller at) what s given b none known differ =
-      let on : DrawsOn s.chances (hear (Controller at) what s).state.chances = end_draws (Controller at) what s.moment s.ends s.chances in
-      let actions : List Action = (hear (Controller at) what s).actions in
-      all_stay plan s (hear (Controller at) what s).state b b given (given ++ given_by (Controller at) actions) refl (hear_grows (Controller at) what s b b (λ k one there. there))
-      (draws_still s.chances (hear (Controller at) what s).state.chances on) refl (controller_members (slice_get s.ends.controllers at) at what s.moment s.ends s.chances)
-      (λ k. omega (arith, given_append k given (given_by (Controller at) actions), given_other k (Controller at) actions refl)) (λ n number timestamp e there. there)
-      (known (draws_before s.chances (hear (Controller at) what s).state.chances on differ))
-  end_hears (Client at) what s given b none known differ =
-      let on : DrawsOn s.chances (hear (Client at) what s).state.chances = end_draws (Client at) what s.moment s.ends s.chances in
-      let actions : List Action = (hear (Client at) what s).actions in
-      all_stay plan s (hear (Client at) what s).state b b given (given ++ given_by (Client at) actions) refl (hear_grows (Client at) what s b b (λ k one there. there))
-      (draws_still s.chances (hear (Client at) what s).state.chances on) refl (client_members (slice_get s.ends.clients at) at what s.moment s.ends s.chances)
-      (λ k. omega (arith, given_append k given (given_by (Client at) actions), given_other k (Client at) actions refl)) (λ n number timestamp e there. there)
-      (known (draws_before s.chances (hear (Client at) what s).state.chances on differ))
-  end_hears (Member at) what s given b none known differ =
-      member_hears plan s given b (slice_get s.ends.members at) at what refl none (hear_grows (Member at) what s b b (λ k one there. there)) known differ
+  end_hears end what s given b none known =
+      step_by (λ (one : EndId) (step : EndStep).
+      HearsNoUnit one what s → SameEnds s.ends step.ends → DrawsOn s.chances step.chances → Differ step.chances.drawn → OwnFacts plan (heard_by step s).state (given ++ given_by one step.actions) b)
+      what s.moment s.ends s.chances (λ one its same draws. others_hear one (no_step s.ends s.chances) s given b refl (λ k. refl) same draws known)
+      (λ at c is its same draws.
+      others_hear (Controller at) (controller_step (Some c) at what s.moment s.ends s.chances) s given b refl (λ k. given_other k (Controller at) _ refl) same draws known)
+      (λ at m is its same draws.
+      member_hears plan s given b m at what is (subst (λ (found : Option MemberState). HearsIf found what) is (its at refl))
+      (record { bag = kept_same s.bag; sent = λ k one there. there; ends = same }) known)
+      (λ at c is its same draws. others_hear (Client at) (client_step (Some c) at what s.moment s.ends s.chances) s given b refl (λ k. given_other k (Client at) _ refl) same draws known) end
+      none (step_same end what s.moment s.ends s.chances) (end_draws end what s.moment s.ends s.chances)
 
   -- an end takes a step in which no whole unit comes on the link of a turn
   pub own_hears : (n : ℕ) (end : EndId) (what : Event) (s : State) (given : Given) (b : Book) → HearsNoUnit end what s → OwnHolds plan n s given b →

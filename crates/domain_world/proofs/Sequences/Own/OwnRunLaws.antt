@@ -5,7 +5,6 @@ use Rattle.std.specs.List.{filter}
 use Rattle.std.proofs.lemmas.Bool.Decides.{Decides-eqb}
 use Rattle.std.proofs.lemmas.List.{append-nil, append_assoc, length-set}
 use Rattle.std.proofs.lemmas.List.Elements.{filter-append}
-use Rattle.outside.specs.Drawing.{Drawing}
 use Rattle.outside.specs.declared.action.Action.{Action}
 use Rattle.outside.specs.declared.action.Action.TheVariants.{Keep, Send, Dial, Close, Told, Judged}
 use Rattle.outside.specs.declared.event.Event.TheVariants as event
@@ -36,14 +35,11 @@ use Rattle.world_moves.specs.declared.moves.Move.{Move}
 use Rattle.world_moves.specs.declared.plan.Plan.{Plan}
 use Rattle.world_moves.specs.declared.state.State.{State}
 use Rattle.world_moves.specs.declared.state.WaitingDial.{WaitingDial}
-use Rattle.world_moves.specs.declared.links.LinkKind.{LinkKind}
-use Rattle.world_moves.specs.declared.links.LinkKind.TheVariants as kind
-use Rattle.world_moves.specs.declared.links.Route.{Route}
-use Rattle.world_moves.specs.Acting.{Given, bag_unit, forget, is_of_other, perform_quietly, send_on}
-use Rattle.world_moves.specs.Links.{is_accepted_by, kind_of}
+use Rattle.world_moves.specs.Acting.{Given, forget, is_of_other, perform_quietly}
 use Rattle.world_moves.specs.Moving.{renew}
 use Rattle.world_moves.specs.Ends.{EndStates, renew_client, renew_controller, renew_member, with_client, with_member}
 use Rattle.world_moves.specs.World.{first_world}
+use Rattle.world_moves.proofs.EndKindLaws.{IfMember, renew_by}
 use Rattle.domain_world.specs.Claims.SharedSequences.{SequencesAreOwn, Stands, timestamps_on}
 use Rattle.domain_world.specs.Past.{controller_of, controller_of_plan, past, running_in, turns_by, turns_in}
 use Rattle.domain_world.proofs.Challenges.MessageOnceLaws.{set_cases}
@@ -114,9 +110,8 @@ module _ (plans : List MemberPlan) (ends : EndStates) (dials : List WaitingDial)
     turned = turned_blank _ _ drawn refl refl;
   }
 
-  controller_renewed : (found : Option ControllerState) (at : ℕ) → Now ends dials → Now (renew_controller found at ends) dials
-  controller_renewed None at holds = holds
-  controller_renewed (Some c) at holds = record {
+  controller_renewed : (c : ControllerState) (at : ℕ) → Now ends dials → Now (renew_controller (Some c) at ends) dials
+  controller_renewed c at holds = record {
     before = holds.before;
     members = λ k m there.
         subst (λ (j : ℕ). TurnsIf k j None [] dials drawn [] turns m.running)
@@ -125,9 +120,8 @@ module _ (plans : List MemberPlan) (ends : EndStates) (dials : List WaitingDial)
         (holds.members k m there);
   }
 
-  client_renewed : (found : Option ClientPlan) (at : ℕ) → Now ends dials → Now (renew_client found at ends) dials
-  client_renewed None at holds = holds
-  client_renewed (Some plan) at holds = record {
+  client_renewed : (plan : ClientPlan) (at : ℕ) → Now ends dials → Now (renew_client (Some plan) at ends) dials
+  client_renewed plan at holds = record {
     before = holds.before;
     members = λ k m there.
         subst (λ (j : ℕ). TurnsIf k j None [] dials drawn [] turns m.running)
@@ -137,9 +131,8 @@ module _ (plans : List MemberPlan) (ends : EndStates) (dials : List WaitingDial)
   }
 
   -- none of its dials waits
-  member_renewed : (found : Option MemberPlan) (at : ℕ) → waiting_dials at dials ≡ 0 → Now ends dials → Now (renew_member found at ends) dials
-  member_renewed None at none holds = holds
-  member_renewed (Some plan) at none holds = record {
+  member_renewed : (plan : MemberPlan) (at : ℕ) → waiting_dials at dials ≡ 0 → Now ends dials → Now (renew_member (Some plan) at ends) dials
+  member_renewed plan at none holds = record {
     before = holds.before;
     members = λ k m there.
         subst (λ (j : ℕ). TurnsIf k j None [] dials drawn [] turns m.running)
@@ -155,13 +148,14 @@ module _ (plans : List MemberPlan) (ends : EndStates) (dials : List WaitingDial)
 
 renews_hold : (end : EndId) (s : State) (turns : List ChannelTurn) → TurnsKnown None [] s.member_plans s.ends s.dials s.chances [] turns →
     TurnsKnown None [] s.member_plans (renew end (forget end s)) (filter (is_of_other end) s.dials) s.chances [] turns
-renews_hold (Controller at) s turns known differ =
-    controller_renewed s.member_plans s.ends (filter (is_of_other (Controller at)) s.dials) s.chances.drawn turns (slice_get s.ends.controllers at) at (forgets_hold (Controller at) s turns known differ)
-renews_hold (Client at) s turns known differ =
-    client_renewed s.member_plans s.ends (filter (is_of_other (Client at)) s.dials) s.chances.drawn turns (slice_get s.client_plans at) at (forgets_hold (Client at) s turns known differ)
-renews_hold (Member at) s turns known differ =
-    member_renewed s.member_plans s.ends (filter (is_of_other (Member at)) s.dials) s.chances.drawn turns (slice_get s.member_plans at) at (gone_all at s.dials)
-    (forgets_hold (Member at) s turns known differ)
+renews_hold end s turns known differ =
+    let dials : List WaitingDial = filter (is_of_other end) s.dials in
+    let holds : TurnsHold None [] s.member_plans s.ends dials s.chances.drawn [] turns = forgets_hold end s turns known differ in
+    renew_by (λ (one : EndId) (ends : EndStates). IfMember (λ (at : ℕ). waiting_dials at dials ≡ 0) one → TurnsHold None [] s.member_plans ends dials s.chances.drawn [] turns) (forget end s)
+    (λ one none. holds) (λ at c is none. controller_renewed s.member_plans s.ends dials s.chances.drawn turns c at holds)
+    (λ at plan is none. member_renewed s.member_plans s.ends dials s.chances.drawn turns plan at (none at refl) holds)
+    (λ at plan is none. client_renewed s.member_plans s.ends dials s.chances.drawn turns plan at holds) end
+    (λ at is. subst (λ (one : EndId). waiting_dials at (filter (is_of_other one) s.dials) ≡ 0) (sym is) (gone_all at s.dials))
 
 -- ---- the turns of a move are written down
 
@@ -200,6 +194,19 @@ in_mine hit k j controller None is = none_mine hit
 in_mine hit k j controller (Some running) is =
     by_mine hit k j (step_in running.logons.channel.turn) (stands_in controller running.logons.channel.caller.computer running.logons.channel.standing) is
 
+-- what is written down of an action: the turn that a member dials for, or nothing
+turn_cases : (P : EndId → Action → (State → List ChannelTurn) → Type 0) → ((end : EndId) (what : Action) → ((k : ℕ) → counted (is_member k end) what ≡ 0) → P end what (λ after. [])) →
+    ((j : ℕ) (peer : List ℕ) → P (Member j) (Dial peer) (λ after. turn_in (controller_of j after) j (running_in (slice_get after.ends.members j)))) → (end : EndId) (what : Action) →
+    P end what (turns_by end what)
+turn_cases P none dials (Controller at) what = none (Controller at) what (λ k. refl)
+turn_cases P none dials (Client at) what = none (Client at) what (λ k. refl)
+turn_cases P none dials (Member j) (Dial peer) = dials j peer
+turn_cases P none dials (Member j) (Keep bytes) = none (Member j) (Keep bytes) (λ k. none_counted (j == k) (Keep bytes) refl)
+turn_cases P none dials (Member j) (Send link bytes) = none (Member j) (Send link bytes) (λ k. none_counted (j == k) (Send link bytes) refl)
+turn_cases P none dials (Member j) (Close link cause) = none (Member j) (Close link cause) (λ k. none_counted (j == k) (Close link cause) refl)
+turn_cases P none dials (Member j) (Told link outcome) = none (Member j) (Told link outcome) (λ k. none_counted (j == k) (Told link outcome) refl)
+turn_cases P none dials (Member j) (Judged how) = none (Member j) (Judged how) (λ k. none_counted (j == k) (Judged how) refl)
+
 module _ (s : State) where
   -- the turn of a member, as it is read after the move
   abbrev turn_now : ℕ → List ChannelTurn
@@ -210,18 +217,10 @@ module _ (s : State) where
   dial_mine true k j peer is =
       in_mine true k j (controller_of j s) (running_in (slice_get s.ends.members j)) is ∙ ap turn_now ((Decides-eqb j k).0 is) ∙ sym (append-nil (turn_now k))
 
-  quiet_mine : (hit : Bool) (k : ℕ) (what : Action) → counted hit what ≡ 0 → [] ≡ times (counted hit what) (turn_now k)
-  quiet_mine hit k what none = ap (λ (n : ℕ). times n (turn_now k)) (sym none)
-
   one_mine : (k : ℕ) (end : EndId) (what : Action) → mine k (turns_by end what s) ≡ times (counted (is_member k end) what) (turn_now k)
-  one_mine k (Controller at) what = refl
-  one_mine k (Client at) what = refl
-  one_mine k (Member j) (Dial peer) = dial_mine (j == k) k j peer refl
-  one_mine k (Member j) (Keep bytes) = quiet_mine (j == k) k (Keep bytes) (none_counted (j == k) (Keep bytes) refl)
-  one_mine k (Member j) (Send link bytes) = quiet_mine (j == k) k (Send link bytes) (none_counted (j == k) (Send link bytes) refl)
-  one_mine k (Member j) (Close link cause) = quiet_mine (j == k) k (Close link cause) (none_counted (j == k) (Close link cause) refl)
-  one_mine k (Member j) (Told link outcome) = quiet_mine (j == k) k (Told link outcome) (none_counted (j == k) (Told link outcome) refl)
-  one_mine k (Member j) (Judged how) = quiet_mine (j == k) k (Judged how) (none_counted (j == k) (Judged how) refl)
+  one_mine k =
+      turn_cases (λ (end : EndId) (what : Action) (turns : State → List ChannelTurn). mine k (turns s) ≡ times (counted (is_member k end) what) (turn_now k))
+      (λ end what none. ap (λ (n : ℕ). times n (turn_now k)) (sym (none k))) (λ j peer. dial_mine (j == k) k j peer refl)
 
   -- those of a member are its turn, as often as it dialled
   pub all_mine : (k : ℕ) (given : Given) → mine k (turns_in given s) ≡ times (given_dials k given) (turn_now k)
@@ -244,14 +243,9 @@ module _ (s : State) where
     found_drawn j (Some m) is = running_drawn j m.running (holds.members j m is)
 
     one_drawn : (end : EndId) (what : Action) → AreDrawn s.chances.drawn (turns_by end what s)
-    one_drawn (Controller at) what = tt
-    one_drawn (Client at) what = tt
-    one_drawn (Member j) (Dial peer) = found_drawn j (slice_get s.ends.members j) refl
-    one_drawn (Member j) (Keep bytes) = tt
-    one_drawn (Member j) (Send link bytes) = tt
-    one_drawn (Member j) (Close link cause) = tt
-    one_drawn (Member j) (Told link outcome) = tt
-    one_drawn (Member j) (Judged how) = tt
+    one_drawn =
+        turn_cases (λ (end : EndId) (what : Action) (turns : State → List ChannelTurn). AreDrawn s.chances.drawn (turns s)) (λ end what none. tt)
+        (λ j peer. found_drawn j (slice_get s.ends.members j) refl)
 
     all_drawn : (some : Given) → AreDrawn s.chances.drawn (turns_in some s)
     all_drawn [] = tt
@@ -288,40 +282,16 @@ module _ (s : State) where
 
 -- ---- an action is done
 
--- of the rest of the world it changes nothing
-module _ (P : List MemberPlan → EndStates → Drawing → Type 0) where
-  bag_parts : (how : LinkKind) (back : Bool) (link : ℕ) (bytes : List ℕ) (s : State) → P s.member_plans s.ends s.chances →
-      P (bag_unit how back link bytes s).member_plans (bag_unit how back link bytes s).ends (bag_unit how back link bytes s).chances
-  bag_parts kind.Stranger back link bytes s is = is
-  bag_parts kind.ToMember back link bytes s is = is
-  bag_parts kind.ToController back link bytes s is = is
-
-  send_parts : (route : Option Route) (end : EndId) (link : ℕ) (bytes : List ℕ) (s : State) → P s.member_plans s.ends s.chances →
-      P (send_on route end link bytes s).member_plans (send_on route end link bytes s).ends (send_on route end link bytes s).chances
-  send_parts None end link bytes s is = is
-  send_parts (Some route) end link bytes s is = bag_parts (kind_of route) (is_accepted_by end route) link bytes s is
-
-  quiet_parts : (end : EndId) (what : Action) (s : State) → P s.member_plans s.ends s.chances →
-      P (perform_quietly end what s).member_plans (perform_quietly end what s).ends (perform_quietly end what s).chances
-  quiet_parts end (Keep bytes) s is = is
-  quiet_parts end (Send link bytes) s is = send_parts (slice_get s.links link) end link bytes s is
-  quiet_parts end (Dial peer) s is = is
-  quiet_parts end (Close link cause) s is = is
-  quiet_parts end (Told link outcome) s is = is
-  quiet_parts end (Judged how) s is = is
-
 acts_hold : (d : Option EndId) (rest : Given) (end : EndId) (what : Action) (s : State) (given : Given) (turns : List ChannelTurn) →
     AtState TurnsKnown d ((end, what) ∷ rest) s given turns → AtState TurnsKnown d rest (perform_quietly end what s) given turns
-acts_hold d rest end what s given turns known =
-    quiet_parts (λ plans ends chances. TurnsKnown d rest plans ends (perform_quietly end what s).dials chances given turns) end what s
-    (λ differ.
+acts_hold d rest end what s given turns known differ =
     let holds = known differ in
     record {
       before = holds.before;
       members = λ k m there.
           same_turns k (controller_of_plan (slice_get s.member_plans k) s.ends) d d ((end, what) ∷ rest) rest s.dials (perform_quietly end what s).dials s.chances.drawn s.chances.drawn given given
           turns m.running (omega (arith, done_same k d rest end what s)) (omega arith) refl (λ challenge is. is) (holds.members k m there);
-    })
+    }
 
 -- ---- through a run
 

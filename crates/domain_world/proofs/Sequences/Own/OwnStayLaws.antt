@@ -1,6 +1,6 @@
 -- What is known of the calls of members' turns stays where no member takes a step, and where one does with no whole
 -- unit on the link of its turn. It serves `sequences_are_shared`.
-use Rattle.std.proofs.Common.{◌≡◌, ℕ, ◌+◌, ◌==◌, Bool, true, false, List, [], ◌++◌, inl, inr, Option, Some, None, slice_get, refl, sym, ap, subst, ◌∙◌, arith}
+use Rattle.std.proofs.Common.{◌≡◌, ℕ, ◌+◌, ◌==◌, Bool, true, false, List, ◌++◌, inl, inr, Option, Some, None, slice_get, refl, sym, ap, subst, ◌∙◌, arith}
 use Rattle.std.proofs.lemmas.Bool.Decides.{Decides-eqb}
 use Rattle.outside.specs.declared.action.Action.{Action}
 use Rattle.outside.specs.declared.event.Event.{Event}
@@ -24,10 +24,9 @@ use Rattle.domain_world.specs.Past.{controller_of, controller_of_plan}
 use Rattle.domain_world.proofs.Accepting.Turns.TurnFactLaws.{GrowsTo, SameEnds, past_at, taken_stays, world_in}
 use Rattle.domain_world.proofs.Challenges.MessageOnceLaws.{set_cases}
 use Rattle.domain_world.proofs.Frames.MarkPlaceLaws.{got_map}
-use Rattle.domain_world.proofs.Requests.CallHoldsLaws.{controller_same, differ_front, marks_in}
+use Rattle.domain_world.proofs.Requests.CallHoldsLaws.{controller_same, differ_front, mark_there, marks_in}
 use Rattle.domain_world.proofs.Requests.StepApartLaws.{Differ, HearsNone}
 use Rattle.domain_world.proofs.Sequences.CallStepLaws.{OwnCalls, own_grows}
-use Rattle.domain_world.proofs.Sequences.CalledLaws.{mark_there}
 use Rattle.domain_world.proofs.Sequences.DialCountLaws.{given_append, given_dials, given_other, is_member}
 use Rattle.domain_world.proofs.Sequences.Own.OwnFrameLaws.{StillDrawn, still_drawn}
 use Rattle.domain_world.proofs.Sequences.Own.OwnStepLaws.{OwnIf, own_quiet}
@@ -50,7 +49,7 @@ pub record OwnFacts (plan : Plan) (s : State) (given : Given) (b : Book) : Type 
 
 pub taken_for_stays : (plan : Plan) (s t : State) (b d : Book) → GrowsTo s t b d → (n : ℕ) → IsTakenFor (past_at plan s b) n → IsTakenFor (past_at plan t d) n
 taken_for_stays plan s t b d grows n is =
-    record { message = is.message; call = is.call; unit = is.unit; taken = taken_stays plan (world_in s) (world_in t) b d grows is.message is.unit is.taken }
+    record { taken = is.taken; call = is.call; turn = taken_stays plan (world_in s) (world_in t) b d grows is.taken is.turn }
 
 pub marks_still : (sent later : List Sent) → ((k : ℕ) (one : Sent) → slice_get sent k ≡ Some one → slice_get later k ≡ Some one) → (j : ℕ) (mark : Mark) → slice_get (marks_in sent) j ≡ Some mark →
     slice_get (marks_in later) j ≡ Some mark
@@ -134,20 +133,17 @@ module _ (plan : Plan) (s : State) (given : Given) (b : Book) where
     own_quiet (IsTakenFor (past_at plan s b)) (marks_in b.sent) s.chances.drawn b.turns given controller at running what s.moment s.chances.left none old.0 old.1 differ,
   )
 
-  abbrev HeardBy : Option MemberState → ℕ → Event → Heard
-  HeardBy found at what = heard_by (member_step found at what s.moment s.ends s.chances) s
+  abbrev HeardBy : MemberState → ℕ → Event → Heard
+  HeardBy m at what = heard_by (member_step (Some m) at what s.moment s.ends s.chances) s
 
   -- the others stay
-  pub member_hears : (found : Option MemberState) (at : ℕ) (what : Event) → slice_get s.ends.members at ≡ found → HearsIf found what → GrowsTo s (HeardBy found at what).state b b →
-      (Differ s.chances.drawn → OwnFacts plan s given b) → Differ (HeardBy found at what).state.chances.drawn →
-      OwnFacts plan (HeardBy found at what).state (given ++ given_by (Member at) (HeardBy found at what).actions) b
-  member_hears None at what is none grows known differ =
-      all_stay plan s (HeardBy None at what).state b b given (given ++ given_by (Member at) []) refl grows (λ challenge drawn. drawn) refl refl (λ k. omega (arith, given_append k given []))
-      (λ n number timestamp e there. there) (known differ)
-  member_hears (Some m) at what is none grows known differ =
+  pub member_hears : (m : MemberState) (at : ℕ) (what : Event) → slice_get s.ends.members at ≡ Some m → HearsNone m.running what → GrowsTo s (HeardBy m at what).state b b →
+      (Differ s.chances.drawn → OwnFacts plan s given b) → Differ (HeardBy m at what).state.chances.drawn →
+      OwnFacts plan (HeardBy m at what).state (given ++ given_by (Member at) (HeardBy m at what).actions) b
+  member_hears m at what is none grows known differ =
       let step = step_of m what s.moment s.chances.left in
       let actions : List Action = actions_by step.answer in
-      let t : State = (HeardBy (Some m) at what).state in
+      let t : State = (HeardBy m at what).state in
       let more : Given = given ++ given_by (Member at) actions in
       let still : StillDrawn s.chances.drawn t.chances.drawn = λ challenge was. drawn_still challenge s.chances.drawn step.drawn was in
       let old : OwnFacts plan s given b = known (differ_front s.chances.drawn step.drawn differ) in
@@ -170,13 +166,13 @@ module _ (plan : Plan) (s : State) (given : Given) (b : Book) where
     where
       -- the same after the step: more is answered
       now_stays : (j : ℕ) (r : Option Running) →
-          let t : State = (HeardBy (Some m) at what).state in
+          let t : State = (HeardBy m at what).state in
           let more : Given = given ++ given_by (Member at) (actions_by (step_of m what s.moment s.chances.left).answer) in
           MemberOwn (IsTakenFor (past_at plan s b)) (marks_in b.sent) t.chances.drawn b.turns more (controller_of j s) j r →
           MemberOwn (IsTakenFor (past_at plan t b)) (marks_in b.sent) t.chances.drawn b.turns more (controller_of j t) j r
       now_stays j None own = (tt, tt)
       now_stays j (Some running) own =
-          let t : State = (HeardBy (Some m) at what).state in
+          let t : State = (HeardBy m at what).state in
           let more : Given = given ++ given_by (Member at) (actions_by (step_of m what s.moment s.chances.left).answer) in (
             own.0,
             subst (λ (c : ℕ). OwnCalls (IsTakenFor (past_at plan t b)) (marks_in b.sent) t.chances.drawn b.turns more c j running) (sym (controller_kept j s t refl grows.ends))

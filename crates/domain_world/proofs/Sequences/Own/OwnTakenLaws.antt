@@ -1,10 +1,11 @@
 -- Where a whole unit comes on the link of a member's turn: a call that goes out is on the channel that stands, and the
--- call whose answer is taken is that of a message. It serves `sequences_are_shared`.
+-- answer that is taken is to the call of that channel that has the number of the turn. It serves
+-- `sequences_are_shared`.
 use Rattle.std.proofs.Common.{◌≡◌, ℕ, List, [], ◌∷◌, map, inl, inr, Option, Some, slice_get, refl, sym, ap, subst, ◌∙◌}
 use Rattle.std.specs.List.{AllByRecursion}
 use Rattle.wire_base.specs.Maps.{lookup, same_number}
 use Rattle.wire_base.proofs.NameLaws.{IsSameness-same_number}
-use Rattle.authenticators.specs.Channels.{ChannelIdentity}
+use Rattle.authenticators.specs.Channels.{ChannelIdentity, SameChannel}
 use Rattle.authenticators.specs.SecureChannels.{channel_of}
 use Rattle.outside.specs.Machine.{Part}
 use Rattle.rpc_units.specs.declared.unit.Unit.{Unit as RpcUnit}
@@ -28,13 +29,14 @@ use Rattle.channel_client.specs.declared.state.Waiting.{Waiting}
 use Rattle.logon_stubs.specs.declared.info.Verdict.{Verdict}
 use Rattle.channel_events.specs.Marks.{Mark, Calling, OneOf}
 use Rattle.channel_events.proofs.ListLaws.{some_is}
+use Rattle.channel_events.proofs.SameLaws.{same_self}
 use Rattle.member_server.specs.Turns.{DialWork}
 use Rattle.member_server.specs.declared.state.Logon.{Logon}
 use Rattle.member_server.specs.declared.state.Running.{Running}
 use Rattle.step_notes.specs.CallLogons.{waiting_for}
 use Rattle.step_notes.specs.ChannelNames.{place_answered, standing_channel}
 use Rattle.step_notes.specs.MemberNotes.{asked_note, taking_note}
-use Rattle.step_notes.specs.Records.{Book, MessageTaken, OutcomeTold}
+use Rattle.step_notes.specs.Records.{Book, MessageTaken, OfMember, Sent}
 use Rattle.step_notes.proofs.Channels.ChannelNameLaws.{channels_are_named_alike}
 use Rattle.step_notes.proofs.Members.TurnRequestLaws.{found_if}
 use Rattle.world_moves.specs.declared.plan.Plan.{Plan}
@@ -43,11 +45,11 @@ use Rattle.domain_world.specs.Accepting.Runs.{IsOut}
 use Rattle.domain_world.specs.Accepting.Sequences.{IsTakenFor}
 use Rattle.domain_world.specs.Past.{with_answer}
 use Rattle.domain_world.proofs.Accepting.Heard.AnswerReadLaws.{IsAnswerOf, answer_is}
-use Rattle.domain_world.proofs.Accepting.Turns.TurnFactLaws.{IsFree, TurnFacts, past_at}
-use Rattle.domain_world.proofs.Accepting.Turns.TurnWholeLaws.{ComesWhole, own_all, taken_there}
+use Rattle.domain_world.proofs.Accepting.Turns.TurnFactLaws.{past_at}
+use Rattle.domain_world.proofs.Accepting.Turns.TurnWholeLaws.{ComesWhole, in_turn}
+use Rattle.domain_world.proofs.Frames.MarkPlaceLaws.{got_map}
 use Rattle.domain_world.proofs.Requests.CallHoldsLaws.{marks_in}
 use Rattle.domain_world.proofs.Sequences.CallTakenLaws.{IsAnswer}
-use Rattle.domain_world.proofs.Sequences.CalledLaws.{mark_there}
 
 -- ---- a call that goes out
 
@@ -98,59 +100,28 @@ answer_of taken.Opened is = absurd is
 answer_of (taken.Answer place v) is = record { place = place; verdict = v; is = refl }
 answer_of (taken.Dropped place cause) is = absurd is
 
--- the logon of the turn is kept
-record KeepsFirst (place : ℕ) (asked : List (ℕ × Logon)) : Type 0 where
-  logon : Logon
-  kept : lookup same_number place asked ≡ Some logon
-
-kept_first : (pending : Pending) (asked : List (ℕ × Logon)) → IsForFirst (Some pending) (map waiting_for asked) → KeepsFirst pending.place asked
-kept_first pending [] first = absurd first
-kept_first pending (entry ∷ asked) first = record {
-  logon = entry.1;
-  kept = found_if (same_number pending.place entry.0) entry.1 (lookup same_number pending.place asked)
-      (ap (λ (n : ℕ). same_number pending.place n) (sym first.0) ∙ IsSameness-same_number.reflexive pending.place);
-}
-
-with_both : (X : Type 0) (P Q : MessageTaken → Type 0) (messages : List MessageTaken) → ((message : MessageTaken) → P message → Q message → X) → OneOf P messages → AllByRecursion Q messages → X
-with_both X P Q [] so one all = absurd one
-with_both X P Q (message ∷ messages) so one all = elim one [ inl here ↦ so message here all.0 | inr later ↦ with_both X P Q messages so later all.1 ]
-
 module _ (plan : Plan) (k number u : ℕ) (s t : State) (b d : Book) (messages : List MessageTaken) (running : Running) (bytes : List ℕ) (unit : RpcUnit) (controller now : ℕ) (left : List (List ℕ))
-    (part : Part DialWork) (comes : ComesWhole plan k number u s t b d messages running bytes unit controller now left part) (told : List OutcomeTold) (facts : TurnFacts plan t d messages told)
-    (distinct : (one other called timestamp later : ℕ) (c d : ChannelIdentity) → slice_get (marks_in b.sent) one ≡ Some (Calling c called timestamp) →
-    slice_get (marks_in b.sent) other ≡ Some (Calling d called later) → c.client ≡ d.client → one ≡ other) where
+    (part : Part DialWork) (comes : ComesWhole plan k number u s t b d messages running bytes unit controller now left part) where
   abbrev c : Requester
   c = running.logons.channel
 
-  -- the call is that of the message whose answer is taken
+  -- the call that is asked on the channel that stands has its answer
   pub taken_for : (channel : ChannelIdentity) (called : ℕ) → IsAnswer (take_of c unit).taken → (view_of controller c).stands ≡ Some channel → (view_of controller c).asking ≡ Some called → (n timestamp : ℕ) →
       slice_get (marks_in b.sent) n ≡ Some (Calling channel called timestamp) → IsTakenFor (past_at plan t d) n
   taken_for channel called is stands asking n timestamp there =
       let answer : AnswersPlace (take_of c unit).taken = answer_of (take_of c unit).taken is in
       let its : IsAnswerOf c unit answer.place answer.verdict = answer_is c unit answer.place answer.verdict answer.is in
       let takes = channels_are_named_alike.calls.takes controller c unit answer.place (ap place_answered answer.is) in
-      let kept : KeepsFirst its.pending.place running.logons.asked =
-      kept_first its.pending running.logons.asked
-      (subst (λ (waiting : List Waiting). IsForFirst (Some its.pending) waiting) comes.asks.waits
-      (subst (λ (turn : Option Pending). IsForFirst turn c.waiting) its.turn comes.asks.coherent.first)) in
-      let there_kept : lookup same_number answer.place running.logons.asked ≡ Some kept.logon =
-      ap (λ (n : ℕ). lookup same_number n running.logons.asked) its.same_place ∙ kept.kept in
       let asked : (view_of controller c).asking ≡ Some its.pending.number =
       ap (λ (how : Standing). asking_in how (step_in c.turn) (number_in c.turn)) its.stands
       ∙ ap (λ (turn : Option Pending). asking_in (standing.Open its.stood) (step_in turn) (number_in turn)) its.turn
       ∙ ap (λ (st : Step). asking_in (standing.Open its.stood) (Some st) its.pending.number) its.asked in
-      let same : its.pending.number ≡ called = some_is its.pending.number called (sym asked ∙ asking) in
-      with_both (IsTakenFor (past_at plan t d) n) (IsOut (past_at plan s b) k its.pending kept.logon (standing_channel controller c))
-      (λ (message : MessageTaken). message.link ≡ kept.logon.link → IsFree k answer.place kept.logon message) messages
-      (λ message out free.
-      let one : out.channel ≡ channel = some_is out.channel channel (sym out.stands ∙ stands) in
-      let call : slice_get (marks_in b.sent) out.request ≡ Some (Calling out.channel called out.timestamp) =
-      mark_there b.sent out.request out.sent out.there ∙ ap (λ (m : Mark). Some m) out.mark ∙ ap (λ (i : ℕ). Some (Calling out.channel i out.timestamp)) same in
+      let same : called ≡ its.pending.number = some_is called its.pending.number (sym asking ∙ asked) in
+      let one : takes.0 ≡ channel = some_is takes.0 channel (sym takes.1 ∙ stands) in
+      let out = got_map (λ (sent : Sent). sent.mark) b.sent n (Calling channel called timestamp) there in
       record {
-        message = with_answer (Some u) message;
-        call = out.call ∙ ap (λ (i : ℕ). Some i) (distinct out.request n called out.timestamp timestamp out.channel channel call there (ap (λ (x : ChannelIdentity). x.client) one));
-        unit = u;
-        taken = taken_there plan k number u s t b d messages running bytes unit controller now left part comes told facts answer.place answer.verdict answer.is takes.0 takes.1 takes.3 kept.logon there_kept
-            message (free out.link) out;
-      }) (comes.out its.pending kept.logon its.turn its.asked kept.kept)
-      (own_all plan k number u s t b d messages running bytes unit controller now left part comes told facts answer.place kept.logon there_kept)
+        taken = record { at = 0; requester = OfMember k; call = n; reply = u };
+        call = refl;
+        turn = in_turn plan k number u s t b d messages running bytes unit controller now left part comes answer.place answer.verdict answer.is takes.0 takes.1 takes.3 0 n timestamp out.0 channel out.1
+            (out.2 ∙ ap (λ (i : ℕ). Calling channel i timestamp) same) (subst (λ (x : ChannelIdentity). SameChannel channel x) (sym one) (same_self channel));
+      }

@@ -25,13 +25,14 @@ use Rattle.world_moves.specs.declared.plan.Plan.{Plan}
 use Rattle.world_moves.specs.declared.state.State.{State}
 use Rattle.world_moves.specs.Acting.{Given, Heard, given_by, hear, heard_by, hear_and_act, perform_all}
 use Rattle.world_moves.specs.Ends.{actions_by, member_step}
+use Rattle.world_moves.proofs.EndKindLaws.{of_member}
 use Rattle.domain_world.specs.Accepting.Sequences.{IsTakenFor}
 use Rattle.domain_world.specs.Past.{Coming, controller_of, note_member, sent_at}
 use Rattle.domain_world.proofs.Accepting.LetInStepLaws.{IsDialledBy}
 use Rattle.domain_world.proofs.Accepting.Turns.TurnFactLaws.{AreApart, GrowsTo, MarksAreKnown, TurnFacts, apart_front, marks_before, past_at}
 use Rattle.domain_world.proofs.Accepting.Turns.TurnQuietLaws.{told_yet}
 use Rattle.domain_world.proofs.Accepting.Turns.TurnRunLaws.{TurnSide, rests_on}
-use Rattle.domain_world.proofs.Accepting.Turns.TurnSideLaws.{TurnSide as RestSide, before, comes, dialled_on, ends_same, first_book, hears as heard_whole, is_back, messages_in, new_in, numbers, sent_stays, turns_clash, units_of, whole}
+use Rattle.domain_world.proofs.Accepting.Turns.TurnSideLaws.{TurnSide as RestSide, comes, dialled_on, ends_same, first_book, hears as heard_whole, is_back, messages_in, new_in, numbers, sent_stays, turns_clash, units_of, whole}
 use Rattle.domain_world.proofs.Challenges.MessageApartLaws.{links_append, links_in, turns_links}
 use Rattle.domain_world.proofs.Challenges.MessageOnceLaws.{set_cases}
 use Rattle.domain_world.proofs.Frames.ComingLaws.{CameFrom, IsPieceOf, kept_same}
@@ -53,7 +54,7 @@ use Rattle.domain_world.proofs.Sequences.Own.OwnStepLaws.{OwnIf, own_whole}
 use Rattle.domain_world.proofs.Sequences.Own.OwnTakenLaws.{called_on, taken_for}
 use Rattle.domain_world.proofs.Sequences.Own.OwnWalkLaws.{MemberComes}
 use Rattle.domain_world.proofs.Sequences.SeedTurnLaws.{drawn_still}
-use Rattle.domain_world.proofs.Sequences.TurnBookLaws.{member_turns}
+use Rattle.domain_world.proofs.Frames.EndNoteLaws.{turns_leave}
 use Rattle.domain_world.proofs.Frames.TurnFrameLaws.{turns_sent}
 
 -- ---- the marks that are written down
@@ -193,7 +194,7 @@ module _ (plan : Plan) (n at : ℕ) (w : Coming) (piece : List ℕ)
           (view_of its c).asking ≡ Some number → (i timestamp : ℕ) → slice_get (marks_in b.sent) i ≡ Some (Calling channel number timestamp) → IsTakenFor (past_at plan t d) i) →
           Differ t.chances.drawn → OwnFacts plan t more_given d
       facts_after holds old done differ =
-          let turns : d.turns ≡ b.turns = member_turns (Some m) at w piece s after b in
+          let turns : d.turns ≡ b.turns = turns_leave m at w piece s after b in
           let still : StillDrawn s.chances.drawn t.chances.drawn = λ challenge was. drawn_still challenge s.chances.drawn (step_of m what s.moment s.chances.left).drawn was in
           let state : MemberState = (step_of m what s.moment s.chances.left).state in
           let own : MemberOwn (IsTakenFor (past_at plan t d)) (marks_in d.sent) t.chances.drawn d.turns more_given (controller_of at t) at state.running = (
@@ -238,7 +239,7 @@ module _ (plan : Plan) (n at : ℕ) (w : Coming) (piece : List ℕ)
       let holds : CallsHold n s.member_plans s.ends s.chances.drawn s.links b.sent b.messages = side.0.0.1 few_before differ_before in
       let rest : RestSide plan s b = rests_on plan n s given b side.0 few_before in
       let turns = side.1 few_before in
-      let facts : TurnFacts plan s b b.messages (told_yet given b) = turns.1 unclashed_before apart_before marks_before_so in
+      let facts : TurnFacts plan s b b.messages b.answers (told_yet given b) = turns.1 unclashed_before apart_before marks_before_so in
       let back : w.back ≡ true = is_back plan at w piece s after given b rest running said is on at_side in
       let heard = heard_whole plan at w piece s after given b rest running said is on u piece_of back facts carried unclashed first turns.0 marks_known in
       let unit = (whole plan at w piece s after given b rest running said is on u piece_of back facts carried unclashed first turns.0 marks_known).0.unit in
@@ -247,9 +248,7 @@ module _ (plan : Plan) (n at : ℕ) (w : Coming) (piece : List ℕ)
       facts_after one (dialled_on plan at w piece s after given b rest running said is on) holds old
       (λ part ok channel number is_answer stands asking i timestamp there.
       taken_for plan at w.link u s t b d (messages_in plan at w piece s after given b (Some running)) running piece unit its s.moment s.chances.left part
-      (comes plan at w piece s after given b rest running said is on u piece_of back facts carried unclashed first turns.0 marks_known part ok) (told_yet given b)
-      (before plan at w piece s after given b rest running said is on u piece_of back facts carried unclashed first turns.0 marks_known)
-      (λ x y called stamp later e f. holds.apart.distinct x y called stamp later e f) channel number is_answer stands asking i timestamp there) differ
+      (comes plan at w piece s after given b rest running said is on u piece_of back facts carried unclashed first turns.0 marks_known part ok) channel number is_answer stands asking i timestamp there) differ
 
   came_from : (unit : Option ℕ) → w.unit ≡ unit → CameFrom unit s w piece → IsAtSide s.links w.link w.back (Member at) → TurnSide plan n s given b → OwnHolds plan n s given b →
       OwnHolds plan (n + 1) t more_given d
@@ -293,7 +292,8 @@ module _ (plan : Plan) (n at : ℕ) (w : Coming) (piece : List ℕ) (s : State)
   by_member : (found : Option MemberState) → slice_get s.ends.members at ≡ found → IsNoted (slice_get s.ends.members at)
   by_member None is =
       subst IsNoted (sym is)
-      (own_hears plan n (Member at) bytes s given b (let none : HearsIf None bytes = tt in subst (λ (found : Option MemberState). HearsIf found bytes) (sym is) none) known)
+      (own_hears plan n (Member at) bytes s given b
+      (of_member (λ (k : ℕ). HearsIf (slice_get s.ends.members k) bytes) at (let none : HearsIf None bytes = tt in subst (λ (found : Option MemberState). HearsIf found bytes) (sym is) none)) known)
   by_member (Some m) is = elim (turn_case m.running w.link) [
     | inl other ↦ subst IsNoted (sym is) (other_comes plan n at w piece s after_all given b m is other known)
     | inr on ↦ running_comes m on is
