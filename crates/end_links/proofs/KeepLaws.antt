@@ -70,35 +70,6 @@ module _ {W T : Type 0} (server : Server W T) (Open : ServingFact W T) (Shut : S
       then_keeps units why done (unit_served server bytes work talk left) (server.unit bytes work talk left)
       (λ done later said rest fits. served_keeps units why done later said rest fits) (keeps.unit done bytes units work talk left holds)
 
--- and of each unit what follows of the fact before it, also of one for which the challenges weren't enough
-module _ {W T : Type 0} (server : Server W T) (Open : ServingFact W T) (Shut : ShutFact W T) (keeps : KeepsServing server Open Shut)
-    (P : ServedUnit W T → Type 0)
-    (gives : (done : List (ServedUnit W T)) (bytes : List ℕ) (more : List (List ℕ)) (work : W) (talk : T) (left : List (List ℕ)) →
-    Open done (bytes ∷ more) work talk left → P (unit_served server bytes work talk left)) where
-  abbrev pub Each : List (List ℕ) → Type 0
-  Each units = (done : List (ServedUnit W T)) (work : W) (talk : T) (left : List (List ℕ)) → Open done units work talk left →
-      AllByRecursion P (served_units server units work talk left)
-
-  said_each : (units : List (List ℕ)) (done : List (ServedUnit W T)) (work : W) (talk : Option T) (left : List (List ℕ)) → Each units →
-      HoldsSaid Open Shut done units work talk left →
-      AllByRecursion P (units_on work talk left (λ later said rest. served_units server units later said rest))
-  said_each units done work None left each holds = tt
-  said_each units done work (Some talk) left each holds = each done work talk left holds
-
-  then_each : (units : List (List ℕ)) (done : List (ServedUnit W T)) (part : ServedPart W T) → Each units →
-      HoldsThen Open Shut done units part →
-      AllByRecursion P (units_then part (λ later said rest. served_units server units later said rest))
-  then_each units done (Err why) each holds = tt
-  then_each units done (Ok part) each holds = said_each units done part.value.0 part.value.1 part.left each holds
-
-  pub served_each : (units : List (List ℕ)) → Each units
-  served_each [] done work talk left holds = tt
-  served_each (bytes ∷ units) done work talk left holds = (
-    gives done bytes units work talk left holds,
-    then_each units (done ++ unit_served server bytes work talk left ∷ []) (server.unit bytes work talk left)
-        (λ done later said rest fits. served_each units done later said rest fits) (keeps.unit done bytes units work talk left holds),
-  )
-
 -- ---- a fact that speaks of no list: most of them
 
 -- an end at work, with what is said then, and the challenges left

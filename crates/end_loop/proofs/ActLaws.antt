@@ -1,9 +1,8 @@
 -- How performing actions goes on, and where it is cut short.
-use Rattle.std.proofs.Common.{◌≡◌, ◌≤◌, ◌⊎◌, inl, inr, ℕ, Bool, true, false, List, [], ◌∷◌, ◌++◌, ◌+◌, ◌-◌, ◌&&◌, length, Option, Some, None, Result, Ok, Err, OnOk, OnErr, IfErr, is_ok, is_err, IsTrue, refl, sym, ap, subst, ◌∙◌, arith, append-nil, append_assoc, length-append, take, drop, get_or, ◌<◌}
-use Rattle.std.specs.List.{flat_map, list_all}
+use Rattle.std.proofs.Common.{◌≡◌, ◌≤◌, ℕ, Bool, true, false, List, [], ◌∷◌, ◌++◌, ◌+◌, ◌&&◌, length, Option, Some, None, Result, Ok, Err, OnOk, OnErr, IfErr, is_ok, is_err, refl, sym, ap, subst, ◌∙◌, arith, append-nil, append_assoc, length-append, take, drop, get_or, ◌<◌}
+use Rattle.std.specs.List.{flat_map}
 use Rattle.std.proofs.lemmas.Grind.{flat_map-append}
 use Rattle.std.proofs.lemmas.List.{take-append-drop, take_more}
-use Rattle.std.proofs.Math.Seq.{take-append-add}
 use Rattle.std.proofs.lemmas.List.Folds.{list_all-append, list_any-append}
 use Rattle.outside.specs.Telling.{Appends, AppendsFront}
 use Rattle.std.specs.Result.{result_ok}
@@ -13,14 +12,13 @@ use Rattle.outside.proofs.TellingLaws.{Appends-trans, Appends-nothing, AppendsFr
 use Rattle.outside.proofs.CauseLaws.{RisesWhere-none, RisesWhere-trans, RisesWhere-call}
 use Rattle.outside.proofs.StoryLaws.{RisesWhere-sent, RisesWhere-dialled}
 use Rattle.outside.specs.declared.event.Event.{Event}
-use Rattle.outside.specs.declared.event.Event.TheVariants as event
 use Rattle.outside.specs.declared.event.Happening.{Happening}
 use Rattle.outside.specs.declared.event.Happening.TheVariants as happening
 use Rattle.outside.specs.Machine.{Machine}
 use Rattle.outside.specs.declared.action.CloseCause.{CloseCause}
 use Rattle.outside.specs.declared.action.Action.{Action}
 use Rattle.outside.specs.declared.action.Action.TheVariants.{Keep, Send, Dial, Close, Told, Judged}
-use Rattle.end_loop.specs.Acts.{Did, puts, dial_event, Does, SendsOn, Performs, LoopState, Performed, CutShort, failed_link, made_event, made_events, has_link, most_made, most_made_by, is_made, are_made, next_line}
+use Rattle.end_loop.specs.Acts.{Did, puts, Does, SendsOn, Performs, LoopState, Performed, CutShort, failed_link, made_event, made_events, has_link, most_made, most_made_by, is_made, are_made, next_line}
 
 -- ---- failures at links
 
@@ -80,18 +78,6 @@ Performed-trans line xs ys a b c p q = record {
   queue = q.queue ∙ ap (λ (l : List Event). l ++ made_events q.happened) p.queue ∙ append_assoc a.queue (made_events p.happened) (made_events q.happened)
       ∙ ap (λ (l : List Event). a.queue ++ l) (sym (flat_map-append made_event p.happened q.happened));
   taken = subst (λ (l : List ℕ). Appends a.taken c.taken l) (sym (flat_map-append line xs ys)) (Appends-trans a.taken b.taken c.taken (flat_map line xs) (flat_map line ys) p.taken q.taken);
-}
-
--- nothing was to be done
-pub Performed-none : (line : Action → List ℕ) (a : LoopState) → Performed line [] a a
-Performed-none line a = record {
-  happened = [];
-  performs = refl;
-  story = Appends-nothing a.story;
-  faulted = RisesWhere-none a.link_faults;
-  failed = sym (append-nil a.failed);
-  queue = sym (append-nil a.queue);
-  taken = Appends-nothing a.taken;
 }
 
 pub CutShort-after : (line : Action → List ℕ) (xs ys : List Action) (a b c : LoopState) → Performed line xs a b → CutShort line ys b c → CutShort line (xs ++ ys) a c
@@ -288,10 +274,6 @@ said_err machine x failed queue story faults taken taken2 (Err v) e put =
       front = part.all;
       taken = part.told;
     }
-
-pub always_err : {T E P : Type 0} (r : Result T E) → P → IfErr r (λ _. P)
-always_err (Ok v) p = tt
-always_err (Err v) p = p
 
 -- ---- a loop over actions
 

@@ -10,7 +10,7 @@ use Rattle.outside.specs.declared.action.Action.TheVariants.{Keep, Send, Dial, C
 use Rattle.outside.specs.Machine.{Machine}
 use Rattle.outside.specs.Stories.{event_of, events_in}
 use Rattle.end_loop.specs.Acts.{Does, SendsOn, Performs, failed_link, has_link}
-use Rattle.end_loop.specs.Runs.{RunState, Step, IsStep, AreSteps, Chooses, story_of, step_story, asked_by}
+use Rattle.end_loop.specs.Runs.{Step, Chooses, story_of, step_story}
 use Rattle.end_loop.specs.Asking.{gives_stop, AsksFor}
 
 sends_silent : (known : Bool) (link : ℕ) (bytes : List ℕ) (now : List Happening) → SendsOn known link bytes now → events_in now ≡ []

@@ -1,5 +1,5 @@
 -- A command that begins with actions of its own.
-use Rattle.std.proofs.Common.{◌≡◌, ℕ, true, List, [], ◌∷◌, ◌++◌, Option, ◌⊎◌, inl, inr, None, Result, Ok, Err, OnOk, IfErr, refl, sym, subst, ◌∙◌}
+use Rattle.std.proofs.Common.{◌≡◌, ℕ, true, List, [], ◌++◌, Option, inl, inr, None, Result, Ok, Err, OnOk, IfErr, refl, sym, subst, ◌∙◌}
 use Rattle.outside.specs.Drawing.{Drawing}
 use Rattle.outside.proofs.TellingLaws.{Appends-nothing}
 use Rattle.outside.specs.declared.event.Event.{Event}

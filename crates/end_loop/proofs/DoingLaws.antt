@@ -1,5 +1,5 @@
 -- What is dialled and closed in a run.
-use Rattle.std.proofs.Common.{◌≡◌, ℕ, Bool, true, false, List, [], ◌∷◌, ◌++◌, map, Option, refl, sym, ap, ◌∙◌}
+use Rattle.std.proofs.Common.{◌≡◌, ℕ, Bool, true, false, List, [], ◌∷◌, ◌++◌, Option, refl, sym, ap, ◌∙◌}
 use Rattle.std.specs.List.{flat_map}
 use Rattle.std.proofs.lemmas.Grind.{flat_map-append}
 use Rattle.std.proofs.lemmas.List.{map-append}
@@ -11,7 +11,7 @@ use Rattle.outside.specs.declared.action.Action.TheVariants.{Keep, Send, Dial, C
 use Rattle.outside.specs.Machine.{Machine}
 use Rattle.outside.specs.Stories.{dial_of, dials_in, close_of}
 use Rattle.end_loop.specs.Acts.{Does, SendsOn, Performs, failed_link, has_link}
-use Rattle.end_loop.specs.Runs.{RunState, Step, IsStep, AreSteps, Chooses, story_of, step_story, actions_in}
+use Rattle.end_loop.specs.Runs.{RunState, Step, AreSteps, Chooses, story_of, step_story, actions_in}
 use Rattle.end_loop.specs.Doing.{peers_of, peer_one, close_one, DialsAndCloses}
 
 -- ---- a view of what happens, which shows of each action what is asked of it, and nothing of an event that is given

@@ -1,5 +1,5 @@
 -- The count of link faults over a run.
-use Rattle.std.proofs.Common.{ℕ, List, ◌++◌, ◌⊎◌, inl, inr}
+use Rattle.std.proofs.Common.{ℕ, List, ◌++◌, inl, inr}
 use Rattle.outside.specs.Machine.{Machine}
 use Rattle.outside.specs.declared.event.Happening.{Happening}
 use Rattle.outside.proofs.TellingLaws.{Appends-trans}

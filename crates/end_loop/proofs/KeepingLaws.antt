@@ -1,11 +1,11 @@
 -- Texts that an end asks to keep are passed over.
-use Rattle.std.proofs.Common.{◌≡◌, ◌↔◌, ℕ, List, [], ◌∷◌, ◌++◌, refl, sym, ap, subst, ◌∙◌, append-nil}
+use Rattle.std.proofs.Common.{◌≡◌, ℕ, List, [], ◌∷◌, ◌++◌, refl, sym, ap, subst, ◌∙◌, append-nil}
 use Rattle.std.specs.List.{flat_map}
 use Rattle.outside.specs.declared.event.Happening.{Happening}
 use Rattle.outside.specs.declared.action.Action.{Action}
 use Rattle.outside.specs.declared.action.Action.TheVariants.{Keep, Send, Dial, Close, Told, Judged}
 use Rattle.outside.specs.Machine.{Machine}
-use Rattle.end_loop.specs.Acts.{Does, Performs, failed_link, puts}
+use Rattle.end_loop.specs.Acts.{Performs, failed_link, puts}
 use Rattle.end_loop.specs.Keeping.{PassesOverKeeps, without_keeps}
 
 -- the links on which a send failed, where nothing happened

@@ -1,5 +1,5 @@
 -- How runs come together.
-use Rattle.std.proofs.Common.{◌≡◌, ◌≢◌, ◌≤◌, ◌<◌, ◌⊎◌, inl, inr, ℕ, Bool, true, false, List, [], ◌∷◌, ◌++◌, ◌+◌, ◌&&◌, length, map, Option, Some, None, Result, Ok, Err, OnOk, IfOk, IfErr, IsErrAnd, IsOk, IsTrue, refl, sym, ap, subst, ◌∙◌, arith, append-nil, append_assoc, length-append}
+use Rattle.std.proofs.Common.{◌≡◌, ◌≤◌, ◌<◌, ◌⊎◌, inl, inr, ℕ, Bool, true, false, List, [], ◌∷◌, ◌++◌, ◌+◌, ◌&&◌, length, Option, Some, None, Result, Ok, Err, OnOk, IfOk, IfErr, IsErrAnd, IsOk, IsTrue, refl, sym, ap, subst, ◌∙◌, arith, append-nil, length-append}
 use Rattle.std.specs.List.{flat_map}
 use Rattle.std.specs.Option.{option_to_list}
 use Rattle.std.proofs.lemmas.Grind.{flat_map-append}
@@ -11,19 +11,17 @@ use Rattle.outside.specs.Stories.{fails_at_links}
 use Rattle.outside.proofs.TellingLaws.{Appends-trans, Appends-nothing}
 use Rattle.outside.proofs.DrawLaws.{DrawsAll-none, DrawsAll-trans}
 use Rattle.outside.proofs.CauseLaws.{RisesWhere-none}
-use Rattle.outside.specs.declared.action.StepRefused.TheVariants as refusals
 use Rattle.outside.specs.declared.event.Event.{Event}
-use Rattle.outside.specs.declared.event.Event.TheVariants as event
 use Rattle.outside.specs.declared.event.Happening.{Happening}
 use Rattle.outside.specs.declared.event.Happening.TheVariants as happening
 use Rattle.outside.specs.declared.action.Action.{Action}
 use Rattle.end_loop.specs.declared.halt.Halt.{Halt}
 use Rattle.end_loop.specs.declared.halt.Halt.TheVariants.{PortFault, SinkFault, NoMemory, Spent}
 use Rattle.outside.specs.Machine.{Machine, Stepped, Takes, GivesUp, Spends}
-use Rattle.end_loop.specs.Acts.{puts, Performs, Performed, CutShort, IsOfActs, made_events, most_made_by, next_line, is_made, are_made}
+use Rattle.end_loop.specs.Acts.{puts, Performed, CutShort, IsOfActs, made_events, most_made_by, next_line, is_made, are_made}
 use Rattle.end_loop.proofs.ActLaws.{performs_makes, all_made, Rises-append}
 use Rattle.end_loop.specs.Seen.{Sight, Shows}
-use Rattle.end_loop.specs.Runs.{actions_of, RunState, Step, IsStep, AreSteps, Chooses, Ran, RanInto, RanToAsk, RanOut, Halts, Closes, Begins, Breaks, Turns, IsOfAsk, IsOfSteps, is_stop, run_state_at, idle_at, Made, MadePart, step_story, step_line, story_of, moments_of, drawn_of, lines_of, asked_by}
+use Rattle.end_loop.specs.Runs.{actions_of, RunState, Step, IsStep, AreSteps, Ran, RanInto, RanToAsk, RanOut, Halts, Begins, Breaks, Turns, IsOfAsk, IsOfSteps, is_stop, run_state_at, idle_at, Made, MadePart, step_story, step_line}
 
 -- ---- what the outside shows
 
@@ -199,22 +197,6 @@ Into-halts machine a most s t Spent h = h
 
 -- ---- from the call of an end to a step
 
--- the moment, the end's step and its actions, as one step
-pub Made-of : {S : Type 0} (machine : Machine S) (old new : S) (what : Event) (now : ℕ) (actions : List Action) (queue later : List Event) (failed : List ℕ) (story story2 : Option (List Happening)) (faults faults2 : ℕ) (moments moments2 : Option (List ℕ)) (drawing drawing2 : Drawing) (taken taken2 : Option (List ℕ)) →
-    Appends moments moments2 (now ∷ []) → Takes (machine.step old what now drawing.left) new drawing drawing2 actions →
-    Performed (puts machine) actions (record { failed = []; queue = queue; story = story; link_faults = faults; taken = taken }) (record { failed = failed; queue = later; story = story2; link_faults = faults2; taken = taken2 }) →
-    Made machine old new what queue later (record { story = story; link_faults = faults; moments = moments; drawing = drawing; taken = taken; written = None }) (record { story = story2; link_faults = faults2; moments = moments2; drawing = drawing2; taken = taken2; written = None })
-Made-of machine old new what now actions queue later failed story story2 faults faults2 moments moments2 drawing drawing2 taken taken2 clock takes done = record {
-  moment = now;
-  drawn = takes.drawn;
-  actions = actions;
-  happened = done.happened;
-  is = takes.is;
-  performs = done.performs;
-  queue = done.queue;
-  shows = record { story = done.story; links = done.faulted; moments = clock; drawing = takes.draws; taken = done.taken; written = refl };
-}
-
 -- actions that were cut short
 pub MadePart-acts : {S : Type 0} (machine : Machine S) (old new : S) (what : Event) (now : ℕ) (actions : List Action) (queue later : List Event) (failed : List ℕ) (story story2 : Option (List Happening)) (faults faults2 : ℕ) (moments moments2 : Option (List ℕ)) (drawing drawing2 : Drawing) (taken taken2 : Option (List ℕ)) (halt : Halt) →
     IsOfActs halt → Appends moments moments2 (now ∷ []) → Takes (machine.step old what now drawing.left) new drawing drawing2 actions →
@@ -348,10 +330,6 @@ drain_cut machine a end what queue behind s t u halt ran is made =
     Into-after machine a _ 0 0 0 s t u halt ran (omega arith)
     (subst (λ (l : List Event). RanInto machine (record { state = end; queue = l; left = t.drawing.left }) 0 t u halt) (sym is) (Into-waiting machine end what behind t u halt made))
 
-pub drain_end : {S : Type 0} (machine : Machine S) (a : RunState S) (end : S) (queue : List Event) (left : List (List ℕ)) (n : ℕ) (s t : Sight) →
-    Ran machine a (record { state = end; queue = queue; left = left }) n s t → queue ≡ [] → Ran machine a (record { state = end; queue = []; left = left }) n s t
-drain_end machine a end queue left n s t ran is = subst (λ (l : List Event). Ran machine a (record { state = end; queue = l; left = left }) n s t) is ran
-
 -- the exit of a `?` that passes the error on
 pub err_exit : {T E : Type 0} (P : E → Type 0) (r : Result T E) (e : E) → IsErrAnd r (λ y. y ≡ e) → P e → IfErr r P
 err_exit P (Ok v) e is p = tt
@@ -444,22 +422,6 @@ turned_more machine a old new n s t u stop ran is turns =
 pub turned_cut : {S : Type 0} (machine : Machine S) (a : RunState S) (old : S) (n most : ℕ) (s t u : Sight) (halt : Halt) → Ran machine a (idle_at old t) n s t → n < most → Halts machine (idle_at old t) 1 t u halt →
     Halts machine a most s u halt
 turned_cut machine a old n most s t u halt ran below halts = Halts-after machine a (idle_at old t) n 1 most s t u halt ran (omega arith) halts
-
-pub turned_stop : {S : Type 0} (machine : Machine S) (a : RunState S) (old new : S) (n most : ℕ) (s t u : Sight) (stop : Bool) → Ran machine a (idle_at old t) n s t → n < most → machine.is_over old ≡ false → stop ≡ true →
-    Turns machine old new t u stop → RanOut machine a new most s u
-turned_stop {S} machine a old new n most s t u stop ran below goes_on is turns =
-    let last = subst (λ (b : Bool). Turns machine old new t u b) is turns in
-    let given = last.1 in
-    subst (λ (end : S). RanOut machine a end most s u) (sym last.0) (record {
-      left = t.drawing.left;
-      asked = n;
-      middle = t;
-      ran = ran;
-      within = omega arith;
-      stop = happening.Given event.Stop (machine.want old) ∷ [];
-      closes = inr (inr (goes_on, below, refl));
-      shows = given;
-    })
 
 pub ended : {S : Type 0} (machine : Machine S) (a : RunState S) (last : S) (n most : ℕ) (s t : Sight) → Ran machine a (idle_at last t) n s t → n ≤ most → (machine.is_over last ≡ true) ⊎ (n ≡ most) → RanOut machine a last most s t
 ended machine a last n most s t ran within (inl over) = record {

@@ -13,7 +13,7 @@ use Rattle.outside.specs.declared.action.Action.TheVariants.{Keep, Send, Dial, C
 use Rattle.outside.specs.Machine.{Machine}
 use Rattle.outside.specs.Stories.{send_on, sends_on, before_failure, strings_on, fails_on, has_failed}
 use Rattle.end_loop.specs.Acts.{Does, SendsOn, Performs, failed_link, has_link}
-use Rattle.end_loop.specs.Runs.{RunState, Step, IsStep, AreSteps, Chooses, story_of, step_story}
+use Rattle.end_loop.specs.Runs.{RunState, Step, IsStep, Chooses, story_of, step_story}
 use Rattle.end_loop.specs.Sending.{asked_one, asked_on, IsFront, SendsFront}
 
 -- ---- sends before a failure

@@ -1,12 +1,12 @@
 -- A command that serves, by the result of its loop.
-use Rattle.std.proofs.Common.{◌≡◌, ◌⊎◌, inl, inr, ℕ, List, [], ◌∷◌, Result, Ok, Err, OnOk, IfErr, subst}
+use Rattle.std.proofs.Common.{◌≡◌, inr, ℕ, List, [], ◌∷◌, Result, Ok, Err, OnOk, IfErr, subst}
 use Rattle.outside.specs.declared.event.Event.{Event}
 use Rattle.outside.specs.declared.event.Happening.TheVariants as happening
 use Rattle.end_loop.specs.declared.halt.Halt.{Halt}
 use Rattle.outside.specs.Machine.{Machine}
 use Rattle.end_loop.specs.Seen.{Sight}
-use Rattle.end_loop.specs.Runs.{RanOut, Halts, run_state_at, idle_at}
-use Rattle.end_loop.specs.Serving.{Opens, Served, ServedHalf, ServedUntil}
+use Rattle.end_loop.specs.Runs.{RanOut, Halts, run_state_at}
+use Rattle.end_loop.specs.Serving.{Opens, Served, ServedUntil}
 
 pub served_ok : {T E S : Type 0} (machine : Machine S) (old new : S) (queue : List Event) (address seed : List ℕ) (boot most : ℕ) (before opened after : Sight) (r : Result T E) → queue ≡ [] →
     Opens seed boot before opened (happening.Listened address ∷ []) → OnOk r (RanOut machine (run_state_at old queue opened) new most opened after) → OnOk r (Served machine old new address seed boot most before after)

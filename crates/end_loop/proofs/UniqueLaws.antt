@@ -1,5 +1,5 @@
 -- That a run is determined by what its outside gave: of one step, of the happenings of actions, and of whole runs.
-use Rattle.std.proofs.Common.{◌≡◌, ℕ, Bool, true, false, List, [], ◌∷◌, ◌++◌, Option, Some, None, Ok, refl, sym, ap, subst, ◌∙◌, append-nil, append_assoc}
+use Rattle.std.proofs.Common.{◌≡◌, ℕ, Bool, true, false, List, [], ◌∷◌, ◌++◌, Ok, refl, sym, ap, subst, ◌∙◌, append_assoc}
 use Rattle.std.specs.List.{flat_map}
 use Rattle.outside.specs.declared.event.Event.{Event}
 use Rattle.outside.specs.declared.event.Happening.{Happening}
@@ -9,7 +9,7 @@ use Rattle.outside.specs.declared.action.Action.TheVariants.{Keep, Send, Dial, C
 use Rattle.outside.specs.Machine.{Machine, Stepped}
 use Rattle.end_loop.specs.Acts.{Does, SendsOn, Performs, failed_link, has_link, made_events}
 use Rattle.end_loop.specs.Runs.{actions_of, RunState, Step, IsStep, AreSteps, Chooses, story_of, moments_of, drawn_of, step_story, actions_in}
-use Rattle.end_loop.specs.Unique.{Agrees, IsDetermined}
+use Rattle.end_loop.specs.Unique.{IsDetermined}
 
 none_same : {X : Type 0} (n m l k : List X) → n ≡ [] → m ≡ [] → n ++ l ≡ m ++ k → (n ≡ m) × (l ≡ k)
 none_same n m l k a b e = (a ∙ sym b, sym (ap (λ (x : List _). x ++ l) a) ∙ e ∙ ap (λ (x : List _). x ++ k) b)

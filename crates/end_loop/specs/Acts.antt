@@ -1,5 +1,5 @@
 -- What happens at the port while actions are performed, and what of it is stepped later (this project's own choice).
-use Rattle.std.specs.Prelude.{◌≡◌, ℕ, Bool, true, false, ◌==◌, List, [], ◌∷◌, ◌++◌, ◌+◌, length, Option, Some, None, IsTrue}
+use Rattle.std.specs.Prelude.{◌≡◌, ℕ, Bool, true, false, ◌==◌, List, [], ◌∷◌, ◌++◌, ◌+◌, Option, Some, None, IsTrue}
 use Rattle.std.specs.List.{flat_map, list_any, list_all}
 use Rattle.outside.specs.Causes.{RisesWhere}
 use Rattle.outside.specs.Stories.{fails_at_links}
@@ -10,7 +10,7 @@ use Rattle.outside.specs.declared.event.Happening.{Happening}
 use Rattle.outside.specs.declared.event.Happening.TheVariants as happening
 use Rattle.outside.specs.Machine.{Machine}
 use Rattle.end_loop.specs.declared.halt.Halt.{Halt}
-use Rattle.end_loop.specs.declared.halt.Halt.TheVariants.{PortFault, SinkFault, NoMemory, Spent}
+use Rattle.end_loop.specs.declared.halt.Halt.TheVariants.{SinkFault, NoMemory}
 use Rattle.outside.specs.declared.action.Action.{Action}
 use Rattle.outside.specs.declared.action.Action.TheVariants.{Keep, Send, Dial, Close, Told, Judged}
 

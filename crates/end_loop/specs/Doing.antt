@@ -1,7 +1,6 @@
 -- The peers dialled and the links closed in a run (this project's own choice).
 use Rattle.std.specs.Prelude.{◌≡◌, ℕ, List, [], ◌∷◌, map, Option}
 use Rattle.std.specs.List.{flat_map}
-use Rattle.outside.specs.declared.event.Happening.{Happening}
 use Rattle.outside.specs.declared.action.Action.{Action}
 use Rattle.outside.specs.declared.action.Action.TheVariants.{Dial, Close}
 use Rattle.outside.specs.Machine.{Machine}

@@ -1,5 +1,5 @@
 -- What the outside tells of a run (this project's own choice).
-use Rattle.std.specs.Prelude.{◌≡◌, ℕ, Bool, List, [], ◌∷◌, ◌++◌, Option, None}
+use Rattle.std.specs.Prelude.{ℕ, Bool, List, [], Option, None}
 use Rattle.outside.specs.Causes.{RisesWhere}
 use Rattle.outside.specs.Drawing.{Drawing, DrawsAll}
 use Rattle.outside.specs.Stories.{fails_at_links}

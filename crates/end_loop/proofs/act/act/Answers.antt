@@ -1,5 +1,4 @@
-use Rattle.std.proofs.Common.{refl, sym, ap, ◌∙◌, ◌≡◌}
-use Rattle.outside.specs.declared.action.Action.{Action}
+use Rattle.std.proofs.Common.{refl, ap, ◌≡◌}
 use Rattle.outside.specs.declared.action.Action.TheVariants.{Send, Dial}
 use Rattle.end_loop.proofs.ActLaws.{did_ok, did_err, closed_ok, kept_ok, said_ok, said_err, says}
 use Rattle.end_loop.proofs.act.act.Goals as goal

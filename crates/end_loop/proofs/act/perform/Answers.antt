@@ -1,4 +1,4 @@
-use Rattle.std.proofs.Common.{arith, ◌<◌, ◌≡◌, length, rules}
+use Rattle.std.proofs.Common.{arith, ◌<◌, length}
 use Rattle.end_loop.proofs.ActLaws.{more_performed, cut_performed, some_cut}
 use Rattle.end_loop.proofs.act.perform.Goals as goal
 

@@ -1,4 +1,4 @@
-use Rattle.std.proofs.Common.{◌≡◌, ◌≤◌, ℕ, List, [], ◌∷◌, take}
+use Rattle.std.proofs.Common.{◌≡◌, ◌≤◌, [], take}
 use Rattle.end_loop.specs.Acts.{puts, loop_of, Performed}
 use Rattle.end_loop.proofs.act.perform.Given as goal
 

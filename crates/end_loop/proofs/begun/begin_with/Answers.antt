@@ -1,4 +1,4 @@
-use Rattle.std.proofs.Common.{rules, ◌≡◌}
+use Rattle.std.proofs.Common.{rules}
 use Rattle.end_loop.proofs.BegunLaws.{begun_ok, begun_made, begun_err, begun_short}
 use Rattle.end_loop.proofs.begun.begin_with.Goals as goal
 

@@ -1,4 +1,3 @@
-use Rattle.std.proofs.Common.{arith, rules, refl}
 use Rattle.end_loop.proofs.RunLaws.{answered, answer_cut, answer_drain_cut}
 use Rattle.end_loop.proofs.serving.answer.Goals as goal
 

@@ -1,5 +1,5 @@
-use Rattle.std.proofs.Common.{arith, rules, refl, inl, inr, ◌≡◌, ◌+◌, true, false, sym, ◌∙◌}
-use Rattle.end_loop.proofs.RunLaws.{begin_cut, ended, turned_cut, turned_more, turned_stop}
+use Rattle.std.proofs.Common.{arith, inl, inr, ◌≡◌, true, sym, ◌∙◌}
+use Rattle.end_loop.proofs.RunLaws.{begin_cut, ended, turned_cut, turned_more}
 use Rattle.end_loop.proofs.serving.serve.Goals as goal
 
 pub returns-in-Err-clause-halts : goal.returns-in-Err-clause-halts

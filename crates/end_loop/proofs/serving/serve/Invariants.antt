@@ -1,4 +1,4 @@
-use Rattle.std.proofs.Common.{◌≡◌, ◌≤◌, ◌+◌, ◌-◌, ℕ, List, [], ◌∷◌, true, false, length}
+use Rattle.std.proofs.Common.{◌≡◌, ◌≤◌, ◌-◌, [], false}
 use Rattle.end_loop.specs.Seen.{sight_of}
 use Rattle.end_loop.specs.Runs.{Ran, run_state_at, idle_at}
 use Rattle.end_loop.proofs.serving.serve.Given as goal

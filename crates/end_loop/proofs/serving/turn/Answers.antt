@@ -1,4 +1,3 @@
-use Rattle.std.proofs.Common.{arith, rules, refl}
 use Rattle.end_loop.proofs.RunLaws.{told_alone, same_rises, ask_halts, turned, turn_halts, never_port}
 use Rattle.end_loop.proofs.serving.turn.Goals as goal
 

@@ -1,5 +1,5 @@
-use Rattle.std.proofs.Common.{arith, rules, ◌≡◌, ◌∷◌, ap, length, refl}
-use Rattle.end_loop.proofs.RunLaws.{popped, first_made, drain_step, drain_cut, drain_end, Ran-none, err_exit}
+use Rattle.std.proofs.Common.{arith, ap, length, refl}
+use Rattle.end_loop.proofs.RunLaws.{popped, first_made, drain_step, drain_cut, Ran-none, err_exit}
 use Rattle.end_loop.proofs.step.drain.Goals as goal
 
 pub loop-event-preserved : goal.loop-event-preserved

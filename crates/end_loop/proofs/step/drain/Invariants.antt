@@ -1,4 +1,4 @@
-use Rattle.std.proofs.Common.{◌≡◌, ◌≤◌, ◌+◌, ℕ, List, [], ◌∷◌, true, false, length}
+use Rattle.std.proofs.Common.{◌≡◌, ◌≤◌, ◌+◌, true, false, length}
 use Rattle.end_loop.specs.Acts.{are_made}
 use Rattle.end_loop.specs.Seen.{sight_of}
 use Rattle.end_loop.specs.Runs.{Ran, run_state_at}

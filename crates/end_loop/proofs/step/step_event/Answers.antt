@@ -1,5 +1,4 @@
-use Rattle.std.proofs.Common.{arith, rules, ◌≡◌, Err, ap, ◌∙◌}
-use Rattle.outside.specs.declared.action.StepRefused.TheVariants as refusals
+use Rattle.std.proofs.Common.{rules, Err, ap, ◌∙◌}
 use Rattle.end_loop.proofs.RunLaws.{err_part, MadePart-memory, MadePart-spent, ok_settles, ok_waits, acts_steps}
 use Rattle.end_loop.proofs.step.step_event.Goals as goal
 

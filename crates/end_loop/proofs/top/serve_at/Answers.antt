@@ -1,7 +1,4 @@
-use Rattle.std.proofs.Common.{rules, refl, ◌≡◌, [], ◌∷◌}
-use Rattle.outside.specs.declared.event.Happening.TheVariants as happening
-use Rattle.end_loop.specs.Seen.{sight_of}
-use Rattle.end_loop.specs.Serving.{Opens}
+use Rattle.std.proofs.Common.{rules, refl}
 use Rattle.end_loop.proofs.ServedLaws.{served_ok, served_err}
 use Rattle.end_loop.proofs.top.serve_at.Goals as goal
 
