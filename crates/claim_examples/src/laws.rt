@@ -39,8 +39,8 @@ pub fn grants_tell_apart()
     ensures { GrantsTellApart }
 {}
 
-/// What `messages_have_own_challenges` says isn't true of everything that could be written down of a run: a small run
-/// meets it, and others, each with one part changed, don't.
+/// What `Proved.messages` says isn't true of everything that could be written down of a run: a small run meets it, and
+/// others, each with one part changed, don't.
 #[tactic(auto, using(crate::proofs::OwnChallengeExampleLaws::of_own_challenges))]
 pub fn own_challenges_tell_apart()
     ensures { OfOwnChallenges }

@@ -1,28 +1,20 @@
 //! What a run's answers rest on.
 
-ghost use Rattle.std.specs.Prelude.{◌≡◌, false, List};
+ghost use Rattle.std.specs.Prelude.{List};
 ghost use Rattle.world_moves.specs.declared.moves.Move.{Move};
 ghost use Rattle.world_moves.specs.declared.plan.Plan.{Plan};
 ghost use Rattle.world_moves.specs.Draws.{DrawsAreBlocks, DrawsDiffer};
 ghost use Rattle.world_moves.specs.Forms.{IsSchedule};
-ghost use Rattle.domain_world.specs.Accepting.Answered.{AnswersAreHeard, IsProved, MarksHaveTheirWay, MessagesAreApart, PassesAreUnclashed};
+ghost use Rattle.domain_world.specs.Accepting.Answered.{AnswersAreHeard, IsProved};
 ghost use Rattle.domain_world.specs.Accepting.Carried.{CarriedCallsAreHeard, JudgedAsCarried, MarkedUnitsAreWhole, MessagesAreCalled};
 ghost use Rattle.domain_world.specs.Accepting.KeysMade.{KeysAreFoundAsMade, MessagesAreMade, MessagesAreTakenAsSent};
 ghost use Rattle.domain_world.specs.Accepting.ReadBack.{OutcomesAreReadBack, RepliesAreReadBack, TurnsAreHeard};
 ghost use Rattle.domain_world.specs.Accepting.Runs.{IsQuiet, RunsBegin, RunsStandSo};
-ghost use Rattle.domain_world.specs.Accepting.Sequences.{CallsAreStamped, RepliesAnswerCalls, SequencesFollow, TakenCallsPass, TurnsAreCalled};
+ghost use Rattle.domain_world.specs.Accepting.Sequences.{CallsAreStamped, SequencesFollow, TakenCallsPass};
 ghost use Rattle.domain_world.specs.Accepting.Units.{RunsAreHeard, UnitsAreHeard};
-ghost use Rattle.domain_world.specs.Claims.{AcceptsAllGranted, AcceptsOnlyGranted, IsClear, KeysAgree, ShortResponsesServeOnce};
-ghost use Rattle.domain_world.specs.Claims.SharedSequences.{OneTurnIsOut, SequencesAreOwn, SequencesAreShared};
+ghost use Rattle.domain_world.specs.Claims.{AcceptsAllGranted, AcceptsOnlyGranted, IsClear, KeysAgree};
 ghost use Rattle.domain_world.specs.Past.{Past, past};
 ghost use Rattle.domain_world.specs.Schedules.{OfSchedules};
-
-/// Where the challenges that were drawn are blocks of 8 bytes of which no two are alike, a response of 24 bytes is
-/// accepted on one link alone.
-pub fn short_responses_serve_once()
-    ensures { (plan : Plan) (moves : List Move) → DrawsDiffer (past plan moves).world →
-        DrawsAreBlocks (past plan moves).world → ShortResponsesServeOnce (past plan moves) }
-{}
 
 /// Where what is said of units that are heard whole holds of a run that is clear, a member accepts only what its
 /// controller granted, and all of it, and client and member hold one key.
@@ -40,26 +32,6 @@ pub fn what_is_heard_is_accepted()
 pub fn runs_are_proved()
     ensures { (plan : Plan) (moves : List Move) → DrawsDiffer (past plan moves).world →
         IsProved (past plan moves) }
-{}
-
-/// In every run without a clash each credential that passed for a Logon call passed on the channel for which the unit
-/// was made that carried the call.
-#[tactic(auto, using(crate::proofs::Judgements::UnclashedLaws::passes_unclashed))]
-pub fn passes_are_unclashed()
-    ensures { (plan : Plan) (moves : List Move) → PassesAreUnclashed (past plan moves) }
-{}
-
-/// In every run no two messages for which a logon waits or waited came on one link.
-#[tactic(auto, using(crate::proofs::Challenges::MessageApartLaws::messages_apart))]
-pub fn messages_are_apart()
-    ensures { (plan : Plan) (moves : List Move) → MessagesAreApart (past plan moves) }
-{}
-
-/// In every run each unit that is marked as a request goes on from the end that dialled its link, and each that is
-/// marked as a reply goes back to it.
-#[tactic(auto, using(crate::proofs::Requests::MarkWayLaws::marks_have_their_way))]
-pub fn marks_have_their_way()
-    ensures { (plan : Plan) (moves : List Move) → MarksHaveTheirWay (past plan moves) }
 {}
 
 /// Three of the premises of the claims on answers follow from what is said of single units and messages: units are
@@ -176,12 +148,6 @@ pub fn schedules_are_heard()
     ensures { OfSchedules (λ plan moves. UnitsAreHeard (past plan moves)) }
 {}
 
-/// After every run the seed of a member's open channel is the client's credential moved by the timestamps of its turns
-/// on that channel (MS-NRPC 3.1.4.5), clear or not.
-pub fn sequences_are_own()
-    ensures { (plan : Plan) (moves : List Move) → SequencesAreOwn (past plan moves) }
-{}
-
 /// That both ends of a channel share its sequence (MS-NRPC 3.1.4.5) follows in a clear run where each unit is heard
 /// whole, each call that was made and carries a Logon call has the timestamp of its turn, and the calls on the channel
 /// are those of the member's turns, each passed but for one that is out.
@@ -196,37 +162,8 @@ pub fn calls_are_stamped()
     ensures { OfSchedules (λ plan moves. CallsAreStamped (past plan moves)) }
 {}
 
-/// In every schedule without a clash each unit that was made as the reply to a call answers one that was made on its
-/// channel, in the unit of the mark and with its number, which passed at the step that sent the reply.
-#[tactic(auto, using(crate::proofs::Sequences::ReplyCallLaws::replies_answer))]
-pub fn replies_answer_calls()
-    ensures { OfSchedules (λ plan moves. (past plan moves).book.clash ≡ false →
-        RepliesAnswerCalls (past plan moves)) }
-{}
-
 /// In a run without a clash a call whose answer a member took passed, where each unit is heard whole.
 #[tactic(auto, using(crate::proofs::Sequences::SharedLaws::taken_pass))]
 pub fn taken_calls_pass()
     ensures { TakenCallsPass }
-{}
-
-/// After every run at most one turn is out at each member (this project's own choice): one of its dials waits at most,
-/// which is that of the turn, and then no link of a turn is open.
-pub fn members_have_one_turn_out()
-    ensures { (plan : Plan) (moves : List Move) → OneTurnIsOut (past plan moves) }
-{}
-
-/// In every schedule that is clear the calls that were made on a member's open channel are those of its turns there, in
-/// their order and with their timestamps, each in a unit of its own. Each passed but for one that is out.
-pub fn turns_are_called()
-    ensures { OfSchedules (λ plan moves. IsClear (past plan moves).book →
-        TurnsAreCalled (past plan moves)) }
-{}
-
-/// In every schedule that is clear, where the controller of a member's plan keeps the member's open channel and no call
-/// from outside passed on it, the controller's seed is the member's, or with a turn out the one before that turn
-/// (MS-NRPC 3.1.4.5).
-pub fn sequences_are_shared()
-    ensures { OfSchedules (λ plan moves. IsClear (past plan moves).book →
-        SequencesAreShared (past plan moves)) }
 {}

@@ -1,5 +1,5 @@
 -- The same of runs.
--- It serves `runs_are_proved`, `short_responses_serve_once`.
+-- It serves `runs_are_proved`, `Proved.responses`.
 use Rattle.std.proofs.Common.{List}
 use Rattle.world_moves.specs.declared.moves.Move.{Move}
 use Rattle.world_moves.specs.declared.plan.Plan.{Plan}

@@ -1,5 +1,5 @@
 -- In every run a member lets somebody in only where it took a message on that link, and an answer for it.
--- It serves `members_let_in_who_asked`.
+-- It serves `Proved.let_in`.
 use Rattle.std.proofs.Common.{◌≡◌, ℕ, zero, suc, ◌+◌, ◌==◌, Bool, true, false, List, [], ◌∷◌, ◌++◌, length, map, inl, inr, Option, Some, None, Result, Ok, Err, refl, sym, ap, subst, ◌∙◌, slice_get, arith}
 use Rattle.std.specs.Prelude.{flat_map}
 use Rattle.std.specs.List.{AllByRecursion}

@@ -1,5 +1,5 @@
 -- What ends do where no bytes come: nobody is let in, and the logons that members keep stay those of messages that they
--- took. It serves `members_ask_for_messages`, `members_let_in_who_asked`, `sends_ask_for_messages`.
+-- took. It serves `Proved.asked`, `Proved.let_in`, `Proved.sends`.
 use Rattle.std.proofs.Common.{◌≡◌, ℕ, true, List, [], ◌∷◌, ◌++◌, length, inl, inr, Option, Some, None, Result, Ok, Err, refl, sym, subst, slice_get, slice_set, ap, ◌∙◌, false}
 use Rattle.std.specs.List.{AllByRecursion}
 use Rattle.outside.specs.declared.action.Action.{Action}

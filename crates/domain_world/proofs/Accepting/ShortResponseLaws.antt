@@ -1,5 +1,5 @@
 -- A response of 24 bytes is accepted on one link alone: it answers one challenge under a hash, and no two links have
--- one. It serves `runs_are_heard`, `runs_are_proved`, `short_responses_serve_once`.
+-- one. It serves `runs_are_heard`, `runs_are_proved`, `Proved.responses`.
 use Rattle.std.proofs.Common.{◌≡◌, inl, inr, List, [], length, Option, Some, None, IsSomeAnd, sym, ap, ◌∙◌, subst, arith, ℕ}
 use Rattle.std.proofs.lemmas.Option.{get_or_from_slice_get, slice_get_within}
 use Rattle.channel_keys.specs.Des.{IsBlock}

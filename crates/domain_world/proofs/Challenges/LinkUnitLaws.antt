@@ -1,6 +1,6 @@
 -- What a unit on an accepted link comes to, by what is written down of it: what it sends and draws where nothing is
 -- bound, and what is taken where a CHALLENGE had been sent.
--- It serves `members_leave_nothing_out`, `messages_have_own_challenges`, `runs_are_heard` and 3 more.
+-- It serves `members_leave_nothing_out`, `Proved.messages`, `runs_are_heard` and 3 more.
 use Rattle.std.proofs.Common.{◌≡◌, ◌==◌, ℕ, Bool, true, false, List, [], ◌∷◌, Option, Some, None, Result, Ok, Err, inl, inr, refl, ap}
 use Rattle.std.proofs.lemmas.Bool.{eq-eqb}
 use Rattle.std.proofs.lemmas.Option.{same_Some}

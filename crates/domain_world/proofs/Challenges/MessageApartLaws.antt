@@ -1,5 +1,5 @@
 -- In every run no two messages that are written down came on one link: they are among the links on which one was taken,
--- in order, and a link takes one. It serves `messages_are_apart`.
+-- in order, and a link takes one. It serves `Proved.apart`.
 use Rattle.std.proofs.Common.{◌≡◌, ◌≢◌, ◌⊎◌, ◌==◌, ℕ, zero, suc, Bool, true, false, List, [], ◌∷◌, ◌++◌, map, inl, inr, Option, Some, None, refl, sym, ap, ap₂, subst, ◌∙◌, arith}
 use Rattle.std.specs.Prelude.{AllPairs, flat_map}
 use Rattle.std.specs.List.{AllByRecursion}

@@ -1,5 +1,5 @@
 -- In every run a link takes at most one AUTHENTICATE.
--- It serves `links_take_one_message`.
+-- It serves `Proved.challenges`.
 use Rattle.std.proofs.Common.{◌≡◌, ◌≢◌, ℕ, zero, suc, ◌<◌, List, [], ◌∷◌, ◌++◌, length, map, ◌⊎◌, inl, inr, Some, slice_get, slice_set, All, AllPairs, refl, sym, ap, subst, ◌∙◌, arith, length-append}
 use Rattle.std.specs.Prelude.{false, flat_map}
 use Rattle.std.proofs.lemmas.List.{append-nil}

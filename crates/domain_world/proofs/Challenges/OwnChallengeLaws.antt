@@ -1,5 +1,5 @@
 -- In every run each AUTHENTICATE that a member took is for its link's own unused challenge.
--- It serves `messages_have_own_challenges`.
+-- It serves `Proved.messages`.
 use Rattle.std.proofs.Common.{◌≡◌, ◌≢◌, ◌<◌, ◌≤◌, ◌==◌, ℕ, zero, suc, ◌+◌, Bool, true, false, cond, List, [], ◌∷◌, ◌++◌, length, map, Option, Some, None, inl, inr, refl, sym, ap, subst, ◌∙◌, arith, slice_get, slice_set, All, AllPairs, count_by, get_or}
 use Rattle.std.specs.Prelude.{flat_map}
 use Rattle.std.specs.List.{AllByRecursion}

@@ -1,6 +1,5 @@
 -- What a member writes down of the links that it accepts: which CHALLENGE was sent, by which draw, and for which an
--- AUTHENTICATE is. It serves `members_leave_nothing_out`, `messages_are_taken_as_sent`, `messages_have_own_challenges`
--- and 3 more.
+-- AUTHENTICATE is. It serves `members_leave_nothing_out`, `messages_are_taken_as_sent`, `Proved.messages` and 3 more.
 use Rattle.std.proofs.Common.{◌≡◌, ◌≤◌, ℕ, Bool, true, false, List, [], ◌∷◌, ◌++◌, length, Option, Some, None, Result, Ok, Err, inl, inr, refl, sym, ap, subst, ◌∙◌, arith, slice_get, append_assoc, length-append}
 use Rattle.std.proofs.lemmas.List.{flat_map_more}
 use Rattle.std.specs.Prelude.{flat_map}

@@ -1,5 +1,5 @@
 -- Each logon that a member keeps is that of a message that is written down, and each challenge that it waits on is too.
--- It serves `members_are_written_down`.
+-- It serves `Proved.written`.
 use Rattle.std.proofs.Common.{◌≡◌, ◌<◌, ◌⊎◌, ℕ, List, Option, Some, None, inl, inr, subst}
 use Rattle.wire_base.specs.Maps.{lookup, same_number}
 use Rattle.end_links.specs.Links.{LinkState}

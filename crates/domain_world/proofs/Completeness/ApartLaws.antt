@@ -1,5 +1,5 @@
 -- Who can succeed comes at a member that has its own computer, and can be granted the logon.
--- It serves `logons_succeed`.
+-- It serves `Proved.complete`.
 use Rattle.std.proofs.Common.{◌≡◌, ◌≢◌, ℕ, zero, suc, ◌<◌, Bool, true, false, refl, sym, ap, subst, ◌∙◌, List, [], ◌∷◌, Option, Some, inl, inr, slice_get, arith}
 use Rattle.std.specs.Prelude.{◌⊎◌, ◌==◌, AllPairs, filter}
 use Rattle.std.specs.List.{AllByRecursion}

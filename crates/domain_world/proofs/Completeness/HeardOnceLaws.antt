@@ -1,6 +1,6 @@
 -- What is written down of a call that a controller hears on the link of a turn, in one fragment or more: all but the
 -- last come to nothing, and the last to the call.
--- It serves `logons_succeed`.
+-- It serves `Proved.complete`.
 use Rattle.std.proofs.Common.{◌≡◌, ℕ, ◌<◌, ◌^◌, arith, Bool, false, List, [], ◌∷◌, map, Option, Some, None, Result, Ok, Err, refl, sym, ap, ap₂, subst, ◌∙◌, if◌then◌else◌}
 use Rattle.std.specs.Prelude.{◌||◌}
 use Rattle.std.specs.List.{AllByRecursion}

@@ -1,6 +1,6 @@
 -- What is written down where the controller grants a logon: a call that passed with status 0, by the user's hash and on
 -- the member's channel.
--- It serves `logons_succeed`.
+-- It serves `Proved.complete`.
 use Rattle.std.proofs.Common.{◌≡◌, ℕ, true, refl, sym, ap, ap₂, subst, ◌∙◌, List, [], ◌∷◌, ◌++◌, length, map, replicate, Option, Some, None, inl}
 use Rattle.std.specs.Prelude.{IsSomeAnd}
 use Rattle.rc4_stream.specs.Rc4.{applied}

@@ -1,5 +1,5 @@
 -- The moment is one of 64 bits in each state, and a client that starts draws no challenge and sends no unit.
--- It serves `logons_succeed`.
+-- It serves `Proved.complete`.
 use Rattle.std.proofs.Common.{◌≡◌, ℕ, ◌+◌, ◌≤◌, ◌<◌, ◌^◌, Bool, true, false, refl, ap, length, Option, Some, None, slice_get, arith, if◌then◌else◌, append-nil, ◌∙◌}
 use Rattle.std.specs.Prelude.{min, nat_le}
 use Rattle.logon_client.specs.Machine.{Beginning}

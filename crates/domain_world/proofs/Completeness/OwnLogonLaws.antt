@@ -1,6 +1,6 @@
 -- The logon of a client that can succeed, move by move: where it is judged and told, that is written down; at its end
 -- the client is in, with the key that was told.
--- It serves `logons_succeed`.
+-- It serves `Proved.complete`.
 use Rattle.std.proofs.Common.{◌≡◌, ℕ, refl, sym, subst, List, [], ◌∷◌, length, Some, inl}
 use Rattle.std.specs.List.{AllByRecursion}
 use Rattle.authenticators.specs.SecureChannels.{SecureChannelState, key_of_channel}

@@ -1,5 +1,5 @@
 -- The logon of a client that can succeed, over its moves: at its end the client is in, and its member told so.
--- It serves `logons_succeed`.
+-- It serves `Proved.complete`.
 use Rattle.std.proofs.Common.{◌≡◌, ◌≢◌, ℕ, suc, ◌<◌, ◌^◌, sym, ap, subst, ◌∙◌, List, [], ◌∷◌, length, Some, inl, inr, slice_get, arith, false, refl}
 use Rattle.std.specs.Prelude.{IsSomeAnd}
 use Rattle.std.specs.List.{AllByRecursion}

@@ -1,6 +1,6 @@
 -- Logons that come one at a time: where a client starts, and at the end, the world rests, and a client that isn't
 -- started any more is as it was.
--- It serves `logons_succeed`.
+-- It serves `Proved.complete`.
 use Rattle.std.proofs.Common.{◌≡◌, ◌≢◌, ℕ, zero, suc, ◌+◌, ◌*◌, ◌<◌, ◌^◌, Bool, true, false, refl, sym, ap, subst, ◌∙◌, List, [], ◌∷◌, length, Option, Some, None, inl, inr, slice_get, arith, length-append}
 use Rattle.std.specs.Prelude.{◌⊎◌, ◌%◌, ◌==◌}
 use Rattle.std.specs.List.{AllByRecursion}

@@ -1,5 +1,5 @@
 -- Logons that come one at a time, from one start to the next: each client that can succeed does.
--- It serves `logons_succeed`.
+-- It serves `Proved.complete`.
 use Rattle.std.proofs.Common.{◌≡◌, ◌≢◌, ℕ, zero, suc, ◌-◌, ◌≤◌, ◌<◌, ◌^◌, refl, sym, ap, ap₂, subst, ◌∙◌, List, [], ◌∷◌, ◌++◌, length, Some, inl, inr, slice_get, arith}
 use Rattle.std.specs.Prelude.{◌⊎◌, ◌%◌, AllPairs}
 use Rattle.std.specs.List.{AllByRecursion}

@@ -1,5 +1,5 @@
 -- What is written down of one move at which a unit comes on its own link in one piece.
--- It serves `logons_succeed`.
+-- It serves `Proved.complete`.
 use Rattle.std.proofs.Common.{◌≡◌, ℕ, ◌≤◌, ◌<◌, List, length, Option, Some, ap, ◌∙◌, slice_get}
 use Rattle.wire_base.specs.Maps.{lookup, same_number}
 use Rattle.outside.specs.declared.event.Event.TheVariants as event

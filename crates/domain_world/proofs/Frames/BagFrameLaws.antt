@@ -1,7 +1,7 @@
 -- What holds of each unit of the bag and its mark, through all moves of a run: whatever holds where an end makes a unit
 -- for a mark, and goes on holding as more is written down. It may rest on something of the ends, the maker of
 -- challenges and the links that holds through all moves (`FrameLaws`). It is an instance of `MoveFrameLaws`.
--- It serves `each_unit_is_marked`.
+-- It serves `Proved.marked`.
 use Rattle.std.proofs.Common.{◌≡◌, ℕ, ◌+◌, Bool, true, false, List, [], ◌∷◌, ◌++◌, drop, length, map, inl, inr, Option, Some, None, slice_get, refl, ap, sym, subst, ◌∙◌, arith, length-append}
 use Rattle.std.specs.Prelude.{◌-◌, ◌≤◌, replicate}
 use Rattle.std.specs.List.{AllByRecursion}

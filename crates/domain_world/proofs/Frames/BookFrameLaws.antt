@@ -1,6 +1,6 @@
 -- What holds through a run of what is written down of it alone: whatever holds through what is written down of bytes
 -- that an end hears, and of what ends give at a move. It is an instance of `EndFrameLaws`.
--- It serves `messages_are_apart`, `passes_are_unclashed`, `runs_are_heard`.
+-- It serves `Proved.apart`, `Proved.unclashed`, `runs_are_heard`.
 use Rattle.std.proofs.Common.{ℕ, List, Some}
 use Rattle.outside.specs.declared.event.Event.TheVariants as event
 use Rattle.step_notes.specs.Records.{Book, blank}

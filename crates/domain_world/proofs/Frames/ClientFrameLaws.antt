@@ -1,6 +1,6 @@
 -- What holds of each client through the moves of a world, by its plan, the links and what is written down as made: what
 -- holds through its own steps, whatever other clients make. It is an instance of `EndFrameLaws`.
--- It serves `clients_are_written_down` and `messages_are_of_their_clients`.
+-- It serves `Proved.clients` and `Proved.made`.
 use Rattle.std.proofs.Common.{◌≡◌, ℕ, List, [], ◌∷◌, ◌++◌, length, map, Some, refl, sym, subst, slice_get, slice_set}
 use Rattle.std.specs.Prelude.{true, flat_map}
 use Rattle.outside.specs.Drawing.{Drawing}

@@ -1,6 +1,6 @@
 -- Where bytes come from that an end hears: a unit of the bag, on a link of its kind, or from outside, on no link
 -- between a member and a controller; and what stays of a unit of the bag. It serves `drive`, `schedules_are_heard` and
--- `members_let_in_who_asked`.
+-- `Proved.let_in`.
 use Rattle.std.proofs.Common.{◌≡◌, ℕ, zero, suc, ◌+◌, Bool, true, false, List, [], ◌∷◌, ◌++◌, inl, inr, Option, Some, None, slice_get, if◌then◌else◌, refl, sym, ap, subst, ◌∙◌, arith, drop, length}
 use Rattle.wire_base.specs.Numbers.{AreBytes}
 use Rattle.wire_base.proofs.NumberLaws.{AreBytes-drop, AreBytes-take}

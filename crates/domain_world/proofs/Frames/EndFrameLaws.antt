@@ -1,7 +1,6 @@
 -- What holds through the moves of a world of its ends, its plans, its maker of challenges and its links, of what ends
 -- gave in the move, and of the book: whatever holds through each step of an end, since actions change none of them.
--- It is an instance of `MoveFrameLaws`. It serves `controllers_pass_the_next`, `members_let_in_who_asked`,
--- `runs_are_heard` and others.
+-- It is an instance of `MoveFrameLaws`. It serves `Proved.credentials`, `Proved.let_in`, `runs_are_heard` and others.
 use Rattle.std.proofs.Common.{◌≡◌, ℕ, ◌+◌, List, [], ◌++◌, length, Option, Some, None, slice_get}
 use Rattle.std.specs.Prelude.{true}
 use Rattle.outside.specs.Drawing.{Drawing}

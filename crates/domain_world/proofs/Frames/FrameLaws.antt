@@ -1,7 +1,6 @@
 -- What holds through the moves of a world, of its ends, its maker of challenges, its links and of what is written down:
 -- whatever holds through each step of an end, also where it speaks of the plans from which clients are made. It is an
--- instance of `EndFrameLaws`. It serves `controllers_grant_who_may_log_on`, `each_unit_is_marked`,
--- `links_take_one_message` and 14 more.
+-- instance of `EndFrameLaws`. It serves `Proved.grants`, `Proved.marked`, `Proved.challenges` and 14 more.
 use Rattle.std.proofs.Common.{◌≡◌, ℕ, List, [], ◌∷◌, ◌++◌, length, Some, slice_get, slice_set, sym, subst}
 use Rattle.outside.specs.Drawing.{Drawing}
 use Rattle.outside.specs.declared.event.Event.{Event}

@@ -1,5 +1,5 @@
 -- Where bytes come, what a controller sends goes on their link, before it closes any, once for each mark.
--- It serves `each_unit_is_marked`, `marks_have_their_way`, `replies_carry_their_judgement` and 3 more.
+-- It serves `Proved.marked`, `Proved.ways`, `Proved.replies` and 3 more.
 use Rattle.std.proofs.Common.{◌≡◌, ◌⊎◌, ℕ, suc, ◌+◌, Bool, true, false, List, [], ◌∷◌, ◌++◌, length, map, slice_get, Option, Some, None, Result, Ok, Err, refl, sym, ap, ◌∙◌, bytes_eq}
 use Rattle.std.specs.List.{AllByRecursion}
 use Rattle.std.proofs.lemmas.Bool.Decides.{Decides-eqb}

@@ -1,6 +1,5 @@
 -- Which new unit of the bag gets which mark: those that an end sends on a link before it closes any are the first of
--- the link, and get the marks in order. It serves `each_unit_is_marked`, `marks_have_their_way`,
--- `replies_carry_their_judgement` and 4 more.
+-- the link, and get the marks in order. It serves `Proved.marked`, `Proved.ways`, `Proved.replies` and 4 more.
 use Rattle.std.proofs.Common.{◌≡◌, ◌⊎◌, ℕ, zero, suc, ◌+◌, Bool, true, false, ◌==◌, ◌&&◌, List, [], ◌∷◌, ◌++◌, length, map, inl, inr, Option, Some, None, slice_get, slice_set, if◌then◌else◌, refl, ap, sym, subst, ◌∙◌, arith}
 use Rattle.std.specs.Prelude.{◌≤◌, not, replicate}
 use Rattle.std.specs.List.{AllByRecursion}

@@ -1,7 +1,7 @@
 -- What holds through the moves of a world: whatever holds through each step of an end, each action that is done, and
 -- each single change beside that. This is the one induction over the kinds of moves; the other frames are instances of
--- it, each with less to be shown. It serves `drive`, `schedules_are_heard`, `sequences_are_own`, and all other laws of
--- every run.
+-- it, each with less to be shown. It serves `drive`, `schedules_are_heard`, `Proved.own`, and all other laws of every
+-- run.
 use Rattle.std.proofs.Common.{◌≡◌, ℕ, suc, ◌+◌, ◌*◌, ◌≤◌, Bool, true, false, List, [], ◌∷◌, ◌++◌, drop, length, inl, inr, Option, Some, None, IsSome, slice_get, refl, sym, ap, subst, ◌∙◌, arith, length-append}
 use Rattle.std.specs.Prelude.{◌%◌}
 use Rattle.std.specs.List.{AllByRecursion}

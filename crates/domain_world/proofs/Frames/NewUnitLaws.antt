@@ -1,7 +1,6 @@
 -- A unit that an end sends on the link on which bytes came to it, with its mark: its bytes are those of the Send that
 -- stands at the place of the mark, and its number is that at this place among the numbers of the units that went into
--- the bag on the link. It serves `each_unit_is_marked`, `marks_have_their_way`, `replies_carry_their_judgement` and 3
--- more.
+-- the bag on the link. It serves `Proved.marked`, `Proved.ways`, `Proved.replies` and 3 more.
 use Rattle.std.proofs.Common.{◌≡◌, ◌⊎◌, ℕ, ◌+◌, Bool, true, false, List, ◌++◌, drop, length, inl, inr, Some, slice_get, refl, ap, sym, ◌∙◌}
 use Rattle.std.specs.List.{AllByRecursion}
 use Rattle.std.proofs.lemmas.List.{append_assoc, drop_at}

@@ -1,6 +1,6 @@
 -- What a controller does beside its answers: where no bytes come, a link that opens is closed, or nothing is done, and
 -- its accounts, its channels and the challenges that are left stay. What the world's proofs know of such steps is here.
--- It serves `controllers_pass_the_next`, `tables_follow_verdicts`, `replays_pass_by_sum` and those that rest on them.
+-- It serves `Proved.credentials`, `Proved.tables`, `Proved.replays` and those that rest on them.
 use Rattle.std.proofs.Common.{◌≡◌, ℕ, Bool, true, false, List, length, Option, Some, None, refl, sym, subst}
 use Rattle.std.specs.Prelude.{nat_le}
 use Rattle.std.specs.List.{AllByRecursion}

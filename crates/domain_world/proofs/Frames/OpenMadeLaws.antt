@@ -1,6 +1,5 @@
 -- Through all moves each link that is open at a side is between the ends that it was made for, and what an end does
--- adds units to the bag. It serves `each_unit_is_marked`, `marks_have_their_way`, `replies_carry_their_judgement` and 3
--- more.
+-- adds units to the bag. It serves `Proved.marked`, `Proved.ways`, `Proved.replies` and 3 more.
 use Rattle.std.proofs.Common.{◌≡◌, ℕ, Bool, true, false, List, [], ◌∷◌, ◌++◌, length, Option, Some, None, slice_get, if◌then◌else◌, refl, ap, sym, subst, ◌∙◌}
 use Rattle.std.specs.Prelude.{◌||◌}
 use Rattle.std.specs.List.{AllByRecursion}

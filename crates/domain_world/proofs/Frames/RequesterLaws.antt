@@ -1,5 +1,5 @@
 -- Where a requester stands: a member's is that of its running state.
--- It serves `sequences_are_own`, `sequences_follow` and `turns_are_called`.
+-- It serves `Proved.own`, `sequences_follow` and `Proved.called`.
 use Rattle.std.proofs.Common.{◌≡◌, ℕ, Option, Some, None, refl, sym, ap, ◌∙◌, slice_get}
 use Rattle.authenticators.specs.Channels.{ChannelIdentity}
 use Rattle.authenticators.specs.SecureChannels.{channel_of, SecureChannelState}

@@ -1,6 +1,6 @@
 -- What holds of the book as the units are written down that a turn of a member served: whatever holds through each of
 -- them. They change messages and the clash alone, so each other part of the book stays.
--- It serves `controllers_pass_the_next`, `members_let_in_who_asked`, `runs_are_heard` and others.
+-- It serves `Proved.credentials`, `Proved.let_in`, `runs_are_heard` and others.
 use Rattle.std.proofs.Common.{◌≡◌, ℕ, List, [], ◌∷◌, Option, refl, ◌∙◌}
 use Rattle.end_links.specs.Serving.{ServedUnit}
 use Rattle.member_server.specs.Turns.{AtTurn}

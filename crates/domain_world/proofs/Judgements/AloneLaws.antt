@@ -1,5 +1,5 @@
 -- What a controller tells judges a call, and it never tells that it handed one on to another.
--- It serves `controllers_tell_of_calls_alone`.
+-- It serves `Proved.alone`.
 use Rattle.std.proofs.Common.{◌≡◌, ◌≢◌, List, [], ◌∷◌, ◌++◌, Option, Some, None, true, refl, sym, ap, ◌∙◌, subst}
 use Rattle.std.specs.List.{AllByRecursion}
 use Rattle.outside.specs.declared.action.Judged.{Judged}

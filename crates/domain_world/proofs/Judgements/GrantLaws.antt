@@ -1,5 +1,5 @@
 -- In every run a controller grants a Logon call exactly where it is to be granted, by the accounts of the plan.
--- It serves `controllers_grant_who_may_log_on` and `controllers_tell_of_calls_alone`.
+-- It serves `Proved.grants` and `Proved.alone`.
 use Rattle.std.proofs.Common.{◌≡◌, ◌↔◌, ℕ, zero, suc, true, false, List, [], ◌∷◌, ◌++◌, drop, length, Option, Some, None, Ok, Err, inl, inr, slice_get, slice_set, refl, sym, ap, subst, ◌∙◌}
 use Rattle.std.specs.List.{AllByRecursion}
 use Rattle.wire_base.specs.Maps.{lookup, same_number}

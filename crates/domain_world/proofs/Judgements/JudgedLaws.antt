@@ -1,5 +1,5 @@
 -- Each Logon call that a controller heard in a run was judged by its channel's sequence.
--- It serves `controllers_grant_who_may_log_on`, `controllers_pass_the_next`, `members_ask_for_messages` and 8 more.
+-- It serves `Proved.grants`, `Proved.credentials`, `Proved.asked` and 8 more.
 use Rattle.std.proofs.Common.{◌≡◌, ℕ, Bool, true, false, List, [], ◌∷◌, ◌++◌, map, Option, Some, None, Result, Ok, Err, refl, sym, subst}
 use Rattle.std.specs.List.{AllByRecursion}
 use Rattle.wire_base.specs.Maps.{lookup, same_number}

@@ -1,5 +1,5 @@
 -- How far the authenticators that passed on a channel moved its seed.
--- It serves `carried_calls_are_heard`, `controllers_grant_who_may_log_on`, `replays_pass_by_sum` and 5 more.
+-- It serves `carried_calls_are_heard`, `Proved.grants`, `Proved.replays` and 5 more.
 use Rattle.std.proofs.Common.{◌≡◌, ℕ, ◌+◌, Bool, true, false, List, [], ◌∷◌, ◌++◌, Option, Some, None, refl, ap, ◌∙◌, arith}
 use Rattle.authenticators.specs.Channels.{ChannelIdentity, SameChannel, same_channel}
 use Rattle.authenticators.specs.SecureChannels.{SecureChannelState, channel_of}

@@ -1,5 +1,5 @@
 -- In every run a replayed authenticator passes again exactly where the timestamps that passed since, each plus one, sum
--- to a multiple of 2^32. It serves `replays_pass_by_sum`.
+-- to a multiple of 2^32. It serves `Proved.replays`.
 use Rattle.std.proofs.Common.{◌≡◌, ◌≢◌, ◌↔◌, ℕ, zero, suc, ◌+◌, ◌-◌, ◌%◌, ◌^◌, Bool, true, false, List, [], ◌∷◌, ◌++◌, Option, Some, None, AllPairs, refl, sym, ap, ap₂, subst, ◌∙◌, arith, slice_get}
 use Rattle.std.proofs.lemmas.List.Elements.{recursion_from_All}
 use Rattle.wire_base.specs.Maps.{lookup}

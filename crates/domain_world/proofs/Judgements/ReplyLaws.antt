@@ -1,5 +1,5 @@
 -- In every run each unit of the bag that is marked as a reply carries what its controller judged.
--- It serves `replies_carry_their_judgement`.
+-- It serves `Proved.replies`.
 use Rattle.std.proofs.Common.{◌≡◌, ℕ, zero, suc, ◌+◌, Bool, true, false, List, [], ◌∷◌, ◌++◌, length, map, inl, inr, Option, Some, None, Result, Ok, Err, refl, sym, ◌∙◌, subst, slice_get}
 use Rattle.std.specs.List.{AllByRecursion}
 use Rattle.authenticators.specs.Channels.{ChannelIdentity}

@@ -1,6 +1,5 @@
 -- The seed of each channel that a controller keeps: the credential of its client's challenge, moved by the timestamps
--- that passed on it. It serves `controllers_grant_who_may_log_on`, `replays_pass_by_sum`,
--- `replies_carry_their_judgement` and 3 more.
+-- that passed on it. It serves `Proved.grants`, `Proved.replays`, `Proved.replies` and 3 more.
 use Rattle.std.proofs.Common.{◌≡◌, ◌≢◌, ℕ, ◌+◌, Bool, true, false, List, [], ◌∷◌, length, drop, Option, Some, None, refl, sym, ap, subst, ◌∙◌, inl, inr, arith, bytes_eq}
 use Rattle.std.specs.List.{AllByRecursion}
 use Rattle.std.proofs.lemmas.Bool.{cases_Bool}

@@ -1,5 +1,5 @@
 -- The seeds of the channels that controllers keep, through each step of an end.
--- It serves `controllers_grant_who_may_log_on`, `replays_pass_by_sum`, `replies_carry_their_judgement` and 3 more.
+-- It serves `Proved.grants`, `Proved.replays`, `Proved.replies` and 3 more.
 use Rattle.std.proofs.Common.{◌≡◌, ◌≢◌, ℕ, Bool, true, false, List, [], ◌∷◌, ◌++◌, map, Option, Some, None, Ok, Err, refl, sym, ap, subst, ◌∙◌, inl, inr, slice_get, slice_set}
 use Rattle.std.specs.List.{AllByRecursion}
 use Rattle.wire_base.specs.Maps.{lookup, same_number, take_out}

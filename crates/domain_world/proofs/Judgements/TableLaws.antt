@@ -1,5 +1,5 @@
 -- The accounts of a controller change by the verdicts on the calls that passed there, and by nothing else.
--- It serves `tables_follow_verdicts`.
+-- It serves `Proved.tables`.
 use Rattle.std.proofs.Common.{◌≡◌, ◌==◌, ℕ, Bool, true, false, List, [], ◌∷◌, ◌++◌, map, Option, Some, None, Ok, Err, refl, sym, ap, subst, ◌∙◌, slice_get, slice_set}
 use Rattle.std.proofs.lemmas.Bool.{eq-eqb, ne_eqb}
 use Rattle.wire_base.specs.Maps.{lookup, same_number, take_out}

@@ -1,5 +1,5 @@
 -- What controllers told in a run are the judgements of the Logon calls that they heard, in their order.
--- It serves `controllers_pass_the_next`.
+-- It serves `Proved.credentials`.
 use Rattle.std.proofs.Common.{◌≡◌, ℕ, Bool, true, false, cond, List, [], ◌∷◌, ◌++◌, length, map, Option, Some, None, Ok, Err, refl, sym, ap, ◌∙◌, subst}
 use Rattle.std.specs.List.{AllByRecursion}
 use Rattle.std.specs.Prelude.{flat_map}

@@ -1,5 +1,5 @@
 -- In every run without a clash each credential that passed for a call passed on the channel for which the unit was made
--- that carried the call. It serves `passes_are_unclashed`.
+-- that carried the call. It serves `Proved.unclashed`.
 use Rattle.std.proofs.Common.{◌≡◌, ℕ, Bool, true, false, ◌||◌, not, List, [], ◌∷◌, ◌++◌, map, Option, Some, None, slice_get, refl, ap, ap₂, ◌∙◌}
 use Rattle.std.specs.List.{AllByRecursion}
 use Rattle.authenticators.specs.Channels.{ChannelIdentity}

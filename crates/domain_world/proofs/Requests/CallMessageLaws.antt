@@ -1,5 +1,5 @@
 -- In every run each Logon call that goes out at a member next is for a message that the member took.
--- It serves `members_ask_for_messages`, `sends_ask_for_messages`.
+-- It serves `Proved.asked`, `Proved.sends`.
 use Rattle.std.proofs.Common.{◌≡◌, ℕ, zero, suc, Bool, true, false, List, [], ◌∷◌, ◌++◌, map, Option, Some, None, Result, Ok, Err, refl, sym, ap, ap₂, subst, ◌∙◌, slice_get}
 use Rattle.std.specs.List.{AllByRecursion}
 use Rattle.wire_base.specs.Maps.{lookup, same_number}

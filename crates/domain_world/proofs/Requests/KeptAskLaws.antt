@@ -1,5 +1,5 @@
 -- In every run each member asks for what it keeps.
--- It serves `members_ask_for_what_they_keep`.
+-- It serves `Proved.kept`.
 use Rattle.std.proofs.Common.{◌≡◌, ℕ, zero, suc, List, [], ◌∷◌, map, length, Some, refl, subst, slice_get, slice_set}
 use Rattle.std.specs.List.{AllByRecursion}
 use Rattle.outside.specs.declared.event.Event.{Event}

@@ -1,5 +1,5 @@
 -- In every run each unit that is marked as a request goes on from the end that dialled its link, and each that is
--- marked as a reply goes back to it. It serves `marks_have_their_way`.
+-- marked as a reply goes back to it. It serves `Proved.ways`.
 use Rattle.std.proofs.Common.{◌≡◌, ℕ, zero, suc, ◌==◌, ◌&&◌, not, Bool, true, false, List, [], ◌∷◌, ◌++◌, map, Option, Some, None, refl, sym, ◌∙◌, subst, slice_get}
 use Rattle.std.specs.List.{AllByRecursion}
 use Rattle.authenticators.specs.Channels.{ChannelIdentity}

@@ -1,5 +1,5 @@
 -- One step of a member keeps what is known of the calls of its turns.
--- It serves `sequences_are_shared`.
+-- It serves `Proved.sequences`.
 use Rattle.std.proofs.Common.{◌≡◌, ◌⊎◌, ℕ, zero, suc, ◌+◌, ◌≤◌, Bool, true, false, List, [], ◌∷◌, ◌++◌, replicate, inl, inr, Some, Result, slice_get, refl, sym, ap, subst, ◌∙◌, arith}
 use Rattle.outside.specs.Drawing.{IsRest, draws_between}
 use Rattle.outside.specs.Machine.{Part, left_by}

@@ -1,5 +1,5 @@
 -- A unit that a requester takes keeps what is known of the calls of its turns.
--- It serves `sequences_are_shared`.
+-- It serves `Proved.sequences`.
 use Rattle.std.proofs.Common.{◌≡◌, ℕ, List, ◌++◌, Option, Some, None, slice_get, refl, sym, ap, subst, ◌∙◌}
 use Rattle.authenticators.specs.Channels.{ChannelIdentity}
 use Rattle.authenticators.specs.SecureChannels.{channel_of}

@@ -1,5 +1,5 @@
 -- How many dials of a member there are: among what was given, among the dials that wait, and the one that is answered.
--- It serves `sequences_are_own`.
+-- It serves `Proved.own`.
 use Rattle.std.proofs.Common.{◌≡◌, ℕ, ◌+◌, ◌≤◌, Bool, true, false, List, [], ◌∷◌, ◌++◌, Option, Some, None, refl, ap, ◌∙◌, arith, if◌then◌else◌, sym}
 use Rattle.std.specs.Prelude.{not}
 use Rattle.std.specs.List.{filter}

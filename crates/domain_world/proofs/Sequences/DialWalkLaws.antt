@@ -1,7 +1,7 @@
 -- What holds through the moves of a world of its ends, its dials, the draws, and the turns that are written down:
 -- whatever holds through each step of an end. It knows of each action that it is done once, and of each answer to a
 -- dial that the dial waited. It is an instance of `MoveFrameLaws`.
--- It serves `sequences_are_own`.
+-- It serves `Proved.own`.
 use Rattle.std.proofs.Common.{◌≡◌, ℕ, List, [], ◌∷◌, ◌++◌, length, Option, Some, None, slice_get, sym, subst}
 use Rattle.outside.specs.Drawing.{Drawing}
 use Rattle.outside.specs.declared.action.Action.{Action}

@@ -1,5 +1,5 @@
 -- At most one turn is out at each member after every run.
--- It serves `members_have_one_turn_out`.
+-- It serves `Proved.one_turn`.
 use Rattle.std.proofs.Common.{◌≡◌, ℕ, ◌+◌, Bool, true, false, List, [], ◌∷◌, length, Option, None, refl, subst, arith, if◌then◌else◌}
 use Rattle.member_server.specs.declared.state.Running.{Running}
 use Rattle.world_moves.specs.declared.moves.Move.{Move}

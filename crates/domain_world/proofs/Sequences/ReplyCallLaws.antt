@@ -1,5 +1,5 @@
 -- Each reply to a call answers one that was made on its channel, of that number, which passed then.
--- It serves `replies_answer_calls`.
+-- It serves `Proved.answered`.
 use Rattle.std.proofs.Common.{◌≡◌, false, Some, refl, subst}
 use Rattle.channel_events.specs.Marks.{Mark}
 use Rattle.channel_events.proofs.ListLaws.{one_weaker}

@@ -1,7 +1,7 @@
 -- Where each call that was made on a channel is that of a turn, and is answered but for the one that is out, the
 -- controller's seed is the requester's, or the one before the turn that is out: what passed on the channel are those
 -- calls, each once.
--- It serves `sequences_are_shared`.
+-- It serves `Proved.sequences`.
 use Rattle.std.proofs.Common.{◌≡◌, ◌⊎◌, ℕ, zero, suc, ◌+◌, ◌&&◌, Bool, true, false, List, [], ◌∷◌, ◌++◌, inl, inr, Option, Some, None, slice_get, refl, sym, ap, ap₂, subst, ◌∙◌, arith}
 use Rattle.std.specs.List.{AllByRecursion}
 use Rattle.std.specs.Prelude.{◌||◌}

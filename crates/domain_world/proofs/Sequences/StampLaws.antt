@@ -1,5 +1,5 @@
 -- In every schedule a unit that was made as a call on a channel carries the call that has the timestamp which is
--- written down. It serves `sequences_are_shared`.
+-- written down. It serves `Proved.sequences`.
 use Rattle.std.proofs.Common.{◌≡◌, ℕ, List, Some, Result, Ok, Err, sym, ap, subst, ◌∙◌, arith}
 use Rattle.wire_base.specs.Numbers.{AreBytes}
 use Rattle.rpc_units.specs.declared.unit.Unit.{Unit as RpcUnit}

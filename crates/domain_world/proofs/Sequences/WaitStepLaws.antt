@@ -1,5 +1,5 @@
 -- Where the dial of a turn waits after a step in which no turn started, it waited before, and the turn is the same.
--- It serves `sequences_are_shared`.
+-- It serves `Proved.sequences`.
 use Rattle.std.proofs.Common.{◌≡◌, ℕ, ◌==◌, Bool, true, false, List, ◌++◌, Option, Some, None, Result, Ok, Err, subst, arith}
 use Rattle.wire_base.specs.Maps.{lookup, same_number}
 use Rattle.outside.specs.Machine.{Part}

@@ -1,5 +1,5 @@
 -- In every run a key that a client keeps is that of a message that is written down as made by it.
--- It serves `clients_are_written_down`.
+-- It serves `Proved.clients`.
 use Rattle.std.proofs.Common.{◌≡◌, ◌==◌, ℕ, Bool, true, false, List, [], ◌∷◌, ◌++◌, Option, Some, None, Result, Ok, Err, inl, refl, sym, ap, subst, ◌∙◌}
 use Rattle.std.specs.List.{AllByRecursion}
 use Rattle.outside.specs.Machine.{Part, step_by}

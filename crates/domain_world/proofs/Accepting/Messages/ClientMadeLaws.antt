@@ -1,5 +1,5 @@
 -- In every run each AUTHENTICATE that is written down as made is by the plan of its client, on a link that this client
--- dialled. It serves `messages_are_of_their_clients` and `clients_are_written_down`.
+-- dialled. It serves `Proved.made` and `Proved.clients`.
 use Rattle.std.proofs.Common.{◌≡◌, ◌==◌, ℕ, Bool, true, false, List, [], ◌∷◌, ◌++◌, Option, Some, None, Result, Ok, Err, refl, sym, ap, subst, ◌∙◌, slice_get}
 use Rattle.std.specs.Prelude.{flat_map}
 use Rattle.std.specs.List.{AllByRecursion}

@@ -1,5 +1,5 @@
 -- A client goes by one plan through its steps, and what it makes is the answer of that plan.
--- It serves `messages_are_made` and `messages_are_of_their_clients`.
+-- It serves `messages_are_made` and `Proved.made`.
 use Rattle.std.proofs.Common.{◌≡◌, ◌==◌, ℕ, Bool, true, false, List, ◌++◌, Option, Some, None, Result, Ok, Err, refl, sym, subst, ◌∙◌}
 use Rattle.std.specs.Prelude.{flat_map}
 use Rattle.outside.specs.Machine.{Part, left_by, step_by, then_part}

@@ -1,6 +1,5 @@
 -- What becomes of the messages that are written down, as a member serves the units of its turn: the place of an answer
--- gives its message the unit that came. It serves `members_ask_for_messages`, `members_let_in_who_asked`,
--- `sends_ask_for_messages`.
+-- gives its message the unit that came. It serves `Proved.asked`, `Proved.let_in`, `Proved.sends`.
 use Rattle.std.proofs.Common.{◌≡◌, ℕ, ◌==◌, Bool, true, false, List, [], ◌∷◌, map, inl, inr, Option, Some, None, refl, sym, ap, subst, ◌∙◌}
 use Rattle.std.proofs.lemmas.Bool.{eq-eqb}
 use Rattle.end_links.specs.Serving.{ServedUnit}

@@ -1,5 +1,5 @@
 -- What is known of the calls of members' turns is carried through a run, where it is kept as bytes come at a member.
--- It serves `sequences_are_shared`.
+-- It serves `Proved.sequences`.
 use Rattle.std.proofs.Common.{◌≡◌, ℕ, ◌+◌, false, List, [], ◌++◌, inl, inr, Option, Some, None, slice_get, refl, sym, ap, subst, arith}
 use Rattle.std.proofs.lemmas.List.{length-set}
 use Rattle.outside.specs.Drawing.{Drawing}

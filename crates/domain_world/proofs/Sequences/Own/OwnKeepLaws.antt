@@ -1,5 +1,5 @@
 -- What is known of the calls of members' turns is kept through all that happens in a run, where it is kept as bytes
--- come at a member. It serves `sequences_are_shared`.
+-- come at a member. It serves `Proved.sequences`.
 use Rattle.std.proofs.Common.{◌≡◌, ℕ, ◌+◌, ◌-◌, ◌≤◌, false, List, [], ◌++◌, length, replicate, Option, Some, None, slice_get, refl, sym, subst, arith}
 use Rattle.outside.specs.Drawing.{Drawing}
 use Rattle.outside.specs.declared.event.Event.{Event}

@@ -1,5 +1,5 @@
 -- What is known of the calls of members' turns is kept as bytes come at a member on another link than that of its turn.
--- It serves `sequences_are_shared`.
+-- It serves `Proved.sequences`.
 use Rattle.std.proofs.Common.{◌≡◌, ℕ, ◌+◌, false, List, [], ◌++◌, drop, length, map, Option, Some, slice_get, refl, sym, ap, subst, ◌∙◌}
 use Rattle.outside.specs.declared.event.Event.{Event}
 use Rattle.outside.specs.declared.event.Event.TheVariants as event

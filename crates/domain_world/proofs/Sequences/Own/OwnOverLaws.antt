@@ -1,6 +1,6 @@
 -- At the end of a move what is known of the calls of a member's turns is known with the turns of the move written down:
 -- it dialled once at most, and then its dial waits. So it is known after a run, if each step keeps it.
--- It serves `sequences_are_shared`.
+-- It serves `Proved.sequences`.
 use Rattle.std.proofs.Common.{◌≡◌, ℕ, ◌≤◌, List, [], ◌++◌, inl, inr, Option, Some, None, slice_get, sym, ap, ◌∙◌, arith}
 use Rattle.std.proofs.lemmas.List.Elements.{filter-append}
 use Rattle.channel_events.specs.Marks.{Mark}

@@ -1,5 +1,5 @@
 -- One step of a member keeps what is known of the calls of its turns: with no unit on the link of its turn, or one
--- whole unit there. It serves `sequences_are_shared`.
+-- whole unit there. It serves `Proved.sequences`.
 use Rattle.std.proofs.Common.{◌≡◌, ℕ, List, [], ◌++◌, Option, Some, None, Result, Ok, Err, slice_get, refl, sym, ap, subst, ◌∙◌}
 use Rattle.outside.specs.Machine.{Part, step_by}
 use Rattle.outside.specs.declared.action.StepRefused.{StepRefused}

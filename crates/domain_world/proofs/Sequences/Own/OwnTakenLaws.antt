@@ -1,6 +1,6 @@
 -- Where a whole unit comes on the link of a member's turn: a call that goes out is on the channel that stands, and the
 -- answer that is taken is to the call of that channel that has the number of the turn. It serves
--- `sequences_are_shared`.
+-- `Proved.sequences`.
 use Rattle.std.proofs.Common.{◌≡◌, ℕ, List, [], ◌∷◌, map, inl, inr, Option, Some, slice_get, refl, sym, ap, subst, ◌∙◌}
 use Rattle.std.specs.List.{AllByRecursion}
 use Rattle.wire_base.specs.Maps.{lookup, same_number}

@@ -1,5 +1,5 @@
 -- What is known of the calls of members' turns holds after a run, where it is kept as bytes come at a member.
--- It serves `sequences_are_shared`.
+-- It serves `Proved.sequences`.
 use Rattle.std.proofs.Common.{◌≡◌, ℕ, ◌+◌, true, List, ◌++◌, drop, length, map, Some, slice_get, refl, subst, false}
 use Rattle.std.specs.List.{AllByRecursion}
 use Rattle.outside.specs.declared.event.Event.{Event}

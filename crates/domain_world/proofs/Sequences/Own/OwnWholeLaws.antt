@@ -1,5 +1,5 @@
 -- What is known of the calls of members' turns is kept as a whole unit comes on the link of a member's turn, and so as
--- bytes come at a member. It serves `sequences_are_shared`.
+-- bytes come at a member. It serves `Proved.sequences`.
 use Rattle.std.proofs.Common.{◌≡◌, ◌⊎◌, ℕ, zero, suc, ◌+◌, ◌≤◌, Bool, true, false, List, [], ◌∷◌, ◌++◌, drop, length, map, inl, inr, Option, Some, None, Result, Ok, Err, slice_get, refl, sym, ap, subst, ◌∙◌, arith}
 use Rattle.outside.specs.Machine.{Part, step_by}
 use Rattle.outside.specs.declared.action.StepRefused.{StepRefused}
