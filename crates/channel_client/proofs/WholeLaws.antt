@@ -16,11 +16,11 @@ use Rattle.logon_stubs.specs.declared.info.NetworkInfo.{NetworkInfo}
 use Rattle.logon_stubs.specs.declared.calls.Call.{Call}
 use Rattle.logon_stubs.specs.declared.calls.Call.TheVariants as call
 use Rattle.logon_stubs.specs.declared.calls.Reply.{Reply}
-use Rattle.logon_stubs.proofs.WrittenLaws.{written_call-content}
+use Rattle.logon_stubs.proofs.WrittenLaws.{AreBytes-written_call, written_call-content}
 use Rattle.end_links.specs.Binding.{bind_of, limit_of}
 use Rattle.end_links.specs.Sending.{joined_frames}
 use Rattle.end_links.specs.Whole.{IsWholeSend}
-use Rattle.end_links.proofs.WholeLaws.{bind_whole, limit_bounds, request_whole}
+use Rattle.end_links.proofs.WholeLaws.{bind_whole, limit_bounds, request_whole, syntax_of_bytes}
 use Rattle.logon_stubs.specs.Interface.{netlogon_syntax}
 use Rattle.channel_client.specs.Machine.{Beginning, act, after, ask_by, auth_call, begin_with, challenge_call, hear, hear_ack, hear_body, hear_by, hear_reply, hear_stub, is_accepting, judge, later_logons, logon_call, opnum_asked, remove_first, settle, start_by, waiting_limit, with_turn}
 use Rattle.channel_client.specs.State.{Requester}
@@ -137,7 +137,7 @@ begun_room (standing.Open o) caller info timestamp challenge has is below eight 
 
 bind_goes : (number : ℕ) → number < 2 ^ 32 → IsWholeSend (joined_frames (written (bind_of netlogon_syntax number) ∷ []))
 bind_goes number below =
-    subst IsWholeSend (sym (append-nil (written (bind_of netlogon_syntax number)))) (bind_whole netlogon_syntax number refl (omega arith) below)
+    subst IsWholeSend (sym (append-nil (written (bind_of netlogon_syntax number)))) (bind_whole netlogon_syntax number refl (syntax_of_bytes netlogon_syntax refl) (omega arith) below)
 
 turned : (s : Requester) (place : ℕ) (b : Beginning) → InRangeRequester s → HasRoom b.call → InRangeRequester (with_turn s place b).state
 turned s place b range room = record {
@@ -176,7 +176,7 @@ ack_heard : (accepting : Bool) (st : Step) (receive next : ℕ) → next < 2 ^ 3
 ack_heard false st receive next below range = tt
 ack_heard true (step.Bind c) receive next below range =
     request_whole next 0 (opnum_of_call c) (limit_of receive) (written_call c) below (omega arith) (opnum_small c) (limit_bounds receive).0 (limit_bounds receive).1
-    (omega (arith, written_call-content c range.writes range.range, range.few))
+    (omega (arith, written_call-content c range.writes range.range, range.few)) (AreBytes-written_call c range.writes range.range)
 ack_heard true (step.Reply q) receive next below range = tt
 
 reply_heard : (q : Question) (read : Result Reply StubRefused) → HeardWhole (hear_reply q read)

@@ -2,10 +2,7 @@
 -- It serves `claims_tell_apart`.
 use Rattle.std.proofs.Common.{◌≡◌, ◌≢◌, ℕ, ◌≤◌, ◌+◌, Bool, true, false, List, [], ◌∷◌, ◌++◌, length, inl, inr, Option, Some, None, refl, sym, ap, subst, ◌∙◌, arith}
 use Rattle.std.specs.Prelude.{◌%◌, ◌^◌, codes, ◌⊎◌}
-use Rattle.std.proofs.lemmas.List.Elements.{All-nil}
 use Rattle.wire_base.specs.Maps.{lookup}
-use Rattle.wire_base.specs.Numbers.{AreBytes}
-use Rattle.end_links.specs.Bounds.{send_limit}
 use Rattle.end_links.specs.Serving.{ServedUnit}
 use Rattle.wire_base.specs.Names.{same_name}
 use Rattle.wire_base.specs.Names as names
@@ -24,24 +21,17 @@ use Rattle.step_notes.specs.Marking.{clashes, is_channel}
 use Rattle.step_notes.specs.Records.{Judging, computer_named, given_in, timestamp_in}
 use Rattle.world_moves.specs.declared.links.Route.TheVariants.{ToMember}
 use Rattle.world_moves.specs.declared.plan.Plan.{Plan}
-use Rattle.world_moves.specs.declared.bag.BagUnit.{BagUnit}
-use Rattle.world_moves.specs.Bag.{AreShortUnits, HaveBytes}
 use Rattle.world_moves.specs.World.{first_world}
 use Rattle.domain_world.specs.Claims.{IsAccepted, PassesTheNextCredential, Wraps, moved_if, moved_on, passed_on, judged_timestamp}
 use Rattle.domain_world.specs.Headline.{IsClaimed}
 use Rattle.domain_world.proofs.HeadlineLaws.{all_proved}
-use Rattle.claim_examples.specs.ClaimExamples.{OfAll, OfClashes, OfCredentials, OfReplays, OfTakenAnswers, OfWraps, elsewhere, judged_as, judged_once, last_timestamp, message, next_call, on_channel, passed_in, second_timestamp, seed_after_one, small_challenge, small_channel, small_computers, small_name, small_seed, taken_in, third_timestamp, told_as, whole_book, whole_call, whole_run}
+use Rattle.claim_examples.specs.ClaimExamples.{OfAll, OfClashes, OfCredentials, OfReplays, OfTakenAnswers, OfWraps, elsewhere, judged_as, judged_once, last_timestamp, message, next_call, on_channel, passed_in, second_timestamp, seed_after_one, small_account, small_challenge, small_channel, small_computers, small_name, small_seed, taken_in, third_timestamp, told_as, whole_book, whole_call, whole_run}
 use Rattle.claim_examples.specs.TellApart.{ClaimsTellApart}
 use Rattle.step_notes.proofs.Controllers.JudgedStepLaws.{next_unbarred, right_passed}
 use Rattle.claim_examples.proofs.CompletenessLaws.{of_completeness, of_success}
+use Rattle.claim_examples.proofs.LetInExampleLaws.{found_small}
 use Rattle.claim_examples.proofs.LogonLaws.{granted_small, of_accepting_all, of_accepting_only, of_challenges, of_keys, of_short_responses, only_draw}
 use Rattle.claim_examples.proofs.SequenceLaws.{kept_small, of_in_step, of_sequences, of_soundness, one_apart, one_stamp, shares_by}
-
-none_short : (plan : Plan) → AreShortUnits (first_world plan).state.bag
-none_short plan = All-nil (λ (unit : BagUnit). length unit.bytes ≤ send_limit)
-
-no_bytes : (plan : Plan) → HaveBytes (first_world plan).state.bag
-no_bytes plan = All-nil (λ (unit : BagUnit). AreBytes unit.bytes)
 
 -- ---- parts of short lists
 
@@ -327,6 +317,15 @@ of_all = record {
     keys = λ clear. ((λ link j taken free. ((λ made. refl, tt), tt), tt), tt);
     sequences = λ clear. shares_by whole_book None seed_after_one seed_after_one (0 ∷ []) one_stamp refl (λ none. inl refl);
     responses = λ clear hash. ((λ apart same one other. apart refl, tt), tt);
+    once = λ clear nt hash. ((λ apart one other. apart refl, tt), tt);
+    names = (
+      λ is. inl (record {
+            link = refl;
+            member = refl;
+            named = inl (record { answer = refl; granted = refl; account = small_account; found = found_small; names = (refl, refl) });
+          }),
+      tt,
+    );
   };
 }
 
@@ -334,7 +333,7 @@ of_all = record {
 
 -- all that is proved of runs
 at_first : (plan : Plan) → IsClaimed plan []
-at_first plan schedule = all_proved plan [] (none_short plan) (no_bytes plan)
+at_first plan schedule = all_proved plan []
 
 pub claims_tell_apart : ClaimsTellApart
 claims_tell_apart = record {

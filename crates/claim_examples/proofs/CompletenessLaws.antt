@@ -23,7 +23,7 @@ use Rattle.world_moves.specs.Ends.{EndStates}
 use Rattle.world_moves.specs.Forms.{HasMoveForm, IsAccount, IsBlock, IsByte, IsClientPlan, IsIdentifier, IsMemberPlan, IsSchedule, IsTable, IsTrust}
 use Rattle.world_moves.specs.Moving.{end_of_peer}
 use Rattle.world_moves.specs.World.{IsMove, first_ends, first_world, happens}
-use Rattle.domain_world.specs.Claims.Completeness.{CanSucceed, ComesOneAtATime, HasComputer, MayLogOnIn, Succeeds, info_planned, members_of}
+use Rattle.domain_world.specs.Claims.Completeness.{CanSucceed, ComesOneAtATime, HasComputer, MayLogOnIn, OwnKeysArrive, Succeeds, info_planned, members_of}
 use Rattle.domain_world.specs.Past.{past}
 use Rattle.claim_examples.specs.ClaimExamples.{small_account, small_hash, small_table}
 use Rattle.claim_examples.specs.CompletenessExamples.{OfCompleteness, OfSuccess, able_client, able_member, able_plan, able_table, alike_plan, ann_accounts, ann_plan, ann_starts, lost_client, lost_moves, lost_plan, machine_account, machine_secret, plan_by, policy_plan, policy_table}
@@ -306,7 +306,6 @@ lost_comes = record {
   plain = (tt, (tt, tt));
   once = one_apart (λ (one other : ℕ). one ≢ other) 0;
   quiet = (record { dials = refl; units = refl }, (tt, record { dials = refl; units = refl }));
-  keys = tt;
 }
 
 -- no member is at that address
@@ -322,12 +321,12 @@ of_completeness = record {
   comes = lost_comes;
   started = refl;
   ended = refl;
-  meets_started = λ come. (λ can. absurd (no_member can), tt);
+  meets_started = λ come. (λ can arrive. absurd (no_member can), tt);
   fails_waiting = λ come. absurd (let waits = come.quiet.1.dials in cc);
   fails_twice = λ come. come.once 0 1 0 (omega arith) (omega arith) refl;
   fails_other_move = λ come. come.plain.0;
-  fails = λ run moves client come can started none claim.
+  fails = λ run moves client come can arrive started none claim.
       let done : Succeeds run moves client can =
-      (subst (λ (clients : List ℕ). AllByRecursion (λ (c : ℕ). (able : CanSucceed run.plan moves c) → Succeeds run moves c able) clients) started (claim come)).0 can in
+      (subst (λ (clients : List ℕ). AllByRecursion (λ (c : ℕ). (able : CanSucceed run.plan moves c) → OwnKeysArrive run moves c able → Succeeds run moves c able) clients) started (claim come)).0 can arrive in
       absurd (let is = sym none ∙ done.is_in in cc);
 }

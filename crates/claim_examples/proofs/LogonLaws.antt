@@ -12,13 +12,14 @@ use Rattle.ntlm_responses.proofs.ResponseLaws.{challenge_for_of-ess, length-base
 use Rattle.account_table.specs.LookUps.{place_in}
 use Rattle.channel_events.specs.Marks.{OneOf}
 use Rattle.step_notes.specs.Judged.{stored_hash}
-use Rattle.step_notes.specs.Records.{ChallengeSent, Judging, MessageTaken}
+use Rattle.step_notes.specs.Records.{ChallengeSent, Judging, MessageTaken, OutcomeTold}
+use Rattle.world_moves.specs.Counting.{is_in}
 use Rattle.world_moves.specs.declared.links.EndId.TheVariants.{Controller, Member}
 use Rattle.world_moves.specs.declared.links.Route.TheVariants.{ToMember}
 use Rattle.world_moves.specs.Links.{acceptor_of}
-use Rattle.domain_world.specs.Claims.{IsAccepted, IsGrantedBy, IsItsControllersAnswer, IsLinkOf, IsPlainlyAccepted, IsUnusedChallenge, TravelsAsZeros, info_asked}
+use Rattle.domain_world.specs.Claims.{IsAccepted, IsGrantedBy, IsItsControllersAnswer, IsLetInShortly, IsLinkOf, IsPlainlyAccepted, IsUnusedChallenge, TravelsAsZeros, info_asked, taken_answer}
 use Rattle.domain_world.specs.Past.{Past, past}
-use Rattle.claim_examples.specs.ClaimExamples.{OfAcceptingAll, OfAcceptingOnly, OfChallenges, OfKeys, OfShortResponses, answered_by, by_accounts, challenge_on, drawn_twice, elsewhere, extended_flags, extended_message, judging, long_message, message, message_of_link, on_channel, one_logon, other_judging, other_member_accepts, passed_twice, run_in, small_account, small_challenge, small_hash, small_links, small_run, taken_as, two_as, two_hashes, two_logons, with_response, world_of}
+use Rattle.claim_examples.specs.ClaimExamples.{OfAcceptingAll, OfAcceptingOnly, OfChallenges, OfKeys, OfShortResponses, answered_by, by_accounts, challenge_on, drawn_twice, elsewhere, extended_flags, extended_message, judging, long_message, message, message_of_link, on_channel, one_logon, other_judging, other_member_accepts, passed_twice, run_in, small_account, small_challenge, small_hash, small_links, small_run, taken_as, told_of_link, two_as, two_hashes, two_logons, with_response, world_of}
 use Rattle.claim_examples.proofs.SequenceLaws.{one_apart}
 
 pub only_draw : (challenge : List ℕ) (other : ℕ) → slice_get (challenge ∷ []) other ≡ Some challenge → other ≡ 0
@@ -231,6 +232,27 @@ not_own : (hash : List ℕ) (link : ℕ) → hashed_challenge_of small_challenge
     IsPlainlyAccepted (small_run (two_as extended_message extended_flags)) (taken_as extended_message extended_flags (message_of_link link)) hash → ⊥
 not_own hash link hashed one = hashed (sym (challenge_for_of-ess extended_flags small_challenge extended_message.lm extended_message.nt extended_pair) ∙ one.own)
 
+-- such a response on that link
+short_of : (past : Past) (told : OutcomeTold) (link : ℕ) → is_in told.outcome ≡ true → link ≡ told.link → taken_answer (message_of_link link) past.book.judged ≡ Some judging →
+    IsLetInShortly past told (response_v1_of small_hash small_challenge) small_hash (message_of_link link)
+short_of past told link let_in is answer = record {
+  let_in = let_in;
+  link = is;
+  response = refl;
+  short = length-response_v1_of small_hash small_challenge;
+  own = plain_small link;
+  judging = judging;
+  answer = answer;
+  stored = stored_small;
+}
+
+never_in : (past : Past) (told : OutcomeTold) (nt hash : List ℕ) (messages : List MessageTaken) → is_in told.outcome ≡ false → OneOf (IsLetInShortly past told nt hash) messages → ⊥
+never_in past told nt hash [] out one = one
+never_in past told nt hash (first ∷ messages) out one = elim one [
+  | inl here ↦ absurd (let never : false ≡ true = sym out ∙ here.let_in in cc)
+  | inr later ↦ never_in past told nt hash messages out later
+]
+
 pub of_short_responses : OfShortResponses
 of_short_responses = record {
   accepted = record {
@@ -267,6 +289,14 @@ of_short_responses = record {
   extended = λ hashed hash. (
     (λ apart same one other. not_own hash 3 hashed one, (λ apart same one other. not_own hash 3 hashed one, tt)),
     ((λ apart same one other. not_own hash 4 hashed one, (λ apart same one other. not_own hash 4 hashed one, tt)), tt),
+  );
+  lets_in = short_of (small_run one_logon) (told_of_link 3) 3 refl refl refl;
+  meets_once = λ nt hash. ((λ apart one other. apart refl, tt), tt);
+  fails_once = λ claim. (claim (response_v1_of small_hash small_challenge) small_hash).0.1.0 (λ same. absurd (let never : 3 ≡ 4 = same in cc))
+      (inl (short_of (small_run two_logons) (told_of_link 3) 3 refl refl refl)) (inr (inl (short_of (small_run two_logons) (told_of_link 4) 4 refl refl refl)));
+  refused = λ nt hash. (
+    (λ apart one other. apart refl, (λ apart one other. never_in _ _ nt hash _ refl other, tt)),
+    ((λ apart one other. never_in _ _ nt hash _ refl one, (λ apart one other. apart refl, tt)), tt),
   );
 }
 

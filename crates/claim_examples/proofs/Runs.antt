@@ -1,6 +1,6 @@
 -- Runs that a world made itself: logons of its clients, move by move.
 pub mod AnnAcceptedLaws
-pub mod AnnBagLaws
+pub mod AnnKeyLaws
 pub mod ClearRunLaws
 pub mod ClearSuccessLaws
 pub mod ExampleKeyLaws

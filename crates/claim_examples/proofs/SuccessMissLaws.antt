@@ -13,10 +13,10 @@ use Rattle.logon_client.specs.Plans.{CanLogOn}
 use Rattle.logon_client.specs.declared.plan.AuthKind.{AuthKind}
 use Rattle.logon_client.specs.declared.plan.AuthKind.TheVariants.{V2}
 use Rattle.member_server.specs.declared.plan.MemberPlan.{MemberPlan}
-use Rattle.channel_events.proofs.ListLaws.{one_found}
+use Rattle.channel_events.proofs.ListLaws.{all_weaker, one_found}
 use Rattle.channel_events.specs.Marks.{OneOf}
 use Rattle.logon_stubs.specs.declared.calls.LogonCall.{LogonCall}
-use Rattle.step_notes.specs.Records.{Judging}
+use Rattle.step_notes.specs.Records.{IfNetwork, JudgedCall, Judging, Network}
 use Rattle.step_notes.proofs.Controllers.JudgedCallLaws.{of_network}
 use Rattle.world_moves.specs.declared.moves.Move.{Move}
 use Rattle.world_moves.specs.declared.moves.Move.TheVariants as move
@@ -27,11 +27,11 @@ use Rattle.logon_runs.specs.Seen.WaitingUnits.{waiting}
 use Rattle.logon_runs.proofs.First.ExampleLogonLaws.{an_example_logs_on}
 use Rattle.logon_runs.proofs.Seen.WaitingLaws.{waiting_comes}
 use Rattle.domain_world.specs.Claims.{TravelsAsZeros}
-use Rattle.domain_world.specs.Claims.Completeness.{CanSucceed, ComesOneAtATime, NoKeyIsLost, Succeeds, info_planned}
+use Rattle.domain_world.specs.Claims.Completeness.{CanSucceed, ComesOneAtATime, IsMadeForClient, KeyArrives, OwnKeysArrive, Succeeds, info_planned}
 use Rattle.domain_world.specs.Past.{Past, past}
 use Rattle.claim_examples.specs.ClaimExamples.{small_account, small_hash}
 use Rattle.claim_examples.specs.CompletenessExamples.{able_client, able_member, able_table, ann_accounts, machine_account, machine_secret}
-use Rattle.claim_examples.specs.SuccessMisses.{LosesKey, OfEachClient, OfMoves, OfSucceeding, SuccessTellsApart, asking_plan, beside_plan, bind_moves, strict_plan, strict_table, two_lost, two_moves}
+use Rattle.claim_examples.specs.SuccessMisses.{IsOther, LosesKey, OfEachClient, OfMoves, OfOwnKeys, OfSucceeding, SuccessTellsApart, asking_plan, beside_plan, bind_moves, strict_plan, strict_table, two_lost, two_moves}
 use Rattle.claim_examples.proofs.CompletenessLaws.{ann_can, ann_found, ann_may, client_follows, client_form, lost_schedule, machine_found}
 use Rattle.claim_examples.proofs.SequenceLaws.{one_apart}
 
@@ -183,7 +183,6 @@ two_come = record {
   plain = (tt, (tt, (tt, (tt, (tt, (tt, tt))))));
   once = two_apart;
   quiet = (record { dials = refl; units = refl }, (tt, (tt, (record { dials = refl; units = refl }, (tt, (tt, record { dials = refl; units = refl }))))));
-  keys = tt;
 }
 
 -- the bind waits then
@@ -194,16 +193,6 @@ bind_waits come =
     let none : waiting w.state.bag ≡ [] = waiting_comes.nothing w.state.bag quiet.units in
     let some = an_example_logs_on.comes.seen.bind.units in
     absurd cc
-
-zeros_travel : (run : Past) (moves : List Move) → OneOf LosesKey run.book.judged → ComesOneAtATime run moves → ⊥
-zeros_travel run moves one come =
-    let found = one_found LosesKey NoKeyIsLost run.book.judged come.keys one in
-    let j : Judging = found.0 in
-    of_network (λ (c : LogonCall). TravelsAsZeros j c.info → ⊥) j.asked found.1.call found.1.asks (found.2 found.1.how) found.1.zeros
-
-none_granted : (calls : List Judging) → AllByRecursion (λ (j : Judging). j.how ≡ Some (judged.Passed 0) → ⊥) calls → AllByRecursion NoKeyIsLost calls
-none_granted [] none = tt
-none_granted (j ∷ js) none = ((λ how. absurd (none.0 how)), none_granted js none.1)
 
 of_moves : OfMoves
 of_moves = record {
@@ -216,19 +205,42 @@ of_moves = record {
     (λ run come. come.plain.0),
     ((λ run come. come.plain.0), ((λ run come. come.plain.0), ((λ run come. come.plain.0), ((λ run come. come.plain.0), ((λ run come. come.plain.0), ((λ run come. come.plain.0), tt)))))),
   );
-  fails_zeros = zeros_travel;
-  others_judged = λ run moves calls none come. record { schedule = come.schedule; plain = come.plain; once = come.once; quiet = come.quiet; keys = none_granted calls none };
+}
+
+-- ---- the client's key
+
+other_arrives : (task : ClientPlan) (computer : List ℕ) (controller : ℕ) (j : Judging) (asked : JudgedCall) → IfNetwork (λ (c : LogonCall). IsMadeForClient task computer controller j c → ⊥) asked →
+    IfNetwork (λ (c : LogonCall). IsMadeForClient task computer controller j c → TravelsAsZeros j c.info → ⊥) asked
+other_arrives task computer controller j (Network c) never = λ own zeros. never own
+
+of_own_keys : OfOwnKeys
+of_own_keys = record {
+  fails_zeros = λ run moves client can one arrive.
+      let found = one_found (LosesKey can.task can.member_plan.computer can.controller) (KeyArrives can.task can.member_plan.computer can.controller) run.book.judged arrive one in
+      let j : Judging = found.0 in
+      of_network (λ (c : LogonCall). IsMadeForClient can.task can.member_plan.computer can.controller j c → TravelsAsZeros j c.info → ⊥) j.asked found.1.call found.1.asks
+      (found.2 found.1.how) found.1.own found.1.zeros;
+  refused = λ run moves client can none.
+      all_weaker (λ (j : Judging). j.how ≡ Some (judged.Passed 0) → ⊥) (KeyArrives can.task can.member_plan.computer can.controller) run.book.judged (λ j never how. absurd (never how)) none;
+  others = λ run moves client can none.
+      all_weaker (IsOther can.task can.member_plan.computer can.controller) (KeyArrives can.task can.member_plan.computer can.controller) run.book.judged
+      (λ j never how. other_arrives can.task can.member_plan.computer can.controller j j.asked never) none;
+  fails_user = λ task computer controller j c other own. other own.user;
+  fails_domain = λ task computer controller j c other own. other own.domain;
+  fails_workstation = λ task computer controller j c other own. other own.workstation;
+  fails_computer = λ task computer controller j c other own. other own.its_computer;
+  fails_controller = λ task computer controller j c other own. other own.its_controller;
 }
 
 -- ---- each client
 
 second_fails : OfEachClient
 second_fails = record {
-  fails_second = λ run moves first second come can started none claim.
-      let each = subst (λ (clients : List ℕ). AllByRecursion (λ (c : ℕ). (able : CanSucceed run.plan moves c) → Succeeds run moves c able) clients) started (claim come) in
-      let done : Succeeds run moves second can = each.1.0 can in
+  fails_second = λ run moves first second come can arrive started none claim.
+      let each = subst (λ (clients : List ℕ). AllByRecursion (λ (c : ℕ). (able : CanSucceed run.plan moves c) → OwnKeysArrive run moves c able → Succeeds run moves c able) clients) started (claim come) in
+      let done : Succeeds run moves second can = each.1.0 can arrive in
       absurd (let is = sym none ∙ done.is_in in cc);
 }
 
 pub success_misses : SuccessTellsApart
-success_misses = record { succeeding = of_succeeding; who = record { each = each_can; beside = beside_can; strict = strict_can }; moves = of_moves; each = second_fails }
+success_misses = record { succeeding = of_succeeding; who = record { each = each_can; beside = beside_can; strict = strict_can }; moves = of_moves; keys = of_own_keys; each = second_fails }

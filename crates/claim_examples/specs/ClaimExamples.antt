@@ -52,7 +52,8 @@ use Rattle.world_moves.specs.declared.links.Route.{Route}
 use Rattle.world_moves.specs.declared.links.Route.TheVariants.{ToController, ToMember}
 use Rattle.world_moves.specs.declared.plan.Plan.{Plan}
 use Rattle.world_moves.specs.World.{World, first_world}
-use Rattle.domain_world.specs.Claims.{AcceptsAllGranted, AcceptsOnlyGranted, ChallengesServeOnce, IsClear, IsPlainlyAccepted, IsAccepted, KeysAgree, PassesTheNextCredential, ReplaysBySum, ShortResponsesServeOnce, TravelsAsZeros, Wraps, info_asked, taken_answer_on}
+use Rattle.domain_world.specs.Claims.{AcceptsAllGranted, AcceptsOnlyGranted, ChallengesServeOnce, IsClear, IsLetInShortly, IsPlainlyAccepted, IsAccepted, KeysAgree, PassesTheNextCredential, ReplaysBySum, ShortResponsesLetInOnce, ShortResponsesServeOnce, TravelsAsZeros, Wraps, info_asked, taken_answer_on}
+use Rattle.domain_world.specs.Claims.Names.{LetsInByName}
 use Rattle.domain_world.specs.Claims.SharedSequences.{SequencesAreShared}
 use Rattle.domain_world.specs.Past.{Past, note_turn, sent_at, with_answers}
 
@@ -365,7 +366,8 @@ abbrev pub extended_flags : ℕ
 extended_flags = negotiate_unicode + negotiate_extended_sessionsecurity
 
 -- short responses: one was accepted, on one link; not where one was accepted on two. The claim says nothing of one that
--- was accepted by two hashes, of one that has not 24 bytes, and of one that answers a hashed challenge
+-- was accepted by two hashes, of one that has not 24 bytes, and of one that answers a hashed challenge. So it lets in
+-- on one link: not on two, though it may be refused on another
 pub record OfShortResponses : Type 0 where
   pub accepted : IsPlainlyAccepted (small_run one_logon) message small_hash
   pub meets : ShortResponsesServeOnce (small_run one_logon)
@@ -374,6 +376,10 @@ pub record OfShortResponses : Type 0 where
   pub long : ShortResponsesServeOnce (small_run (two_as long_message negotiate_unicode))
   pub extended : hashed_challenge_of small_challenge (replicate 8 1) ≢ small_challenge →
       ShortResponsesServeOnce (small_run (two_as extended_message extended_flags))
+  pub lets_in : IsLetInShortly (small_run one_logon) (told_of_link 3) (response_v1_of small_hash small_challenge) small_hash message
+  pub meets_once : ShortResponsesLetInOnce (small_run one_logon)
+  pub fails_once : ShortResponsesLetInOnce (small_run two_logons) → ⊥
+  pub refused : ShortResponsesLetInOnce (small_run (record two_logons { told = told_of_link 3 ∷ record (told_of_link 4) { outcome = outcome.Out 5 } ∷ [] }))
 
 -- the member's channel is open, with that seed, and this turn is out
 abbrev pub open_running : Option Pending → List ℕ → MemberRunning
@@ -676,6 +682,8 @@ pub record MeetsAll (run : Past) : Type 0 where
   pub keys : IsClear run.book → KeysAgree run
   pub sequences : IsClear run.book → SequencesAreShared run
   pub responses : IsClear run.book → ShortResponsesServeOnce run
+  pub once : IsClear run.book → ShortResponsesLetInOnce run
+  pub names : LetsInByName run
 
 -- One run meets them at once, and is clear: neither the call nor the answer makes a clash. One logon was granted in it,
 -- let in and told, by a call with the next credential of a channel that stands.

@@ -14,7 +14,7 @@ use Rattle.world_moves.specs.declared.moves.Move.{Move}
 use Rattle.world_moves.specs.declared.moves.Move.TheVariants as move
 use Rattle.world_moves.specs.declared.plan.Plan.{Plan}
 use Rattle.world_moves.specs.World.{World, first_world, outcome_of}
-use Rattle.domain_world.specs.Claims.Completeness.{CanSucceed, ComesOneAtATime, EachSucceeds, Succeeds, name_of, started_in}
+use Rattle.domain_world.specs.Claims.Completeness.{CanSucceed, ComesOneAtATime, EachSucceeds, OwnKeysArrive, Succeeds, name_of, started_in}
 use Rattle.domain_world.specs.Past.{Past, past}
 use Rattle.claim_examples.specs.ClaimExamples.{client_plan, small_account, small_hash, small_member, small_table, told_of_link}
 
@@ -133,7 +133,7 @@ lost_moves = move.Start 0 ∷ move.Connect ∷ []
 
 -- Logons that come one at a time: not where a dial still waits, a client starts twice, or a move is of another kind. A
 -- client that can't succeed has another outcome. The claim doesn't hold where the one client that was started can
--- succeed and has none.
+-- succeed, its key arrives and it has none.
 pub record OfCompleteness : Type 0 where
   pub meets : (plan : Plan) → EachSucceeds (past plan []) []
   pub comes : ComesOneAtATime (past lost_plan lost_moves) lost_moves
@@ -143,5 +143,5 @@ pub record OfCompleteness : Type 0 where
   pub fails_waiting : ComesOneAtATime (past lost_plan (move.Start 0 ∷ [])) (move.Start 0 ∷ []) → ⊥
   pub fails_twice : ComesOneAtATime (past lost_plan (lost_moves ++ lost_moves)) (lost_moves ++ lost_moves) → ⊥
   pub fails_other_move : ComesOneAtATime (past lost_plan (move.Lose ∷ lost_moves)) (move.Lose ∷ lost_moves) → ⊥
-  pub fails : (run : Past) (moves : List Move) (client : ℕ) → ComesOneAtATime run moves → CanSucceed run.plan moves client →
-      started_in moves (length run.plan.clients) ≡ client ∷ [] → outcome_of run.world client ≡ None → EachSucceeds run moves → ⊥
+  pub fails : (run : Past) (moves : List Move) (client : ℕ) → ComesOneAtATime run moves → (can : CanSucceed run.plan moves client) →
+      OwnKeysArrive run moves client can → started_in moves (length run.plan.clients) ≡ client ∷ [] → outcome_of run.world client ≡ None → EachSucceeds run moves → ⊥

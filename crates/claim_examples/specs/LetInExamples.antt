@@ -2,14 +2,17 @@
 -- project's own choice).
 use Rattle.std.specs.Prelude.{ℕ, ◌+◌, List, [], ◌∷◌, replicate, None, codes}
 use Rattle.ntlm_flags.specs.Flags.{negotiate_key_exch, negotiate_unicode}
+use Rattle.outside.specs.declared.action.Judged.TheVariants as judged
 use Rattle.outside.specs.declared.action.Outcome.TheVariants as outcome
+use Rattle.account_table.specs.declared.account.Account.{Account}
 use Rattle.logon_stubs.specs.declared.info.SamInfo.{SamInfo}
 use Rattle.member_server.specs.declared.outcomes.Ending.TheVariants as ending
 use Rattle.member_server.specs.Outcomes.{outcome_of}
 use Rattle.step_notes.specs.Records.{MessageTaken, OutcomeTold}
 use Rattle.domain_world.specs.Claims.LetIn.{LetsInWhoAsked}
+use Rattle.domain_world.specs.Claims.Names.{LetsInByName}
 use Rattle.domain_world.specs.Past.{Past}
-use Rattle.claim_examples.specs.ClaimExamples.{message, message_of_link, one_logon, small_logon, small_message, small_run, taken_as, told_of_link}
+use Rattle.claim_examples.specs.ClaimExamples.{answered_by, by_accounts, judged_as, judging, message, message_of_link, one_logon, small_account, small_logon, small_message, small_run, taken_as, told_of_link}
 
 -- what is granted to ann
 abbrev pub small_info : SamInfo
@@ -69,3 +72,34 @@ pub record OfLettingIn : Type 0 where
   pub meets_key : LetsInWhoAsked (let_in_by (message_with_key ∷ []) told_with_key)
   pub fails_key : LetsInWhoAsked (let_in_by (message_with_key ∷ []) (told_of_link 3)) → ⊥
   pub refused : LetsInWhoAsked (let_in_by [] (record (told_by_grant 3) { outcome = outcome.Out 5 }))
+
+-- ---- names
+
+-- the member tells that somebody is let in by this domain and this name
+abbrev pub told_named : List ℕ → List ℕ → Past
+told_named domain user =
+    small_run (record one_logon { told = record (told_of_link 3) { outcome = outcome.In domain user (1 ∷ []) } ∷ [] })
+
+-- the table spells her name so
+abbrev pub spelled_account : Account
+spelled_account = record small_account { name = codes "Ann" }
+
+abbrev pub spelled_by : List ℕ → Past
+spelled_by user = record (told_named (codes "CORP") user) {
+  book = record (told_named (codes "CORP") user).book { judged = by_accounts (spelled_account ∷ []) ∷ [] };
+}
+
+-- Letting in by name: ann is let in of CORP, as the table that granted spells her. Not by another name, of another
+-- domain, as she spells herself, where the table doesn't know her, where her call was refused, where another answer was
+-- taken, or at another member. Nothing is said of an outcome that lets nobody in.
+pub record OfNames : Type 0 where
+  pub meets : LetsInByName (small_run one_logon)
+  pub meets_spelled : LetsInByName (spelled_by (codes "Ann"))
+  pub fails_user : LetsInByName (told_named (codes "CORP") (codes "bob")) → ⊥
+  pub fails_domain : LetsInByName (told_named (codes "LAB") (codes "ann")) → ⊥
+  pub fails_spelled : LetsInByName (spelled_by (codes "ann")) → ⊥
+  pub fails_unknown : LetsInByName (answered_by (by_accounts [])) → ⊥
+  pub fails_refused : LetsInByName (answered_by (judged_as (judged.Passed 5) judging)) → ⊥
+  pub fails_answer : LetsInByName (small_run (record one_logon { messages = record message { reply = Some 9 } ∷ [] })) → ⊥
+  pub fails_member : LetsInByName (small_run (record one_logon { told = record (told_of_link 3) { member = 1 } ∷ [] })) → ⊥
+  pub out : LetsInByName (small_run (record one_logon { told = record (told_of_link 3) { outcome = outcome.Out 5 } ∷ [] }))

@@ -1,6 +1,6 @@
 -- Near misses of completeness beside those of `CompletenessExamples` (this project's own choice): what differs in one
 -- thing more from what meets its parts, so that a part which leaves that thing out, or asks it besides, is told apart.
-use Rattle.std.specs.Prelude.{ℕ, ◌≡◌, true, false, List, [], ◌∷◌, length, None, Some, codes}
+use Rattle.std.specs.Prelude.{ℕ, ◌≡◌, ◌≢◌, true, false, List, [], ◌∷◌, length, None, Some, codes}
 use Rattle.std.specs.List.{AllByRecursion}
 use Rattle.account_table.specs.AccountTable.{AccountTable}
 use Rattle.outside.specs.declared.action.Judged.TheVariants as judged
@@ -11,9 +11,10 @@ use Rattle.logon_client.specs.declared.outcome.ClientOutcome.TheVariants as clie
 use Rattle.logon_client.specs.declared.outcome.RefusedCause.TheVariants as refused
 use Rattle.logon_client.specs.declared.plan.AuthKind.{AuthKind}
 use Rattle.logon_client.specs.declared.plan.AuthKind.TheVariants.{V2}
+use Rattle.logon_client.specs.declared.plan.ClientPlan.{ClientPlan}
 use Rattle.channel_events.specs.Marks.{OneOf}
 use Rattle.logon_stubs.specs.declared.calls.LogonCall.{LogonCall}
-use Rattle.step_notes.specs.Records.{Judging, Network, OutcomeTold}
+use Rattle.step_notes.specs.Records.{IfNetwork, Judging, Network, OutcomeTold}
 use Rattle.world_moves.specs.declared.links.Route.TheVariants.{ToMember}
 use Rattle.world_moves.specs.declared.moves.Move.{Move}
 use Rattle.world_moves.specs.declared.moves.Move.TheVariants as move
@@ -21,7 +22,7 @@ use Rattle.world_moves.specs.declared.plan.Plan.{Plan}
 use Rattle.world_moves.specs.World.{outcome_of}
 use Rattle.logon_runs.specs.First.ExampleLogon as example
 use Rattle.domain_world.specs.Claims.{TravelsAsZeros}
-use Rattle.domain_world.specs.Claims.Completeness.{CanSucceed, ComesOneAtATime, EachSucceeds, Succeeds, started_in}
+use Rattle.domain_world.specs.Claims.Completeness.{CanSucceed, ComesOneAtATime, EachSucceeds, IsMadeForClient, OwnKeysArrive, Succeeds, started_in}
 use Rattle.domain_world.specs.Past.{Past, past}
 use Rattle.claim_examples.specs.ClaimExamples.{small_hash, told_of_link}
 use Rattle.claim_examples.specs.CompletenessExamples.{able_client, able_member, ann_plan, ann_run, ann_starts, able_table, ann_accounts, lost_client, lost_plan, machine_secret}
@@ -129,21 +130,9 @@ others =
     move.Stranger 0 ∷ move.FailDial ∷ move.Lose ∷ move.Deliver 0 0 ∷ move.Hand 0 false [] ∷ move.Shut 0 ∷ move.Restart 0
     ∷ []
 
--- the calls that a run judged
-abbrev pub judging_as : Past → List Judging → Past
-judging_as run calls = record run { book = record run.book { judged = calls } }
-
--- a Logon call passed with status 0, and its key travels as zeros
-pub record LosesKey (j : Judging) : Type 0 where
-  pub how : j.how ≡ Some (judged.Passed 0)
-  pub call : LogonCall
-  pub asks : j.asked ≡ Network call
-  pub zeros : TravelsAsZeros j call.info
-
 -- Logons come one at a time where a second client starts once the first has its outcome, and time passes between. They
--- don't where it starts before, where the first starts again by another number, where a unit waits at the end, where a
--- move is of another kind, or where a granted call's key travels as zeros. Of calls that weren't granted nothing is
--- asked.
+-- don't where it starts before, where the first starts again by another number, where a unit waits at the end, or where
+-- a move is of another kind.
 pub record OfMoves : Type 0 where
   pub comes : ComesOneAtATime (past two_lost two_moves) two_moves
   pub started : started_in two_moves (length two_lost.clients) ≡ 0 ∷ 1 ∷ []
@@ -151,16 +140,45 @@ pub record OfMoves : Type 0 where
   pub fails_again : ComesOneAtATime (past two_lost again_moves) again_moves → ⊥
   pub fails_unit : ComesOneAtATime (past example.ann_plan bind_moves) bind_moves → ⊥
   pub fails_others : AllByRecursion (λ (what : Move). (run : Past) → ComesOneAtATime run (what ∷ []) → ⊥) others
-  pub fails_zeros : (run : Past) (moves : List Move) → OneOf LosesKey run.book.judged → ComesOneAtATime run moves → ⊥
-  pub others_judged : (run : Past) (moves : List Move) (calls : List Judging) → AllByRecursion (λ (j : Judging). j.how ≡ Some (judged.Passed 0) → ⊥) calls →
-      ComesOneAtATime run moves → ComesOneAtATime (judging_as run calls) moves
+
+-- ---- the client's key
+
+-- a Logon call that was made for the client passed with status 0, and its key travels as zeros
+pub record LosesKey (task : ClientPlan) (computer : List ℕ) (controller : ℕ) (j : Judging) : Type 0 where
+  pub how : j.how ≡ Some (judged.Passed 0)
+  pub call : LogonCall
+  pub asks : j.asked ≡ Network call
+  pub own : IsMadeForClient task computer controller j call
+  pub zeros : TravelsAsZeros j call.info
+
+-- a call that isn't made for the client
+abbrev pub IsOther : ClientPlan → List ℕ → ℕ → Judging → Type 0
+IsOther task computer controller j = IfNetwork (λ (c : LogonCall). IsMadeForClient task computer controller j c → ⊥) j.asked
+
+-- The key of the client's own logon doesn't arrive where a call that was granted and made for him travels as zeros. Of
+-- calls that weren't granted nothing is asked. Nor is it of calls that weren't made for him, which are those of another
+-- user, domain or workstation, by another computer or at another controller.
+pub record OfOwnKeys : Type 0 where
+  pub fails_zeros : (run : Past) (moves : List Move) (client : ℕ) (can : CanSucceed run.plan moves client) →
+      OneOf (LosesKey can.task can.member_plan.computer can.controller) run.book.judged → OwnKeysArrive run moves client can → ⊥
+  pub refused : (run : Past) (moves : List Move) (client : ℕ) (can : CanSucceed run.plan moves client) →
+      AllByRecursion (λ (j : Judging). j.how ≡ Some (judged.Passed 0) → ⊥) run.book.judged → OwnKeysArrive run moves client can
+  pub others : (run : Past) (moves : List Move) (client : ℕ) (can : CanSucceed run.plan moves client) →
+      AllByRecursion (IsOther can.task can.member_plan.computer can.controller) run.book.judged → OwnKeysArrive run moves client can
+  pub fails_user : (task : ClientPlan) (computer : List ℕ) (controller : ℕ) (j : Judging) (c : LogonCall) → c.info.user ≢ task.user → IsMadeForClient task computer controller j c → ⊥
+  pub fails_domain : (task : ClientPlan) (computer : List ℕ) (controller : ℕ) (j : Judging) (c : LogonCall) → c.info.domain ≢ task.domain → IsMadeForClient task computer controller j c → ⊥
+  pub fails_workstation : (task : ClientPlan) (computer : List ℕ) (controller : ℕ) (j : Judging) (c : LogonCall) → c.info.workstation ≢ task.workstation →
+      IsMadeForClient task computer controller j c → ⊥
+  pub fails_computer : (task : ClientPlan) (computer : List ℕ) (controller : ℕ) (j : Judging) (c : LogonCall) → c.computer ≢ Some computer → IsMadeForClient task computer controller j c → ⊥
+  pub fails_controller : (task : ClientPlan) (computer : List ℕ) (controller : ℕ) (j : Judging) (c : LogonCall) → j.controller ≢ controller → IsMadeForClient task computer controller j c → ⊥
 
 -- ---- each client
 
--- The claim fails where the second of two clients that start can succeed and has no outcome, whatever the first can.
+-- The claim fails where the second of two clients that start can succeed, its key arrives and it has no outcome,
+-- whatever the first can.
 pub record OfEachClient : Type 0 where
-  pub fails_second : (run : Past) (moves : List Move) (first second : ℕ) → ComesOneAtATime run moves → CanSucceed run.plan moves second →
-      started_in moves (length run.plan.clients) ≡ first ∷ second ∷ [] → outcome_of run.world second ≡ None → EachSucceeds run moves → ⊥
+  pub fails_second : (run : Past) (moves : List Move) (first second : ℕ) → ComesOneAtATime run moves → (can : CanSucceed run.plan moves second) →
+      OwnKeysArrive run moves second can → started_in moves (length run.plan.clients) ≡ first ∷ second ∷ [] → outcome_of run.world second ≡ None → EachSucceeds run moves → ⊥
 
 -- ---- all of them
 
@@ -168,4 +186,5 @@ pub record SuccessTellsApart : Type 0 where
   pub succeeding : OfSucceeding
   pub who : OfWhoCan
   pub moves : OfMoves
+  pub keys : OfOwnKeys
   pub each : OfEachClient

@@ -5,7 +5,7 @@ ghost use Rattle.claim_examples.specs.TellApart.{ClaimsTellApart};
 ghost use Rattle.claim_examples.specs.ClearRuns.{FirstLogonsAreClear};
 ghost use Rattle.claim_examples.specs.ClearSuccess.{AnnCanSucceed};
 ghost use Rattle.claim_examples.specs.GrantExamples.{GrantsTellApart};
-ghost use Rattle.claim_examples.specs.LetInExamples.{OfLettingIn};
+ghost use Rattle.claim_examples.specs.LetInExamples.{OfLettingIn, OfNames};
 ghost use Rattle.claim_examples.specs.NearMisses.{NearMissesTellApart};
 ghost use Rattle.claim_examples.specs.OwnChallengeExamples.{OfOwnChallenges};
 ghost use Rattle.claim_examples.specs.ReplyExamples.{OfReplies};
@@ -19,11 +19,12 @@ pub fn claims_tell_apart()
     ensures { ClaimsTellApart }
 {}
 
-/// Nor is the claim on who is let in: it is met by a run in which somebody is, and not by others, each of which lacks
-/// one thing.
-#[tactic(auto, using(crate::proofs::LetInExampleLaws::of_letting_in))]
+/// Nor is the claim on who is let in, or the one on names: each is met by a run in which somebody is let in, and not by
+/// others, each of which differs in one thing.
+#[tactic(auto, using(crate::proofs::LetInExampleLaws::of_letting_in, crate::proofs::LetInExampleLaws::of_names))]
 pub fn letting_in_tells_apart()
-    ensures { OfLettingIn }
+    ensures asked { OfLettingIn }
+    ensures names { OfNames }
 {}
 
 /// What is claimed of replies is met by a run in which one was sent, and not by others, each of which differs from it
@@ -84,7 +85,8 @@ pub fn success_tells_apart()
 {}
 
 /// All that is proved of runs is so of the run of that example, which is a clear schedule. So a message of it is
-/// accepted, on its controller's answer and by the link's unused challenge.
+/// accepted, on its controller's answer and by the link's unused challenge. The client made it for the CHALLENGE of the
+/// link, and the member lets in with the client's key.
 #[tactic(auto, using(crate::proofs::Runs::AnnAcceptedLaws::ann_is_accepted))]
 pub fn ann_is_accepted()
     ensures { AnnIsAccepted }

@@ -19,7 +19,7 @@ use Rattle.logon_stubs.specs.declared.info.Verdict.TheVariants.{Granted, Status}
 use Rattle.logon_stubs.specs.Calls.{opnum_of_reply, reply_of}
 use Rattle.logon_stubs.specs.Ranges.{InRangeReply, IsBlock}
 use Rattle.logon_stubs.specs.Writing.{CanWriteReply, written_reply}
-use Rattle.logon_stubs.proofs.WrittenLaws.{AreBytes-written_reply, reply_of-written_reply}
+use Rattle.logon_stubs.proofs.WrittenLaws.{reply_of-written_reply}
 use Rattle.account_table.specs.AccountTable.{AccountTable}
 use Rattle.account_table.specs.LookUps.{account_in, route_in}
 use Rattle.account_table.specs.declared.account.Account.{Account}
@@ -33,7 +33,7 @@ use Rattle.end_links.specs.Sending.{response_of}
 use Rattle.controller_calls.specs.Logons.{IsServedLevel, judge_info, judge_level, serves_level, status_of}
 use Rattle.domain_controller.specs.ReadBack.{IsReadBack, RepliesAreReadBack, opened_reply, passed_reply}
 use Rattle.domain_controller.proofs.AloneLaws.{number_fits, reply_alone}
-use Rattle.domain_controller.proofs.WholeParts.{Fits, crypt_block, judged_fits, judged_served, opened_few, passed_few, reply_can, reply_heard}
+use Rattle.domain_controller.proofs.WholeParts.{Fits, IsRoomy, crypt_block, judged_fits, judged_served, opened_few, passed_few, reply_can, reply_heard}
 
 -- ---- each status has 32 bits
 
@@ -67,8 +67,8 @@ level_small true table name info now = routed_small (route_in table info.domain)
 
 -- ---- the reply is read as it was written
 
-read_from : (answer : Reply) → CanWriteReply answer → InRangeReply answer → length (written_reply answer) ≤ 28015 → IsReadBack answer
-read_from answer can range few = record { read = reply_of-written_reply answer can range; few = few; bytes = AreBytes-written_reply answer can range }
+read_from : (answer : Reply) → CanWriteReply answer → InRangeReply answer → IsRoomy (written_reply answer) → IsReadBack answer
+read_from answer can range roomy = record { read = reply_of-written_reply answer can range; few = roomy.few; bytes = roomy.are }
 
 passed_read : (verdict : Verdict) (level : ℕ) (session credential : List ℕ) → level < 2 ^ 16 → IsBlock 8 credential → HasStatus verdict → IfGranted verdict Fits → IfGranted verdict (λ info. IsServedLevel level) →
     IsReadBack (passed_reply session credential level verdict)
@@ -91,7 +91,7 @@ opened_read : (key server : List ℕ) (offered : ℕ) → IsReadBack (opened_rep
 opened_read key server offered =
     read_from (opened_reply (cred_of key server) offered) tt
     (record { credential = cred_block key server; flags = omega (arith, and_le_r offered supported_flags); status = omega arith })
-    (opened_few _ (cred_block key server).0)
+    (opened_few _ (cred_block key server))
 
 reply_read : (call context limit : ℕ) (answer : Reply) (frames : List RpcUnit) (unit : RpcUnit) → IsReadBack answer →
     IsHeard (bytes_of_call (response_of call context (written_reply answer)) limit) frames unit → reply_of (opnum_of_reply answer) (stub_of unit.body) ≡ Ok answer

@@ -9,7 +9,7 @@ use Rattle.channel_keys.specs.Credentials.{cred_of}
 use Rattle.channel_keys.specs.Flags.{rc4_flag}
 use Rattle.authenticators.specs.Sequences.{next_seed}
 use Rattle.authenticators.specs.SecureChannels.{SecureChannelState, key_of_channel, passes_on, return_by, channel_by}
-use Rattle.authenticators.proofs.BlockLaws.{cred_block}
+use Rattle.authenticators.proofs.BlockLaws.{cred_block, zeros_block}
 use Rattle.outside.specs.declared.action.Action.{Action}
 use Rattle.outside.specs.declared.action.Action.TheVariants as action
 use Rattle.outside.specs.declared.action.Judged.{Judged}
@@ -66,7 +66,7 @@ use Rattle.end_links.specs.Whole.{IsWholeIfSent, IsWholeSend}
 use Rattle.domain_controller.specs.Whole.{AreChallenges, HasLimit, InRangeDesk, InRangeLinks, InRangePart, InRangeRunning, InRangeState, InRangeTable, InRangeTalk, SendsAreWhole}
 use Rattle.end_links.proofs.WholeLaws.{limit_bounds}
 use Rattle.logon_stubs.specs.Interface.{netlogon_syntax}
-use Rattle.domain_controller.proofs.WholeParts.{ack_whole, bare_few, challenge_few, fault_whole, judged_fits, judged_served, judged_table, nak_whole, opened_few, passed_few, reply_whole}
+use Rattle.domain_controller.proofs.WholeParts.{IsRoomy, ack_whole, bare_few, challenge_few, fault_whole, judged_fits, judged_served, judged_table, nak_whole, opened_few, passed_few, reply_whole}
 
 -- ---- what is heard of a unit
 
@@ -149,13 +149,14 @@ with_one (first ∷ actions) what whole is = (whole.0, with_one actions what who
 told : (table : AccountTable) (work : Work) (what : Action) → InRangeDesk (desk table work) → IsWholeIfSent what → InRangeDesk (desk table (tell work what))
 told table work what fits is = record { sends = with_one work.actions what fits.sends is; table = fits.table }
 
-replied : (table : AccountTable) (work : Work) (line : Line) (answer : Reply) → IsLine line → InRangeDesk (desk table work) → length (written_reply answer) ≤ 28015 → InRangeDesk (desk table (send_reply work line answer))
-replied table work line answer range fits few =
-    told table work _ fits (reply_whole line.call line.context line.limit (written_reply answer) range.least range.most few)
+replied : (table : AccountTable) (work : Work) (line : Line) (answer : Reply) → IsLine line → InRangeDesk (desk table work) → IsRoomy (written_reply answer) →
+    InRangeDesk (desk table (send_reply work line answer))
+replied table work line answer range fits roomy =
+    told table work _ fits (reply_whole line.call line.context line.limit (written_reply answer) range.least range.most roomy.few roomy.are)
 
 refused : (table : AccountTable) (how : Judged) (line : Line) (validation : ℕ) (work : Work) → IsLine line → InRangeDesk (desk table work) → InRangeDesk (desk table (refuse_logon how line validation work))
 refused table how line validation work range fits =
-    replied table (tell work (action.Judged how)) line _ range (told table work (action.Judged how) fits tt) (bare_few None validation 1 _ tt)
+    replied table (tell work (action.Judged how)) line _ range (told table work (action.Judged how) fits tt) (bare_few None validation _ tt)
 
 -- ---- NetrServerReqChallenge and NetrServerAuthenticate2
 
@@ -164,24 +165,24 @@ pair_put false computer pair table work fits = fits
 pair_put true computer pair table work fits = record { sends = fits.sends; table = fits.table }
 
 opens : (right : Bool) (channel : SecureChannelState) (line : Line) (c : AuthCall) (table : AccountTable) (work : Work) → IsLine line → InRangeDesk (desk table work) → InRangeDesk (desk table (open_channel right channel line c work))
-opens false channel line c table work range fits = replied table work line _ range fits (opened_few _ refl)
+opens false channel line c table work range fits = replied table work line _ range fits (opened_few _ zeros_block)
 opens true channel line c table work range fits =
-    replied table (put_channel c.computer channel work) line _ range (record { sends = fits.sends; table = fits.table }) (opened_few _ (cred_block (key_of_channel channel) channel.server).0)
+    replied table (put_channel c.computer channel work) line _ range (record { sends = fits.sends; table = fits.table }) (opened_few _ (cred_block (key_of_channel channel) channel.server))
 
 pairs : (pair : Option ChallengePair) (account : Account) (line : Line) (c : AuthCall) (table : AccountTable) (work : Work) → IsLine line → InRangeDesk (desk table work) → InRangeDesk (desk table (judge_pair pair account line c work))
-pairs None account line c table work range fits = replied table work line _ range fits (opened_few _ refl)
+pairs None account line c table work range fits = replied table work line _ range fits (opened_few _ zeros_block)
 pairs (Some pair) account line c table work range fits =
     let channel = channel_for account pair c in
     opens (bytes_eq c.credential (cred_of (key_of_channel channel) channel.client)) channel line c table work range fits
 
 offers : (offered : Bool) (pair : Option ChallengePair) (account : Account) (line : Line) (c : AuthCall) (table : AccountTable) (work : Work) → IsLine line → InRangeDesk (desk table work) →
     InRangeDesk (desk table (judge_offer offered pair account line c work))
-offers false pair account line c table work range fits = replied table work line _ range fits (opened_few _ refl)
+offers false pair account line c table work range fits = replied table work line _ range fits (opened_few _ zeros_block)
 offers true pair account line c table work range fits = pairs pair account line c table work range fits
 
 accounts : (account : Option Account) (pair : Option ChallengePair) (line : Line) (c : AuthCall) (table : AccountTable) (work : Work) → IsLine line → InRangeDesk (desk table work) →
     InRangeDesk (desk table (judge_account account pair line c work))
-accounts None pair line c table work range fits = replied table work line _ range fits (opened_few _ refl)
+accounts None pair line c table work range fits = replied table work line _ range fits (opened_few _ zeros_block)
 accounts (Some account) pair line c table work range fits = offers (has_flag c.flags rc4_flag) pair account line c table work range fits
 
 -- ---- NetrLogonSamLogon

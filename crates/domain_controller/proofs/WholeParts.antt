@@ -9,6 +9,7 @@ use Rattle.std.proofs.lemmas.List.{length-append, length-replicate}
 use Rattle.std.proofs.lemmas.List.Elements.{All-from_get_or}
 use Rattle.std.proofs.Math.Nat.{mod-lt}
 use Rattle.wire_base.specs.Names.{IsName}
+use Rattle.wire_base.specs.Numbers.{AreBytes}
 use Rattle.wire_base.specs.declared.authenticator.Authenticator.{Authenticator}
 use Rattle.wire_base.proofs.NumberLaws.{bytes_from_all, length-to_le_bytes}
 use Rattle.rc4_stream.proofs.Rc4Laws.{All-applied, length-applied}
@@ -22,7 +23,7 @@ use Rattle.rpc_units.specs.Writing.{written}
 use Rattle.rpc_units.proofs.CuttingLaws.{call_heard, call_short}
 use Rattle.ndr_codec.specs.Layout.{byte, short, long, raw, pointer, padding}
 use Rattle.ndr_codec.specs.Parts.{IfThere}
-use Rattle.ndr_codec.specs.Writing.{Written, aligned, nothing, put, put_number}
+use Rattle.ndr_codec.specs.Writing.{Written, aligned, nothing, put, put_number, referent_of}
 use Rattle.logon_stubs.specs.declared.calls.AuthReply.{AuthReply}
 use Rattle.logon_stubs.specs.declared.calls.Reply.TheVariants as reply
 use Rattle.logon_stubs.specs.declared.info.NetworkInfo.{NetworkInfo}
@@ -30,9 +31,9 @@ use Rattle.logon_stubs.specs.declared.info.SamInfo.{SamInfo}
 use Rattle.logon_stubs.specs.declared.info.Verdict.{Verdict}
 use Rattle.logon_stubs.specs.declared.info.Verdict.TheVariants.{Granted, Status}
 use Rattle.logon_stubs.specs.Ranges.{HasShortTexts, InRangeSamInfo, IsBlock}
-use Rattle.logon_stubs.specs.Writing.{CanWriteSamInfo, put_authenticator, put_challenge_reply, put_logon_reply, written_reply}
+use Rattle.logon_stubs.specs.Writing.{CanWriteSamInfo, put_auth_reply, put_authenticator, put_challenge_reply, put_logon_reply, written_reply}
 use Rattle.logon_stubs.proofs.AnswerLaws.{answers_are_long}
-use Rattle.logon_stubs.proofs.WrittenLaws.{written_reply-few}
+use Rattle.logon_stubs.proofs.WrittenLaws.{AreBytes-written_reply, written_reply-few}
 use Rattle.account_table.specs.AccountTable.{AccountTable}
 use Rattle.account_table.specs.Changes.{at_place}
 use Rattle.account_table.specs.LookUps.{account_in, place_in, route_in}
@@ -46,6 +47,7 @@ use Rattle.sam_logon.specs.Rules.{Shown, count_after, first_refusal, rules_for, 
 use Rattle.sam_logon.specs.Verdict.{IfGranted, judged_account, judgement_of, table_after, table_routed, table_shown, verdict_by, verdict_of, verdict_routed, verdict_shown}
 use Rattle.sam_logon.proofs.GrantedLaws.{granting-CanWrite, granting-InRange, in_range-counted, sam_info-CanWrite, sam_info-InRange, sam_info-IsShort}
 use Rattle.end_links.specs.Whole.{IsWholeSend}
+use Rattle.end_links.proofs.ByteLaws.{IsBytes, both, call_bytes, is_bytes, more, none, number, zero_bytes}
 use Rattle.end_links.proofs.WholeLaws as whole
 use Rattle.end_links.specs.Binding.{ack_of, nak_of}
 use Rattle.end_links.specs.Sending.{fault_of, response_of}
@@ -85,8 +87,10 @@ reply_heard call context limit stub least most few =
     subst (λ (bytes : List ℕ). IsHeard bytes (cut_of (heard_reply call context stub) limit) (heard_reply call context stub)) (reply_alike call context limit stub)
     (call_heard (heard_reply call context stub) limit (reply_can call context limit stub least most few) few)
 
-pub reply_whole : (call context limit : ℕ) (stub : List ℕ) → 1432 ≤ limit → limit ≤ 5840 → length stub ≤ 28015 → IsWholeSend (bytes_of_call (response_of call context stub) limit)
-reply_whole call context limit stub least most few = record {
+pub reply_whole : (call context limit : ℕ) (stub : List ℕ) → 1432 ≤ limit → limit ≤ 5840 → length stub ≤ 28015 → AreBytes stub →
+    IsWholeSend (bytes_of_call (response_of call context stub) limit)
+reply_whole call context limit stub least most few are = record {
+  are = call_bytes (response_of call context stub) limit (are, tt);
   frames = cut_of (heard_reply call context stub) limit;
   unit = heard_reply call context stub;
   heard = reply_heard call context limit stub least most (omega (arith, few));
@@ -126,41 +130,76 @@ behind_len level authoritative status old =
     let last : length (put long status three).bytes ≤ length three.bytes + 8 = long_len status three in
     omega (arith, few, more, next, last)
 
+-- bytes stay bytes as a number, a pointer, a byte or bytes are put behind them
+
+aligned_bytes : (alignment : ℕ) (item : List ℕ) (place : ℕ) → IsBytes item → IsBytes (aligned alignment item place)
+unfolding aligned
+aligned_bytes alignment item place is = both (zero_bytes (padding alignment place)) is
+
+short_bytes : (value : ℕ) (old : Written) → IsBytes old.bytes → IsBytes (put short value old).bytes
+short_bytes value old are = both are (aligned_bytes 2 (to_le_bytes w16 value) (length old.bytes) (number w16 value))
+
+long_bytes : (value : ℕ) (old : Written) → IsBytes old.bytes → IsBytes (put long value old).bytes
+long_bytes value old are = both are (aligned_bytes 4 (to_le_bytes w32 value) (length old.bytes) (number w32 value))
+
+pointer_bytes : (there : Bool) (old : Written) → IsBytes old.bytes → IsBytes (put pointer there old).bytes
+pointer_bytes there old are = long_bytes (referent_of there old.pointers) old are
+
+behind_bytes : (level status : ℕ) (old : Written) → IsBytes old.bytes → IsBytes (put long status (put byte 1 (put pointer false (put short level old)))).bytes
+behind_bytes level status old are =
+    long_bytes status (put byte 1 (put pointer false (put short level old)))
+    (both (pointer_bytes false (put short level old) (short_bytes level old are)) (more 1 (omega arith) none))
+
+-- a stub has room in one piece of a link, and is bytes
+pub record IsRoomy (stub : List ℕ) : Type 0 where
+  pub few : length stub ≤ 28015
+  pub are : AreBytes stub
+
 -- a credential of 8 bytes, where one is returned
 abbrev pub ReturnsEight : Option Authenticator → Type 0
-ReturnsEight returned = IfThere (λ (a : Authenticator). length a.credential ≡ 8) returned
+ReturnsEight returned = IfThere (λ (a : Authenticator). IsBlock 8 a.credential) returned
 
-pub bare_few : (returned : Option Authenticator) (level authoritative status : ℕ) → ReturnsEight returned →
-    length (written_reply (reply.Logon (record { returned = returned; level = level; info = None; authoritative = authoritative; status = status }))) ≤ 28015
+pub bare_few : (returned : Option Authenticator) (level status : ℕ) → ReturnsEight returned →
+    IsRoomy (written_reply (reply.Logon (record { returned = returned; level = level; info = None; authoritative = 1; status = status })))
 unfolding written_reply put_logon_reply put_authenticator
-bare_few None level authoritative status eight =
+bare_few None level status eight =
     let first : Written = put pointer false nothing in
     let one : length first.bytes ≤ 8 = pointer_len false nothing in
-    let rest : length (put long status (put byte authoritative (put pointer false (put short level first)))).bytes ≤ length first.bytes + 21 = behind_len level authoritative status first in
-    let few : length (put long status (put byte authoritative (put pointer false (put short level first)))).bytes ≤ 28015 = omega (arith, one, rest) in
-    few
-bare_few (Some given) level authoritative status eight =
+    let rest : length (put long status (put byte 1 (put pointer false (put short level first)))).bytes ≤ length first.bytes + 21 = behind_len level 1 status first in
+    let few : length (put long status (put byte 1 (put pointer false (put short level first)))).bytes ≤ 28015 = omega (arith, one, rest) in
+    record { few = few; are = (behind_bytes level status first (pointer_bytes false nothing none)).are }
+bare_few (Some given) level status eight =
     let first : Written = put pointer true nothing in
     let second : Written = put (raw 8) given.credential first in
     let third : Written = put long given.timestamp second in
     let one : length first.bytes ≤ 8 = pointer_len true nothing in
     let two : length second.bytes ≡ length first.bytes + length given.credential = length-append first.bytes given.credential in
     let three : length third.bytes ≤ length second.bytes + 8 = long_len given.timestamp second in
-    let rest : length (put long status (put byte authoritative (put pointer false (put short level third)))).bytes ≤ length third.bytes + 21 = behind_len level authoritative status third in
-    let few : length (put long status (put byte authoritative (put pointer false (put short level third)))).bytes ≤ 28015 = omega (arith, one, two, three, rest, eight) in
-    few
+    let rest : length (put long status (put byte 1 (put pointer false (put short level third)))).bytes ≤ length third.bytes + 21 = behind_len level 1 status third in
+    let few : length (put long status (put byte 1 (put pointer false (put short level third)))).bytes ≤ 28015 = omega (arith, one, two, three, rest, eight.0) in
+    record {
+      few = few;
+      are = (behind_bytes level status third
+          (long_bytes given.timestamp second (both (pointer_bytes true nothing none) (is_bytes given.credential eight.1)))).are;
+    }
 
-pub challenge_few : (server : List ℕ) (status : ℕ) → length server ≡ 8 → length (written_reply (reply.Challenge (record { challenge = server; status = status }))) ≤ 28015
+pub challenge_few : (server : List ℕ) (status : ℕ) → IsBlock 8 server → IsRoomy (written_reply (reply.Challenge (record { challenge = server; status = status })))
 unfolding written_reply put_challenge_reply
 challenge_few server status eight =
     let first : Written = put (raw 8) server nothing in
-    let one : length first.bytes ≡ 8 = eight in
+    let one : length first.bytes ≡ 8 = eight.0 in
     let rest : length (put long status first).bytes ≤ length first.bytes + 8 = long_len status first in
     let few : length (put long status first).bytes ≤ 28015 = omega (arith, one, rest) in
-    few
+    record { few = few; are = (long_bytes status first (both none (is_bytes server eight.1))).are }
 
-pub opened_few : (r : AuthReply) → length r.credential ≡ 8 → length (written_reply (reply.Authenticate r)) ≤ 28015
-opened_few r eight = omega (arith, answers_are_long.opened r eight)
+opened_bytes : (r : AuthReply) → AreBytes r.credential → AreBytes (written_reply (reply.Authenticate r))
+unfolding written_reply put_auth_reply
+opened_bytes r are =
+    let first : Written = put (raw 8) r.credential nothing in
+    (long_bytes r.status (put long r.flags first) (long_bytes r.flags first (both none (is_bytes r.credential are)))).are
+
+pub opened_few : (r : AuthReply) → IsBlock 8 r.credential → IsRoomy (written_reply (reply.Authenticate r))
+opened_few r eight = record { few = omega (arith, answers_are_long.opened r eight.0); are = opened_bytes r eight.1 }
 
 -- ---- what is granted
 
@@ -240,15 +279,19 @@ crypt_block false session key is = (
 )
 
 pub passed_few : (verdict : Verdict) (level : ℕ) (session credential : List ℕ) → IsBlock 8 credential → IfGranted verdict Fits → IfGranted verdict (λ info. IsServedLevel level) →
-    length (written_reply (passed_reply session credential level verdict)) ≤ 28015
-passed_few (Status status) level session credential block fits served = bare_few (Some (record { credential = credential; timestamp = 0 })) level 1 status block.0
+    IsRoomy (written_reply (passed_reply session credential level verdict))
+passed_few (Status status) level session credential block fits served = bare_few (Some (record { credential = credential; timestamp = 0 })) level status block
 passed_few (Granted info) level session credential block fits served =
     let returned : Option Authenticator = Some (record { credential = credential; timestamp = 0 }) in
     let key : List ℕ = crypt_key session info.key in
     let small : level < 2 ^ 16 = elim served [ inl two ↦ omega (arith, two) | inr three ↦ omega (arith, three) ] in
-    written_reply-few (granting_reply returned level info key 1 0) (granting-CanWrite returned level info key 1 0 served fits.can)
-    (granting-InRange returned level info key 1 0 small fits.range (crypt_block (is_zero info.key) session info.key fits.range.key) (record { credential = block; timestamp = omega arith }) (omega arith) (omega arith))
-    (short_at level session info served fits.short)
+    let can = granting-CanWrite returned level info key 1 0 served fits.can in
+    let range = granting-InRange returned level info key 1 0 small fits.range (crypt_block (is_zero info.key) session info.key fits.range.key) (record { credential = block; timestamp = omega arith })
+    (omega arith) (omega arith) in
+    record {
+      few = written_reply-few (granting_reply returned level info key 1 0) can range (short_at level session info served fits.short);
+      are = AreBytes-written_reply (granting_reply returned level info key 1 0) can range;
+    }
 
 -- ---- the table afterwards
 

@@ -7,6 +7,7 @@ use Rattle.std.specs.List.{AllByRecursion}
 use Rattle.wire_base.specs.Names.{IsName}
 use Rattle.outside.specs.declared.event.Event.{Event}
 use Rattle.ndr_codec.specs.Parts.{IfThere}
+use Rattle.logon_stubs.specs.Ranges.{IsBlock}
 use Rattle.logon_stubs.specs.declared.calls.Call.{Call}
 use Rattle.account_table.specs.AccountTable.{AccountTable}
 use Rattle.account_table.specs.Ranges.{InRangeAccount, InRangeSid}
@@ -55,7 +56,7 @@ pub record InRangeState (s : State) : Type 0 where
 
 -- challenges have 8 bytes
 abbrev pub AreChallenges : List (List ℕ) → Type 0
-AreChallenges left = AllByRecursion (λ (challenge : List ℕ). length challenge ≡ 8) left
+AreChallenges left = AllByRecursion (λ (challenge : List ℕ). IsBlock 8 challenge) left
 
 -- ---- at work
 

@@ -7,6 +7,7 @@ pub mod LetInLaws
 pub mod LetInStepLaws
 pub mod ListPlaceLaws
 pub mod Messages
+pub mod NameLaws
 pub mod Quiet
 pub mod RunBeginLaws
 pub mod ScheduleLaws

@@ -1,7 +1,6 @@
 -- How a fact is carried through all moves of a run.
 pub mod AllLaws
 pub mod BagFrameLaws
-pub mod BagRunLaws
 pub mod BagStepLaws
 pub mod BookFrameLaws
 pub mod ClientFrameLaws

@@ -1,7 +1,6 @@
 -- What is proved of every run, gathered.
 -- It serves `claims_hold_of_runs`, and so `drive`.
 use Rattle.std.proofs.Common.{List}
-use Rattle.world_moves.specs.Bag.{AreShortUnits, HaveBytes}
 use Rattle.world_moves.specs.declared.moves.Move.{Move}
 use Rattle.world_moves.specs.declared.plan.Plan.{Plan}
 use Rattle.domain_world.specs.Headline.{Proved}
@@ -10,7 +9,10 @@ use Rattle.domain_world.proofs.Accepting.AnsweredRunLaws.{short_responses}
 use Rattle.domain_world.proofs.Accepting.LetInLaws.{lets_in_who_asked}
 use Rattle.domain_world.proofs.Accepting.Messages.ClientKeptLaws.{clients_written}
 use Rattle.domain_world.proofs.Accepting.Messages.ClientMadeLaws.{messages_of_clients}
+use Rattle.domain_world.proofs.Accepting.Messages.MessageMadeLaws.{messages_made}
+use Rattle.domain_world.proofs.Accepting.Messages.MessageTakenLaws.{messages_taken}
 use Rattle.domain_world.proofs.Accepting.ScheduleLaws.{units_heard}
+use Rattle.domain_world.proofs.Accepting.ShortResponseLaws.{short_let_in}
 use Rattle.domain_world.proofs.Accepting.UnitLaws.{runs_heard}
 use Rattle.domain_world.proofs.Challenges.MessageApartLaws.{messages_apart}
 use Rattle.domain_world.proofs.Challenges.MessageOnceLaws.{messages_once}
@@ -35,8 +37,8 @@ use Rattle.domain_world.proofs.Sequences.Own.OwnRunLaws.{sequences_own}
 use Rattle.domain_world.proofs.Sequences.ReplyCallLaws.{replies_answer}
 use Rattle.domain_world.proofs.Sequences.SharedRunLaws.{sequences_shared}
 
-pub all_proved : (plan : Plan) (moves : List Move) → AreShortUnits (past plan moves).world.state.bag → HaveBytes (past plan moves).world.state.bag → Proved plan moves
-all_proved plan moves short bytes = record {
+pub all_proved : (plan : Plan) (moves : List Move) → Proved plan moves
+all_proved plan moves = record {
   challenges = record { draws = draws_differ plan moves; messages = messages_once plan moves };
   messages = messages_own plan moves (draws_differ plan moves);
   responses = short_responses plan moves (draws_differ plan moves) (draws_are_blocks plan moves);
@@ -48,22 +50,29 @@ all_proved plan moves short bytes = record {
   grants = grants_who_may plan moves;
   tables = tables_follow plan moves;
   replies = replies_carry plan moves;
-  answered = λ schedule calm. replies_answer plan moves schedule short bytes calm;
+  answered = λ schedule calm. replies_answer plan moves schedule calm;
   kept = members_ask plan moves;
   asked = members_ask_for_messages plan moves;
   sends = sends_ask_for_messages plan moves;
   let_in = lets_in_who_asked plan moves;
   written = members_written_down plan moves;
+  names = λ schedule calm. runs_heard.names plan moves (units_heard plan moves schedule) (draws_differ plan moves) calm;
+  as_sent = messages_taken plan moves;
   made = messages_of_clients plan moves;
   clients = clients_written plan moves;
-  only = λ schedule clear. runs_heard.only plan moves (units_heard plan moves schedule short bytes) (draws_differ plan moves) clear;
-  all = λ schedule clear. runs_heard.all plan moves (units_heard plan moves schedule short bytes) (draws_differ plan moves) clear;
-  keys = λ schedule clear. runs_heard.keys plan moves (units_heard plan moves schedule short bytes) (draws_differ plan moves) clear;
-  counts = λ schedule clear. runs_heard.counts plan moves (units_heard plan moves schedule short bytes) (draws_differ plan moves) clear;
+  as_made = messages_made plan moves;
+  only = λ schedule clear. runs_heard.only plan moves (units_heard plan moves schedule) (draws_differ plan moves) clear;
+  all = λ schedule clear. runs_heard.all plan moves (units_heard plan moves schedule) (draws_differ plan moves) clear;
+  keys = λ schedule clear. runs_heard.keys plan moves (units_heard plan moves schedule) (draws_differ plan moves) clear;
+  counts = λ schedule clear. runs_heard.counts plan moves (units_heard plan moves schedule) (draws_differ plan moves) clear;
+  once = λ schedule clear.
+      short_let_in (past plan moves) (messages_apart plan moves)
+      (runs_heard.only plan moves (units_heard plan moves schedule) (draws_differ plan moves) clear)
+      (short_responses plan moves (draws_differ plan moves) (draws_are_blocks plan moves));
   one_turn = one_turn plan moves;
   own = sequences_own plan moves;
-  sequences = λ schedule clear. sequences_shared plan moves schedule short bytes clear;
-  called = λ schedule clear. turns_are_called plan moves schedule short bytes clear;
+  sequences = λ schedule clear. sequences_shared plan moves schedule clear;
+  called = λ schedule clear. turns_are_called plan moves schedule clear;
   marked = each_marked plan moves;
   ways = marks_have_their_way plan moves;
   complete = each_succeeds plan moves;

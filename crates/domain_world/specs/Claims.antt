@@ -14,6 +14,7 @@ pub mod LeftOut
 pub mod LetIn
 pub mod MarkedUnits
 pub mod NamedLinks
+pub mod Names
 pub mod OwnChallenges
 pub mod Replies
 pub mod SharedSequences
@@ -280,3 +281,24 @@ ShortResponsesServeOnce past =
     AllByRecursion (λ (one : MessageTaken). AllByRecursion (λ (other : MessageTaken). one.link ≢ other.link →
     one.logon.message.nt ≡ other.logon.message.nt → IsPlainlyAccepted past one hash → IsPlainlyAccepted past other hash → ⊥)
     past.book.messages) past.book.messages
+
+-- Such a response lets somebody in on the link of the message: he is told to be, the message has it, it answers the
+-- link's own challenge, and the member took the answer of a call that was judged by this hash.
+pub record IsLetInShortly (past : Past) (told : OutcomeTold) (nt hash : List ℕ) (message : MessageTaken) : Type 0 where
+  pub let_in : is_in told.outcome ≡ true
+  pub link : message.link ≡ told.link
+  pub response : message.logon.message.nt ≡ nt
+  pub short : length nt ≡ 24
+  pub own : challenge_for_of message.logon.agreed message.logon.challenge message.logon.message.lm message.logon.message.nt
+      ≡ message.logon.challenge
+  pub judging : Judging
+  pub answer : taken_answer message past.book.judged ≡ Some judging
+  pub stored : stored_hash judging (info_asked message) ≡ hash
+
+-- So nobody is let in on two links by one response of 24 bytes over one stored hash.
+abbrev pub ShortResponsesLetInOnce : Past → Type 0
+ShortResponsesLetInOnce past =
+    (nt hash : List ℕ) →
+    AllByRecursion (λ (one : OutcomeTold). AllByRecursion (λ (other : OutcomeTold). one.link ≢ other.link →
+    OneOf (IsLetInShortly past one nt hash) past.book.messages → OneOf (IsLetInShortly past other nt hash) past.book.messages → ⊥)
+    past.book.told) past.book.told

@@ -5,14 +5,16 @@ use Rattle.world_moves.specs.declared.plan.Plan.{Plan}
 use Rattle.world_moves.specs.Forms.{IsSchedule}
 use Rattle.world_moves.specs.World.{World, first_world, run}
 use Rattle.domain_world.specs.Accepting.Answered.{MarksHaveTheirWay, MessagesAreApart, PassesAreUnclashed}
+use Rattle.domain_world.specs.Accepting.KeysMade.{MessagesAreMade, MessagesAreTakenAsSent}
 use Rattle.domain_world.specs.Accepting.Sequences.{RepliesAnswerCalls, TurnsAreCalled}
-use Rattle.domain_world.specs.Claims.{AcceptsAllGranted, AcceptsOnlyGranted, ChallengesServeOnce, IsClear, KeysAgree, PassesTheNextCredential, ReplaysBySum, ShortResponsesServeOnce, TellsOfCallsAlone}
+use Rattle.domain_world.specs.Claims.{AcceptsAllGranted, AcceptsOnlyGranted, ChallengesServeOnce, IsClear, KeysAgree, PassesTheNextCredential, ReplaysBySum, ShortResponsesLetInOnce, ShortResponsesServeOnce, TellsOfCallsAlone}
 use Rattle.domain_world.specs.Claims.AskedFor.{MembersAskForKept, MembersAskForMessages, SendsAskForMessages}
 use Rattle.domain_world.specs.Claims.Completeness.{EachSucceeds}
 use Rattle.domain_world.specs.Claims.Counts.{EachCallRaisesOnce}
 use Rattle.domain_world.specs.Claims.Grants.{GrantsWhoMayLogOn}
 use Rattle.domain_world.specs.Claims.LetIn.{LetsInWhoAsked}
 use Rattle.domain_world.specs.Claims.MarkedUnits.{EachUnitIsMarked}
+use Rattle.domain_world.specs.Claims.Names.{LetsInByName}
 use Rattle.domain_world.specs.Claims.OwnChallenges.{MessagesHaveOwnChallenges}
 use Rattle.domain_world.specs.Claims.Replies.{RepliesCarryTheirJudgement}
 use Rattle.domain_world.specs.Claims.SharedSequences.{OneTurnIsOut, SequencesAreOwn, SequencesAreShared}
@@ -23,7 +25,8 @@ use Rattle.domain_world.specs.Past.{past}
 -- What holds of the run of every list of moves from any plan: `claims_hold_of_runs`, and the clause of `drive`. What
 -- members accept, how often a count is raised, what the ends of a channel share, and which calls turns made, is of
 -- schedules that are clear: in them no credential passed on a unit made for another channel or for none, and no seed
--- came round. Of the others `answered` and `unclashed` ask that no credential clashed.
+-- came round. Of the others `unclashed` asks that no credential clashed. `names` and `answered` ask for a schedule
+-- besides, and `as_made` for a schedule alone.
 pub record Proved (plan : Plan) (moves : List Move) : Type 0 where
   -- challenges, and the messages that are made for them
   pub challenges : ChallengesServeOnce (past plan moves)
@@ -45,15 +48,21 @@ pub record Proved (plan : Plan) (moves : List Move) : Type 0 where
   pub sends : SendsAskForMessages (past plan moves)
   pub let_in : LetsInWhoAsked (past plan moves)
   pub written : MembersAreWrittenDown (past plan moves)
+  pub names : IsSchedule plan moves → (past plan moves).book.clash ≡ false → LetsInByName (past plan moves)
+  -- what a member keeps with a message is read of the bytes that are written down, of it and of its link's CHALLENGE
+  pub as_sent : MessagesAreTakenAsSent (past plan moves)
   -- what clients make, and keep
   pub made : MessagesAreOfTheirClients (past plan moves)
   pub clients : ClientsAreWrittenDown (past plan moves)
-  -- a member accepts exactly what its controller granted, client and member hold one key, and a call raises a count of
-  -- bad passwords at most once
+  -- and each message that a client made is the answer of its plan to the CHALLENGE that is written down with it
+  pub as_made : IsSchedule plan moves → MessagesAreMade (past plan moves)
+  -- a member accepts exactly what its controller granted, client and member hold one key, a call raises a count of bad
+  -- passwords at most once, and a response of 24 bytes lets in once
   pub only : IsSchedule plan moves → IsClear (past plan moves).book → AcceptsOnlyGranted (past plan moves)
   pub all : IsSchedule plan moves → IsClear (past plan moves).book → AcceptsAllGranted (past plan moves)
   pub keys : IsSchedule plan moves → IsClear (past plan moves).book → KeysAgree (past plan moves)
   pub counts : IsSchedule plan moves → IsClear (past plan moves).book → EachCallRaisesOnce (past plan moves)
+  pub once : IsSchedule plan moves → IsClear (past plan moves).book → ShortResponsesLetInOnce (past plan moves)
   -- at most one turn is out at a member, and its channel's seed is moved by its turns; the ends of a channel share its
   -- sequence, and the calls on it are those of its turns, of which each that ended passed
   pub one_turn : OneTurnIsOut (past plan moves)

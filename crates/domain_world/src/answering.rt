@@ -3,8 +3,10 @@
 ghost use Rattle.std.specs.Prelude.{List};
 ghost use Rattle.world_moves.specs.declared.moves.Move.{Move};
 ghost use Rattle.world_moves.specs.declared.plan.Plan.{Plan};
+ghost use Rattle.world_moves.specs.Bag.{AreShortUnits, HaveBytes};
 ghost use Rattle.world_moves.specs.Draws.{DrawsAreBlocks, DrawsDiffer};
 ghost use Rattle.world_moves.specs.Forms.{IsSchedule};
+ghost use Rattle.world_moves.specs.World.{first_world, run};
 ghost use Rattle.domain_world.specs.Accepting.Answered.{AnswersAreHeard, IsProved};
 ghost use Rattle.domain_world.specs.Accepting.Carried.{CarriedCallsAreHeard, JudgedAsCarried, MarkedUnitsAreWhole, MessagesAreCalled};
 ghost use Rattle.domain_world.specs.Accepting.KeysMade.{KeysAreFoundAsMade, MessagesAreMade, MessagesAreTakenAsSent};
@@ -82,6 +84,14 @@ pub fn messages_are_made()
 #[tactic(auto, using(crate::proofs::Accepting::Messages::MessageTakenLaws::messages_taken))]
 pub fn messages_are_taken_as_sent()
     ensures { (plan : Plan) (moves : List Move) → MessagesAreTakenAsSent (past plan moves) }
+{}
+
+/// After every schedule each unit of the bag has bytes, and no more than an end sends at once.
+#[tactic(auto, using(crate::proofs::Accepting::Quiet::QuietRunLaws::units_short, crate::proofs::Accepting::Quiet::QuietRunLaws::units_bytes))]
+pub fn schedules_send_bytes()
+    ensures short { OfSchedules (λ plan moves.
+        AreShortUnits (run moves (first_world plan)).state.bag) }
+    ensures bytes { OfSchedules (λ plan moves. HaveBytes (run moves (first_world plan)).state.bag) }
 {}
 
 /// After every schedule what is under way between members and controllers is whole, and nothing stays open on the links

@@ -3,7 +3,6 @@
 ghost use Rattle.std.specs.Prelude.{List};
 ghost use Rattle.world_moves.specs.declared.moves.Move.{Move};
 ghost use Rattle.world_moves.specs.declared.plan.Plan.{Plan};
-ghost use Rattle.world_moves.specs.Bag.{AreShortUnits, HaveBytes};
 ghost use Rattle.domain_world.specs.Claims.LeftOut.{MembersLeaveNothingOut};
 ghost use Rattle.domain_world.specs.Claims.NamedLinks.{LinksReachTheNamed};
 ghost use Rattle.domain_world.specs.Headline.{Proved};
@@ -28,9 +27,7 @@ pub fn links_reach_the_named()
     ensures { LinksReachTheNamed }
 {}
 
-/// All that is proved of runs holds of the run of every list of moves from any plan, where the units of its bag have
-/// bytes, and no more than an end sends at once, as in every world that was made.
+/// All that is proved of runs holds of the run of every list of moves from any plan.
 pub fn claims_hold_of_runs()
-    ensures { (plan : Plan) (moves : List Move) → AreShortUnits (past plan moves).world.state.bag →
-        HaveBytes (past plan moves).world.state.bag → Proved plan moves }
+    ensures { (plan : Plan) (moves : List Move) → Proved plan moves }
 {}

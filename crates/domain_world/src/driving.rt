@@ -84,8 +84,5 @@ pub fn drive(alloc: Global, world: &mut World, moves: &Moves) -> Result<Report, 
             Err(why) => return Err(why),
         }
     }
-    // so that it is known what holds of the units of the bag: these calls do nothing at run time
-    world.units_are_short();
-    world.units_have_bytes();
     Ok(world.report())
 }

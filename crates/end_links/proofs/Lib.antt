@@ -1,5 +1,6 @@
 pub mod BindingLaws
 pub mod BoundLaws
+pub mod ByteLaws
 pub mod KeepLaws
 pub mod LinkLaws
 pub mod ServingLaws

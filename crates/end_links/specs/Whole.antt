@@ -1,6 +1,7 @@
 -- That what an end sends is whole: the bytes of one whole unit, in one fragment or more (C706 12.6.2), with room in one
 -- piece of a link (this project's own choice).
 use Rattle.std.specs.Prelude.{ℕ, ◌≡◌, ◌≤◌, ◌<◌, ◌^◌, List, length}
+use Rattle.wire_base.specs.Numbers.{AreBytes}
 use Rattle.outside.specs.declared.action.Action.{Action}
 use Rattle.outside.specs.declared.action.Action.TheVariants as action
 use Rattle.rpc_units.specs.declared.unit.Syntax.{Syntax}
@@ -9,10 +10,12 @@ use Rattle.rpc_units.specs.Calls.{IsHeard, bytes_of_call}
 use Rattle.rpc_units.specs.Writing.{written}
 use Rattle.rpc_units.specs.Numbers.{context_limit}
 use Rattle.end_links.specs.Binding.{ack_of, bind_of, nak_of}
+use Rattle.end_links.specs.Bounds.{send_limit}
 use Rattle.end_links.specs.Sending.{fault_of, frames_of, joined_frames, request_of, response_of}
 
--- the bytes are those of one whole unit, and have room in one piece of a link
+-- they are bytes, those of one whole unit, and have room in one piece of a link
 pub record IsWholeSend (bytes : List ℕ) : Type 0 where
+  pub are : AreBytes bytes
   pub frames : List RpcUnit
   pub unit : RpcUnit
   pub heard : IsHeard bytes frames unit
@@ -26,12 +29,17 @@ IsWholeIfSent (action.Close link cause) = Unit {0}
 IsWholeIfSent (action.Told link outcome) = Unit {0}
 IsWholeIfSent (action.Judged how) = Unit {0}
 
+-- they are bytes, and no more than an end sends at once
+pub record IsByteSend (bytes : List ℕ) : Type 0 where
+  pub are : AreBytes bytes
+  pub short : length bytes ≤ send_limit
+
 -- ---- laws
 
--- The units that ends send are whole, where their numbers have their widths. A stub of 58,209 bytes or fewer leaves
--- room for the headers of its fragments, which have 1,432 bytes or more.
+-- The units that ends send are whole, where their numbers have their widths and their stubs are bytes. A stub of 58,209
+-- bytes or fewer leaves room for the headers of its fragments, which have 1,432 bytes or more.
 pub record UnitsAreWhole : Type 0 where
-  pub bind : (interface : Syntax) (call : ℕ) → length interface.uuid ≡ 16 → interface.version < 2 ^ 32 → call < 2 ^ 32 →
+  pub bind : (interface : Syntax) (call : ℕ) → length interface.uuid ≡ 16 → AreBytes interface.uuid → interface.version < 2 ^ 32 → call < 2 ^ 32 →
       IsWholeSend (written (bind_of interface call))
   pub ack : (served : Syntax) (call receive : ℕ) (contexts : List (ℕ × Syntax × List Syntax)) → call < 2 ^ 32 → length contexts ≤ context_limit →
       IsWholeSend (written (ack_of served call receive contexts))
@@ -39,6 +47,6 @@ pub record UnitsAreWhole : Type 0 where
   pub fault : (call context status : ℕ) → call < 2 ^ 32 → context < 2 ^ 16 → status < 2 ^ 32 → IsWholeSend (written (fault_of call context status))
   -- the frames of a request, joined
   pub request : (call context opnum limit : ℕ) (stub : List ℕ) → call < 2 ^ 32 → context < 2 ^ 16 → opnum < 2 ^ 16 → 1432 ≤ limit → limit ≤ 5840 →
-      length stub ≤ 58209 → IsWholeSend (joined_frames (frames_of (request_of call context opnum stub) limit))
+      length stub ≤ 58209 → AreBytes stub → IsWholeSend (joined_frames (frames_of (request_of call context opnum stub) limit))
   pub response : (call context limit : ℕ) (stub : List ℕ) → call < 2 ^ 32 → context < 2 ^ 16 → 1432 ≤ limit → limit ≤ 5840 → length stub ≤ 58209 →
-      IsWholeSend (bytes_of_call (response_of call context stub) limit)
+      AreBytes stub → IsWholeSend (bytes_of_call (response_of call context stub) limit)

@@ -1,5 +1,7 @@
 pub mod AnswerLaws
 pub mod AnsweringLaws
+pub mod ByteLaws
+pub mod ByteParts
 pub mod FittingLaws
 pub mod HearingLaws
 pub mod OutcomeLaws

@@ -10,4 +10,5 @@ pub mod Machine
 pub mod Plans
 pub mod Securing
 pub mod Sends
+pub mod SendsBytes
 pub mod State

@@ -4,6 +4,7 @@ ghost use Rattle.logon_client.specs.Answers.{OffersAgreed, DrawsKeys, AnswersVer
 ghost use Rattle.logon_client.specs.Laws.{ClosesOnce, OutcomeStays};
 ghost use Rattle.logon_client.specs.Losses.{LossesComeOfEvents};
 ghost use Rattle.logon_client.specs.Sends.{SendsOnItsLink};
+ghost use Rattle.logon_client.specs.SendsBytes.{ClientsSendBytes};
 
 /// An outcome that comes while the link is open closes it, once, for its work done; one that comes otherwise closes
 /// nothing, nor does another step. A client that has its outcome does nothing more, and keeps it.
@@ -34,4 +35,11 @@ pub fn a_loss_comes_of_its_event()
 #[tactic(auto, using(crate::proofs::SendLaws::sends_on_its_link))]
 pub fn clients_send_on_their_link()
     ensures { SendsOnItsLink }
+{}
+
+/// What a client sends is bytes, and no more than an end sends at once, where what comes and what is drawn are bytes. A
+/// step leaves what it has so.
+#[tactic(auto, using(crate::proofs::ByteLaws::clients_send_bytes))]
+pub fn what_clients_send_is_bytes()
+    ensures { ClientsSendBytes }
 {}

@@ -16,7 +16,7 @@ mod state;
 pub use client::Client;
 pub use laws::{
     a_loss_comes_of_its_event, an_outcome_closes_the_link, clients_send_on_their_link,
-    what_is_answered_verifies,
+    what_clients_send_is_bytes, what_is_answered_verifies,
 };
 pub use outcome::{ClientOutcome, NoAnswerCause, PeerFault, RefusedCause};
 pub use plan::{AuthKind, ClientPlan};

@@ -1,5 +1,6 @@
 pub mod AskedLaws
 pub mod BindLaws
+pub mod ByteParts
 pub mod ChannelStepLaws
 pub mod DialLaws
 pub mod EventSteps

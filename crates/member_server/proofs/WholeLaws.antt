@@ -60,7 +60,7 @@ use Rattle.member_server.specs.Machine.{account_of, actions_in, after_turn, afte
 use Rattle.member_server.specs.Outcomes.{after_link, at_link, end_found, end_logon, keep_link, phase_after, reach_link, tell_at, tell_outcome, reach_in_map, reach_waiting, waiting_at, waiting_if, without_link, without_logon}
 use Rattle.member_server.specs.Turns.{AtTurn, DialWork, break_turn, dial_by, dial_for, do_taken, ending_of, lose_turn, next_turn, tell_turn_closed, timestamp_of, turn_by, turn_by_join, turn_server, turn_unit, with_requester, with_work}
 use Rattle.member_server.specs.Units.{link_server, serve_held}
-use Rattle.member_server.specs.Whole.{AcceptedUnlessStopped, AreChallenges, InRangeDialling, InRangeEvent, InRangeLink, InRangeLinks, InRangePhase, InRangeRunning, InRangeUnlessStopped, IsAccepted, IsAcceptedAfter, IsSentOn, IsTurnLink, MembersSendWhole, link_of_turn, opened_link}
+use Rattle.member_server.specs.Whole.{AcceptedUnlessStopped, AreChallenges, InRangeBound, InRangeDialling, InRangeEvent, InRangeJoiner, InRangeLink, InRangeLinks, InRangePhase, InRangeRunning, InRangeUnlessStopped, IsAccepted, IsAcceptedAfter, IsSentOn, IsTurnLink, MembersSendWhole, link_of_turn, opened_link}
 use Rattle.member_server.specs.Work.{Served}
 use Rattle.member_server.proofs.WholeUnits.{AtFits, LinkPartFits, SaidFits, held_fits, told_fits, units_stay}
 use Rattle.authenticators.proofs.BlockLaws.{zeros_block}
@@ -168,18 +168,20 @@ abbrev pub TurnPartFits : (ℕ → Type 0) → (ℕ → Type 0) → ServedPart A
 TurnPartFits First Second (Err why) = Unit {0}
 TurnPartFits First Second (Ok part) = TurnFits First Second part.value.0 × AreChallenges part.left
 
-phase_fits : (how : Ending) (logon : Logon) (bound : Bound) → InRangePhase (phase_after how logon bound)
-phase_fits (ending.Granted info) logon bound = tt
-phase_fits (ending.Refused status) logon bound = tt
-phase_fits (ending.NoController cause) logon bound = tt
+phase_fits : (how : Ending) (logon : Logon) (bound : Bound) → InRangeBound bound → InRangePhase (phase_after how logon bound)
+phase_fits (ending.Granted info) logon bound range = range
+phase_fits (ending.Refused status) logon bound range = tt
+phase_fits (ending.NoController cause) logon bound range = tt
 
-waits_if : (hit : Bool) (bound : Bound) (held : List (List ℕ)) (waits : Bound × List (List ℕ)) → AllByRecursion AreBytes held → waiting_if hit bound held ≡ Some waits →
-    AllByRecursion AreBytes waits.1
+-- what is bound and held is in its ranges
+abbrev WaitsFit : Bound × List (List ℕ) → Type 0
+WaitsFit waits = InRangeBound waits.0 × AllByRecursion AreBytes waits.1
+
+waits_if : (hit : Bool) (bound : Bound) (held : List (List ℕ)) (waits : Bound × List (List ℕ)) → WaitsFit (bound, held) → waiting_if hit bound held ≡ Some waits → WaitsFit waits
 waits_if false bound held waits all is = absurd (let z = is in cc)
-waits_if true bound held waits all is =
-    let same : (bound, held) ≡ waits = (let z = is in cc) in subst (λ (w : Bound × List (List ℕ)). AllByRecursion AreBytes w.1) same all
+waits_if true bound held waits all is = let same : (bound, held) ≡ waits = (let z = is in cc) in subst WaitsFit same all
 
-waits_bytes : (place : ℕ) (p : Phase) (waits : Bound × List (List ℕ)) → InRangePhase p → waiting_at place p ≡ Some waits → AllByRecursion AreBytes waits.1
+waits_bytes : (place : ℕ) (p : Phase) (waits : Bound × List (List ℕ)) → InRangePhase p → waiting_at place p ≡ Some waits → WaitsFit waits
 waits_bytes place phase.Fresh waits range is = absurd (let z = is in cc)
 waits_bytes place (phase.Challenged bound challenge flags) waits range is = absurd (let z = is in cc)
 waits_bytes place (phase.Asked bound other held) waits range is = waits_if (other == place) bound held waits range is
@@ -210,26 +212,26 @@ module _ (First Second Third : ℕ → Type 0) (early : (number : ℕ) → First
   kept_fits None rest number at w own are fits range all = record { channel = fits.channel; links = all; sends = fits.sends }
   kept_fits (Some talk) rest number at w own are fits range all = record {
     channel = fits.channel;
-    links = put_are (LinkFits First) number (record { rest = rest; talk = talk }) w.links (own, record { rest = are; phase = range }) all;
+    links = put_are (LinkFits First) number (record { rest = rest; talk = talk }) w.links (own, record { rest = are; phase = range.0; joiner = range.1 }) all;
     sends = fits.sends;
   }
 
   -- ---- an outcome
 
   waiting_fits : (waits : Bound × List (List ℕ)) (link : LinkState Talk) (how : Ending) (logon : Logon) (w : Work) → First logon.link → AreBytes link.rest →
-      AllByRecursion AreBytes waits.1 → WorkFits First Second w → WorkFits First Second (reach_waiting waits link how logon w)
-  waiting_fits waits link how logon w own are all fits =
+      WaitsFit waits → InRangeJoiner link.talk.joiner → WorkFits First Second w → WorkFits First Second (reach_waiting waits link how logon w)
+  waiting_fits waits link how logon w own are all wide fits =
       let at : AtLink = at_link logon.link w in
       let talk : Talk = record { joiner = link.talk.joiner; phase = phase_after how logon waits.0 } in
       let served : Served = serve_held waits.1 at talk in
-      let held = held_fits First Second waits.1 all at talk (record { own = own; channel = fits.channel; sends = fits.sends }) (phase_fits how logon waits.0) in
+      let held = held_fits First Second waits.1 all.1 at talk (record { own = own; channel = fits.channel; sends = fits.sends }) (phase_fits how logon waits.0 all.0) wide in
       kept_fits served.1 link.rest logon.link served.0 w own are held.at held.said fits.links
 
   link_fits : (waits : Option (Bound × List (List ℕ))) (place : ℕ) (link : LinkState Talk) (how : Ending) (logon : Logon) (w : Work) →
       waiting_at place link.talk.phase ≡ waits → LinkFits First logon.link link → WorkFits First Second w → WorkFits First Second (reach_in_map waits link how logon w)
   link_fits None place link how logon w is own fits = fits
   link_fits (Some waits) place link how logon w is own fits =
-      waiting_fits waits link how logon (without_link logon.link w) own.0 own.1.rest (waits_bytes place link.talk.phase waits own.1.phase is)
+      waiting_fits waits link how logon (without_link logon.link w) own.0 own.1.rest (waits_bytes place link.talk.phase waits own.1.phase is) own.1.joiner
       (without_fits logon.link w fits)
 
   reach_fits : (found : Option (LinkState Talk)) (place : ℕ) (how : Ending) (logon : Logon) (w : Work) → lookup same_number logon.link w.links ≡ found →
@@ -335,7 +337,7 @@ module _ (First Second Third : ℕ → Type 0) (early : (number : ℕ) → First
   )
 
   alone_fits : (cut : Cut) (number : ℕ) (talk : Talk) (how : Dialling) (w : Work) (left : List (List ℕ)) → First number → AllByRecursion AreBytes cut.units × AreBytes cut.rest →
-      InRangePhase talk.phase → WorkFits First Second w → InRangeDialling how → AreChallenges left → DialWorkPartFits First Second Third (serve_alone cut number talk how w left)
+      SaidFits (Some talk) → WorkFits First Second w → InRangeDialling how → AreChallenges left → DialWorkPartFits First Second Third (serve_alone cut number talk how w left)
   alone_fits cut number talk how w left own bytes phase_range fits range all =
       after_fits (served_by link_server cut.units cut.refused (at_link number w) talk left) cut.rest number how w own bytes.1
       (served_among link_server AreBytes (LinkPartFits First Second) (units_stay First Second) cut (at_link number w) talk left bytes.0
@@ -348,7 +350,7 @@ module _ (First Second Third : ℕ → Type 0) (early : (number : ℕ) → First
   on_link_fits (Some link) number piece how w left is are fits range all =
       let own : LinkFits First number link = there_are (LinkFits First) number w.links link fits.links is in
       alone_fits (cut_stream (link.rest ++ piece)) number link.talk how (without_link number w) left own.0
-      (cut_bytes (link.rest ++ piece) (AreBytes-append link.rest piece own.1.rest are)) own.1.phase (without_fits number w fits) range all
+      (cut_bytes (link.rest ++ piece) (AreBytes-append link.rest piece own.1.rest are)) (own.1.phase, own.1.joiner) (without_fits number w fits) range all
 
   bytes_if : (hit : Bool) (said : LinkState TurnTalk) (number : ℕ) (piece : List ℕ) (how : Dialling) (w : Work) (left : List (List ℕ)) → (hit ≡ true → Second number) →
       AreBytes piece → WorkFits First Second w → InRangeDialling how → AreChallenges left → DialWorkPartFits First Second Third (bytes_by hit said number piece how w left)
@@ -373,7 +375,7 @@ module _ (First Second Third : ℕ → Type 0) (early : (number : ℕ) → First
   open_fits true link w how opened fits range = dial_work_of (open_by true link w) how (tell_work (action.Close link close.TooManyLinks) w fits tt) range
   open_fits false link w how opened fits range = record {
     channel = fits.channel;
-    links = put_are (LinkFits Third) link fresh_link w.links (opened, record { rest = AreBytes-nil; phase = tt })
+    links = put_are (LinkFits Third) link fresh_link w.links (opened, record { rest = AreBytes-nil; phase = tt; joiner = tt })
         (are_so (LinkFits First) (LinkFits Third) (λ number l is. (early number is.0, is.1)) w.links fits.links);
     sends = fits.sends;
     how = range;

@@ -1,7 +1,7 @@
 -- That what a member sends on the links of its turns is whole: each send is the bytes of one whole unit, in one
 -- fragment or more (C706 12.6.2), and has room in one piece of a link (this project's own choice). It holds where what
 -- the member has is in its ranges, and a step leaves it so.
-use Rattle.std.specs.Prelude.{ℕ, ◌≡◌, ◌⊎◌, List, Option, Some, None}
+use Rattle.std.specs.Prelude.{ℕ, ◌≡◌, ◌≤◌, ◌<◌, ◌⊎◌, List, Option, Some, None}
 use Rattle.std.specs.List.{AllByRecursion}
 use Rattle.wire_base.specs.Maps.{lookup, same_number}
 use Rattle.wire_base.specs.Names.{IsName}
@@ -10,10 +10,12 @@ use Rattle.outside.specs.declared.action.Action.{Action}
 use Rattle.outside.specs.declared.action.Action.TheVariants as action
 use Rattle.outside.specs.declared.event.Event.{Event}
 use Rattle.outside.specs.declared.event.Event.TheVariants as event
+use Rattle.rpc_units.specs.declared.unit.Unit.{Unit as RpcUnit}
+use Rattle.rpc_units.specs.Joining.{stub_of}
 use Rattle.logon_stubs.specs.Ranges.{IsBlock}
 use Rattle.end_links.specs.Links.{LinkState}
 use Rattle.end_links.specs.Sending.{joined_frames}
-use Rattle.end_links.specs.Whole.{IsWholeSend}
+use Rattle.end_links.specs.Whole.{IsByteSend, IsWholeSend}
 use Rattle.end_loop.specs.Runs.{actions_of}
 use Rattle.channel_client.specs.Whole.{InRangeRequester}
 use Rattle.member_server.specs.Machine.{fresh_member, step_of}
@@ -21,6 +23,7 @@ use Rattle.member_server.specs.State.{State}
 use Rattle.member_server.specs.declared.plan.MemberPlan.{MemberPlan}
 use Rattle.channel_turns.specs.declared.state.Dialling.{Dialling}
 use Rattle.channel_turns.specs.declared.state.Dialling.TheVariants as dialling
+use Rattle.member_server.specs.declared.state.Bound.{Bound}
 use Rattle.member_server.specs.declared.state.Phase.{Phase}
 use Rattle.member_server.specs.declared.state.Phase.TheVariants as phase
 use Rattle.member_server.specs.declared.state.Running.{Running}
@@ -28,17 +31,28 @@ use Rattle.member_server.specs.declared.state.Talk.{Talk}
 
 -- ---- the ranges of what a member has
 
+-- what is bound has a level of one byte, and frames that have room for their headers
+pub record InRangeBound (bound : Bound) : Type 0 where
+  pub level : bound.level < 256
+  pub limit : 1432 ≤ bound.binding.limit
+
 -- the challenge of a link has 8 bytes, and what is held are bytes
 abbrev pub InRangePhase : Phase → Type 0
 InRangePhase phase.Fresh = Unit {0}
-InRangePhase (phase.Challenged bound challenge flags) = IsBlock 8 challenge
-InRangePhase (phase.Asked bound place held) = AllByRecursion AreBytes held
-InRangePhase (phase.In on) = Unit {0}
+InRangePhase (phase.Challenged bound challenge flags) = InRangeBound bound × IsBlock 8 challenge
+InRangePhase (phase.Asked bound place held) = InRangeBound bound × AllByRecursion AreBytes held
+InRangePhase (phase.In on) = InRangeBound on.bound
 InRangePhase (phase.Out bound status) = Unit {0}
+
+-- what is open of a call has bytes
+abbrev pub InRangeJoiner : Option RpcUnit → Type 0
+InRangeJoiner None = Unit {0}
+InRangeJoiner (Some unit) = AreBytes (stub_of unit.body)
 
 pub record InRangeLink (link : LinkState Talk) : Type 0 where
   pub rest : AreBytes link.rest
   pub phase : InRangePhase link.talk.phase
+  pub joiner : InRangeJoiner link.talk.joiner
 
 abbrev pub InRangeLinks : List (ℕ × LinkState Talk) → Type 0
 InRangeLinks links = AllByRecursion (λ (entry : ℕ × LinkState Talk). InRangeLink entry.1) links
@@ -101,9 +115,10 @@ IsTurnLink running what number = link_of_turn running.dialling what ≡ Some num
 abbrev pub IsAccepted : Running → ℕ → Type 0
 IsAccepted running number = (link : LinkState Talk) × (lookup same_number number running.links ≡ Some link)
 
--- what is sent goes out on a link of the first kind, or is whole and goes out on one of the second
+-- What is sent goes out on a link of the first kind, as bytes and no more than an end sends at once, or is whole and
+-- goes out on one of the second.
 abbrev pub IsSentOn : (ℕ → Type 0) → (ℕ → Type 0) → Action → Type 0
-IsSentOn First Second (action.Send link bytes) = First link ⊎ (Second link × IsWholeSend bytes)
+IsSentOn First Second (action.Send link bytes) = (First link × IsByteSend bytes) ⊎ (Second link × IsWholeSend bytes)
 IsSentOn First Second (action.Keep bytes) = Unit {0}
 IsSentOn First Second (action.Dial peer) = Unit {0}
 IsSentOn First Second (action.Close link cause) = Unit {0}
@@ -130,7 +145,7 @@ AcceptedUnlessStopped running what (Some after) = AllByRecursion (λ (entry : �
 -- ---- the law
 
 pub record MembersSendWhole : Type 0 where
-  -- what is sent goes out on an accepted link, or is whole and goes out on the link of the turn
+  -- what is sent goes out on an accepted link, in bytes, or is whole and goes out on the link of the turn
   pub sends : (s : State) (running : Running) (what : Event) (now : ℕ) (left : List (List ℕ)) → s.running ≡ Some running →
       InRangeRunning running → InRangeEvent what left →
       AllByRecursion (IsSentOn (IsAccepted running) (IsTurnLink running what)) (actions_of (step_of s what now left))

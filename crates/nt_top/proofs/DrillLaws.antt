@@ -1,5 +1,6 @@
 -- The plan of a drill and its moves.
-use Rattle.std.proofs.Common.{◌≡◌, ◌⊎◌, inl, inr, ◌≤◌, ℕ, zero, suc, ◌%◌, Bool, true, false, List, length, codes, nat_le, IfOk, Result, Ok, Err, if◌then◌else◌, refl, sym, ap, ◌∙◌, arith}
+use Rattle.std.proofs.Common.{◌≡◌, ◌⊎◌, inl, inr, ◌≤◌, ℕ, zero, suc, ◌%◌, Bool, true, false, List, length, codes, nat_le, IfOk, Result, Ok, Err, if◌then◌else◌, refl, sym, ap, subst, ◌∙◌, arith}
+use Rattle.std.specs.Prelude.{OnOk}
 use Rattle.std.specs.List.{All}
 use Rattle.std.proofs.lemmas.Bool.{leb-true}
 use Rattle.std.specs.Str.{chars, is_utf8}
@@ -17,12 +18,14 @@ use Rattle.logon_client.specs.Plans.{CanLogOn}
 use Rattle.logon_client.specs.declared.plan.AuthKind.{AuthKind}
 use Rattle.logon_client.specs.declared.plan.AuthKind.TheVariants.{V1}
 use Rattle.domain_world.specs.Generator.{Making, made, move_by, moves_of, next_seed, rare_by, value_of}
+use Rattle.domain_world.specs.Headline.{Proved}
 use Rattle.domain_world.specs.World.{IsMove, IsPlan, report_of_run}
+use Rattle.world_moves.specs.Forms.{IsSchedule}
 use Rattle.world_moves.specs.declared.counting.Report.{Report}
 use Rattle.world_moves.specs.declared.moves.Move.{Move}
 use Rattle.world_moves.specs.declared.plan.Plan.{Plan}
 use Rattle.nt_words.proofs.KindLaws.{named}
-use Rattle.nt_top.specs.Drill.{drill_client, drill_clients, drill_plan, drill_table, drill_text, report_text}
+use Rattle.nt_top.specs.Drill.{IsProvedDrill, drill_client, drill_clients, drill_plan, drill_table, drill_text, report_text}
 
 -- ---- the document of the accounts is their table
 
@@ -103,6 +106,15 @@ unfolding drill_text
 lines_of_run number count moves report plan (Ok lines) made planned counted put =
     put ∙ ap report_text (counted ∙ ap (λ (p : Plan). report_of_run p moves) planned ∙ ap (λ (m : List Move). report_of_run drill_plan m) made)
 lines_of_run number count moves report plan (Err why) made planned counted put = tt
+
+-- what is proved of a run by these moves from that plan
+pub drill_proved : {V E : Type 0} (number count : ℕ) (moves : List Move) (plan : Plan) (result : Result V E) → moves ≡ moves_of count number → plan ≡ drill_plan →
+    IsSchedule plan moves → Proved plan moves → OnOk result (IsProvedDrill number count)
+drill_proved number count moves plan (Ok lines) made planned schedule proved = record {
+  schedule = subst (λ (p : Plan). IsSchedule p (moves_of count number)) planned (subst (IsSchedule plan) made schedule);
+  proved = subst (λ (p : Plan). Proved p (moves_of count number)) planned (subst (Proved plan) made proved);
+}
+drill_proved number count moves plan (Err why) made planned schedule proved = tt
 
 pub ruleset driving = (plan_is, moves_few, moves_given)
 

@@ -1,5 +1,5 @@
 -- What the top call does and comes to (`Runs`), where the words ask for a service or a command.
-use Rattle.std.proofs.Common.{◌≡◌, ◌≤◌, ℕ, Bool, true, false, List, [], Option, Some, None, IfSome, Result, Ok, Err, refl, sym, ap, subst, ◌∙◌, arith}
+use Rattle.std.proofs.Common.{◌≡◌, ◌≢◌, ◌≤◌, ℕ, Bool, true, false, List, [], Option, Some, None, IfSome, Result, Ok, Err, refl, sym, ap, subst, ◌∙◌, arith}
 use Rattle.outside.specs.Causes.{Rose}
 use Rattle.outside.specs.Telling.{Appends}
 use Rattle.outside.proofs.TellingLaws.{Appends-nothing}
@@ -8,6 +8,7 @@ use Rattle.logon_client.specs.declared.outcome.NoAnswerCause.{NoAnswerCause}
 use Rattle.logon_client.specs.declared.outcome.NoAnswerCause.TheVariants.{DialFailed, LinkClosed}
 use Rattle.nt_words.specs.Roles.{job_at_once, job_of}
 use Rattle.nt_words.specs.declared.job.Command.{Command}
+use Rattle.nt_words.specs.declared.job.Command.TheVariants as commands
 use Rattle.nt_words.specs.declared.job.Job.{Job}
 use Rattle.nt_words.specs.declared.job.Job.TheVariants as jobs
 use Rattle.nt_words.specs.declared.job.Role.{Role}
@@ -17,8 +18,9 @@ use Rattle.nt_words.specs.declared.options.WordsRefused.TheVariants as refusals
 use Rattle.nt_top.specs.declared.answer.Answer.{Answer}
 use Rattle.nt_top.specs.declared.exit.Exit.{Exit}
 use Rattle.nt_top.specs.declared.exit.Exit.TheVariants.{BadWords, FileFault, PortFault, SinkFault, NoMemory, NoAnswer}
-use Rattle.nt_top.specs.Answers.{answer_from, answer_of, command_answer, command_exit_at_once, from_at_once}
+use Rattle.nt_top.specs.Answers.{IsProvedOf, answer_from, answer_of, command_answer, command_exit_at_once, from_at_once}
 use Rattle.nt_top.specs.Causes.{Comes, IsBadWords, IsOfTheCommands}
+use Rattle.nt_top.specs.Drill.{AskedDrill, IsProvedDrill}
 use Rattle.nt_top.specs.Ends.{Ends}
 use Rattle.nt_top.specs.Runs.{Acts, Meanings, Outside, Runs, outside_of, put_in, shelf_in, sight_in}
 use Rattle.nt_top.specs.Service.{ActsByWords, ServiceReads, ServiceRuns, uses_port}
@@ -118,6 +120,22 @@ command_acts m role words came command port files out after clock chances exit i
       link_faults = same_count (m.link_faults port);
     }
 
+-- what is proved of a command's run is so of the drill that the words ask for
+pub command_proved : (role : Role) (words : List (List ℕ)) (came : Result Job WordsRefused) (command : Command) (exit : Exit) → came ≡ Ok (jobs.Command command) →
+    UpToMemory refusals.Memory came (job_of role words) → (exit ≢ NoMemory → IsProvedOf command) → (drills : AskedDrill role words) → exit ≢ NoMemory →
+    IsProvedDrill drills.number drills.count
+command_proved role words came command exit is up proved drills memory =
+    let asked : job_of role words ≡ Ok (jobs.Command command) = subst (λ (r : Result Job WordsRefused). UpToMemory refusals.Memory r (job_of role words)) is up in
+    let same : command ≡ commands.Drill (record { number = drills.number; moves = drills.count }) = (let both = sym asked ∙ drills.asks in cc) in
+    subst IsProvedOf same (proved memory)
+
+-- a drill isn't asked for by words that ask for a service, or are refused
+pub service_proved : (role : Role) (words : List (List ℕ)) (came : Result Job WordsRefused) (service : Service) (exit : Exit) → came ≡ Ok (jobs.Service service) →
+    UpToMemory refusals.Memory came (job_of role words) → (drills : AskedDrill role words) → exit ≢ NoMemory → IsProvedDrill drills.number drills.count
+service_proved role words came service exit is up drills memory =
+    let asked : job_of role words ≡ Ok (jobs.Service service) = subst (λ (r : Result Job WordsRefused). UpToMemory refusals.Memory r (job_of role words)) is up in
+    absurd (let both = sym asked ∙ drills.asks in cc)
+
 -- ---- when each exit comes, of whatever acts so
 
 -- words whose program and command don't use the port
@@ -140,8 +158,9 @@ no_answer_so : {P F S C Q : Type 0} (m : Meanings P F S C Q) (role : Role) (word
 no_answer_so m role words old new exit true is acts cause e = acts.service is
 no_answer_so m role words old new exit false is acts cause e = absurd (subst IsOfTheCommands e (others role words _ exit (acts.ends is)))
 
-pub runs : {P F S C Q : Type 0} (m : Meanings P F S C Q) (role : Role) (words : List (List ℕ)) (old new : Outside P F S C Q) (exit : Exit) → Acts m role words old new exit → Runs m role words old new exit
-runs m role words old new exit acts =
+pub runs : {P F S C Q : Type 0} (m : Meanings P F S C Q) (role : Role) (words : List (List ℕ)) (old new : Outside P F S C Q) (exit : Exit) → Acts m role words old new exit →
+    ((drills : AskedDrill role words) → exit ≢ NoMemory → IsProvedDrill drills.number drills.count) → Runs m role words old new exit
+runs m role words old new exit acts proved =
     let put = put_in m old new in
     let unless : ((uses_port role words ≡ true → ⊥) → ActsByWords role words) = unless_used (uses_port role words) in record {
       acts = acts;
@@ -149,6 +168,7 @@ runs m role words old new exit acts =
       refused = λ asked. refused_ends role words put exit (acts.ends (unless (λ used. not_rejected role words used asked))) asked;
       shown = λ asked. shown_ends role words put exit (acts.ends (unless (λ used. not_shown role words used asked))) asked;
       drilled = λ asked. drilled_ends role words put exit (acts.ends (unless (λ used. not_drilled role words used asked))) asked;
+      proved = proved;
       done = λ by e. done_is role words put exit (acts.ends by) e;
       refused_only = λ by cause e. refused_is role words put exit cause (acts.ends by) e;
       words = words_come_so m role words old new exit (uses_port role words) refl acts;

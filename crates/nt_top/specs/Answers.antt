@@ -12,7 +12,7 @@ use Rattle.nt_top.specs.declared.answer.Answer.{Answer}
 use Rattle.nt_top.specs.declared.exit.Exit.{Exit}
 use Rattle.nt_top.specs.declared.exit.Exit.TheVariants.{BadWords}
 use Rattle.nt_top.specs.Check.{check_answer, texts_at_once}
-use Rattle.nt_top.specs.Drill.{drill_answer}
+use Rattle.nt_top.specs.Drill.{IsProvedDrill, drill_answer}
 use Rattle.nt_top.specs.Refusals.{words_exit}
 use Rattle.nt_top.specs.Show.{show_answer}
 
@@ -21,6 +21,12 @@ abbrev pub command_answer : Command → Result Answer Exit
 command_answer (commands.Check job) = check_answer job.hash job.challenge job.message
 command_answer (commands.Show job) = show_answer job.message
 command_answer (commands.Drill job) = drill_answer job.number job.moves
+
+-- what is proved besides of the run that a command makes
+abbrev pub IsProvedOf : Command → Type 0
+IsProvedOf (commands.Check job) = Unit {0}
+IsProvedOf (commands.Show job) = Unit {0}
+IsProvedOf (commands.Drill job) = IsProvedDrill job.number job.moves
 
 -- A service has no answer: what is written of it is arbitrary, and no clause that cites this speaks of a service.
 abbrev pub answer_from : Result Job WordsRefused → Result Answer Exit

@@ -12,7 +12,9 @@ use Rattle.logon_client.specs.declared.plan.AuthKind.TheVariants.{V1, V1Ess, V2}
 use Rattle.logon_client.specs.declared.plan.ClientPlan.{ClientPlan}
 use Rattle.member_server.specs.declared.plan.MemberPlan.{MemberPlan}
 use Rattle.domain_world.specs.Generator.{moves_of}
+use Rattle.domain_world.specs.Headline.{Proved}
 use Rattle.domain_world.specs.World.{report_of_run}
+use Rattle.world_moves.specs.Forms.{IsSchedule}
 use Rattle.world_moves.specs.declared.counting.Report.{Report}
 use Rattle.world_moves.specs.declared.plan.Plan.{Plan}
 use Rattle.nt_words.specs.Roles.{job_of}
@@ -99,6 +101,12 @@ report_text report =
 -- what the run of so many moves of the number counted
 unfoldable pub drill_text : ℕ → ℕ → List ℕ
 drill_text number count = report_text (report_of_run drill_plan (moves_of count number))
+
+-- All that is proved of runs holds of the run of so many moves of the number. The drill's plan and its moves are a
+-- schedule.
+pub record IsProvedDrill (number count : ℕ) : Type 0 where
+  pub schedule : IsSchedule drill_plan (moves_of count number)
+  pub proved : Proved drill_plan (moves_of count number)
 
 -- what the command comes to: all of these lines
 abbrev pub drill_answer : ℕ → ℕ → Result Answer Exit

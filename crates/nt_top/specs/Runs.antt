@@ -1,6 +1,6 @@
 -- What the top call does, and when each exit comes (this project's own choice). Words are lists of bytes, those behind
 -- the program's name.
-use Rattle.std.specs.Prelude.{◌≡◌, ◌≤◌, ◌⊎◌, ℕ, Bool, true, false, List, [], Option, Some, None, IfSome, IfErr, Result, Ok, Err}
+use Rattle.std.specs.Prelude.{◌≡◌, ◌≢◌, ◌≤◌, ◌⊎◌, ℕ, Bool, true, false, List, [], Option, Some, None, IfSome, IfErr, Result, Ok, Err}
 use Rattle.outside.specs.Causes.{Rose}
 use Rattle.outside.specs.Drawing.{Drawing}
 use Rattle.outside.specs.Telling.{Appends}
@@ -15,7 +15,7 @@ use Rattle.nt_words.specs.declared.job.Role.{Role}
 use Rattle.nt_top.specs.Answers.{answer_of, exit_at_once}
 use Rattle.nt_top.specs.Causes.{Comes, IsBadInput, IsBadWords, IsDone, IsOfForm, IsOfTheCommands, IsRefused, IsWorkDone}
 use Rattle.nt_top.specs.Check.{AskedAccepted, AskedRefused, verdict_answer}
-use Rattle.nt_top.specs.Drill.{AskedDrill, drill_answer}
+use Rattle.nt_top.specs.Drill.{AskedDrill, IsProvedDrill, drill_answer}
 use Rattle.nt_top.specs.Ends.{Ends, IsSaid, SinkChange, change_of}
 use Rattle.nt_top.specs.Exits.{said_of, status_of}
 use Rattle.nt_top.specs.LogonExits.{LosesLink}
@@ -128,6 +128,8 @@ pub record Runs {P F S C Q : Type 0} (m : Meanings P F S C Q) (role : Role) (ask
   pub shown : (shows : AskedShown role asked) → Ends (Ok (shown shows.lines)) (put_in m old new) exit
   -- A logon client asked for a drill puts the six lines of its run.
   pub drilled : (drills : AskedDrill role asked) → Ends (drill_answer drills.number drills.count) (put_in m old new) exit
+  -- What is claimed of every run is proved of that drill's, all of which was made unless memory ran out.
+  pub proved : (drills : AskedDrill role asked) → exit ≢ NoMemory → IsProvedDrill drills.number drills.count
   -- Only there does another command end so.
   pub done : ActsByWords role asked → exit ≡ Done → IsDone role asked (put_in m old new)
   pub refused_only : ActsByWords role asked → (cause : RefusedCause) → exit ≡ Refused cause → IsRefused role asked cause (put_in m old new)

@@ -4,7 +4,7 @@ ghost use Rattle.std.specs.Prelude.{◌≡◌, ◌≤◌, ◌++◌, true, IfOk, 
 ghost use Rattle.wire_base.specs.Memory.{UpToMemory};
 ghost use Rattle.wire_base.specs.Names.{is_name};
 ghost use Rattle.domain_world.specs.World.{move_limit};
-ghost use Rattle.nt_top.specs.Drill.{count_line, drill_answer, drill_client, drill_clients, drill_member, drill_members, drill_plan, drill_table, drill_text, report_text};
+ghost use Rattle.nt_top.specs.Drill.{IsProvedDrill, count_line, drill_answer, drill_client, drill_clients, drill_member, drill_members, drill_plan, drill_table, drill_text, report_text};
 
 use crate::answer::Answer;
 use crate::exit::Exit;
@@ -43,7 +43,8 @@ hash = '42424242424242424242424242424242'
 /// What `drill` comes to for a number and a count of moves: the six lines of what the run counted.
 pub(crate) fn drill(alloc: Global, number: u32, moves: u32) -> Result<Answer, Exit>
     requires { moves ≤ move_limit }
-    ensures { UpToMemory Exit.NoMemory result (drill_answer number moves) }
+    ensures answer { UpToMemory Exit.NoMemory result (drill_answer number moves) }
+    ensures proved { OnOk result (IsProvedDrill number moves) }
 {
     let lines = drill_lines(alloc, number, moves)?;
     Ok(Answer {
@@ -57,7 +58,9 @@ pub(crate) fn drill(alloc: Global, number: u32, moves: u32) -> Result<Answer, Ex
 #[tactic(auto, using(crate::proofs::DrillLaws::driving), unfolding(crate::specs::Drill::drill_text))]
 pub fn drill_lines(alloc: Global, number: u32, moves: u32) -> Result<Blob, NoMemory>
     requires { moves ≤ move_limit }
-    ensures { IfOk result (λ lines. lines ≡ drill_text number moves) }
+    ensures lines { IfOk result (λ lines. lines ≡ drill_text number moves) }
+    // All that is proved of runs holds of the run that was counted.
+    ensures proved { OnOk result (IsProvedDrill number moves) }
 {
     let moves = moves_from(alloc, u64::from(number), moves)?;
     let world = drive_from(alloc, drill_plan(alloc)?, &moves)?;

@@ -1,9 +1,9 @@
 //! The top call of every program.
 
-ghost use Rattle.std.specs.Prelude.{◌≡◌, ◌≤◌, Err, IfSome, map};
+ghost use Rattle.std.specs.Prelude.{◌≡◌, ◌≢◌, ◌≤◌, Err, IfSome, OnOk, map};
 ghost use Rattle.std.specs.String.{string_bytes};
 ghost use Rattle.wire_base.specs.Memory.{UpToMemory};
-ghost use Rattle.nt_top.specs.Answers.{command_answer, command_exit_at_once};
+ghost use Rattle.nt_top.specs.Answers.{IsProvedOf, command_answer, command_exit_at_once};
 ghost use Rattle.nt_top.specs.Ends.{Ends, change_of};
 ghost use Rattle.nt_top.specs.Refusals.{words_exit};
 ghost use Rattle.nt_top.specs.Runs.{Runs, meanings_of, outside_of};
@@ -73,6 +73,7 @@ fn perform<S: Sink>(alloc: Global, command: Command, out: &mut S) -> Exit
     ensures untouched { (exit : Exit) → command_answer command.entry ≡ Err exit →
         out.new ≡ out.old }
     ensures memory { result ≡ Exit.NoMemory → out.new ≡ out.old }
+    ensures proved { result ≢ Exit.NoMemory → IsProvedOf command.entry }
     ensures faults { S.faults out.old ≤ S.faults out.new }
 {
     let answer = match answer_for(alloc, command) {
@@ -92,6 +93,7 @@ fn perform<S: Sink>(alloc: Global, command: Command, out: &mut S) -> Exit
 fn answer_for(alloc: Global, command: Command) -> Result<Answer, Exit>
     ensures answer { UpToMemory Exit.NoMemory result (command_answer command.entry) }
     ensures at_once { IfSome (command_exit_at_once command.entry) (λ exit. result ≡ Err exit) }
+    ensures proved { OnOk result (IsProvedOf command.entry) }
 {
     match command {
         Command::Check(words) => check(alloc, words.hash(), words.challenge(), words.message()),

@@ -1,6 +1,6 @@
 -- How many links are open, and how many challenges are drawn.
 -- It serves `State::put_answered`, `State::shut_link`, `World::new` and 2 more.
-use Rattle.std.proofs.Common.{◌≡◌, ℕ, suc, ◌+◌, ◌*◌, ◌<◌, ◌≤◌, Bool, true, false, ◌||◌, [], ◌∷◌, length, Option, Some, IsSome, if◌then◌else◌, refl, sym, ap, subst, arith}
+use Rattle.std.proofs.Common.{◌≡◌, ℕ, suc, ◌+◌, ◌-◌, ◌*◌, ◌<◌, ◌≤◌, Bool, true, false, ◌||◌, [], ◌∷◌, length, Option, Some, IsSome, if◌then◌else◌, refl, sym, ap, subst, arith}
 use Rattle.outside.specs.Counter.{most_draws}
 use Rattle.outside.specs.declared.action.StepRefused.{StepRefused}
 use Rattle.outside.specs.declared.action.StepRefused.TheVariants as refused
@@ -10,7 +10,7 @@ use Rattle.world_moves.specs.declared.links.EndId.{EndId}
 use Rattle.world_moves.specs.declared.links.OpenLink.{OpenLink}
 use Rattle.world_moves.specs.declared.plan.Plan.{Plan}
 use Rattle.world_moves.specs.declared.state.State.{State}
-use Rattle.world_moves.specs.Bounds.{DrawsWithin, IsBounded, draw_limit}
+use Rattle.world_moves.specs.Bounds.{DrawsWithin, HasChallengesFor, IsBounded, draw_limit}
 use Rattle.world_moves.specs.Links.{OpenMap, forget_end, forgotten_by, open_if}
 use Rattle.world_moves.specs.World.{first_world, move_limit}
 use Rattle.world_moves.proofs.LevelLaws.{first_within}
@@ -73,6 +73,15 @@ made_bounded plan s is = subst (λ (t : State). IsBounded t 0 false) (sym is) (f
 pub draws_kept : (old new : State) (moves : ℕ) → most_draws + 3 * length old.open_links ≤ length old.chances.left + draw_limit * moves → DrawsWithin draw_limit old new →
     most_draws + 3 * length new.open_links ≤ length new.chances.left + draw_limit * (moves + 1)
 draws_kept old new moves bound few = omega (arith, bound, few)
+
+-- challenges are left for each further move within the limit, whether this one is made or not
+pub left_after : (old new : State) (moves : ℕ) → most_draws + 3 * length old.open_links ≤ length old.chances.left + draw_limit * moves → DrawsWithin draw_limit old new →
+    moves < move_limit → HasChallengesFor (move_limit - (moves + 1)) new
+left_after old new moves bound few more = omega (arith, bound, few, more)
+
+pub left_still : (s : State) (moves : ℕ) → most_draws + 3 * length s.open_links ≤ length s.chances.left + draw_limit * moves → moves < move_limit →
+    HasChallengesFor (move_limit - (moves + 1)) s
+left_still s moves bound more = omega (arith, bound, more)
 
 only_memory : (why : StepRefused) → (why ≡ refused.Spent → ⊥) → (why ≡ refused.Stopped → ⊥) → why ≡ refused.Memory
 only_memory refused.Memory spent stopped = refl

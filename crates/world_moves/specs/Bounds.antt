@@ -32,6 +32,11 @@ abbrev pub DrawsWithin : ℕ → State → State → Type 0
 DrawsWithin most old new =
     length old.chances.left + 3 * length new.open_links ≤ length new.chances.left + 3 * length old.open_links + most
 
+-- Challenges are left for so many moves, whichever they are: what each draws at most, and three for each link that is
+-- open now and may be closed in one of them.
+abbrev pub HasChallengesFor : ℕ → State → Type 0
+HasChallengesFor moves s = draw_limit * moves + 3 * length s.open_links ≤ length s.chances.left
+
 -- At most 100,000 moves are made. A move makes one link at most, draws so many of the challenges at most, and tells no
 -- more than it may.
 pub record IsBounded (s : State) (moves : ℕ) (stopped : Bool) : Type 0 where

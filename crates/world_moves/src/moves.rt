@@ -120,28 +120,33 @@ pub fn moves_have_forms(moves: &Moves)
     ensures { All HasMoveForm moves.now }
 {
     for what in moves.items() {
-        has_form(what);
+        what.has_form();
     }
 }
 
-/// A move has the form that its type gives it. It is called so that this is known.
-fn has_form(what: &Move)
-    ensures { HasMoveForm what.now }
-{
-    match what {
-        Move::Start(number) | Move::Stranger(number) | Move::Shut(number) | Move::Restart(number) =>
-            {
+impl Move {
+    /// A move has the form that its type gives it. It is called so that this is known: of the moves that a world makes
+    /// one by one, as `moves_have_forms` says it of a list. It takes no memory.
+    pub fn has_form(&self)
+        ensures { HasMoveForm self.now }
+    {
+        match self {
+            Move::Start(number)
+            | Move::Stranger(number)
+            | Move::Shut(number)
+            | Move::Restart(number) => {
                 is_long(*number);
             }
-        Move::Connect | Move::FailDial | Move::Onward | Move::Lose => {}
-        Move::Deliver { unit, link } => {
-            is_long(*unit);
-            is_long(*link);
+            Move::Connect | Move::FailDial | Move::Onward | Move::Lose => {}
+            Move::Deliver { unit, link } => {
+                is_long(*unit);
+                is_long(*link);
+            }
+            Move::Hand { link, bytes, .. } => {
+                is_long(*link);
+                are_bytes(bytes.bytes());
+            }
+            Move::Tick(more) => is_hyper(*more),
         }
-        Move::Hand { link, bytes, .. } => {
-            is_long(*link);
-            are_bytes(bytes.bytes());
-        }
-        Move::Tick(more) => is_hyper(*more),
     }
 }

@@ -1,9 +1,10 @@
 //! The world.
 
-ghost use Rattle.std.specs.Prelude.{◌≡◌, ◌≢◌, ◌<◌, ◌↔◌, ◌++◌, ◌∷◌, [], List, Err, true, false, length, IfOk, OnOk, OnErr, IsTrue, option_copied};
+ghost use Rattle.std.specs.Prelude.{◌≡◌, ◌≢◌, ◌+◌, ◌-◌, ◌<◌, ◌↔◌, ◌++◌, ◌∷◌, [], List, Err, true, false, length, IfOk, OnOk, OnErr, IsTrue, option_copied};
 ghost use Rattle.world_moves.specs.declared.moves.Move.{Move};
 ghost use Rattle.world_moves.specs.declared.plan.Plan.{Plan};
 ghost use Rattle.world_moves.specs.Bag.{AreShortUnits, HaveBytes};
+ghost use Rattle.world_moves.specs.Bounds.{HasChallengesFor};
 ghost use Rattle.world_moves.specs.Counting.{AreCounted};
 ghost use Rattle.world_moves.specs.Draws.{DrawsAreBlocks, DrawsDiffer};
 ghost use Rattle.world_moves.specs.Outcomes.{HasOutcomesOf};
@@ -69,8 +70,9 @@ impl World {
     /// Makes a move. A world makes at most 100,000.
     ///
     /// `Memory` where no memory was found: after it the world answers `Stopped` for ever, and each client has the
-    /// outcome that it had before the move. No move draws more challenges than are left.
-    #[tactic(auto, using(crate::proofs::OpenLaws::never_spent))]
+    /// outcome that it had before the move. It isn't told for want of challenges: they are left for each move that a
+    /// world makes, whatever the earlier ones came to.
+    #[tactic(auto, using(crate::proofs::OpenLaws::never_spent, crate::proofs::OpenLaws::left_after, crate::proofs::OpenLaws::left_still))]
     pub fn step(&mut self, alloc: Global, what: &Move) -> Result<(), WorldRefused>
         requires few { self.old.moves < move_limit }
         requires given { IsMove what.now }
@@ -83,6 +85,9 @@ impl World {
         ensures kept { OnErr result (report_of self.new ≡ report_of self.old) }
         // An outcome that a client got in it is taken back, and each other stays.
         ensures outcomes { OnErr result (HasOutcomesOf self.old self.new) }
+        // Whatever it comes to, challenges are left for each further move that a world makes.
+        ensures left { self.old.stopped ≡ false →
+            HasChallengesFor (move_limit - (self.old.moves + 1)) self.new.state }
         // So from a plan on the world is that of all moves, the earlier ones and this one.
         ensures from_plan { OnOk result ((plan : Plan) (earlier : List Move) →
             self.old ≡ run earlier (first_world plan) →

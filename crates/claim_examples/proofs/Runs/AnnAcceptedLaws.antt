@@ -1,16 +1,17 @@
--- All that is proved of runs is so of the example's, which is a clear schedule, and a message of it is accepted.
+-- All that is proved of runs is so of the example's, which is a clear schedule. A message of it is accepted, and client
+-- and member hold its key.
 -- It serves `ann_is_accepted`.
 use Rattle.logon_runs.specs.First.ExampleLogon.{ann_moves, ann_plan}
 use Rattle.domain_world.specs.Headline.{Proved}
 use Rattle.domain_world.proofs.HeadlineLaws.{all_proved}
 use Rattle.claim_examples.specs.AnnAccepted.{AnnIsAccepted}
-use Rattle.claim_examples.proofs.Runs.AnnBagLaws.{ann_bytes, ann_short}
+use Rattle.claim_examples.proofs.Runs.AnnKeyLaws.{ann_keyed}
 use Rattle.claim_examples.proofs.Runs.ClearRunLaws.{first_logons_are_clear}
 
 pub ann_is_accepted : AnnIsAccepted
 ann_is_accepted =
     let clear = first_logons_are_clear in
-    let proved : Proved ann_plan ann_moves = all_proved ann_plan ann_moves ann_short ann_bytes in
+    let proved : Proved ann_plan ann_moves = all_proved ann_plan ann_moves in
     let only = proved.only clear.schedule clear.ann.clear in
     record {
       proved = proved;
@@ -18,4 +19,5 @@ ann_is_accepted =
       all = proved.all clear.schedule clear.ann.clear;
       keys = proved.keys clear.schedule clear.ann.clear;
       accepted = clear.ann.accepted only;
+      keyed = ann_keyed;
     }

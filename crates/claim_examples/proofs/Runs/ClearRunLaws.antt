@@ -47,7 +47,7 @@ use Rattle.world_moves.specs.Choosing.{chosen_place}
 use Rattle.world_moves.specs.Forms.{HasForms}
 use Rattle.world_moves.specs.World.{IsPlan, World, first_world, happens, run}
 use Rattle.domain_world.specs.Claims.{AcceptsOnlyGranted, IsAccepted, TravelsAsZeros, Wraps}
-use Rattle.domain_world.specs.Claims.Completeness.{IsPlainMove, IsQuiet, IsQuietAt, OneAtATime, started_in, NoKeyIsLost}
+use Rattle.domain_world.specs.Claims.Completeness.{IsPlainMove, IsQuiet, IsQuietAt, OneAtATime, started_in}
 use Rattle.domain_world.specs.Claims.LetIn.{IsLetInBy, LetsInWhoAsked}
 use Rattle.domain_world.specs.Past.{Past, book, note, past}
 use Rattle.logon_steps.specs.Answering.{pair_of}
@@ -150,6 +150,12 @@ later_quiet (what ∷ moves) w on quiet =
 
 rests_so : (w : World) (v : Scene) → v.dials ≡ [] → v.units ≡ [] → Shows w.state v → IsQuiet w
 rests_so w v dials units shows = record { dials = shows.dials ∙ dials; units = waiting_comes.none w.state.bag (shows.units ∙ units) }
+
+-- ---- keys
+
+-- no key travels as zeros, of a call that passed with status 0
+abbrev pub NoKeyIsLost : Judging → Type 0
+NoKeyIsLost j = j.how ≡ Some (judged.Passed 0) → IfNetwork (λ (c : LogonCall). TravelsAsZeros j c.info → ⊥) j.asked
 
 -- ---- a unit comes once somebody was let in
 

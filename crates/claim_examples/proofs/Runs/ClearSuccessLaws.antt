@@ -15,12 +15,17 @@ use Rattle.sam_logon.specs.MayLogOn.{MayLogOn}
 use Rattle.domain_controller.specs.State.{State as ControllerState}
 use Rattle.logon_client.specs.Machine as steps
 use Rattle.member_server.specs.declared.plan.MemberPlan.{MemberPlan}
+use Rattle.channel_events.proofs.ListLaws.{all_weaker}
+use Rattle.logon_stubs.specs.declared.calls.LogonCall.{LogonCall}
+use Rattle.step_notes.specs.Records.{Judging}
+use Rattle.step_notes.proofs.Controllers.JudgedCallLaws.{network_so}
+use Rattle.domain_world.specs.Claims.{TravelsAsZeros}
 use Rattle.world_moves.specs.declared.plan.Plan.{Plan}
 use Rattle.world_moves.specs.declared.state.State.{State}
 use Rattle.world_moves.specs.Choosing.{chosen_place}
 use Rattle.world_moves.specs.Forms.{HasForms}
 use Rattle.world_moves.specs.World.{IsPlan, first_world}
-use Rattle.domain_world.specs.Claims.Completeness.{CanSucceed, ComesOneAtATime, InEachState, MayLogOnIn, info_planned}
+use Rattle.domain_world.specs.Claims.Completeness.{CanSucceed, ComesOneAtATime, InEachState, IsMadeForClient, KeyArrives, MayLogOnIn, OwnKeysArrive, info_planned}
 use Rattle.domain_world.specs.Past.{past}
 use Rattle.logon_steps.specs.Granting.{cleared}
 use Rattle.logon_steps.specs.MemoCalls.{ReplyGoes, RequestGoes}
@@ -37,7 +42,7 @@ use Rattle.logon_runs.proofs.First.FirstWorldLaws.{comes_first, first_shows, fir
 use Rattle.logon_runs.proofs.Seen.LinkSceneLaws.{meetings_are_seen}
 use Rattle.domain_world.proofs.Completeness.SuccessLaws.{each_succeeds}
 use Rattle.claim_examples.specs.ClearSuccess.{AnnCanSucceed}
-use Rattle.claim_examples.proofs.Runs.ClearRunLaws.{ann_once, ann_plain, ann_quiet, keys_arrive}
+use Rattle.claim_examples.proofs.Runs.ClearRunLaws.{NoKeyIsLost, ann_once, ann_plain, ann_quiet, keys_arrive}
 use Rattle.claim_examples.proofs.Runs.ExampleKeyLaws.{ann_key_arrives}
 use Rattle.claim_examples.proofs.SequenceLaws.{one_apart}
 
@@ -192,12 +197,21 @@ ann_comes = record {
   plain = ann_plain;
   once = ann_once;
   quiet = ann_quiet;
-  keys = keys_arrive ann_plan 0 0 0 ann_can an_example_logs_on.schedule.start an_example_logs_on.schedule.forms 0 refl (λ signed. absurd cc) ann_key_arrives;
 }
+
+-- no key of a call that was granted in the run travels as zeros
+ann_arrives : OwnKeysArrive (past ann_plan ann_moves) ann_moves 0 ann_can_so
+ann_arrives =
+    all_weaker NoKeyIsLost (KeyArrives ann_task file1_plan.computer 0) (past ann_plan ann_moves).book.judged
+    (λ j kept how.
+    network_so (λ (c : LogonCall). TravelsAsZeros j c.info → ⊥) (λ (c : LogonCall). IsMadeForClient ann_task file1_plan.computer 0 j c → TravelsAsZeros j c.info → ⊥) j.asked
+    (λ c never own. never) (kept how))
+    (keys_arrive ann_plan 0 0 0 ann_can an_example_logs_on.schedule.start an_example_logs_on.schedule.forms 0 refl (λ signed. absurd cc) ann_key_arrives)
 
 pub ann_can_succeed : AnnCanSucceed
 ann_can_succeed = record {
   can = ann_can_so;
   comes = ann_comes;
-  succeeds = (each_succeeds ann_plan ann_moves ann_comes).0 ann_can_so;
+  arrives = ann_arrives;
+  succeeds = (each_succeeds ann_plan ann_moves ann_comes).0 ann_can_so ann_arrives;
 }

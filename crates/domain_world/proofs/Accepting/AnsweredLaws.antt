@@ -92,7 +92,7 @@ answers_are message j is =
     let second = both_true (has_passed j.how) (same_unit message.call j.unit) first.0 in
     record { passed = second.0; call = in_unit message.call j.unit second.1; reply = in_unit message.reply j.reply first.1 }
 
-are_answers : (message : MessageTaken) (j : Judging) (request unit : ℕ) → has_passed j.how ≡ true → message.call ≡ Some request → j.unit ≡ Some request → message.reply ≡ Some unit → j.reply ≡ Some unit →
+pub are_answers : (message : MessageTaken) (j : Judging) (request unit : ℕ) → has_passed j.how ≡ true → message.call ≡ Some request → j.unit ≡ Some request → message.reply ≡ Some unit → j.reply ≡ Some unit →
     answers message j ≡ true
 are_answers message j request unit passed call came reply sent =
     ap (λ (p : Bool). p && same_unit message.call j.unit && same_unit message.reply j.reply) passed
@@ -150,7 +150,7 @@ may_plain table info now place may = record { there = may.there; taken_response 
 may_placed : (table : AccountTable) (info : NetworkInfo) (now place : ℕ) → MayLogOn table info now → MayLogOn table (record info { logon_id = place }) now
 may_placed table info now place may = record { there = may.there; taken_response = may.taken_response }
 
-status_zero : (key : List ℕ) (verdict : Verdict) (logon : Logon) → is_in (outcome_of (ending_of (verdict_read key verdict)) logon) ≡ true → status_of verdict ≡ 0
+pub status_zero : (key : List ℕ) (verdict : Verdict) (logon : Logon) → is_in (outcome_of (ending_of (verdict_read key verdict)) logon) ≡ true → status_of verdict ≡ 0
 status_zero key (Granted info) logon is = refl
 status_zero key (Status status) logon is = absurd (let x = is in cc)
 

@@ -16,16 +16,16 @@ use Rattle.domain_world.proofs.Requests.CallFrameLaws.{schedules_stand}
 use Rattle.domain_world.proofs.Requests.CalledRunLaws.{schedules_call}
 
 pub units_heard : OfSchedules (λ plan moves. UnitsAreHeard (past plan moves))
-units_heard plan moves schedule short bytes =
-    let stands : RunsStandSo plan moves = schedules_stand plan moves schedule short bytes (draws_differ plan moves) in
-    let turns : TurnsAreHeard (past plan moves) = turns_run plan moves schedule short bytes in
+units_heard plan moves schedule =
+    let stands : RunsStandSo plan moves = schedules_stand plan moves schedule (draws_differ plan moves) in
+    let turns : TurnsAreHeard (past plan moves) = turns_run plan moves schedule in
     record {
-      whole = marked_whole plan moves schedule short bytes;
-      judged = judged_as_carried plan moves schedule short bytes;
-      called = schedules_call plan moves schedule short bytes;
+      whole = marked_whole plan moves schedule;
+      judged = judged_as_carried plan moves schedule;
+      called = schedules_call plan moves schedule;
       numbers = runs_heard.numbers (past plan moves) stands.requests stands.shows.marks stands.apart;
       turns = turns.turns;
-      back = replies_back plan moves schedule short bytes;
+      back = replies_back plan moves schedule;
       told = turns.told;
       let_in = turns.let_in;
       made = messages_made plan moves schedule;

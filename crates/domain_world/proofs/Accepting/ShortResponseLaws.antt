@@ -2,6 +2,7 @@
 -- one. It serves `runs_are_heard`, `runs_are_proved`, `Proved.responses`.
 use Rattle.std.proofs.Common.{◌≡◌, inl, inr, List, [], length, Option, Some, None, IsSomeAnd, sym, ap, ◌∙◌, subst, arith, ℕ}
 use Rattle.std.proofs.lemmas.Option.{get_or_from_slice_get, slice_get_within}
+use Rattle.std.specs.List.{AllByRecursion}
 use Rattle.channel_keys.specs.Des.{IsBlock}
 use Rattle.ntlm_responses.specs.Responses.{response_v1_of}
 use Rattle.ntlm_responses.specs.Verification.{Verifies}
@@ -9,13 +10,17 @@ use Rattle.ntlm_responses.proofs.ResponseLaws.{response_v1_of-one_to_one}
 use Rattle.logon_stubs.specs.declared.info.NetworkInfo.{NetworkInfo}
 use Rattle.account_table.specs.LookUps.{account_in}
 use Rattle.account_table.specs.declared.account.Account.{Account}
-use Rattle.step_notes.specs.Judged.{hash_in}
-use Rattle.step_notes.specs.Records.{ChallengeSent, MessageTaken}
+use Rattle.channel_events.specs.Marks.{OneOf}
+use Rattle.step_notes.specs.Judged.{hash_in, stored_hash}
+use Rattle.step_notes.specs.Records.{ChallengeSent, Judging, MessageTaken, OutcomeTold}
+use Rattle.world_moves.specs.Counting.{is_in}
 use Rattle.world_moves.specs.Draws.{DrawsAreBlocks}
-use Rattle.domain_world.specs.Claims.{IsPlainlyAccepted, IsUnusedChallenge, ShortResponsesServeOnce, info_asked}
+use Rattle.domain_world.specs.Accepting.Answered.{MessagesAreApart}
+use Rattle.domain_world.specs.Claims.{AcceptsOnlyGranted, IsAccepted, IsLetInShortly, IsPlainlyAccepted, IsToldIn, IsUnusedChallenge, ShortResponsesLetInOnce, ShortResponsesServeOnce, info_asked}
 use Rattle.domain_world.specs.Claims.OwnChallenges.{MessagesHaveOwnChallenges}
 use Rattle.domain_world.specs.Past.{Past}
-use Rattle.domain_world.proofs.Accepting.ListPlaceLaws.{all_by_place, apart_same, placed}
+use Rattle.channel_events.proofs.ListLaws.{some_is}
+use Rattle.domain_world.proofs.Accepting.ListPlaceLaws.{Placed, all_at, all_by_place, apart_same, one_at, placed}
 
 -- such a response that verifies is the one to the challenge
 verified : (found : Option Account) (info : NetworkInfo) (hash : List ℕ) → hash_in found ≡ hash → length info.nt ≡ 24 →
@@ -49,3 +54,46 @@ module _ (past : Past) (own : MessagesHaveOwnChallenges past) (blocks : DrawsAre
       apart_same (λ (s : ChallengeSent). s.challenge) past.book.challenges own.apart at_one.place at_other.place at_one.item at_other.item at_one.there at_other.there
       (at_one.is.challenge ∙ challenge ∙ sym at_other.is.challenge) in
       absurd (differ (sym at_one.is.link ∙ ap (λ (s : ChallengeSent). s.link) sent ∙ at_other.is.link))))
+
+-- ---- who is let in
+
+module _ (past : Past) (apart : MessagesAreApart past) (only : AcceptsOnlyGranted past) where
+  -- the message of that link is accepted
+  accepted_so : (k : ℕ) (told : OutcomeTold) (place : ℕ) (message : MessageTaken) → slice_get past.book.told k ≡ Some told → slice_get past.book.messages place ≡ Some message →
+      is_in told.outcome ≡ true → message.link ≡ told.link → IsAccepted past message × OneOf (IsToldIn message) past.book.told
+  accepted_so k told place message here there is link =
+      let at : Placed (λ (m : MessageTaken). (m.link ≡ told.link) × (m.member ≡ told.member) × IsAccepted past m) past.book.messages =
+      placed (λ (m : MessageTaken). (m.link ≡ told.link) × (m.member ≡ told.member) × IsAccepted past m) past.book.messages
+      (all_at (λ (t : OutcomeTold). is_in t.outcome ≡ true → OneOf (λ (m : MessageTaken). (m.link ≡ t.link) × (m.member ≡ t.member) × IsAccepted past m) past.book.messages) past.book.told k told
+      only here is) in
+      let same : at.item ≡ message =
+      apart_same (λ (m : MessageTaken). m.link) past.book.messages apart at.place place at.item message at.there there (at.is.0 ∙ sym link) in
+      let of : (message.link ≡ told.link) × (message.member ≡ told.member) × IsAccepted past message =
+      subst (λ (m : MessageTaken). (m.link ≡ told.link) × (m.member ≡ told.member) × IsAccepted past m) same at.is in
+      (of.2, one_at (IsToldIn message) past.book.told k told here (sym of.0, sym of.1, is))
+
+  plainly : (k : ℕ) (told : OutcomeTold) (nt hash : List ℕ) (place : ℕ) (message : MessageTaken) → slice_get past.book.told k ≡ Some told → slice_get past.book.messages place ≡ Some message →
+      IsLetInShortly past told nt hash message → IsPlainlyAccepted past message hash
+  plainly k told nt hash place message here there let_in =
+      let both : IsAccepted past message × OneOf (IsToldIn message) past.book.told = accepted_so k told place message here there let_in.let_in let_in.link in
+      let same : both.0.judging ≡ let_in.judging = some_is both.0.judging let_in.judging (sym both.0.answer.taken ∙ let_in.answer) in
+      record {
+        accepted = both.0;
+        told = both.1;
+        short = ap length let_in.response ∙ let_in.short;
+        own = let_in.own;
+        stored = ap (λ (j : Judging). stored_hash j (info_asked message)) same ∙ let_in.stored;
+      }
+
+  pub short_let_in : ShortResponsesServeOnce past → ShortResponsesLetInOnce past
+  short_let_in responses nt hash =
+      all_by_place _ past.book.told (λ k one here. all_by_place _ past.book.told (λ l other also differ first second.
+      let at_one : Placed (IsLetInShortly past one nt hash) past.book.messages = placed (IsLetInShortly past one nt hash) past.book.messages first in
+      let at_other : Placed (IsLetInShortly past other nt hash) past.book.messages = placed (IsLetInShortly past other nt hash) past.book.messages second in
+      let links : at_one.item.link ≢ at_other.item.link = λ same. differ (sym at_one.is.link ∙ same ∙ at_other.is.link) in
+      all_at (λ (m : MessageTaken). at_one.item.link ≢ m.link → at_one.item.logon.message.nt ≡ m.logon.message.nt → IsPlainlyAccepted past at_one.item hash → IsPlainlyAccepted past m hash → ⊥)
+      past.book.messages at_other.place at_other.item
+      (all_at (λ (n : MessageTaken). AllByRecursion (λ (m : MessageTaken). n.link ≢ m.link → n.logon.message.nt ≡ m.logon.message.nt → IsPlainlyAccepted past n hash → IsPlainlyAccepted past m hash → ⊥)
+      past.book.messages) past.book.messages at_one.place at_one.item (responses hash) at_one.there)
+      at_other.there links (at_one.is.response ∙ sym at_other.is.response) (plainly k one nt hash at_one.place at_one.item here at_one.there at_one.is)
+      (plainly l other nt hash at_other.place at_other.item also at_other.there at_other.is)))

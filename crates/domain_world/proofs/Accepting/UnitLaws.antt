@@ -16,6 +16,7 @@ use Rattle.domain_world.proofs.Accepting.AnsweredLaws.{accepts_all, accepts_only
 use Rattle.domain_world.proofs.Accepting.AnsweredRunLaws.{is_proved}
 use Rattle.domain_world.proofs.Accepting.CarriedLaws.{carried_heard}
 use Rattle.domain_world.proofs.Accepting.Messages.KeyLaws.{keys_made}
+use Rattle.domain_world.proofs.Accepting.NameLaws.{lets_in_by_name}
 use Rattle.domain_world.proofs.Accepting.Heard.ReadBackLaws.{read_back}
 use Rattle.domain_world.proofs.Challenges.MessageApartLaws.{messages_apart}
 use Rattle.domain_world.proofs.Judgements.ReplyLaws.{replies_carry}
@@ -56,4 +57,5 @@ runs_heard = record {
   all = λ plan moves heard differ clear. accepts_all (past plan moves) (is_proved plan moves differ) (heard_in plan moves heard differ) clear;
   keys = λ plan moves heard differ clear. keys_agree (past plan moves) (is_proved plan moves differ) (heard_in plan moves heard differ) clear;
   counts = λ plan moves heard differ clear. raises_once (past plan moves) (is_proved plan moves differ) (heard_in plan moves heard differ) clear;
+  names = λ plan moves heard differ calm. lets_in_by_name (past plan moves) (is_proved plan moves differ) (heard_in plan moves heard differ) calm;
 }

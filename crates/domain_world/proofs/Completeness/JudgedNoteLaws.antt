@@ -58,6 +58,7 @@ use Rattle.logon_runs.specs.Seen.TurnScenes.{IsBetween, Turn, unit_there}
 use Rattle.logon_runs.proofs.Seen.TurnSceneLaws.{heard_there}
 use Rattle.logon_runs.proofs.Seen.TwoLinkLaws.{turns_have_links}
 use Rattle.domain_world.specs.Claims.{TravelsAsZeros, key_bytes}
+use Rattle.domain_world.specs.Claims.Completeness.{IsMadeForClient}
 use Rattle.domain_world.specs.Past.{Coming, answers_of, at_controller, first_of, judged_of, note, note_controller, numbers_on, onto, with_reply}
 use Rattle.domain_world.proofs.Completeness.HeardOnceLaws.{ComeTo, controller_answers, turn_answer, turn_line}
 use Rattle.domain_world.proofs.Completeness.UnitNotedLaws.{Came, comes_so, coming, state_then}
@@ -76,11 +77,13 @@ newest P one j numbers older is holds =
 
 -- ---- the call that grants
 
--- a network logon that passed with status 0, on a key that travels as zeros where this one does
-pub record IsGrant (key base : List ℕ) (j : Judging) : Type 0 where
+-- a network logon that is made for the client, and passed with status 0, on a key that travels as zeros where this one
+-- does
+pub record IsGrant (p : LogonComing) (key base : List ℕ) (j : Judging) : Type 0 where
   pub how : j.how ≡ Some (judged.Passed 0)
   pub call : LogonCall
   pub asks : j.asked ≡ Network call
+  pub own : IsMadeForClient p.meeting.task p.meeting.caller.computer p.meeting.at_controller j call
   pub zeros : KeyTravels key base → TravelsAsZeros j call.info
 
 -- the logon of the call
@@ -138,8 +141,14 @@ module _ (p : LogonComing) (a : Asked) (v : TurnAt) (o c : SecureChannelState) (
       ∙ ap (λ (found : Option SecureChannelState). key_bytes (identity_by w.controller p.meeting.caller.computer found)) aimed.1
       ∙ ap (λ (key : List ℕ). applied key 0 (replicate 16 0)) aimed.2.key
 
-  pub grant_so : (w : Where) (number : Option ℕ) → IsGrant (key_of_channel o) (base_key p.meeting.task (message_for (own p) a)) (record (judging_then w) { reply = number })
-  grant_so w number = record { how = passed_so; call = logon_value p.meeting.caller o timestamp info; asks = refl; zeros = λ zeros. base_so ∙ zeros ∙ sym (bytes_so w number) }
+  pub grant_so : (w : Where) → w.controller ≡ p.meeting.at_controller → (number : Option ℕ) → IsGrant p (key_of_channel o) (base_key p.meeting.task (message_for (own p) a)) (record (judging_then w) { reply = number })
+  grant_so w at number = record {
+    how = passed_so;
+    call = logon_value p.meeting.caller o timestamp info;
+    asks = refl;
+    own = record { its_controller = at; its_computer = refl; domain = names_so.0; user = names_so.1; workstation = names_so.2 };
+    zeros = λ zeros. base_so ∙ zeros ∙ sym (bytes_so w number);
+  }
 
   pub judging_so : (w : Where) → (turn_answer p.name moment (length v.links) v.next (call_for p a (Third o c timestamp)) w before left).judging ≡ Some (judging_then w)
   judging_so w =
@@ -150,7 +159,7 @@ module _ (p : LogonComing) (a : Asked) (v : TurnAt) (o c : SecureChannelState) (
 
 pub grant_noted : (p : LogonComing) (w : World) (b : Book) (a : Asked) (who : WhoAsked p a) (v : TurnAt) (o c : SecureChannelState) (timestamp : ℕ) (left : List (List ℕ)) (moment : ℕ) → IsKnown p →
     HasUser p → MayLogOnAt p w.state → Fits p (Calls a who v (Third o c timestamp)) → Shows w.state (scene_of p (Calls a who v (Third o c timestamp)) left moment) →
-    OneOf (IsGrant (key_of_channel o) (base_key p.meeting.task (message_for (own p) a))) (note w move.Onward b).judged
+    OneOf (IsGrant p (key_of_channel o) (base_key p.meeting.task (message_for (own p) a))) (note w move.Onward b).judged
 grant_noted p w b a who v o c timestamp left moment known user may_log fits shows =
     let s : State = w.state in
     let call : Call = call_for p a (Third o c timestamp) in
@@ -179,8 +188,8 @@ grant_noted p w b a who v o c timestamp left moment known user may_log fits show
     (ap (λ (stepped : Stepped ControllerState). stepped.answer)
     (controllers_step.judged p.table p.name v.computers (length v.links) moment v.next timestamp p.meeting.caller o c (info_asked (own p) a) left fits.0.next_below can fits.1.1 fits.1.2))) in
     let numbers : List ℕ = numbers_on unit.link true s1.bag later.bag in
-    subst (λ (now : Book). OneOf (IsGrant (key_of_channel o) (base_key p.meeting.task (message_for (own p) a))) now.judged)
+    subst (λ (now : Book). OneOf (IsGrant p (key_of_channel o) (base_key p.meeting.task (message_for (own p) a))) now.judged)
     (sym (came.noted w.moves b ∙ ap (λ (found : Option ControllerState). note_controller found at by bytes s1 later b) shows.controller))
-    (subst (λ (js : List Judging). OneOf (IsGrant (key_of_channel o) (base_key p.meeting.task (message_for (own p) a))) (onto js b.judged)) (sym (to.judged numbers))
-    (newest (IsGrant (key_of_channel o) (base_key p.meeting.task (message_for (own p) a))) one _ numbers b.judged (judging_so p a v o c timestamp moment left known user fits.0 fits.1 may where_so)
-    (grant_so p a v o c timestamp moment left known user fits.0 fits.1 may where_so)))
+    (subst (λ (js : List Judging). OneOf (IsGrant p (key_of_channel o) (base_key p.meeting.task (message_for (own p) a))) (onto js b.judged)) (sym (to.judged numbers))
+    (newest (IsGrant p (key_of_channel o) (base_key p.meeting.task (message_for (own p) a))) one _ numbers b.judged (judging_so p a v o c timestamp moment left known user fits.0 fits.1 may where_so)
+    (grant_so p a v o c timestamp moment left known user fits.0 fits.1 may where_so refl)))

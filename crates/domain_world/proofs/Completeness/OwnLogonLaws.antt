@@ -11,6 +11,7 @@ use Rattle.outside.specs.declared.action.Outcome.TheVariants as outcome
 use Rattle.account_table.specs.AccountTable.{AccountTable}
 use Rattle.channel_events.specs.Marks.{OneOf}
 use Rattle.channel_events.proofs.ListLaws.{one_found}
+use Rattle.logon_client.specs.declared.plan.ClientPlan.{ClientPlan}
 use Rattle.logon_stubs.specs.declared.calls.LogonCall.{LogonCall}
 use Rattle.step_notes.specs.Records.{Book, Judging, OutcomeTold}
 use Rattle.step_notes.proofs.Controllers.JudgedCallLaws.{of_network}
@@ -29,7 +30,7 @@ use Rattle.logon_runs.specs.Runs.{Asked, message_for}
 use Rattle.logon_runs.specs.Scenes.{Shows}
 use Rattle.logon_runs.proofs.GrantsToldLaws.{grants_tell}
 use Rattle.domain_world.specs.Claims.{TravelsAsZeros}
-use Rattle.domain_world.specs.Claims.Completeness.{NoKeyIsLost}
+use Rattle.domain_world.specs.Claims.Completeness.{IsMadeForClient, KeyArrives}
 use Rattle.domain_world.specs.Past.{book, note, told_in}
 use Rattle.domain_world.proofs.Accepting.Turns.TurnChangedLaws.{one_after}
 use Rattle.domain_world.proofs.Frames.PlacedLaws.{IsPlaced}
@@ -45,27 +46,32 @@ IsTold p a told = (told.link ≡ (own p).link) × (told.member ≡ p.meeting.at_
 -- of a logon that is so far
 abbrev pub IsWritten : Coming → Progress → Book → Type 0
 IsWritten p NotYet b = Unit {0}
-IsWritten p (WasJudged a o) b = OneOf (IsGrant (key_of_channel o) (base_key p.meeting.task (message_for (own p) a))) b.judged
+IsWritten p (WasJudged a o) b = OneOf (IsGrant p (key_of_channel o) (base_key p.meeting.task (message_for (own p) a))) b.judged
 IsWritten p (WasTold a) b = OneOf (IsTold p a) b.told
 
 pub written_stays : (p : Coming) (far : Progress) (what : Move) (w : World) (b : Book) → IsPlaced w.state → IsWritten p far b → IsWritten p far (note w what b)
 written_stays p NotYet what w b placed is = tt
-written_stays p (WasJudged a o) what w b placed is = judged_stays (IsGrant (key_of_channel o) (base_key p.meeting.task (message_for (own p) a))) (what ∷ []) w b placed is
+written_stays p (WasJudged a o) what w b placed is = judged_stays (IsGrant p (key_of_channel o) (base_key p.meeting.task (message_for (own p) a))) (what ∷ []) w b placed is
 written_stays p (WasTold a) what w b placed is = told_stays (IsTold p a) (what ∷ []) w b placed is
 
--- no key of a call that was granted travels as zeros
-abbrev pub IsSafe : Book → Type 0
-IsSafe b = (key base : List ℕ) → OneOf (IsGrant key base) b.judged → KeyTravels key base → ⊥
+-- no key of its own calls that was granted travels as zeros
+abbrev pub IsSafe : Coming → Book → Type 0
+IsSafe p b = (key base : List ℕ) → OneOf (IsGrant p key base) b.judged → KeyTravels key base → ⊥
 
 -- of the whole run, so by then
-abbrev pub AreSafe : Book → Type 0
-AreSafe b = AllByRecursion NoKeyIsLost b.judged
+abbrev pub AreSafeFor : ClientPlan → List ℕ → ℕ → Book → Type 0
+AreSafeFor task computer controller b = AllByRecursion (KeyArrives task computer controller) b.judged
 
-pub safe_then : (moves : List Move) (w : World) (b : Book) → IsPlaced w.state → AreSafe (book moves w b) → IsSafe b
-safe_then moves w b placed safe key base one zeros =
-    let found = one_found (IsGrant key base) NoKeyIsLost (book moves w b).judged safe (judged_stays (IsGrant key base) moves w b placed one) in
+abbrev pub AreSafe : Coming → Book → Type 0
+AreSafe p b = AreSafeFor p.meeting.task p.meeting.caller.computer p.meeting.at_controller b
+
+pub safe_then : (p : Coming) (moves : List Move) (w : World) (b : Book) → IsPlaced w.state → AreSafe p (book moves w b) → IsSafe p b
+safe_then p moves w b placed safe key base one zeros =
+    let found = one_found (IsGrant p key base) (KeyArrives p.meeting.task p.meeting.caller.computer p.meeting.at_controller) (book moves w b).judged safe
+    (judged_stays (IsGrant p key base) moves w b placed one) in
     let j : Judging = found.0 in
-    of_network (λ (c : LogonCall). TravelsAsZeros j c.info → ⊥) j.asked found.1.call found.1.asks (found.2 found.1.how) (found.1.zeros zeros)
+    of_network (λ (c : LogonCall). IsMadeForClient p.meeting.task p.meeting.caller.computer p.meeting.at_controller j c → TravelsAsZeros j c.info → ⊥) j.asked found.1.call found.1.asks
+    (found.2 found.1.how) found.1.own (found.1.zeros zeros)
 
 -- ---- the member tells
 
@@ -81,7 +87,7 @@ told_so p a w b turn answer rest is =
 
 -- ---- a unit comes
 
-module _ (p : Coming) (w : World) (b : Book) (known : IsKnown p) (user : HasUser p) (may : MayLogOnAt p w.state) (placed : IsPlaced w.state) (safe : IsSafe (note w move.Onward b)) where
+module _ (p : Coming) (w : World) (b : Book) (known : IsKnown p) (user : HasUser p) (may : MayLogOnAt p w.state) (placed : IsPlaced w.state) (safe : IsSafe p (note w move.Onward b)) where
   call_written : (a : Asked) (who : WhoAsked p a) (v : TurnAt) (aim : Aim) (left : List (List ℕ)) (moment : ℕ) → Fits p (Calls a who v aim) → Shows w.state (scene_of p (Calls a who v aim) left moment) →
       IsWritten p (progress_onward {p = p} (Calls a who v aim)) (note w move.Onward b)
   call_written a who v (First client) left moment fits shows = tt

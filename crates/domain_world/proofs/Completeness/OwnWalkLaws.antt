@@ -81,7 +81,7 @@ record GoesSoFar (p : Coming) (s after : State) (b : Book) : Type 0 where
   few : DrawsFew s.chances.left after.chances.left
 
 module _ (p : Coming) (w : World) (b : Book) (known : IsKnown p) (user : HasUser p) (ready : IsReady p w.state) (may : MayLogOnAt p w.state) (placed : IsPlaced w.state) where
-  onward_goes : IsSafe (note w move.Onward b) → (at : IsUnderWay p w.state) → IsWritten p (progress_of at.phase) b → GoesSoFar p w.state (act w.state move.Onward).state (note w move.Onward b)
+  onward_goes : IsSafe p (note w move.Onward b) → (at : IsUnderWay p w.state) → IsWritten p (progress_of at.phase) b → GoesSoFar p w.state (act w.state move.Onward).state (note w move.Onward b)
   onward_goes safe at written =
       let asked : HasUserAt p w.state at.phase move.Onward = phases_go_on.has_user p w.state at.phase move.Onward user may in
       let arrives : ArrivesAt p at.phase move.Onward = onward_arrives p w b known user may placed safe at.phase at.left at.moment at.fits at.shows in
@@ -138,7 +138,7 @@ module _ (p : Coming) (w : World) (b : Book) (known : IsKnown p) (user : HasUser
             (logons_are_turned_away.over_draws p w.state what steps (logons_are_turned_away.over p w.state over));
       }
 
-  goes_by : (far : Progress) → ComesSoFar p far w.state → IsWritten p far b → (what : Move) → IsStepOn what → IsSafe (note w what b) → GoesSoFar p w.state (act w.state what).state (note w what b)
+  goes_by : (far : Progress) → ComesSoFar p far w.state → IsWritten p far b → (what : Move) → IsStepOn what → IsSafe p (note w what b) → GoesSoFar p w.state (act w.state what).state (note w what b)
   goes_by far (inl at) written what steps safe = under_goes what steps safe at.0 (subst (λ (f : Progress). IsWritten p f b) (sym at.1) written)
   goes_by far (inr over) written what steps safe = over_goes what steps over.0 (subst (λ (f : Progress). IsWritten p f b) (sym over.1) written)
 
@@ -174,19 +174,19 @@ module _ (plan : Plan) (is : IsPlan plan) (forms : HasForms plan) (servers : Has
   -- what is left to do after a move
   abbrev OwnGoes : List Move → World → Book → Type 0
   OwnGoes moves w b =
-      Along plan moves w → HasEnough (length moves) w.state.chances.left → InEachState (MayLogOnIn p.meeting.at_controller (info_planned p.meeting.task)) moves w → AreSafe (book moves w b) →
+      Along plan moves w → HasEnough (length moves) w.state.chances.left → InEachState (MayLogOnIn p.meeting.at_controller (info_planned p.meeting.task)) moves w → AreSafe p (book moves w b) →
       IsReached p w.state → Started plan (length moves) s0 started_one w.state → AllByRecursion (λ (other : ℕ). p.meeting.at_client ≢ other) (started_in moves (length plan.clients)) →
       IsSoFar p w.state b → OwnEnds p moves w b
 
   own_steps : (what : Move) (moves : List Move) (w : World) (b : Book) → IsStepOn what → OwnGoes moves (happens w what) (note w what b) → Along plan (what ∷ moves) w →
       HasEnough (suc (length moves)) w.state.chances.left → MayLogOnIn p.meeting.at_controller (info_planned p.meeting.task) w.state ×
-      InEachState (MayLogOnIn p.meeting.at_controller (info_planned p.meeting.task)) moves (happens w what) → AreSafe (book moves (happens w what) (note w what b)) → IsReached p w.state →
+      InEachState (MayLogOnIn p.meeting.at_controller (info_planned p.meeting.task)) moves (happens w what) → AreSafe p (book moves (happens w what) (note w what b)) → IsReached p w.state →
       Started plan (suc (length moves)) s0 started_one w.state → AllByRecursion (λ (other : ℕ). p.meeting.at_client ≢ other) (started_in moves (length plan.clients)) → IsSoFar p w.state b →
       OwnEnds p (what ∷ moves) w b
   own_steps what moves w b steps then_on along enough may safe reached started apart so_far =
       let goes : GoesSoFar p w.state (act w.state what).state (note w what b) =
       goes_by p w b known user (ready_so (length moves) w reached along.below enough) (may_at p w.state may.0) along.placed so_far.far so_far.comes so_far.written what steps
-      (safe_then moves (happens w what) (note w what b) (placed_next what w b along.placed) safe) in
+      (safe_then p moves (happens w what) (note w what b) (placed_next what w b along.placed) safe) in
       let ends : OwnEnds p moves (happens w what) (note w what b) =
       then_on (along_next plan what moves w along) (enough_after (length moves) w.state.chances.left (act w.state what).state.chances.left enough goes.few) may.1 safe
       (reached_so p w.state (act w.state what).state reached (ends_stay.acts w.state what)) (goes_further plan (length moves) s0 started_one w.state what steps along.below started) apart goes.so_far in

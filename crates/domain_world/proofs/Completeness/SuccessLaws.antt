@@ -31,12 +31,12 @@ use Rattle.logon_runs.specs.Seen.WaitingUnits.{waiting}
 use Rattle.logon_runs.proofs.Phases.PhaseLaws.{one_waits}
 use Rattle.logon_runs.proofs.RestLaws.{logons_come_to_rest}
 use Rattle.logon_runs.proofs.Seen.StayingLaws.{ends_stay, reach_still}
-use Rattle.domain_world.specs.Claims.Completeness.{CanSucceed, EachSucceeds, IsQuiet, InEachState, MayLogOnIn, Succeeds, info_planned, name_of, started_in}
+use Rattle.domain_world.specs.Claims.Completeness.{CanSucceed, EachSucceeds, IsQuiet, InEachState, MayLogOnIn, OwnKeysArrive, Succeeds, info_planned, name_of, started_in}
 use Rattle.domain_world.specs.Past.{Past, book, note, past}
 use Rattle.domain_world.proofs.Frames.LeftLaws.{first_left_blocks}
 use Rattle.domain_world.proofs.Completeness.ApartLaws.{can_be_granted, has_servers}
 use Rattle.domain_world.proofs.Completeness.MomentLaws.{start_bag, start_chances}
-use Rattle.domain_world.proofs.Completeness.OwnLogonLaws.{AreSafe, IsTold}
+use Rattle.domain_world.proofs.Completeness.OwnLogonLaws.{AreSafeFor, IsTold}
 use Rattle.domain_world.proofs.Completeness.OwnWalkLaws.{IsSoFar, OwnEnds, own_goes}
 use Rattle.domain_world.proofs.Frames.PlacedLaws.{placed_first}
 use Rattle.domain_world.proofs.Completeness.RestingLaws.{Along, BeginsSo, along_next, Resting, Started, begins_so, fewer_moves, goes_further, rests_on, rests_then}
@@ -73,7 +73,8 @@ module _ (plan : Plan) (every : List Move) (is : IsPlan plan) (forms : HasForms 
     (resting : Resting plan (suc (length moves)) w.state) (along : Along plan (move.Start number ∷ moves) w) (chosen : chosen_place number (length w.state.ends.clients) ≡ Some client)
     (started : Started plan (length moves) w.state client (start number w.state).state) (enough : HasEnough (length moves) (start number w.state).state.chances.left)
     (apart : AllByRecursion (λ (other : ℕ). client ≢ other) (started_in moves (length plan.clients)))
-    (may : InEachState (MayLogOnIn can.controller (info_planned can.task)) moves (happens w (move.Start number))) (safe : AreSafe (book moves (happens w (move.Start number)) (note w (move.Start number) b))) where
+    (may : InEachState (MayLogOnIn can.controller (info_planned can.task)) moves (happens w (move.Start number)))
+    (safe : AreSafeFor can.task can.member_plan.computer can.controller (book moves (happens w (move.Start number)) (note w (move.Start number) b))) where
   abbrev granted : CanBeGranted plan client can.member can.controller
   granted = can_be_granted plan every client can
 
@@ -157,10 +158,10 @@ behind_differ first numbers all = recursion_from_All (λ (other : ℕ). first �
 later_differ : (first : ℕ) (numbers : List ℕ) → AllPairs (λ (one other : ℕ). one ≢ other) (first ∷ numbers) → AllPairs (λ (one other : ℕ). one ≢ other) numbers
 later_differ first numbers all i j d before within = all (suc i) (suc j) d (omega (arith, before)) (omega (arith, within))
 
-module _ (plan : Plan) (every : List Move) (is : IsPlan plan) (forms : HasForms plan) (servers : HasServers plan) (world : World) (bk : Book)
-    (safe : AreSafe bk) where
+module _ (plan : Plan) (every : List Move) (is : IsPlan plan) (forms : HasForms plan) (servers : HasServers plan) (world : World) (bk : Book) where
   abbrev GoalOf : ℕ → Type 0
-  GoalOf client = (can : CanSucceed plan every client) → Succeeds (past_of plan world bk) every client can
+  GoalOf client =
+      (can : CanSucceed plan every client) → AreSafeFor can.task can.member_plan.computer can.controller bk → Succeeds (past_of plan world bk) every client can
 
   -- what holds in each state of the run holds in each that follows
   abbrev Follows : List Move → World → Type 1
@@ -170,12 +171,12 @@ module _ (plan : Plan) (every : List Move) (is : IsPlan plan) (forms : HasForms 
       BeginsSo plan (length moves) w.state number → AllPairs (λ (one other : ℕ). one ≢ other) (number % length plan.clients ∷ started_in moves (length plan.clients)) →
       Follows (move.Start number ∷ moves) w → world ≡ run moves (happens w (move.Start number)) → bk ≡ book moves (happens w (move.Start number)) (note w (move.Start number) b) →
       GoalOf (number % length plan.clients)
-  start_goal number moves w b resting along begins once follows is_world is_book can =
+  start_goal number moves w b resting along begins once follows is_world is_book can safe =
       succeeds_so plan every is forms (number % length plan.clients) can number moves w b resting along begins.chosen begins.started
       (subst (λ (chances : Drawing). HasEnough (length moves) chances.left) (sym (start_chances number w.state)) (fewer_moves (length moves) w.state.chances.left resting.enough))
       (behind_differ (number % length plan.clients) (started_in moves (length plan.clients)) once)
       (follows (MayLogOnIn can.controller (info_planned can.task)) can.may).1
-      (subst AreSafe is_book safe) world bk is_world is_book
+      (subst (AreSafeFor can.task can.member_plan.computer can.controller) is_book safe) world bk is_world is_book
 
   -- what is left to show behind a move
   abbrev EachFrom : List Move → World → Book → Type 1
@@ -190,7 +191,7 @@ module _ (plan : Plan) (every : List Move) (is : IsPlan plan) (forms : HasForms 
   each_starts number moves w b then_on along once follows is_world is_book resting =
       elim (begins_so plan (length moves) w.state number is forms servers along.same resting) [
         | inl none ↦ (
-          (λ can. absurd (got_nothing (number % length plan.clients) can.task (subst (λ (clients : List ClientPlan). slice_get clients (number % length plan.clients) ≡ Some can.task) none.1 can.is_task))),
+          (λ can safe. absurd (got_nothing (number % length plan.clients) can.task (subst (λ (clients : List ClientPlan). slice_get clients (number % length plan.clients) ≡ Some can.task) none.1 can.is_task))),
           then_on (along_next plan (move.Start number) moves w along) (later_differ (number % length plan.clients) (started_in moves (length plan.clients)) once)
               (λ Fact each. (follows Fact each).1) is_world is_book
               (inl (subst (λ (s : State). Resting plan (length moves) s) (sym none.0)
@@ -242,8 +243,8 @@ each_succeeds plan moves comes =
     let first : World = first_world plan in
     let is : IsPlan plan = comes.schedule.start in
     let forms : HasForms plan = comes.schedule.forms in
-    all_given (λ (client : ℕ). CanSucceed plan moves client) (λ client can. Succeeds (past plan moves) moves client can) (HasServers plan) (started_in moves (length plan.clients)) (λ client can. has_servers plan moves client can)
-    (λ servers. each_from plan moves is forms servers (run moves first) (book moves first blank) comes.keys moves first blank
+    all_given (λ (client : ℕ). CanSucceed plan moves client) (λ client can. OwnKeysArrive (past plan moves) moves client can → Succeeds (past plan moves) moves client can) (HasServers plan) (started_in moves (length plan.clients)) (λ client can. has_servers plan moves client can)
+    (λ servers. each_from plan moves is forms servers (run moves first) (book moves first blank) moves first blank
     (record { plain = comes.plain; quiet = comes.quiet; same = ends_stay.none first.state; below = forms.now; placed = placed_first plan })
     comes.once (λ Fact each. each) refl refl
     (inl (record { rest = logons_come_to_rest.first plan is forms; enough = first_enough plan (length moves) comes.schedule.few })))

@@ -574,6 +574,20 @@ module _ (Known : Type 0) (Holds : MoveFact) (keeps : KeepsMoves Known NoSide Ho
       (λ next. keeps.over moved.steps w.moves moved.on next (act w.state what).state (act w.state what).given (note_coming what w.moves w.state b) tt moved.holds) in
       record { steps = later.steps; holds = later.holds; few = λ known. omega (arith, later.few known, moved.few known) }
 
+-- the same where what holds says of the bag that its units are short, and have bytes
+module _ (Holds : MoveFact) (keeps : KeepsMoves (Unit {0}) NoSide Holds)
+    (says : (n at : ℕ) (s : State) (b : Book) → Holds n (started at None) s [] b → IsBytesBag s.bag) where
+  carry_part : (moves : List Move) (n : ℕ) (w : World) (b : Book) → AllByRecursion HandsBytes moves → IsPlaced w.state → HoldsFor (Unit {0}) Holds keeps n w.moves w.state b →
+      Ran (Unit {0}) Holds keeps n moves w b
+  carry_part [] n w b handed placed holds = record { steps = n; holds = holds; few = λ known. omega arith }
+  carry_part (what ∷ moves) n w b handed placed holds =
+      let moved : Moved (Unit {0}) Holds keeps n w.moves w.state (act w.state what) (note_coming what w.moves w.state b) =
+      act_part (Unit {0}) Holds keeps what n w.moves w.state b placed (λ known. says n w.moves w.state b (holds None)) (λ known. handed.0) holds in
+      let later : Ran (Unit {0}) Holds keeps moved.steps moves (happens w what) (note w what b) =
+      carry_part moves moved.steps (happens w what) (note w what b) handed.1 moved.placed
+      (λ next. keeps.over moved.steps w.moves moved.on next (act w.state what).state (act w.state what).given (note_coming what w.moves w.state b) tt moved.holds) in
+      record { steps = later.steps; holds = later.holds; few = λ known. omega (arith, later.few known, moved.few known) }
+
 -- It holds after a run from a plan, at which ten steps of ends a move were taken at most, where what comes is known.
 pub record HoldsAfterMoves (Known : Type 0) (Holds : MoveFact) (plan : Plan) (moves : List Move) : Type 0 where
   pub steps : ℕ
@@ -588,6 +602,15 @@ moves_keep Known Holds keeps plan moves has holds =
     run_part Known Holds keeps moves 0 (first_world plan) blank
     (λ known. record { short = λ k unit there. unit_short bag k unit (has known).short there; bytes = bytes_in bag (has known).bytes }) (λ known. (has known).handed)
     (record { made = tt; kinds = λ k unit there. absurd (got_nothing k unit there) }) holds in
+    record { steps = ran.steps; holds = ran.holds None; few = λ known. omega (arith, ran.few known) }
+
+-- so it is where what is handed in are bytes, and what holds says so of the bag
+pub moves_carry : (Holds : MoveFact) → KeepsMoves (Unit {0}) NoSide Holds → ((n at : ℕ) (s : State) (b : Book) → Holds n (started at None) s [] b → IsBytesBag s.bag) →
+    (plan : Plan) (moves : List Move) → AllByRecursion HandsBytes moves → ((on : Option Coming) → Holds 0 (started 0 on) (first_world plan).state [] blank) →
+    HoldsAfterMoves (Unit {0}) Holds plan moves
+moves_carry Holds keeps says plan moves handed holds =
+    let ran : Ran (Unit {0}) Holds keeps 0 moves (first_world plan) blank =
+    carry_part Holds keeps says moves 0 (first_world plan) blank handed (record { made = tt; kinds = λ k unit there. absurd (got_nothing k unit there) }) holds in
     record { steps = ran.steps; holds = ran.holds None; few = λ known. omega (arith, ran.few known) }
 
 -- ---- from any world on

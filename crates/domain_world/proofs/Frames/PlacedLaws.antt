@@ -1,9 +1,9 @@
 -- Where links and units are as bytes come: each open link is one that was made, each unit is on a link of its kind, and
 -- the units of the bag stay there with their bytes. It serves the induction over moves (`MoveFrameLaws`), `drive` and
 -- `schedules_are_heard`.
-use Rattle.std.proofs.Common.{◌≡◌, ℕ, zero, suc, ◌≤◌, List, [], ◌∷◌, length, Some, slice_get, sym, ap, subst, ◌∙◌}
+use Rattle.std.proofs.Common.{◌≡◌, ℕ, zero, suc, ◌≤◌, List, [], ◌∷◌, length, Some, slice_get, refl, sym, ap, subst, ◌∙◌}
 use Rattle.std.specs.List.{AllByRecursion}
-use Rattle.std.proofs.lemmas.List.Elements.{All-head, All-tail}
+use Rattle.std.proofs.lemmas.List.Elements.{All-from_recursion, All-head, All-tail}
 use Rattle.wire_base.specs.Numbers.{AreBytes}
 use Rattle.end_links.specs.Bounds.{send_limit}
 use Rattle.channel_events.specs.Marks.{OneOf}
@@ -145,6 +145,17 @@ bytes_in [] have number unit there = absurd (got_nothing number unit there)
 bytes_in (first ∷ bag) have zero unit there =
     let here : first ≡ unit = cc in subst (λ (u : BagUnit). AreBytes u.bytes) here (All-head (λ (u : BagUnit). AreBytes u.bytes) first bag have)
 bytes_in (first ∷ bag) have (suc number) unit there = bytes_in bag (All-tail (λ (u : BagUnit). AreBytes u.bytes) first bag have) number unit there
+
+-- what each unit of a bag has, as the bag has it
+all_each : (Fits : List ℕ → Type 0) (bag : List BagUnit) → EachHas Fits bag → AllByRecursion (λ (unit : BagUnit). Fits unit.bytes) bag
+all_each Fits [] each = tt
+all_each Fits (first ∷ bag) each = (each 0 first refl, all_each Fits bag (λ number unit there. each (suc number) unit there))
+
+pub short_units : (bag : List BagUnit) → ShortBag bag → AreShortUnits bag
+short_units bag short = All-from_recursion (λ (unit : BagUnit). length unit.bytes ≤ send_limit) bag (all_each (λ (bytes : List ℕ). length bytes ≤ send_limit) bag short)
+
+pub units_have_bytes : (bag : List BagUnit) → BytesIn bag → HaveBytes bag
+units_have_bytes bag are = All-from_recursion (λ (unit : BagUnit). AreBytes unit.bytes) bag (all_each AreBytes bag are)
 
 -- they have their places in the first world
 pub placed_first : (plan : Plan) → IsPlaced (first_world plan).state

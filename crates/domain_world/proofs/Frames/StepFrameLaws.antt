@@ -27,8 +27,8 @@ use Rattle.domain_world.proofs.Frames.BagFrameLaws.{IsServer, no_more_of, no_par
 use Rattle.domain_world.proofs.Frames.ComingLaws.{CameFrom}
 use Rattle.domain_world.proofs.Frames.OpenMadeLaws.{IsAtSide}
 use Rattle.domain_world.proofs.Frames.EndFrameLaws.{IsCalm}
-use Rattle.domain_world.proofs.Frames.MoveFrameLaws.{Both, HoldsAfterMoves, IsHeard, KeepsMoves, MoveFact, NoSide, Progress, beside, coming, join_moves, moves_keep, started, waiting}
-use Rattle.domain_world.proofs.Frames.PlacedLaws.{HasBytes}
+use Rattle.domain_world.proofs.Frames.MoveFrameLaws.{Both, HoldsAfterMoves, IsHeard, KeepsMoves, MoveFact, NoSide, Progress, beside, coming, join_moves, moves_keep, started, waiting, moves_carry}
+use Rattle.domain_world.proofs.Frames.PlacedLaws.{HasBytes, HandsBytes, IsBytesBag}
 use Rattle.domain_world.proofs.Frames.FrameLaws.{OfSide, side_keeps}
 
 -- ---- what is to hold
@@ -283,3 +283,16 @@ pub run_keeps : (Holds : RunFact) (Fine : ActionFact) → Keeps NoFact Holds Fin
     Holds 0 (first_world plan).state [] blank → HoldsAfterRun Holds plan moves
 run_keeps Holds Fine keeps plan moves has holds =
     run_beside Holds Fine keeps Nothing (side_keeps no_part no_side nothing_written (Unit {0})) (λ n at on s given b none. keeps.over n at s given b tt) plan moves has (λ on. tt) holds
+
+-- so it is where what is handed in are bytes, and what holds says of the bag that its units are short, and have bytes
+pub run_carries : (Holds : RunFact) (Fine : ActionFact) → Keeps NoFact Holds Fine → ((n : ℕ) (s : State) (b : Book) → Holds n s [] b → IsBytesBag s.bag) →
+    (plan : Plan) (moves : List Move) → AllByRecursion HandsBytes moves → Holds 0 (first_world plan).state [] blank → HoldsAfterRun Holds plan moves
+run_carries Holds Fine keeps says plan moves handed holds =
+    let known : Type 0 = Unit {0} in
+    let all : KeepsMoves known NoSide (Both Marked (OfSteps Holds Fine)) =
+    join_moves known Marked (OfSteps Holds Fine) (marked_keep no_part no_side no_more_of nothing_written nothing_marked known)
+    (steps_keep Holds Fine keeps Marked (λ n w s given b side. side.1.all) (λ n at on s given b side. keeps.over n at s given b tt)) in
+    let after : HoldsAfterMoves known (Both Marked (OfSteps Holds Fine)) plan moves =
+    moves_carry (Both Marked (OfSteps Holds Fine)) all (λ n at s b holds. says n s b holds.1.0) plan moves handed
+    (λ on. (first_marked no_part no_side no_more_of nothing_written nothing_marked plan on tt, (holds, tt))) in
+    record { steps = after.steps; holds = after.holds.1.0; few = after.few tt }

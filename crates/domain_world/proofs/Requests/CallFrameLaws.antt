@@ -303,6 +303,6 @@ stand_so Quiet Fine so keeps plan moves first bytes schedule differ =
 
 -- so it is of each schedule
 pub schedules_stand : OfSchedules (λ plan moves. DrawsDiffer (past plan moves).world → RunsStandSo plan moves)
-schedules_stand plan moves schedule short bytes differ =
-    stand_so QuietFact QuietAction (λ n s given b quiet. is_quiet s quiet) quiet_keeps plan moves (quiet_first plan schedule.forms) (has_bytes plan moves schedule short bytes)
+schedules_stand plan moves schedule differ =
+    stand_so QuietFact QuietAction (λ n s given b quiet. is_quiet s quiet) quiet_keeps plan moves (quiet_first plan schedule.start schedule.forms) (has_bytes plan moves schedule)
     schedule differ

@@ -115,5 +115,5 @@ quiet_side s quiet = record {
 
 -- so it is in each schedule
 pub schedules_call : OfSchedules (λ plan moves. MessagesAreCalled (past plan moves))
-schedules_call plan moves schedule short bytes =
-    messages_called QuietFact QuietAction quiet_keeps (λ n s given b quiet. quiet_side s quiet) plan moves (has_bytes plan moves schedule short bytes) (quiet_first plan schedule.forms)
+schedules_call plan moves schedule =
+    messages_called QuietFact QuietAction quiet_keeps (λ n s given b quiet. quiet_side s quiet) plan moves (has_bytes plan moves schedule) (quiet_first plan schedule.start schedule.forms)

@@ -20,9 +20,9 @@ use Rattle.domain_world.proofs.Judgements.UnclashedLaws.{passes_unclashed}
 use Rattle.domain_world.proofs.Requests.MarkWayLaws.{marks_have_their_way}
 
 pub replies_answer : OfSchedules (λ plan moves. (past plan moves).book.clash ≡ false → RepliesAnswerCalls (past plan moves))
-replies_answer plan moves schedule short bytes clear n unit one channel number request bag there mark =
+replies_answer plan moves schedule clear n unit one channel number request bag there mark =
     let p : Past = past plan moves in
-    let all : UnitsAreHeard p = units_heard plan moves schedule short bytes in
+    let all : UnitsAreHeard p = units_heard plan moves schedule in
     let replied = subst (λ (m : Mark). IsReplyOfOne p.book.judged n unit.bytes m) mark (replies_carry plan moves n unit one bag there) in
     let found = placed (λ (j : Judging). (j.reply ≡ Some n) × IsReplyOfCall channel number request j unit.bytes) p.book.judged replied in
     let asked = requested p all.whole (marks_have_their_way plan moves) all.judged (passes_unclashed plan moves) (replies_carry plan moves) all.numbers clear found.place channel found.item request number

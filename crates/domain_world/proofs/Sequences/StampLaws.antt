@@ -49,10 +49,10 @@ stamp_is : (what : Call) (timestamp : ℕ) (asked : JudgedCall) → IsStampedCal
 stamp_is what timestamp (Network c) stamped are is = stamp_of what timestamp c stamped are is
 
 pub calls_stamped : OfSchedules (λ plan moves. CallsAreStamped (past plan moves))
-calls_stamped plan moves is short bytes n unit one channel number timestamp asked there noted mark whole carried =
+calls_stamped plan moves is n unit one channel number timestamp asked there noted mark whole carried =
     let bag : List BagUnit = (past plan moves).world.state.bag in
-    let has : HasBytes plan moves = has_bytes plan moves is short bytes in
-    let had : IsOfUnit OfMark tt bag n one.mark = marks_fit plan moves is short bytes n one noted in
+    let has : HasBytes plan moves = has_bytes plan moves is in
+    let had : IsOfUnit OfMark tt bag n one.mark = marks_fit plan moves is n one noted in
     let same : had.unit ≡ unit = some_is had.unit unit (sym had.there ∙ there) in
     let fits : FitsMark unit (Calling channel number timestamp) =
     subst (λ (m : Mark). FitsMark unit m) mark (subst (λ (u : BagUnit). FitsMark u one.mark) same had.holds) in

@@ -1,6 +1,6 @@
 -- What the claims on answers rest on in a run whose draws differ: each fact is of one unit of the bag, one message or
 -- one step.
-use Rattle.std.specs.Prelude.{◌≡◌, List, map}
+use Rattle.std.specs.Prelude.{◌≡◌, false, List, map}
 use Rattle.channel_events.specs.Requests.{CallsAreApart, Requests}
 use Rattle.step_notes.specs.Records.{RequesterId, Sent}
 use Rattle.world_moves.specs.declared.moves.Move.{Move}
@@ -12,6 +12,7 @@ use Rattle.domain_world.specs.Accepting.KeysMade.{MessagesAreMade, MessagesAreTa
 use Rattle.domain_world.specs.Accepting.ReadBack.{RepliesAreReadBack, TurnsAreTold, TurnsLetIn}
 use Rattle.domain_world.specs.Claims.{AcceptsAllGranted, AcceptsOnlyGranted, IsClear, KeysAgree}
 use Rattle.domain_world.specs.Claims.Counts.{EachCallRaisesOnce}
+use Rattle.domain_world.specs.Claims.Names.{LetsInByName}
 use Rattle.domain_world.specs.Past.{Past, past}
 
 pub record UnitsAreHeard (past : Past) : Type 0 where
@@ -41,3 +42,5 @@ pub record RunsAreHeard : Type 0 where
       KeysAgree (past plan moves)
   pub counts : (plan : Plan) (moves : List Move) → UnitsAreHeard (past plan moves) → DrawsDiffer (past plan moves).world → IsClear (past plan moves).book →
       EachCallRaisesOnce (past plan moves)
+  pub names : (plan : Plan) (moves : List Move) → UnitsAreHeard (past plan moves) → DrawsDiffer (past plan moves).world → (past plan moves).book.clash ≡ false →
+      LetsInByName (past plan moves)

@@ -149,21 +149,35 @@ pub record Succeeds (run : Past) (moves : List Move) (client : ℕ) (can : CanSu
       × (told.member ≡ can.member)
       × (told.outcome ≡ outcome.In can.table.domain can.account.name key)) run.book.told
 
--- no session base key travels as zeros, of the Logon calls that passed with status 0: a refused one has no key
-abbrev pub NoKeyIsLost : Judging → Type 0
-NoKeyIsLost j = j.how ≡ Some (judged.Passed 0) → IfNetwork (λ (c : LogonCall). TravelsAsZeros j c.info → ⊥) j.asked
-
--- it is a schedule; the moves start clients one at a time, each once at most; and no key is lost so
+-- it is a schedule, and the moves start clients one at a time, each once at most
 pub record ComesOneAtATime (run : Past) (moves : List Move) : Type 0 where
   pub schedule : IsSchedule run.plan moves
   pub plain : AllByRecursion IsPlainMove moves
   pub once : AllPairs (λ (one other : ℕ). one ≢ other) (started_in moves (length run.plan.clients))
   pub quiet : OneAtATime moves (first_world run.plan)
-  pub keys : AllByRecursion NoKeyIsLost run.book.judged
 
--- Completeness, of the run over these moves: each client that is started and can succeed does.
+-- a Logon call that is made for such a client: its member's computer asks its controller for the user, the domain and
+-- the workstation of the client's plan
+pub record IsMadeForClient (task : ClientPlan) (computer : List ℕ) (controller : ℕ) (j : Judging) (c : LogonCall) : Type 0 where
+  pub its_controller : j.controller ≡ controller
+  pub its_computer : c.computer ≡ Some computer
+  pub domain : c.info.domain ≡ task.domain
+  pub user : c.info.user ≡ task.user
+  pub workstation : c.info.workstation ≡ task.workstation
+
+-- the session base key of such a call doesn't travel as zeros, where it passed with status 0: a refused one has no key
+abbrev pub KeyArrives : ClientPlan → List ℕ → ℕ → Judging → Type 0
+KeyArrives task computer controller j =
+    j.how ≡ Some (judged.Passed 0) →
+    IfNetwork (λ (c : LogonCall). IsMadeForClient task computer controller j c → TravelsAsZeros j c.info → ⊥) j.asked
+
+-- so it is of all of the client's own calls
+abbrev pub OwnKeysArrive : (run : Past) (moves : List Move) (client : ℕ) → CanSucceed run.plan moves client → Type 0
+OwnKeysArrive run moves client can = AllByRecursion (KeyArrives can.task can.member_plan.computer can.controller) run.book.judged
+
+-- Completeness, of the run over these moves: each client that is started and can succeed does, where its key arrives.
 abbrev pub EachSucceeds : Past → List Move → Type 0
 EachSucceeds run moves =
     ComesOneAtATime run moves →
-    AllByRecursion (λ (client : ℕ). (can : CanSucceed run.plan moves client) → Succeeds run moves client can)
-    (started_in moves (length run.plan.clients))
+    AllByRecursion (λ (client : ℕ). (can : CanSucceed run.plan moves client) → OwnKeysArrive run moves client can →
+    Succeeds run moves client can) (started_in moves (length run.plan.clients))

@@ -24,7 +24,6 @@ use Rattle.world_moves.specs.declared.moves.Move.{Move}
 use Rattle.world_moves.specs.declared.plan.Plan.{Plan}
 use Rattle.world_moves.specs.declared.state.State.{State}
 use Rattle.world_moves.specs.Acting.{Given, Heard, hear, hear_and_act}
-use Rattle.world_moves.specs.Bag.{AreShortUnits, HaveBytes}
 use Rattle.world_moves.specs.Forms.{IsSchedule}
 use Rattle.world_moves.specs.Links.{acceptor_of}
 use Rattle.world_moves.specs.Moving.{begun, with_link}
@@ -38,7 +37,6 @@ use Rattle.domain_world.proofs.Accepting.ListPlaceLaws.{all_at}
 use Rattle.domain_world.proofs.Accepting.Quiet.QuietStepLaws.{ControllerIsQuiet, QuietAction, QuietFact, QuietState}
 use Rattle.domain_world.proofs.Accepting.Quiet.QuietRunLaws.{has_bytes, quiet_first, quiet_keeps}
 use Rattle.domain_world.proofs.Frames.ComingLaws.{CameFrom}
-use Rattle.domain_world.proofs.Frames.LeftLaws.{eights_of}
 use Rattle.domain_world.proofs.Frames.OpenMadeLaws.{IsAtSide}
 use Rattle.domain_world.proofs.Frames.StepFrameLaws.{BothFacts, BothFine, HasHeard, HoldsAfterRun, Keeps, join, run_keeps}
 use Rattle.domain_world.proofs.Frames.EndNoteLaws.{book_by, judged_so}
@@ -95,7 +93,7 @@ module _ (at : ℕ) (w : Coming) (piece : List ℕ) (s after : State) (quiet : Q
       answers (numbers_on w.link true s.bag after.bag)
       (both_all (IsCarriedBy s.bag) IsJudgedInRange (IsJudgedWell s.bag) (λ j one other. record { carried = one; range = other }) answers
       (served_carried s.bag (at_controller at c w s) w.link units carried)
-      (replies_are_read.judged c w.at at w.unit w.link piece s.moment s.chances.left own.range quiet.moment (eights_of s.chances.left quiet.blocks))))
+      (replies_are_read.judged c w.at at w.unit w.link piece s.moment s.chances.left own.range quiet.moment quiet.blocks)))
       stand.judged
 
 end_stand : (end : EndId) (w : Coming) (piece : List ℕ) (s after : State) (b : Book) → QuietState s → JudgedStand s.bag b.judged → IsAtSide s.links w.link w.back end → CameFrom w.unit s w piece →
@@ -136,12 +134,12 @@ judged_keeps = record {
 pub judged_first : JudgedStand [] []
 judged_first = record { kinds = λ n unit there. absurd (got_nothing n unit there); judged = tt }
 
-module _ (plan : Plan) (moves : List Move) (is : IsSchedule plan moves) (short : AreShortUnits (past plan moves).world.state.bag) (bytes : HaveBytes (past plan moves).world.state.bag) where
+module _ (plan : Plan) (moves : List Move) (is : IsSchedule plan moves) where
   pub judged_stand : JudgedStand (past plan moves).world.state.bag (past plan moves).book.judged
   judged_stand =
       let ran : HoldsAfterRun (BothFacts QuietFact JudgedFact) plan moves =
       run_keeps (BothFacts QuietFact JudgedFact) (BothFine QuietAction AnyAction) (join QuietFact JudgedFact QuietAction AnyAction quiet_keeps judged_keeps) plan moves
-      (has_bytes plan moves is short bytes) (quiet_first plan is.forms, judged_first) in
+      (has_bytes plan moves is) (quiet_first plan is.start is.forms, judged_first) in
       ran.holds.1
 
 carried_as : (past : Past) (js : List Judging) → AllByRecursion (IsJudgedWell past.world.state.bag) js →
@@ -156,14 +154,14 @@ carried_as past (j ∷ js) all = (
 
 -- each call that was judged is that of the unit in which it came
 pub judged_as_carried : OfSchedules (λ plan moves. JudgedAsCarried (past plan moves))
-judged_as_carried plan moves is short bytes = carried_as (past plan moves) (past plan moves).book.judged (judged_stand plan moves is short bytes).judged
+judged_as_carried plan moves is = carried_as (past plan moves) (past plan moves).book.judged (judged_stand plan moves is).judged
 
 -- ---- replies
 
 -- a reply to a call that passed is read as it was made
 pub replies_back : OfSchedules (λ plan moves. RepliesAreReadBack (past plan moves))
-replies_back plan moves is short bytes n unit one there noted channel number request place j judged mark reply whole =
+replies_back plan moves is n unit one there noted channel number request place j judged mark reply whole =
     let well : IsJudgedWell (past plan moves).world.state.bag j =
-    all_at (IsJudgedWell (past plan moves).world.state.bag) (past plan moves).book.judged place j (judged_stand plan moves is short bytes).judged judged in
+    all_at (IsJudgedWell (past plan moves).world.state.bag) (past plan moves).book.judged place j (judged_stand plan moves is).judged judged in
     let call : IsCarriedCall (past plan moves).world.state.bag j.number j.asked request = well.carried request reply.came in
     (replies_are_read.read j unit.bytes reply.carries whole.frames whole.unit well.range call.level whole.heard).read

@@ -46,7 +46,6 @@ use Rattle.world_moves.specs.declared.moves.Move.{Move}
 use Rattle.world_moves.specs.declared.plan.Plan.{Plan}
 use Rattle.world_moves.specs.declared.state.State.{State}
 use Rattle.world_moves.specs.Acting.{Given, Heard, done, heard_by, hear_and_act}
-use Rattle.world_moves.specs.Bag.{AreShortUnits, HaveBytes}
 use Rattle.world_moves.specs.Ends.{EndStep, client_step, controller_step, member_step}
 use Rattle.world_moves.specs.Forms.{IsSchedule}
 use Rattle.world_moves.specs.Links.{is_own, kind_of}
@@ -280,31 +279,31 @@ module _ (bag : List BagUnit) (js : List Judging) (stand : JudgedStand bag js) (
 
 -- ---- a run
 
-module _ (plan : Plan) (moves : List Move) (is : IsSchedule plan moves) (short : AreShortUnits (past plan moves).world.state.bag) (bytes : HaveBytes (past plan moves).world.state.bag) where
+module _ (plan : Plan) (moves : List Move) (is : IsSchedule plan moves) where
   has : HasBytes plan moves
-  has = has_bytes plan moves is short bytes
+  has = has_bytes plan moves is
 
   pub marks_fit : MarksFit (past plan moves).world.state.bag (past plan moves).book
   marks_fit =
-      run_fits QuietFact QuietAction quiet_keeps no_part no_side nothing_written MarksFit marks_keep plan moves has (quiet_first plan is.forms) tt
+      run_fits QuietFact QuietAction quiet_keeps no_part no_side nothing_written MarksFit marks_keep plan moves has (quiet_first plan is.start is.forms) tt
       (λ number one there. absurd (got_nothing number one there))
 
   after_quiet : QuietState (past plan moves).world.state
-  after_quiet = let ran : HoldsAfterRun QuietFact plan moves = run_keeps QuietFact QuietAction quiet_keeps plan moves has (quiet_first plan is.forms) in ran.holds
+  after_quiet = let ran : HoldsAfterRun QuietFact plan moves = run_keeps QuietFact QuietAction quiet_keeps plan moves has (quiet_first plan is.start is.forms) in ran.holds
 
 -- each unit that was made for a channel is whole, and what its mark says
 pub marked_whole : OfSchedules (λ plan moves. MarkedUnitsAreWhole (past plan moves))
-marked_whole plan moves is short bytes n unit one there noted not =
+marked_whole plan moves is n unit one there noted not =
     let bag : List BagUnit = (past plan moves).world.state.bag in
-    let has : HasBytes plan moves = has_bytes plan moves is short bytes in
-    let quiet : QuietState (past plan moves).world.state = after_quiet plan moves is short bytes in
-    let had : IsOfUnit OfMark tt bag n one.mark = marks_fit plan moves is short bytes n one noted in
+    let has : HasBytes plan moves = has_bytes plan moves is in
+    let quiet : QuietState (past plan moves).world.state = after_quiet plan moves is in
+    let had : IsOfUnit OfMark tt bag n one.mark = marks_fit plan moves is n one noted in
     let same : had.unit ≡ unit = some_is had.unit unit (sym had.there ∙ there) in
     let fits : (unit.kind ≡ kind.ToController) × CarriesMark one.mark unit.bytes =
     subst (λ (u : BagUnit). (u.kind ≡ kind.ToController) × CarriesMark one.mark u.bytes) same (had.holds not) in
     let send : IsWholeSend unit.bytes = quiet.bag n unit there fits.0 in
     record {
       whole = record { frames = send.frames; unit = send.unit; heard = send.heard };
-      marked = as_marked bag (past plan moves).book.judged (judged_stand plan moves is short bytes) n unit.bytes send.frames send.unit (bytes_in bag has.bytes n unit there) send.heard one.mark fits.1
+      marked = as_marked bag (past plan moves).book.judged (judged_stand plan moves is) n unit.bytes send.frames send.unit (bytes_in bag has.bytes n unit there) send.heard one.mark fits.1
           (replies_carry plan moves n unit one there noted);
     }

@@ -1,5 +1,5 @@
--- In every schedule what is under way between members and controllers is whole, and nothing stays open there: kept by
--- each move, over the frame of whole steps. It serves `runs_stand_so`.
+-- In every schedule what is under way is bytes, between members and controllers it is whole, and nothing stays open
+-- there: kept by each move, over the frame of whole steps. It serves `runs_stand_so`.
 use Rattle.std.proofs.lemmas.List.Elements.{All-head, All-tail}
 use Rattle.std.proofs.lemmas.List.{drop_all, take_all}
 use Rattle.channel_events.specs.Marks.{OneOf}
@@ -15,9 +15,9 @@ use Rattle.world_moves.specs.declared.moves.Move.TheVariants as move
 use Rattle.domain_world.specs.Accepting.Runs.{IsQuiet, IsQuietLink, IsQuietTurn}
 use Rattle.domain_world.specs.Past.{past}
 use Rattle.domain_world.specs.Schedules.{OfSchedules}
-use Rattle.domain_world.proofs.Accepting.Quiet.QuietStepLaws.{ClientIsQuiet, ControllerIsQuiet, IsClients, IsMade, Meets, MeetsMember, MemberIsQuiet, QuietAction, QuietFact, QuietState, StandsQuiet, WholeBag, WholeIfCarried, end_steps, with_bag}
+use Rattle.domain_world.proofs.Accepting.Quiet.QuietStepLaws.{ClientIsQuiet, ControllerIsQuiet, IsClients, IsMade, Meets, MeetsMember, MemberIsQuiet, QuietAction, QuietFact, QuietState, StandsQuiet, WholeBag, WholeIfCarried, end_steps, with_bag, whole_bytes}
 use Rattle.domain_world.proofs.Frames.LeftLaws.{first_left_blocks}
-use Rattle.domain_world.proofs.Frames.StepFrameLaws.{HoldsAfterRun, run_keeps}
+use Rattle.domain_world.proofs.Frames.StepFrameLaws.{HoldsAfterRun, run_carries}
 use Rattle.std.proofs.Common.{◌≡◌, ℕ, zero, suc, ◌+◌, ◌<◌, ◌≤◌, ◌^◌, Bool, true, false, List, [], ◌∷◌, ◌++◌, drop, length, map, min, nat_le, inl, inr, Option, Some, None, slice_get, slice_set, if◌then◌else◌, refl, sym, ap, subst, ◌∙◌, arith, append-nil}
 use Rattle.std.specs.Prelude.{All}
 use Rattle.std.specs.List.{AllByRecursion}
@@ -30,11 +30,12 @@ use Rattle.outside.specs.declared.event.Event.{Event}
 use Rattle.outside.specs.declared.event.Event.TheVariants as event
 use Rattle.account_table.specs.AccountTable.{AccountTable}
 use Rattle.end_links.specs.Links.{LinkState}
-use Rattle.end_links.specs.Whole.{IsWholeSend}
+use Rattle.end_links.specs.Whole.{IsByteSend, IsWholeSend}
 use Rattle.domain_controller.specs.State.{State as ControllerState}
 use Rattle.domain_controller.specs.Step as controller
 use Rattle.domain_controller.proofs.WholeLaws.{sends_are_whole}
 use Rattle.logon_client.specs.Machine as client
+use Rattle.logon_client.specs.Plans.{CanLogOn}
 use Rattle.logon_client.specs.State.{State as ClientState}
 use Rattle.logon_client.specs.declared.plan.ClientPlan.{ClientPlan}
 use Rattle.logon_client.proofs.SendLaws.{AtUnlessStopped, DialledAt}
@@ -55,12 +56,12 @@ use Rattle.world_moves.specs.declared.links.Route.TheVariants.{ToMember, ToContr
 use Rattle.world_moves.specs.declared.plan.Plan.{Plan}
 use Rattle.world_moves.specs.declared.state.State.{State}
 use Rattle.world_moves.specs.Acting.{Given, hear, perform_quietly, unit_on}
-use Rattle.world_moves.specs.Bag.{piece_limit, pieces_in, pieces_of, settle_at}
+use Rattle.world_moves.specs.Bag.{piece_limit, pieces_in, pieces_of, settle_at, AreShortUnits, HaveBytes}
 use Rattle.world_moves.specs.Ends.{EndStates, renew_controller, renew_member}
 use Rattle.world_moves.specs.Forms.{HasForms, IsMemberPlan, IsTable}
 use Rattle.world_moves.specs.Links.{acceptor_of, dialler_of, kind_of}
 use Rattle.world_moves.specs.Moving.{renewed, settle, with_link}
-use Rattle.world_moves.specs.World.{first_controllers, first_world}
+use Rattle.world_moves.specs.World.{IsPlan, first_controllers, first_world, run}
 use Rattle.world_moves.proofs.RangeLaws.{table_in_range}
 use Rattle.world_moves.proofs.QuietLaws.{units_by}
 use Rattle.world_moves.proofs.EndKindLaws.{renew_by}
@@ -76,7 +77,7 @@ use Rattle.domain_world.proofs.Frames.MarkPlaceLaws.{got_beside, settled_length}
 use Rattle.domain_world.proofs.Frames.OpenMadeLaws.{IsAtSide}
 use Rattle.domain_world.proofs.Frames.StepFrameLaws.{HasHeard, Keeps, NoFact}
 use Rattle.domain_world.proofs.Frames.EndFrameLaws.{IsCalm, by_calm}
-use Rattle.domain_world.proofs.Frames.PlacedLaws.{HandsBytes, HasBytes}
+use Rattle.domain_world.proofs.Frames.PlacedLaws.{HandsBytes, HasBytes, IsBytesBag, short_units, units_have_bytes}
 
 -- ---- links
 
@@ -135,16 +136,17 @@ pub client_more : (links : List Route) (route : Route) (k : ℕ) (r : Option Cli
 client_more links route k None stands = tt
 client_more links route k (Some running) stands = stands_more links route k running.task running.standing stands
 
-link_made : (plans : List MemberPlan) (links : List Route) (bag : List BagUnit) (ends : EndStates) (moment : ℕ) (left : List (List ℕ)) (route : Route) →
-    StandsQuiet plans links bag ends moment left → StandsQuiet plans (links ++ route ∷ []) bag ends moment left
-link_made plans links bag ends moment left route quiet = record {
+link_made : (plans : List MemberPlan) (tasks : List ClientPlan) (links : List Route) (bag : List BagUnit) (ends : EndStates) (moment : ℕ) (left : List (List ℕ)) (route : Route) →
+    StandsQuiet plans tasks links bag ends moment left → StandsQuiet plans tasks (links ++ route ∷ []) bag ends moment left
+link_made plans tasks links bag ends moment left route quiet = record {
   bag = quiet.bag;
   controllers = λ i c there. record { range = (quiet.controllers i c there).range; well = well_more links route c.running (quiet.controllers i c there).well };
   members = λ k m there. member_more links route k m.running (quiet.members k m there);
-  clients = λ k c there. client_more links route k c.running (quiet.clients k c there);
+  clients = λ k c there. record { stands = client_more links route k c.running (quiet.clients k c there).stands; range = (quiet.clients k c there).range };
   moment = quiet.moment;
   blocks = quiet.blocks;
   plans = quiet.plans;
+  follow = quiet.follow;
 }
 
 -- the end accepted the link that was just made
@@ -269,7 +271,7 @@ settled_quiet number s quiet =
 
 with_ends : (s : State) (ends : EndStates) → QuietState s → ((i : ℕ) (c : ControllerState) → slice_get ends.controllers i ≡ Some c → ControllerIsQuiet s.links c) →
     ((k : ℕ) (m : MemberState) → slice_get ends.members k ≡ Some m → MemberIsQuiet s.links k m.running) →
-    ((k : ℕ) (c : ClientState) → slice_get ends.clients k ≡ Some c → ClientIsQuiet s.links k c) → StandsQuiet s.member_plans s.links s.bag ends s.moment s.chances.left
+    ((k : ℕ) (c : ClientState) → slice_get ends.clients k ≡ Some c → ClientIsQuiet s.links k c) → StandsQuiet s.member_plans s.client_plans s.links s.bag ends s.moment s.chances.left
 with_ends s ends quiet controllers members clients = record {
   bag = quiet.bag;
   controllers = controllers;
@@ -278,6 +280,7 @@ with_ends s ends quiet controllers members clients = record {
   moment = quiet.moment;
   blocks = quiet.blocks;
   plans = quiet.plans;
+  follow = quiet.follow;
 }
 
 controller_renewed : (c : ControllerState) (at : ℕ) (s : State) → slice_get s.ends.controllers at ≡ Some c → QuietState s →
@@ -300,7 +303,7 @@ member_renewed plan at s is quiet =
     (fresh_quiet s.links at plan (quiet.plans at plan is))) quiet.clients
 
 client_put : (at : ℕ) (new : ClientState) (s : State) → ClientIsQuiet s.links at new → QuietState s →
-    StandsQuiet s.member_plans s.links s.bag (record s.ends { clients = slice_set s.ends.clients at new }) s.moment s.chances.left
+    StandsQuiet s.member_plans s.client_plans s.links s.bag (record s.ends { clients = slice_set s.ends.clients at new }) s.moment s.chances.left
 client_put at new s is quiet =
     with_ends s (record s.ends { clients = slice_set s.ends.clients at new }) quiet quiet.controllers quiet.members
     (each_put (λ i (one : ClientState). ClientIsQuiet s.links i one) s.ends.clients at new (λ i one other there. quiet.clients i one there) is)
@@ -319,7 +322,7 @@ moment_by false more now below = below
 heard_quiet : (n : ℕ) (end : EndId) (what : Event) (s : State) (given : Given) (b : Book) → Meets end s.links what → QuietState s →
     HasHeard QuietFact QuietAction n end (hear end what s) given b
 heard_quiet n end what s given b meets quiet =
-    let stepped = end_steps s.member_plans s.links s.bag s.moment s.ends s.chances quiet end what meets in record { holds = stepped.stands; fine = stepped.fine }
+    let stepped = end_steps s.member_plans s.client_plans s.links s.bag s.moment s.ends s.chances quiet end what meets in record { holds = stepped.stands; fine = stepped.fine }
 
 pub quiet_keeps : Keeps NoFact QuietFact QuietAction
 quiet_keeps = record {
@@ -327,8 +330,11 @@ quiet_keeps = record {
   dialled = λ n end link s given b side none quiet. heard_quiet (n + 1) end (event.Dialled link) s given b (dialled_meets end s.links link side) quiet;
   opens = λ n route s given b none quiet.
       heard_quiet (n + 1) (acceptor_of route) (event.Opened (length s.links)) (with_link route s) given b (last_meets (acceptor_of route) route s.links refl)
-      (link_made s.member_plans s.links s.bag s.ends s.moment s.chances.left route quiet);
-  begins = λ n k plan s given b is none quiet. record { holds = client_put k (client.begin_of (client.fresh_client plan)).state s tt quiet; fine = (tt, tt) };
+      (link_made s.member_plans s.client_plans s.links s.bag s.ends s.moment s.chances.left route quiet);
+  begins = λ n k plan s given b is none quiet. record {
+    holds = client_put k (client.begin_of (client.fresh_client plan)).state s (record { stands = tt; range = record { task = quiet.follow k plan is; standing = tt } }) quiet;
+    fine = (tt, tt);
+  };
   comes = λ n end w piece s given b side came bytes marked none quiet.
       let heard = heard_quiet (n + 1) end (event.Bytes w.link piece) s given b (bytes_meet end s w piece quiet.bag came bytes) quiet in record { holds = heard.holds; fine = heard.fine };
   acts = λ n end what s given b fine none quiet. action_quiet end what s fine quiet;
@@ -346,6 +352,7 @@ quiet_keeps = record {
     moment = moment_by (nat_le s.moment (2 ^ 63)) more s.moment quiet.moment;
     blocks = quiet.blocks;
     plans = quiet.plans;
+    follow = quiet.follow;
   };
   over = λ n at s given b none quiet. quiet;
 }
@@ -380,22 +387,29 @@ members_first links start (plan ∷ plans) are (suc k) m there =
     subst (λ (n : ℕ). MemberIsQuiet links n m.running) (let e : (start + 1) + k ≡ start + suc k = omega arith in e)
     (members_first links (start + 1) plans (All-tail IsMemberPlan plan plans are) k m there)
 
-clients_first : (links : List Route) (plans : List ClientPlan) (number k : ℕ) (c : ClientState) → slice_get (map client.fresh_client plans) k ≡ Some c → ClientIsQuiet links number c
-clients_first links [] number k c there = absurd (got_nothing k c there)
-clients_first links (plan ∷ plans) number zero c there =
-    subst (λ (one : ClientState). ClientIsQuiet links number one) (some_is (client.fresh_client plan) c there) tt
-clients_first links (plan ∷ plans) number (suc k) c there = clients_first links plans number k c there
+clients_first : (links : List Route) (plans : List ClientPlan) (number k : ℕ) (c : ClientState) → All CanLogOn plans → slice_get (map client.fresh_client plans) k ≡ Some c →
+    ClientIsQuiet links number c
+clients_first links [] number k c all there = absurd (got_nothing k c there)
+clients_first links (plan ∷ plans) number zero c all there =
+    subst (λ (one : ClientState). ClientIsQuiet links number one) (some_is (client.fresh_client plan) c there) (fresh_client links number plan (All-head CanLogOn plan plans all))
+clients_first links (plan ∷ plans) number (suc k) c all there = clients_first links plans number k c (All-tail CanLogOn plan plans all) there
 
-pub quiet_first : (plan : Plan) → HasForms plan → QuietState (first_world plan).state
-quiet_first plan forms = record {
+tasks_first : (plans : List ClientPlan) → All CanLogOn plans → (k : ℕ) (plan : ClientPlan) → slice_get plans k ≡ Some plan → CanLogOn plan
+tasks_first [] all k plan there = absurd (got_nothing k plan there)
+tasks_first (first ∷ plans) all zero plan there = subst CanLogOn (some_is first plan there) (All-head CanLogOn first plans all)
+tasks_first (first ∷ plans) all (suc k) plan there = tasks_first plans (All-tail CanLogOn first plans all) k plan there
+
+pub quiet_first : (plan : Plan) → IsPlan plan → HasForms plan → QuietState (first_world plan).state
+quiet_first plan start forms = record {
   bag = λ n unit there. absurd (got_nothing n unit there);
   controllers = controllers_first [] plan.tables plan.controllers forms.tables forms.controllers;
   members = λ k m there.
       subst (λ (n : ℕ). MemberIsQuiet [] n m.running) (let e : 0 + k ≡ k = omega arith in e) (members_first [] 0 plan.members forms.members k m there);
-  clients = λ k c there. clients_first [] plan.clients k k c there;
+  clients = λ k c there. clients_first [] plan.clients k k c start.clients there;
   moment = forms.now;
   blocks = first_left_blocks plan;
   plans = plans_first plan.members forms.members;
+  follow = tasks_first plan.clients start.clients;
 }
 
 -- ---- a run
@@ -418,9 +432,34 @@ handed (move.Shut number ∷ moves) forms = (tt, handed moves (All-tail HasMoveF
 handed (move.Restart number ∷ moves) forms = (tt, handed moves (All-tail HasMoveForm (move.Restart number) moves forms))
 handed (move.Tick more ∷ moves) forms = (tt, handed moves (All-tail HasMoveForm (move.Tick more) moves forms))
 
+-- the units of a quiet bag are short, and have bytes
+carried_bytes : (k : LinkKind) (bytes : List ℕ) → WholeIfCarried k bytes → IsByteSend bytes
+carried_bytes kind.ToController bytes whole = whole_bytes bytes whole
+carried_bytes kind.ToMember bytes sends = sends
+carried_bytes kind.Stranger bytes sends = sends
+
+quiet_bag : (bag : List BagUnit) → WholeBag bag → IsBytesBag bag
+quiet_bag bag whole = record {
+  short = λ n unit there. (carried_bytes unit.kind unit.bytes (whole n unit there)).short;
+  bytes = λ n unit there. (carried_bytes unit.kind unit.bytes (whole n unit there)).are;
+}
+
+quiet_after : OfSchedules (HoldsAfterRun QuietFact)
+quiet_after plan moves is =
+    run_carries QuietFact QuietAction quiet_keeps (λ n s b quiet. quiet_bag s.bag quiet.bag) plan moves (handed moves is.move_forms) (quiet_first plan is.start is.forms)
+
 -- what is known of the units of a world, of a schedule
 pub has_bytes : OfSchedules HasBytes
-has_bytes plan moves is short bytes = record { short = short; bytes = bytes; handed = handed moves is.move_forms }
+has_bytes plan moves is =
+    let bag : List BagUnit = (past plan moves).world.state.bag in
+    let known : IsBytesBag bag = quiet_bag bag (quiet_after plan moves is).holds.bag in
+    record { short = short_units bag known.short; bytes = units_have_bytes bag known.bytes; handed = handed moves is.move_forms }
+
+pub units_short : OfSchedules (λ plan moves. AreShortUnits (run moves (first_world plan)).state.bag)
+units_short plan moves is = (has_bytes plan moves is).short
+
+pub units_bytes : OfSchedules (λ plan moves. HaveBytes (run moves (first_world plan)).state.bag)
+units_bytes plan moves is = (has_bytes plan moves is).bytes
 
 quiet_turn : (links : List Route) (k : ℕ) (how : Dialling) → IfOn (IsDialledBy links k) how → IsQuietTurn how
 quiet_turn links k dialling.Nothing on = tt
@@ -447,6 +486,4 @@ is_quiet s quiet = record {
 }
 
 pub stands_quiet : OfSchedules (λ plan moves. IsQuiet (past plan moves).world.state)
-stands_quiet plan moves is short bytes =
-    let ran : HoldsAfterRun QuietFact plan moves = run_keeps QuietFact QuietAction quiet_keeps plan moves (has_bytes plan moves is short bytes) (quiet_first plan is.forms) in
-    is_quiet (past plan moves).world.state ran.holds
+stands_quiet plan moves is = is_quiet (past plan moves).world.state (quiet_after plan moves is).holds

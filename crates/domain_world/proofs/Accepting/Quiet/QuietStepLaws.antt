@@ -1,8 +1,9 @@
--- What holds where what is under way between members and controllers is whole, and nothing stays open there: and that
--- it holds after one step of an end. It serves `runs_stand_so`.
-use Rattle.std.proofs.Common.{◌≡◌, ℕ, ◌<◌, ◌^◌, List, [], ◌∷◌, inl, inr, Option, Some, None, Result, Ok, Err, slice_get, refl, sym, ap, subst, ◌∙◌}
+-- What holds where what is under way is bytes, between members and controllers whole, and nothing stays open there: and
+-- that it holds after one step of an end. It serves `runs_stand_so`.
+use Rattle.std.proofs.Common.{◌≡◌, ℕ, ◌<◌, ◌^◌, List, [], ◌∷◌, inl, inr, Option, Some, None, Result, Ok, Err, slice_get, refl, sym, ap, subst, ◌∙◌, arith}
 use Rattle.std.specs.List.{AllByRecursion}
 use Rattle.wire_base.specs.Names.{IsName}
+use Rattle.wire_base.specs.Numbers.{AreBytes}
 use Rattle.outside.specs.Drawing.{Drawing}
 use Rattle.outside.specs.Machine.{Stepped}
 use Rattle.outside.specs.declared.action.Action.{Action}
@@ -10,15 +11,20 @@ use Rattle.outside.specs.declared.action.Action.TheVariants.{Keep, Send, Dial, C
 use Rattle.outside.specs.declared.action.StepRefused.{StepRefused}
 use Rattle.outside.specs.declared.event.Event.{Event}
 use Rattle.end_links.specs.Links.{LinkState}
-use Rattle.end_links.specs.Whole.{IsWholeIfSent, IsWholeSend}
+use Rattle.end_links.specs.Whole.{IsByteSend, IsWholeIfSent, IsWholeSend}
 use Rattle.end_loop.specs.Runs.{actions_of, taken_actions}
 use Rattle.domain_controller.specs.State.{State as ControllerState}
 use Rattle.domain_controller.specs.Step as controller
 use Rattle.domain_controller.specs.Whole.{InRangeState}
 use Rattle.domain_controller.proofs.WholeLaws.{sends_are_whole}
 use Rattle.logon_client.specs.Machine as client
+use Rattle.logon_client.specs.Plans.{CanLogOn}
 use Rattle.logon_client.specs.Sends.{IsSentAt}
+use Rattle.logon_client.specs.SendsBytes as client_range
+use Rattle.logon_client.specs.SendsBytes.{IsByteIfSent}
 use Rattle.logon_client.specs.State.{State as ClientState}
+use Rattle.logon_client.specs.declared.plan.ClientPlan.{ClientPlan}
+use Rattle.logon_client.proofs.ByteLaws.{clients_send_bytes}
 use Rattle.logon_client.proofs.SendLaws.{AtUnlessStopped, DialledAt, SendsAt, client_sends}
 use Rattle.member_server.specs.Machine as member
 use Rattle.member_server.specs.State.{State as MemberState}
@@ -45,7 +51,7 @@ use Rattle.domain_world.proofs.Accepting.Quiet.QuietListenLaws.{OpensWell, WellU
 use Rattle.domain_world.proofs.Accepting.Quiet.QuietTurnLaws.{ComesWell, IfOn, OnUnlessStopped, turn_stays}
 use Rattle.domain_world.proofs.Challenges.MessageOnceLaws.{each_put}
 use Rattle.logon_stubs.specs.Ranges.{IsBlock}
-use Rattle.domain_world.proofs.Frames.LeftLaws.{AreBlocks, all_rest, end_rests, eights_of}
+use Rattle.domain_world.proofs.Frames.LeftLaws.{AreBlocks, all_rest, end_rests}
 use Rattle.domain_world.proofs.Frames.StepFrameLaws.{ActionFact, RunFact}
 
 -- ---- what is to hold
@@ -71,8 +77,9 @@ abbrev pub MemberIsQuiet : List Route → ℕ → Option Running → Type 0
 MemberIsQuiet links k None = Unit {0}
 MemberIsQuiet links k (Some running) = RunningIsQuiet links k running
 
-abbrev pub ClientIsQuiet : List Route → ℕ → ClientState → Type 0
-ClientIsQuiet links k c = AtUnlessStopped (IsClients links k) c.running
+pub record ClientIsQuiet (links : List Route) (k : ℕ) (c : ClientState) : Type 0 where
+  pub stands : AtUnlessStopped (IsClients links k) c.running
+  pub range : client_range.InRangeUnlessStopped c.running
 
 -- what goes between a member and a controller is whole
 abbrev pub WholeIfCarried : LinkKind → List ℕ → Type 0
@@ -81,7 +88,7 @@ WholeIfCarried k bytes = k ≡ kind.ToController → IsWholeSend bytes
 abbrev pub WholeBag : List BagUnit → Type 0
 WholeBag bag = (n : ℕ) (unit : BagUnit) → slice_get bag n ≡ Some unit → WholeIfCarried unit.kind unit.bytes
 
-pub record StandsQuiet (planned : List MemberPlan) (links : List Route) (units : List BagUnit) (ends : EndStates) (now : ℕ) (left : List (List ℕ)) : Type 0 where
+pub record StandsQuiet (planned : List MemberPlan) (tasks : List ClientPlan) (links : List Route) (units : List BagUnit) (ends : EndStates) (now : ℕ) (left : List (List ℕ)) : Type 0 where
   pub bag : WholeBag units
   pub controllers : (i : ℕ) (c : ControllerState) → slice_get ends.controllers i ≡ Some c → ControllerIsQuiet links c
   pub members : (k : ℕ) (m : MemberState) → slice_get ends.members k ≡ Some m → MemberIsQuiet links k m.running
@@ -89,15 +96,16 @@ pub record StandsQuiet (planned : List MemberPlan) (links : List Route) (units :
   pub moment : now < 2 ^ 64
   pub blocks : AreBlocks left
   pub plans : (k : ℕ) (plan : MemberPlan) → slice_get planned k ≡ Some plan → IsName plan.computer
+  pub follow : (k : ℕ) (task : ClientPlan) → slice_get tasks k ≡ Some task → CanLogOn task
 
 abbrev pub QuietState : State → Type 0
-QuietState s = StandsQuiet s.member_plans s.links s.bag s.ends s.moment s.chances.left
+QuietState s = StandsQuiet s.member_plans s.client_plans s.links s.bag s.ends s.moment s.chances.left
 
 abbrev pub QuietFact : RunFact
 QuietFact n s given b = QuietState s
 
 -- the same with another bag
-pub with_bag : (s : State) (bag : List BagUnit) → QuietState s → WholeBag bag → StandsQuiet s.member_plans s.links bag s.ends s.moment s.chances.left
+pub with_bag : (s : State) (bag : List BagUnit) → QuietState s → WholeBag bag → StandsQuiet s.member_plans s.client_plans s.links bag s.ends s.moment s.chances.left
 with_bag s bag quiet whole = record {
   bag = whole;
   controllers = quiet.controllers;
@@ -106,11 +114,12 @@ with_bag s bag quiet whole = record {
   moment = quiet.moment;
   blocks = quiet.blocks;
   plans = quiet.plans;
+  follow = quiet.follow;
 }
 
--- what is sent on a link between a member and a controller is whole
+-- what is sent is bytes, and on a link between a member and a controller it is whole
 abbrev pub QuietAction : ActionFact
-QuietAction end links (Send link bytes) = IsOfMember links link → IsWholeSend bytes
+QuietAction end links (Send link bytes) = (IsOfMember links link → IsWholeSend bytes) × IsByteSend bytes
 QuietAction end links (Keep bytes) = Unit {0}
 QuietAction end links (Dial peer) = Unit {0}
 QuietAction end links (Close link cause) = Unit {0}
@@ -123,14 +132,23 @@ same_actions : (answer : Result (List Action) StepRefused) → taken_actions ans
 same_actions (Ok actions) = refl
 same_actions (Err why) = refl
 
+-- what is whole is bytes
+pub whole_bytes : (bytes : List ℕ) → IsWholeSend bytes → IsByteSend bytes
+whole_bytes bytes whole = record { are = whole.are; short = omega (arith, whole.few) }
+
 whole_quiet : (end : EndId) (links : List Route) (actions : List Action) → AllByRecursion IsWholeIfSent actions → AllByRecursion (QuietAction end links) actions
 whole_quiet end links [] all = tt
-whole_quiet end links (Send link bytes ∷ actions) all = ((λ own. all.0), whole_quiet end links actions all.1)
+whole_quiet end links (Send link bytes ∷ actions) all = (((λ own. all.0), whole_bytes bytes all.0), whole_quiet end links actions all.1)
 whole_quiet end links (Keep bytes ∷ actions) all = (tt, whole_quiet end links actions all.1)
 whole_quiet end links (Dial peer ∷ actions) all = (tt, whole_quiet end links actions all.1)
 whole_quiet end links (Close link cause ∷ actions) all = (tt, whole_quiet end links actions all.1)
 whole_quiet end links (Told link outcome ∷ actions) all = (tt, whole_quiet end links actions all.1)
 whole_quiet end links (Judged how ∷ actions) all = (tt, whole_quiet end links actions all.1)
+
+-- challenges of 8 bytes are bytes
+blocks_bytes : (left : List (List ℕ)) → AreBlocks left → AllByRecursion AreBytes left
+blocks_bytes [] blocks = tt
+blocks_bytes (challenge ∷ left) blocks = (blocks.0.1, blocks_bytes left blocks.1)
 
 -- a link that a member accepted is none between a member and a controller
 accepted_other : (links : List Route) (k number : ℕ) → IsAcceptedBy links k number → IsOfMember links number → ⊥
@@ -146,22 +164,25 @@ clients_other links k number of own =
 sent_quiet : (end : EndId) (links : List Route) (First Second : ℕ → Type 0) → ((number : ℕ) → First number → IsOfMember links number → ⊥) → (actions : List Action) →
     AllByRecursion (IsSentOn First Second) actions → AllByRecursion (QuietAction end links) actions
 sent_quiet end links First Second other [] all = tt
-sent_quiet end links First Second other (Send link bytes ∷ actions) all =
-    ((λ own. elim all.0 [ inl first ↦ absurd (other link first own) | inr second ↦ second.1 ]), sent_quiet end links First Second other actions all.1)
+sent_quiet end links First Second other (Send link bytes ∷ actions) all = (
+  elim all.0 [ inl first ↦ ((λ own. absurd (other link first.0 own)), first.1) | inr second ↦ ((λ own. second.1), whole_bytes bytes second.1) ],
+  sent_quiet end links First Second other actions all.1,
+)
 sent_quiet end links First Second other (Keep bytes ∷ actions) all = (tt, sent_quiet end links First Second other actions all.1)
 sent_quiet end links First Second other (Dial peer ∷ actions) all = (tt, sent_quiet end links First Second other actions all.1)
 sent_quiet end links First Second other (Close link cause ∷ actions) all = (tt, sent_quiet end links First Second other actions all.1)
 sent_quiet end links First Second other (Told link outcome ∷ actions) all = (tt, sent_quiet end links First Second other actions all.1)
 sent_quiet end links First Second other (Judged how ∷ actions) all = (tt, sent_quiet end links First Second other actions all.1)
 
-client_quiet : (end : EndId) (links : List Route) (k : ℕ) (actions : List Action) → AllByRecursion (IsSentAt (IsClients links k)) actions → AllByRecursion (QuietAction end links) actions
-client_quiet end links k [] all = tt
-client_quiet end links k (Send link bytes ∷ actions) all = ((λ own. absurd (clients_other links k link all.0 own)), client_quiet end links k actions all.1)
-client_quiet end links k (Keep bytes ∷ actions) all = (tt, client_quiet end links k actions all.1)
-client_quiet end links k (Dial peer ∷ actions) all = (tt, client_quiet end links k actions all.1)
-client_quiet end links k (Close link cause ∷ actions) all = (tt, client_quiet end links k actions all.1)
-client_quiet end links k (Told link outcome ∷ actions) all = (tt, client_quiet end links k actions all.1)
-client_quiet end links k (Judged how ∷ actions) all = (tt, client_quiet end links k actions all.1)
+client_quiet : (end : EndId) (links : List Route) (k : ℕ) (actions : List Action) → AllByRecursion (IsSentAt (IsClients links k)) actions → AllByRecursion IsByteIfSent actions →
+    AllByRecursion (QuietAction end links) actions
+client_quiet end links k [] all are = tt
+client_quiet end links k (Send link bytes ∷ actions) all are = (((λ own. absurd (clients_other links k link all.0 own)), are.0), client_quiet end links k actions all.1 are.1)
+client_quiet end links k (Keep bytes ∷ actions) all are = (tt, client_quiet end links k actions all.1 are.1)
+client_quiet end links k (Dial peer ∷ actions) all are = (tt, client_quiet end links k actions all.1 are.1)
+client_quiet end links k (Close link cause ∷ actions) all are = (tt, client_quiet end links k actions all.1 are.1)
+client_quiet end links k (Told link outcome ∷ actions) all are = (tt, client_quiet end links k actions all.1 are.1)
+client_quiet end links k (Judged how ∷ actions) all are = (tt, client_quiet end links k actions all.1 are.1)
 
 -- ---- one end's step
 
@@ -174,8 +195,8 @@ pub record Meets (end : EndId) (links : List Route) (what : Event) : Type 0 wher
   pub members : IfMember (MeetsMember links what) end
   pub clients : IfClient (λ (k : ℕ). DialledAt (IsClients links k) what) end
 
-pub record HasStepped (end : EndId) (plans : List MemberPlan) (links : List Route) (bag : List BagUnit) (moment : ℕ) (ends : EndStates) (left : List (List ℕ)) (actions : List Action) : Type 0 where
-  pub stands : StandsQuiet plans links bag ends moment left
+pub record HasStepped (end : EndId) (plans : List MemberPlan) (tasks : List ClientPlan) (links : List Route) (bag : List BagUnit) (moment : ℕ) (ends : EndStates) (left : List (List ℕ)) (actions : List Action) : Type 0 where
+  pub stands : StandsQuiet plans tasks links bag ends moment left
   pub fine : AllByRecursion (QuietAction end links) actions
 
 module _ (plans : List MemberPlan) (links : List Route) (bag : List BagUnit) (moment : ℕ) (ends : EndStates) (chances : Drawing) (quiet : StandsQuiet plans links bag ends moment chances.left) where
@@ -190,7 +211,7 @@ module _ (plans : List MemberPlan) (links : List Route) (bag : List BagUnit) (mo
         stands = record {
           bag = quiet.bag;
           controllers = each_put (λ i (one : ControllerState). ControllerIsQuiet links one) ends.controllers at step.state (λ i one other there. quiet.controllers i one there) (record {
-            range = sends_are_whole.keeps c what moment chances.left was.range quiet.moment (eights_of chances.left quiet.blocks);
+            range = sends_are_whole.keeps c what moment chances.left was.range quiet.moment quiet.blocks;
             well = listens_on (IsOfMember links) (IsMade links) c what moment chances.left meets was.well;
           });
           members = quiet.members;
@@ -198,9 +219,10 @@ module _ (plans : List MemberPlan) (links : List Route) (bag : List BagUnit) (mo
           moment = quiet.moment;
           blocks = blocks;
           plans = quiet.plans;
+          follow = quiet.follow;
         };
         fine = subst (λ (actions : List Action). AllByRecursion (QuietAction (Controller at) links) actions) (same_actions step.answer)
-            (whole_quiet (Controller at) links (actions_of step) (sends_are_whole.sends c what moment chances.left was.range quiet.moment (eights_of chances.left quiet.blocks)));
+            (whole_quiet (Controller at) links (actions_of step) (sends_are_whole.sends c what moment chances.left was.range quiet.moment quiet.blocks));
       }
 
   after_quiet : (k : ℕ) (running : Running) (what : Event) (r : Option Running) → LinksAre (λ number link. IsAcceptedBy links k number) running.links →
@@ -249,6 +271,7 @@ module _ (plans : List MemberPlan) (links : List Route) (bag : List BagUnit) (mo
           moment = quiet.moment;
           blocks = blocks;
           plans = quiet.plans;
+          follow = quiet.follow;
         };
         fine = both.1;
       }
@@ -265,13 +288,15 @@ module _ (plans : List MemberPlan) (links : List Route) (bag : List BagUnit) (mo
           controllers = quiet.controllers;
           members = quiet.members;
           clients = each_put (λ i (one : ClientState). ClientIsQuiet links i one) ends.clients k (client.step_of c what moment chances.left).state
-              (λ i one other there. quiet.clients i one there) sends.stands;
+              (λ i one other there. quiet.clients i one there)
+              (record { stands = sends.stands; range = clients_send_bytes.keeps c what moment chances.left was.range comes });
           moment = quiet.moment;
           blocks = blocks;
           plans = quiet.plans;
+          follow = quiet.follow;
         };
         fine = subst (λ (actions : List Action). AllByRecursion (QuietAction (Client k) links) actions) (same_actions (client.step_of c what moment chances.left).answer)
-            (client_quiet (Client k) links k (actions_of (client.step_of c what moment chances.left)) sends.sends);
+            (client_quiet (Client k) links k (actions_of (client.step_of c what moment chances.left)) sends.sends (clients_send_bytes.sends c what moment chances.left was.range comes));
       }
 
   left_blocks : (end : EndId) (what : Event) → AreBlocks (end_step end what moment ends chances).chances.left

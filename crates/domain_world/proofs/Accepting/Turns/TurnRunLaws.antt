@@ -127,12 +127,12 @@ side_keeps plan =
 -- at first
 pub side_first : (plan : Plan) (moves : List Move) → IsSchedule plan moves → TurnSide plan 0 (first_world plan).state [] blank
 side_first plan moves schedule = (
-  ((quiet_first plan schedule.forms, first_calls plan), ap (λ (drawn : List (List ℕ)). drawn ++ given_all plan) (challenges_from-none plan.seed 0 0)),
+  ((quiet_first plan schedule.start schedule.forms, first_calls plan), ap (λ (drawn : List (List ℕ)). drawn ++ given_all plan) (challenges_from-none plan.seed 0 0)),
   λ few. turns_begin plan,
 )
 
 pub turns_run : OfSchedules (λ plan moves. TurnsAreHeard (past plan moves))
-turns_run plan moves schedule short bytes =
+turns_run plan moves schedule =
     let after : HoldsAfterRun (TurnSide plan) plan moves =
-    run_keeps (TurnSide plan) TurnAction (side_keeps plan) plan moves (has_bytes plan moves schedule short bytes) (side_first plan moves schedule) in
+    run_keeps (TurnSide plan) TurnAction (side_keeps plan) plan moves (has_bytes plan moves schedule) (side_first plan moves schedule) in
     turns_of after.steps plan moves (after.holds.1 (omega (arith, after.few, schedule.few)))

@@ -39,7 +39,7 @@ known_if Done marks drawn turns controller k (Some running) own =
     subst (λ (all : List ChannelTurn). KnowsCalls Done marks all controller running.logons.channel) (own.1.none refl) own.1.calls
 
 pub turns_are_called : OfSchedules (λ plan moves. IsClear (past plan moves).book → TurnsAreCalled (past plan moves))
-turns_are_called plan moves schedule short bytes clear =
+turns_are_called plan moves schedule clear =
     let p : Past = past plan moves in
     let s : State = p.world.state in
     let b : Book = p.book in
@@ -49,7 +49,7 @@ turns_are_called plan moves schedule short bytes clear =
     let after : HoldsAfterRun (BothFacts (TurnSide plan) (OwnHolds plan)) plan moves =
     own_run (BothFacts (TurnSide plan) (OwnHolds plan)) (BothFine TurnAction AnyAction) both
     (λ n at now given book known holds.
-    ((side_keeps plan).over n at now given book tt holds.0, own_ends plan n at now given book known holds.1)) plan moves (has_bytes plan moves schedule short bytes)
+    ((side_keeps plan).over n at now given book tt holds.0, own_ends plan n at now given book known holds.1)) plan moves (has_bytes plan moves schedule)
     (side_first plan moves schedule, first_own plan) in
     let facts : OwnFacts plan s [] b =
     after.holds.1 (omega (arith, after.few, schedule.few)) clear.apart (apart_from b.messages (messages_apart plan moves)) (marks_known plan moves) (draws_differ plan moves) in

@@ -3,7 +3,6 @@ use Rattle.std.proofs.lemmas.Grind.{common_steps}
 use Rattle.std.proofs.lemmas.Option.{slice_get_read}
 use Rattle.world_moves.specs.World.{happens, move_limit, report_of, run}
 use Rattle.world_moves.proofs.RunLaws.{counted_on, run_on}
-use Rattle.domain_world.proofs.Frames.BagRunLaws.{bytes_on, short_on}
 use Rattle.domain_world.proofs.DrivingLaws.{run_next}
 use Rattle.domain_world.proofs.HeadlineLaws.{all_proved}
 use Rattle.domain_world.proofs.driving.drive.Goals as goal
@@ -39,9 +38,4 @@ returns-clause-fits c =
     λ plan earlier was. c.report.ensures.fits plan (earlier ++ c.args.moves.now) (run_on plan earlier c.args.moves.now c.args.world.now c.loop-what.world made was)
 
 pub returns-clause-proved : goal.returns-clause-proved
-returns-clause-proved c =
-    let made : c.loop-what.world ≡ run c.args.moves.now c.args.world.now = grind (arith, common_steps) in
-    λ plan earlier was.
-    all_proved plan (earlier ++ c.args.moves.now)
-    (short_on plan earlier c.args.moves.now c.args.world.now c.loop-what.world made was c.units_are_short.ensures)
-    (bytes_on plan earlier c.args.moves.now c.args.world.now c.loop-what.world made was c.units_have_bytes.ensures)
+returns-clause-proved c = λ plan earlier was. all_proved plan (earlier ++ c.args.moves.now)
