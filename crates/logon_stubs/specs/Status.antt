@@ -10,6 +10,9 @@ invalid_info_class = 0xC000_0003
 abbrev pub no_logon_servers : ℕ
 no_logon_servers = 0xC000_005E
 
+abbrev pub no_such_logon_session : ℕ
+no_such_logon_session = 0xC000_005F
+
 abbrev pub no_such_user : ℕ
 no_such_user = 0xC000_0064
 
@@ -24,6 +27,9 @@ password_expired = 0xC000_0071
 
 abbrev pub account_disabled : ℕ
 account_disabled = 0xC000_0072
+
+abbrev pub insufficient_resources : ℕ
+insufficient_resources = 0xC000_009A
 
 abbrev pub no_such_domain : ℕ
 no_such_domain = 0xC000_00DF
@@ -54,7 +60,7 @@ downgrade_detected = 0xC000_0388
 
 -- all of them
 abbrev pub statuses : List ℕ
-statuses = access_denied ∷ invalid_info_class ∷ no_logon_servers ∷ no_such_user ∷ wrong_password ∷ invalid_workstation
-    ∷ password_expired ∷ account_disabled ∷ no_such_domain ∷ no_trust_sam_account ∷ account_expired
+statuses = access_denied ∷ invalid_info_class ∷ no_logon_servers ∷ no_such_logon_session ∷ no_such_user ∷ wrong_password
+    ∷ invalid_workstation ∷ password_expired ∷ account_disabled ∷ insufficient_resources ∷ no_such_domain ∷ no_trust_sam_account ∷ account_expired
     ∷ nologon_interdomain_trust_account ∷ nologon_workstation_trust_account ∷ nologon_server_trust_account
     ∷ password_must_change ∷ account_locked_out ∷ downgrade_detected ∷ []

@@ -12,6 +12,8 @@ pub const STATUS_ACCESS_DENIED: u32 = 0xC000_0022;
 pub const STATUS_INVALID_INFO_CLASS: u32 = 0xC000_0003;
 /// No controller can judge the logon.
 pub const STATUS_NO_LOGON_SERVERS: u32 = 0xC000_005E;
+/// No session has that computer, user and logon.
+pub const STATUS_NO_SUCH_LOGON_SESSION: u32 = 0xC000_005F;
 /// No account has the user's name.
 pub const STATUS_NO_SUCH_USER: u32 = 0xC000_0064;
 /// The response isn't that of the account's password.
@@ -22,6 +24,8 @@ pub const STATUS_INVALID_WORKSTATION: u32 = 0xC000_0070;
 pub const STATUS_PASSWORD_EXPIRED: u32 = 0xC000_0071;
 /// The account is disabled.
 pub const STATUS_ACCOUNT_DISABLED: u32 = 0xC000_0072;
+/// As many sessions stand as are kept.
+pub const STATUS_INSUFFICIENT_RESOURCES: u32 = 0xC000_009A;
 /// The domain isn't known.
 pub const STATUS_NO_SUCH_DOMAIN: u32 = 0xC000_00DF;
 /// The domain has no account for the computer or the trusting domain.
@@ -47,11 +51,13 @@ pub fn what_constants_are()
         STATUS_ACCESS_DENIED ∷
         STATUS_INVALID_INFO_CLASS ∷
         STATUS_NO_LOGON_SERVERS ∷
+        STATUS_NO_SUCH_LOGON_SESSION ∷
         STATUS_NO_SUCH_USER ∷
         STATUS_WRONG_PASSWORD ∷
         STATUS_INVALID_WORKSTATION ∷
         STATUS_PASSWORD_EXPIRED ∷
         STATUS_ACCOUNT_DISABLED ∷
+        STATUS_INSUFFICIENT_RESOURCES ∷
         STATUS_NO_SUCH_DOMAIN ∷
         STATUS_NO_TRUST_SAM_ACCOUNT ∷
         STATUS_ACCOUNT_EXPIRED ∷
