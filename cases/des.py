@@ -1,4 +1,7 @@
-"""DES of one block, by the tables of FIPS 46-3, for values that follow from a key: written from the standard's text."""
+"""DES of one block, by the tables of FIPS 46-3, for values that follow from a key: written from the standard's text.
+What is asked again is kept."""
+
+from functools import cache
 
 INITIAL = [first - 8 * column for first in (58, 60, 62, 64, 57, 59, 61, 63) for column in range(8)]
 FINAL = [INITIAL.index(place) + 1 for place in range(1, 65)]
@@ -44,6 +47,7 @@ def number(bits):
     return int("".join(map(str, bits)), 2)
 
 
+@cache
 def box(place, six):
     """The four bits of a box for six: the first and the last give the row, the middle four the column."""
     entry = int(BOXES[place][16 * number([six[0], six[5]]) + number(six[1:5])], 16)
@@ -53,9 +57,10 @@ def box(place, six):
 def round_function(half, key):
     """The function f of a round."""
     mixed = [bit ^ other for bit, other in zip(permuted(half, EXPANSION), key)]
-    return permuted([bit for place in range(8) for bit in box(place, mixed[6 * place:6 * place + 6])], PERMUTATION)
+    return permuted([bit for place in range(8) for bit in box(place, tuple(mixed[6 * place:6 * place + 6]))], PERMUTATION)
 
 
+@cache
 def round_keys(key):
     """The sixteen keys of the rounds."""
     halves = permuted(bits_of(key), FIRST_CHOICE)
@@ -66,6 +71,7 @@ def round_keys(key):
     return keys
 
 
+@cache
 def des(key, block):
     """DES of eight bytes under a key of eight bytes, of which the lowest bit of each has no effect."""
     bits = permuted(bits_of(block), INITIAL)

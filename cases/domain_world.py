@@ -14,11 +14,15 @@
 The rules are those of docs/FORMATS.md ("The world"), over the ends of `domain_controller`, `member_server` and
 `logon_client`, which stand here by their own rules, in Python. Of the first scenarios the counts are worked out by
 hand, and held against the run (`WANTED`).
+
+Beside the rules the world writes down what each unit was made for, and whether the run is clear (`world_marks`). The
+first scenarios are, and so is the drill of 100,000 moves that number 7 makes, which `make.py --check` runs. Runs in
+which a credential clashes, or a seed comes round, are made too, and are told as such.
 """
 
-import domain_controller
+import forms
 import logon_client
-import member_server
+import world_marks
 from channel_client import credential
 from documents import ANN, BOB, EVE, FILE1, FILE2
 from forms import line, struct, units, word_of
@@ -55,10 +59,10 @@ class Challenges:
 class ControllerEnd:
     def __init__(self, users, machines, name):
         self.made = {"users": users, "machines": machines, "name": name}
-        self.end = domain_controller.Controller(**self.made)
+        self.renew()
 
     def renew(self):
-        self.end = domain_controller.Controller(**self.made)
+        self.end = world_marks.Controller(**self.made)
 
     def actions(self):
         found = []
@@ -79,7 +83,7 @@ class MemberEnd:
         self.renew()
 
     def renew(self):
-        self.end = member_server.Member(draws=[], **self.plan)
+        self.end = world_marks.Member(draws=[], **self.plan)
 
     def actions(self):
         found = []
@@ -123,6 +127,9 @@ class World:
         self.controllers, self.members, self.clients = list(controllers), list(members), list(clients)
         self.challenges = challenges or Challenges()
         self.links, self.bag, self.dials, self.now = [], [], [], now
+        # where in the bag the oldest unit that is undelivered stands, or an older one
+        self.next = 0
+        self.marks = world_marks.Marks()
         self.counts = {"moves": 0, "accepted": 0, "refused": 0, "no_controller": 0, "passed": 0, "barred": 0}
 
     def ends(self):
@@ -162,6 +169,7 @@ class World:
         link = self.links[number]
         if link["kind"] != "stranger":
             self.bag.append({"bytes": data, "link": number, "kind": link["kind"], "back": link["to"] is end, "waits": True})
+            self.marks.send(number, link["to"] is end)
 
     def close(self, end, number):
         link = self.links[number]
@@ -176,11 +184,26 @@ class World:
         self.hears(to, "opened", number)
         return number
 
-    def pieces(self, number, back, data):
+    def pieces(self, number, back, data, unit=None):
         side = "from" if back else "to"
         for start in range(0, len(data), PIECE):
             if self.links[number]["open"][side]:
-                self.hears(self.links[number][side], "bytes", data[start:start + PIECE], number)
+                end = self.links[number][side]
+                actions = self.hear(end, "bytes", data[start:start + PIECE], number)
+                self.marks.hear(self.notes_of(end, unit), unit, number, end is self.links[number]["to"])
+                self.perform(end, actions)
+
+    def notes_of(self, end, unit):
+        """What the units of an end's last event came to. A member's channels are with the controller of its plan."""
+        if end in self.controllers:
+            return end.end.notes_of(unit, self.controllers.index(end))
+        if end in self.members:
+            return end.end.notes_of(unit, self.controller_of(end))
+        return []
+
+    def controller_of(self, member):
+        address = member.plan["controller"]
+        return address[0] if len(address) == 1 and address[0] < len(self.controllers) else len(self.controllers)
 
     def forget(self, end):
         for link in self.links:
@@ -223,13 +246,16 @@ class World:
             self.hears(self.dials.pop(0)[0], "failed")
 
     def oldest(self):
-        return next((unit for unit in self.bag if unit["waits"]), None)
+        # Units are in the order in which they were sent, and none waits again.
+        while self.next < len(self.bag) and not self.bag[self.next]["waits"]:
+            self.next += 1
+        return self.bag[self.next] if self.next < len(self.bag) else None
 
     def onward(self):
         unit = self.oldest()
         if unit:
             unit["waits"] = False
-            self.pieces(unit["link"], unit["back"], unit["bytes"])
+            self.pieces(unit["link"], unit["back"], unit["bytes"], self.next)
 
     def lose(self):
         unit = self.oldest()
@@ -241,7 +267,7 @@ class World:
         if unit:
             unit["waits"] = False
             same = [place for place, each in enumerate(self.links) if each["kind"] == unit["kind"]]
-            self.pieces(self.chosen(link, same), unit["back"], unit["bytes"])
+            self.pieces(self.chosen(link, same), unit["back"], unit["bytes"], number % len(self.bag))
 
     def hand(self, link, back, data):
         number = self.chosen(link, [place for place, each in enumerate(self.links) if each["kind"] != "to controller"])
@@ -424,6 +450,58 @@ WANTED = (
 )
 
 
+# ---- which runs are clear
+
+# What the drill of 100,000 moves counts that number 7 makes; `.ci/run` has the same.
+DRILLED = {"moves": 100_000, "accepted": 257, "refused": 236, "no_controller": 1640, "passed": 514, "barred": 0}
+# A moment whose timestamp is 2^32 - 1: an authenticator with it brings its own seed again.
+ROUND = (2**32 - 1 + 11_644_473_600) * 10_000_000
+
+
+def seeds_come_round():
+    """Each Logon request is delivered twice, at a moment whose timestamp leaves the seed as it was."""
+    world = one_logon()
+    world.now = ROUND
+    script = Script(world)
+    script.make("start", 0)
+    return script.run(onward_with_logons_twice)
+
+
+def crossed():
+    """Two controllers have FILE1's secret, and a member of that name each. What goes between one member and its
+    controller is delivered between it and the other one."""
+    controllers = [ControllerEnd((ANN, BOB, EVE), (FILE1, FILE2), name) for name in ("PDC", "BDC")]
+    members = [MemberEnd(computer="FILE1", domain="CORP", secret="41" * 16, controller=address) for address in (b"\0", b"\1")]
+    clients = [ClientEnd(user="ann", server=server, level=6, kind="v2", secret="11" * 16, echo=16) for server in (b"\2", b"\3")]
+    script = Script(World(controllers, members, clients))
+    for number in range(2):
+        script.make("start", number)
+
+    def step(script):
+        """The oldest unit of a client or a member's link to it; where there is none, the oldest of the others, on the
+        other link."""
+        world = script.world
+        waiting = [place for place, unit in enumerate(world.bag) if unit["waits"]]
+        if waiting:
+            place = min(waiting, key=lambda place: (world.bag[place]["kind"] == "to controller", place))
+            kind, link = world.bag[place]["kind"], world.bag[place]["link"]
+            same = [place for place, each in enumerate(world.links) if each["kind"] == kind]
+            script.make("deliver", place, same.index(link) ^ (kind == "to controller"))
+
+    return script.run(step)
+
+
+def check_clearness():
+    """Runs that aren't clear are told by what isn't, and the long drill is."""
+    for scenario, clashes, wraps in ((crossed, True, False), (seeds_come_round, False, True)):
+        marks = scenario().world.marks
+        assert (marks.clash, marks.wraps()) == (clashes, wraps), scenario.__name__
+    if forms.is_checking:
+        world = drill()
+        assert world.drive(moves_from(7, DRILLED["moves"])) == DRILLED
+        assert world.marks.is_clear() and world.marks.are_answered(), "the drill isn't clear"
+
+
 # ---- lines
 
 
@@ -463,9 +541,10 @@ def case_of(script):
 
 
 def counted(scenario, wanted):
-    """A scenario whose counts are known."""
+    """A clear scenario whose counts are known."""
     script = scenario()
     assert {name: script.world.counts[name] for name in wanted} == wanted, scenario.__name__
+    assert script.world.marks.is_clear() and script.world.marks.are_answered(), scenario.__name__
     return script
 
 
@@ -719,6 +798,7 @@ def one_at_a_time():
 
 def cases():
     """Each line and its answer."""
+    check_clearness()
     scripts = [counted(scenario, wanted) for scenario, wanted in WANTED] + logon_scripts()
     scripts += [twice_delivered(), misdelivered(), controller_restarts()]
     scripts += one_at_a_time() + broken_scripts() + address_scripts() + strangers() + ticks() + idle_scripts()

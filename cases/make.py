@@ -2,9 +2,9 @@
 """Writes what the case programs are run on, and what they must answer.
 
     python3 cases/make.py           writes crates/PROGRAM/stdin and crates/PROGRAM/stdout of each program
-    python3 cases/make.py --check   says which of those files are not what it would write; status 1 where any isn't, or
-    where two published
-                                    values contradict each other
+    python3 cases/make.py --check   says which of those files are not what it would write; status 1 where any isn't,
+                                    where two published values contradict each other, or where the drill of 100,000
+                                    moves isn't clear or counts something else (it takes about a minute)
 
 Each library has a module here (`cases/LIBRARY.py`) with a function `cases()`, which gives pairs of a line and its
 answer. Answers come from published values (`values/`), from literals that name their source, or from Python's own
