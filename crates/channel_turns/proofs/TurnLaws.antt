@@ -1,5 +1,5 @@
 -- A turn ends once, and what becomes of its channel. It serves `turns_end_once` and `turns_step_their_channel`.
-use Rattle.std.proofs.Common.{◌≡◌, ℕ, Bool, true, false, List, [], ◌∷◌, map, Option, Some, None, is_some, Result, Ok, Err, refl, sym, ap, ap₂, subst, ◌∙◌}
+use Rattle.std.proofs.Common.{◌≡◌, ℕ, Bool, true, false, List, [], ◌∷◌, map, Option, Some, None, is_some, Result, Ok, Err, refl, sym, ap, ap₂, ◌∙◌}
 use Rattle.std.specs.List.{AllByRecursion}
 use Rattle.rpc_units.specs.Calls.{IsHeard}
 use Rattle.rpc_units.specs.Joining.{AddsTo, answer_by, answer_of, grown, joined_of, kept_by, open_after}
@@ -9,7 +9,7 @@ use Rattle.rpc_units.specs.Writing.{written}
 use Rattle.rpc_units.specs.declared.refused.JoinRefused.{JoinRefused}
 use Rattle.rpc_units.specs.declared.refused.UnitRefused.{UnitRefused}
 use Rattle.rpc_units.specs.declared.unit.Unit.{Unit as RpcUnit}
-use Rattle.channel_client.specs.Machine.{lose_of, take_of}
+use Rattle.channel_client.specs.Machine.{take_of}
 use Rattle.channel_client.specs.State.{Requester}
 use Rattle.channel_client.specs.Turns.{gives_right, is_out}
 use Rattle.channel_client.specs.declared.answers.Taken.{Taken}
@@ -20,7 +20,7 @@ use Rattle.channel_turns.specs.declared.hearing.Heard.TheVariants as heard
 use Rattle.channel_turns.specs.declared.state.TurnTalk.{TurnTalk}
 use Rattle.channel_turns.specs.declared.state.TurnWork.{TurnWork}
 use Rattle.channel_turns.specs.Hearing.{heard_by, heard_of}
-use Rattle.channel_turns.specs.Laws.{EndsOnce, TakesInOrder, TurnsEndOnce, TurnsStepTheChannel, taken_by, then_heard, whole_units}
+use Rattle.channel_turns.specs.Laws.{EndsOnce, TurnsEndOnce, TurnsStepTheChannel, is_refused, or_broken, taken_in_order, then_heard, while_out, whole_units}
 use Rattle.channel_turns.specs.Turns.{TurnServed, do_heard, do_taken, served_by, take_by, then_said, turn_served, turn_talk, turn_unit, with_channel}
 use Rattle.channel_turns.proofs.KeepLaws.{turn_stays}
 use Rattle.channel_turns.proofs.ServedLaws.{served_part}
@@ -77,66 +77,38 @@ turns_end = record {
 
 -- ---- units are taken in order
 
-first_taken : (lost : Bool) (unit : RpcUnit) (units : List RpcUnit) (c : Requester) → taken_by lost units (take_of c unit).state ≡ taken_by lost (unit ∷ units) c
-first_taken false unit units c = refl
-first_taken true unit units c = refl
-
-takes_first : (old new : Requester) (unit : RpcUnit) (whole : List RpcUnit) → TakesInOrder (take_of old unit).state new whole → TakesInOrder old new (unit ∷ whole)
-takes_first old new unit whole takes = record {
-  taken = unit ∷ takes.taken;
-  later = takes.later;
-  lost = takes.lost;
-  hears = ap (λ (units : List RpcUnit). unit ∷ units) takes.hears;
-  is = takes.is ∙ first_taken takes.lost unit takes.taken old;
-}
-
-takes_one : (old : Requester) (unit : RpcUnit) (whole : List RpcUnit) → TakesInOrder old (take_of old unit).state (unit ∷ whole)
-takes_one old unit whole = record { taken = unit ∷ []; later = whole; lost = false; hears = refl; is = refl }
-
-takes_none : (old : Requester) → TakesInOrder old old []
-takes_none old = record { taken = []; later = []; lost = false; hears = refl; is = refl }
-
-loses : (old : Requester) → TakesInOrder old (lose_of old).state []
-loses old = record { taken = []; later = []; lost = true; hears = refl; is = refl }
-
 module _ (units : List (List ℕ)) (why : Option UnitRefused) where
+  -- what becomes of the channel by the units behind a first one
+  abbrev later_taken : Option RpcUnit → Requester → Requester
+  later_taken joiner c = taken_in_order (whole_units units joiner) (is_refused units why joiner) c
+
   abbrev Each : Type 0
-  Each = (at : TurnWork) (talk : TurnTalk) → TakesInOrder at.channel (served_by units why at talk).0.channel (whole_units units talk.joiner)
+  Each = (at : TurnWork) (talk : TurnTalk) → (served_by units why at talk).0.channel ≡ later_taken talk.joiner at.channel
 
   abbrev then_served : TurnServed → TurnServed
   then_served served = then_said served (λ later said. served_by units why later said)
 
-  ended_taken : (joiner : Option RpcUnit) (old : Requester) (unit : RpcUnit) (at : TurnWork) → at.channel ≡ (take_of old unit).state →
-      TakesInOrder old at.channel (unit ∷ whole_units units joiner)
-  ended_taken joiner old unit at is =
-      subst (λ (c : Requester). TakesInOrder old c (unit ∷ whole_units units joiner)) (sym is) (takes_one old unit (whole_units units joiner))
-
-  -- the channel is the one that took the unit
-  after_taken : (t : Taken) (joiner : Option RpcUnit) (old : Requester) (unit : RpcUnit) (at : TurnWork) → at.channel ≡ (take_of old unit).state → Each →
-      TakesInOrder old (then_served (do_taken t joiner at)).0.channel (unit ∷ whole_units units joiner)
-  after_taken (taken.Skip turn) joiner old unit at is each =
-      takes_first old (served_by units why at (turn_talk joiner)).0.channel unit (whole_units units joiner)
-      (subst (λ (c : Requester). TakesInOrder c (served_by units why at (turn_talk joiner)).0.channel (whole_units units joiner)) is (each at (turn_talk joiner)))
-  after_taken (taken.Next turn frames) joiner old unit at is each =
-      let sent : TurnWork = (do_taken (taken.Next turn frames) joiner at).0 in
-      takes_first old (served_by units why sent (turn_talk joiner)).0.channel unit (whole_units units joiner)
-      (subst (λ (c : Requester). TakesInOrder c (served_by units why sent (turn_talk joiner)).0.channel (whole_units units joiner)) is (each sent (turn_talk joiner)))
-  after_taken taken.Half joiner old unit at is each = ended_taken joiner old unit at is
-  after_taken taken.Opened joiner old unit at is each = ended_taken joiner old unit at is
-  after_taken (taken.Answer place verdict) joiner old unit at is each = ended_taken joiner old unit at is
-  after_taken (taken.Dropped place cause) joiner old unit at is each = ended_taken joiner old unit at is
+  after_taken : (t : Taken) (joiner : Option RpcUnit) (at : TurnWork) → Each →
+      (then_served (do_taken t joiner at)).0.channel ≡ while_out (gives_right t) at.channel (λ after. later_taken joiner after)
+  after_taken (taken.Skip turn) joiner at each = each at (turn_talk joiner)
+  after_taken (taken.Next turn frames) joiner at each = each (do_taken (taken.Next turn frames) joiner at).0 (turn_talk joiner)
+  after_taken taken.Half joiner at each = refl
+  after_taken taken.Opened joiner at each = refl
+  after_taken (taken.Answer place verdict) joiner at each = refl
+  after_taken (taken.Dropped place cause) joiner at each = refl
 
   after_heard : (what : Heard) (at : TurnWork) → Each →
-      TakesInOrder at.channel (then_served (do_heard what at)).0.channel (then_heard what (λ after. whole_units units after))
+      (then_served (do_heard what at)).0.channel ≡
+      taken_in_order (then_heard what (λ after. whole_units units after)) (or_broken what (λ after. is_refused units why after)) at.channel
   after_heard (heard.Waits joiner) at each = each at (turn_talk joiner)
   after_heard (heard.Whole unit joiner) at each =
-      after_taken (take_of at.channel unit).taken joiner at.channel unit (with_channel (take_of at.channel unit).state at) refl each
-  after_heard (heard.Broken cause) at each = loses at.channel
+      after_taken (take_of at.channel unit).taken joiner (with_channel (take_of at.channel unit).state at) each
+  after_heard (heard.Broken cause) at each = refl
 
 takes_by : (units : List (List ℕ)) (why : Option UnitRefused) (at : TurnWork) (talk : TurnTalk) →
-    TakesInOrder at.channel (served_by units why at talk).0.channel (whole_units units talk.joiner)
-takes_by [] None at talk = takes_none at.channel
-takes_by [] (Some why) at talk = loses at.channel
+    (served_by units why at talk).0.channel ≡ taken_in_order (whole_units units talk.joiner) (is_refused units why talk.joiner) at.channel
+takes_by [] None at talk = refl
+takes_by [] (Some why) at talk = refl
 takes_by (bytes ∷ units) why at talk =
     after_heard units why (heard_of (unit_of bytes) talk.joiner) at (λ later said. takes_by units why later said)
 

@@ -1,10 +1,12 @@
 -- What holds of the turns of a channel, whatever end they are of, and whatever comes (how turns follow one another is
 -- this project's own choice).
-use Rattle.std.specs.Prelude.{ℕ, ◌≡◌, Bool, true, false, List, [], ◌∷◌, ◌++◌, replicate, Option, Some, None, is_some, Ok}
+use Rattle.std.specs.Prelude.{ℕ, ◌≡◌, Bool, true, false, List, [], ◌∷◌, ◌++◌, replicate, Option, Some, None, is_some, Ok, Err}
 use Rattle.std.specs.List.{AllByRecursion}
 use Rattle.outside.specs.declared.action.Action.{Action}
 use Rattle.outside.specs.declared.action.Action.TheVariants as action
 use Rattle.outside.specs.declared.action.DropCause.{DropCause}
+use Rattle.outside.specs.declared.action.StepRefused.TheVariants as refused
+use Rattle.rpc_units.specs.declared.refused.UnitRefused.{UnitRefused}
 use Rattle.rpc_units.specs.declared.unit.Unit.{Unit as RpcUnit}
 use Rattle.rpc_units.specs.Calls.{IsHeard}
 use Rattle.rpc_units.specs.Reading.{unit_of}
@@ -13,7 +15,7 @@ use Rattle.end_links.specs.Serving.{served_cut}
 use Rattle.end_links.specs.Whole.{IsWholeSend}
 use Rattle.channel_client.specs.Machine.{can_start, lose_of, needs_challenge, start_of, take_of}
 use Rattle.channel_client.specs.State.{Requester}
-use Rattle.channel_client.specs.Turns.{is_out}
+use Rattle.channel_client.specs.Turns.{gives_right, is_out}
 use Rattle.channel_client.specs.Whole.{InRangeRequester}
 use Rattle.channel_turns.specs.declared.hearing.Heard.{Heard}
 use Rattle.channel_turns.specs.declared.hearing.Heard.TheVariants as heard
@@ -26,7 +28,7 @@ use Rattle.authenticators.specs.Timestamps.{timestamp_of}
 
 -- ---- a piece ends one turn at most
 
--- the turn ended, or its link stays open: one of the two
+-- how the turn ended is told exactly where its link doesn't stay open; of a piece before which none had ended
 abbrev pub EndsOnce : TurnServed → Type 0
 EndsOnce (at, None) = is_some at.ended ≡ true
 EndsOnce (at, Some talk) = at.ended ≡ None
@@ -55,27 +57,34 @@ abbrev pub whole_units : List (List ℕ) → Option RpcUnit → List RpcUnit
 whole_units [] joiner = []
 whole_units (bytes ∷ units) joiner = then_heard (heard_of (unit_of bytes) joiner) (λ after. whole_units units after)
 
--- the channel takes all of them, in order
-abbrev pub taken_all : List RpcUnit → Requester → Requester
-taken_all [] c = c
-taken_all (unit ∷ units) c = taken_all units (take_of c unit).state
+abbrev pub or_broken : Heard → (Option RpcUnit → Bool) → Bool
+or_broken (heard.Waits joiner) later = later joiner
+or_broken (heard.Whole unit joiner) later = later joiner
+or_broken (heard.Broken cause) later = true
 
--- and its turn is lost then, or not
-abbrev pub taken_by : Bool → List RpcUnit → Requester → Requester
-taken_by false units c = taken_all units c
-taken_by true units c = (lose_of (taken_all units c)).state
+-- whether one is refused, or the rest of the stream is
+abbrev pub is_refused : List (List ℕ) → Option UnitRefused → Option RpcUnit → Bool
+is_refused [] None joiner = false
+is_refused [] (Some why) joiner = true
+is_refused (bytes ∷ units) why joiner = or_broken (heard_of (unit_of bytes) joiner) (λ after. is_refused units why after)
 
--- the first of the whole units were taken, in order, and nothing else was done but that the turn may be lost
-pub record TakesInOrder (old new : Requester) (whole : List RpcUnit) : Type 0 where
-  pub taken : List RpcUnit
-  pub later : List RpcUnit
-  pub lost : Bool
-  pub hears : whole ≡ taken ++ later
-  pub is : new ≡ taken_by lost taken old
+-- the argument: whether the turn is still out
+abbrev pub while_out : Bool → Requester → (Requester → Requester) → Requester
+while_out false c later = c
+while_out true c later = later c
+
+-- the channel takes whole units in order, up to the first that ends the turn. Where none does, the turn is lost if
+-- something is refused behind them
+abbrev pub taken_in_order : List RpcUnit → (refused : Bool) → Requester → Requester
+taken_in_order [] false c = c
+taken_in_order [] true c = (lose_of c).state
+taken_in_order (unit ∷ units) refused c =
+    while_out (gives_right (take_of c unit).taken) (take_of c unit).state (λ after. taken_in_order units refused after)
 
 pub record TurnsStepTheChannel : Type 0 where
-  pub takes : (cut : Cut) (at : TurnWork) (talk : TurnTalk) →
-      TakesInOrder at.channel (turn_served cut at talk).0.channel (whole_units cut.units talk.joiner)
+  -- exactly this becomes of the channel
+  pub takes : (cut : Cut) (at : TurnWork) (talk : TurnTalk) → (turn_served cut at talk).0.channel ≡
+      taken_in_order (whole_units cut.units talk.joiner) (is_refused cut.units cut.refused talk.joiner) at.channel
   -- the bytes of one whole unit, where nothing is open: it is taken
   pub whole : (bytes : List ℕ) (frames : List RpcUnit) (unit : RpcUnit) (at : TurnWork) → IsHeard bytes frames unit →
       turn_served (cut_stream bytes) at (turn_talk None) ≡ take_by (take_of at.channel unit) None at
@@ -104,7 +113,7 @@ pub record TurnsSendWhole : Type 0 where
 -- ---- the next turn
 
 -- none starts where none can; where one can, it does, and is out then: with the next challenge where the channel needs
--- one, and with none else
+-- one, and with none else. Where it needs one and none is left, it is refused for that
 pub record NextTurnsKnown : Type 0 where
   pub none : (now : ℕ) (channel : Requester) (left : List (List ℕ)) → can_start channel.turn channel.waiting ≡ false →
       next_turn now channel left ≡ Ok (record { value = (channel, None); left = left })
@@ -121,5 +130,7 @@ pub record NextTurnsKnown : Type 0 where
         value = ((start_of channel (timestamp_of now) challenge).state, (start_of channel (timestamp_of now) challenge).answer);
         left = left;
       })
+  pub spent : (now : ℕ) (channel : Requester) → can_start channel.turn channel.waiting ≡ true → needs_challenge channel.standing ≡ true →
+      next_turn now channel [] ≡ Err refused.Spent
   pub out : (channel : Requester) (timestamp : ℕ) (challenge : List ℕ) → can_start channel.turn channel.waiting ≡ true →
       (is_some (start_of channel timestamp challenge).answer ≡ true) × (is_out (start_of channel timestamp challenge).state ≡ true)

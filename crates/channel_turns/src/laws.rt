@@ -10,9 +10,9 @@ pub fn turns_end_once()
     ensures { TurnsEndOnce }
 {}
 
-/// The channel takes the whole units on the link of its turn in their order, up to the one that ends the turn, and
-/// nothing else is done to it but that a unit that is refused loses the turn. The bytes of one whole unit come to that
-/// unit taken.
+/// The channel takes the whole units on the link of its turn in their order, up to the first that ends the turn; where
+/// none does and a unit is refused, the turn is lost then. Nothing else is done to it. The bytes of one whole unit come
+/// to that unit taken.
 #[tactic(auto, using(crate::proofs::TurnLaws::turns_step))]
 pub fn turns_step_their_channel()
     ensures { TurnsStepTheChannel }
@@ -25,7 +25,8 @@ pub fn what_is_sent_in_turns_is_whole()
     ensures { TurnsSendWhole }
 {}
 
-/// A turn starts exactly where one can, and is out then. It draws a challenge exactly where the channel needs one.
+/// A turn starts exactly where one can, and is out then. It draws a challenge exactly where the channel needs one, and
+/// it is `Spent` where none is left then.
 #[tactic(auto, using(crate::proofs::NextLaws::next_turns))]
 pub fn next_turns_are_known()
     ensures { NextTurnsKnown }

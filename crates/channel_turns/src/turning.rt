@@ -268,8 +268,9 @@ fn after_piece(
 // ---- the next turn
 
 /// The next turn of the channel starts, where one can: that peer is dialled, which is the last action of the end's
-/// step. An end with several channels calls it where no turn is out. A challenge is drawn where the channel needs one:
-/// one at most, whatever the result.
+/// step. While a turn of this channel is out none can start, and everything stays as it is. A turn that starts takes
+/// the place of what was dialled before, if anything was: an end whose channels share one link of turns calls it where
+/// none of them has a turn out. A challenge is drawn where the channel needs one: one at most, whatever the result.
 ///
 /// `Spent` exactly where it needs one and none is left, `Memory` where no memory was found.
 #[tactic(auto, using(crate::proofs::DialLaws::dialling))]

@@ -246,9 +246,9 @@ impl ServesUnits<TurnTalk> for TurnWork {
 }
 
 /// The units of the link of a turn with the piece that comes on it, one after the other: the channel afterwards, with
-/// the actions and how the turn ended, where it did; and the link, where the turn is still out. One of the two is
-/// there. A turn that ends leaves its link to be closed by the caller, before anything else that follows of it. No
-/// challenge is drawn. `NoMemory` where no memory was found.
+/// the actions and how the turn ended, where it did; and the link, where the turn is still out. Where `at` has no end
+/// of a turn from before, exactly one of the two is there. A turn that ends leaves its link to be closed by the caller,
+/// before anything else that follows of it. No challenge is drawn. `NoMemory` where no memory was found.
 #[tactic(auto, using(crate::proofs::ServedLaws::serving))]
 pub fn serve_turn<Q: Chances>(
     alloc: Global,

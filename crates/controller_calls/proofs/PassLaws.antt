@@ -1,5 +1,5 @@
 -- Which authenticator passes.
-use Rattle.std.proofs.Common.{◌≡◌, ◌↔◌, ℕ, Bool, true, false, List, [], ◌∷◌, ◌++◌, Option, Some, None, refl, sym, ap, ◌∙◌, append_assoc}
+use Rattle.std.proofs.Common.{◌≡◌, ◌↔◌, ℕ, Bool, true, false, List, [], ◌∷◌, ◌++◌, Option, Some, None, refl, sym, ap, ap₂, ◌∙◌, append_assoc}
 use Rattle.std.proofs.lemmas.Slice.Eq.{bytes_eq-Decides}
 use Rattle.wire_base.specs.Maps.{lookup}
 use Rattle.wire_base.specs.Names.{same_name}
@@ -8,7 +8,8 @@ use Rattle.authenticators.specs.SecureChannels.{SecureChannelState, key_of_chann
 use Rattle.outside.specs.declared.action.Action.{Action}
 use Rattle.outside.specs.declared.action.Judged.{Judged}
 use Rattle.logon_stubs.specs.declared.calls.LogonCall.{LogonCall}
-use Rattle.controller_calls.specs.Passing.{IsNext, is_passed, PassesTheNext}
+use Rattle.controller_calls.specs.Passing.{DoesWhatPasses, IsNext, PassesTheNext, do_passed, is_passed}
+use Rattle.controller_calls.specs.Calls.{Network, done_by}
 use Rattle.controller_calls.specs.Desk.{Desk, desk, put_channel, take_channel}
 use Rattle.controller_calls.specs.Logons.{judge_return, judge_channel, answer_logon}
 use Rattle.controller_calls.specs.declared.line.Line.{Line}
@@ -90,3 +91,25 @@ by_names (Some computer) (Some given) c name now line d named there =
 
 pub passes_the_next : PassesTheNext
 passes_the_next = record { logon = λ c name now line d. by_names c.computer c.authenticator c name now line d refl refl }
+
+-- ---- what it comes to then
+
+passed : (c : LogonCall) (name : List ℕ) (now : ℕ) (line : Line) (d : Desk) (computer : List ℕ) (given : Authenticator) (channel : SecureChannelState) →
+    (passes : Bool) → passes ≡ true →
+    judge_return (return_by passes channel given) (key_of_channel channel) name now line c.info c.validation
+    (desk d.table (put_channel computer (channel_by passes channel given) (take_channel computer d.work)))
+    ≡ do_passed (done_by (Network c) channel name d.table now) c line computer channel given d.work
+passed c name now line d computer given channel true is = refl
+passed c name now line d computer given channel false is = absurd (let x = is in cc)
+
+does_what : (c : LogonCall) (name : List ℕ) (now : ℕ) (line : Line) (d : Desk) (next : IsNext d.work.computers c.computer c.authenticator) →
+    answer_logon c.computer c.authenticator name now line c.info c.validation d
+    ≡ do_passed (done_by (Network c) next.channel name d.table now) c line next.computer next.channel next.given d.work
+does_what c name now line d next =
+    ap₂ (λ (computer : Option (List ℕ)) (given : Option Authenticator). answer_logon computer given name now line c.info c.validation d) next.named next.there
+    ∙ ap (λ (found : Option SecureChannelState).
+    judge_channel found next.computer next.given name now line c.info c.validation (desk d.table (take_channel next.computer d.work))) next.stands
+    ∙ passed c name now line d next.computer next.given next.channel (passes_on next.channel next.given) ((bytes_eq-Decides _ _).1 next.passes)
+
+pub does_what_passes : DoesWhatPasses
+does_what_passes = record { logon = does_what }

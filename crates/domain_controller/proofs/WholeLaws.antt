@@ -1,5 +1,5 @@
 -- The law `what_is_sent_is_whole`: a walk over the units of a piece, at a desk at which each send so far is whole.
-use Rattle.std.proofs.Common.{◌≡◌, ◌<◌, ◌≤◌, ◌^◌, ℕ, Bool, true, false, List, [], ◌∷◌, ◌++◌, length, nat_le, bytes_eq, Option, Some, None, Result, Ok, Err, if◌then◌else◌, refl, subst, arith}
+use Rattle.std.proofs.Common.{◌≡◌, ◌<◌, ◌^◌, ℕ, Bool, true, false, List, [], ◌∷◌, ◌++◌, length, nat_le, bytes_eq, Option, Some, None, Result, Ok, Err, if◌then◌else◌, refl, subst, arith}
 use Rattle.std.specs.List.{AllByRecursion}
 use Rattle.wire_base.specs.Maps.{has_key, lookup, put, take_out, same_number}
 use Rattle.wire_base.specs.Names.{IsName, same_name}

@@ -1,6 +1,6 @@
 -- The controller at work: how a call is answered on its link, and how the units of a link are served (this project's
 -- own choice). The answers to the calls themselves are those of `controller_calls`, which are passed on.
-use Rattle.std.specs.Prelude.{ℕ, List, [], ◌∷◌, Option, Some, None, Ok, Err}
+use Rattle.std.specs.Prelude.{ℕ, List, [], ◌∷◌, Some, None, Ok, Err}
 use Rattle.outside.specs.declared.action.Action.TheVariants as action
 use Rattle.outside.specs.declared.action.CloseCause.TheVariants as close
 use Rattle.outside.specs.declared.action.StepRefused.TheVariants as refused

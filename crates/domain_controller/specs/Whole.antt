@@ -2,7 +2,7 @@
 -- (C706 12.6.2), and has room in one piece of a link (this project's own choice). It holds where what the controller
 -- has is in its ranges, and a step leaves it so. What comes has none: a number that was read is written modulo its
 -- width.
-use Rattle.std.specs.Prelude.{ℕ, ◌≡◌, ◌≤◌, ◌<◌, ◌^◌, List, length, Option, Some, None, Ok, Err}
+use Rattle.std.specs.Prelude.{ℕ, ◌≡◌, ◌≤◌, ◌<◌, ◌^◌, List, Option, Some, None, Ok, Err}
 use Rattle.std.specs.List.{AllByRecursion}
 use Rattle.wire_base.specs.Names.{IsName}
 use Rattle.outside.specs.declared.event.Event.{Event}

@@ -1,5 +1,5 @@
 -- What a client sends is bytes, and no more than an end sends at once.
-use Rattle.std.proofs.Common.{◌≡◌, ℕ, ◌≤◌, ◌<◌, ◌==◌, Bool, true, false, List, [], ◌∷◌, ◌++◌, length, Option, Some, None, Result, Ok, Err, refl, arith}
+use Rattle.std.proofs.Common.{◌≡◌, ℕ, ◌==◌, Bool, true, false, List, [], ◌∷◌, ◌++◌, length, Option, Some, None, Result, Ok, Err, refl, arith}
 use Rattle.std.specs.List.{AllByRecursion}
 use Rattle.wire_base.specs.Numbers.{AreBytes}
 use Rattle.wire_base.proofs.NumberLaws.{AreBytes-append, AreBytes-nil}
@@ -27,7 +27,6 @@ use Rattle.memo_stubs.specs.Memo.{written_echo_request}
 use Rattle.end_links.specs.Binding.{limit_of}
 use Rattle.end_links.specs.Links.{LinkState}
 use Rattle.end_links.specs.Serving.{ServedPart, served_by}
-use Rattle.end_links.specs.Whole.{IsByteSend}
 use Rattle.end_links.proofs.KeepLaws.{StaysAmong, served_among}
 use Rattle.end_links.proofs.WholeLaws.{cut_bytes, limit_bounds}
 use Rattle.end_loop.specs.Runs.{actions_of}
@@ -38,7 +37,6 @@ use Rattle.logon_client.specs.declared.hearing.Heard.TheVariants as heard
 use Rattle.logon_client.specs.declared.outcome.ClientOutcome.{ClientOutcome}
 use Rattle.logon_client.specs.declared.outcome.ClientOutcome.TheVariants.{BadPeer}
 use Rattle.logon_client.specs.declared.outcome.PeerFault.TheVariants as peer_fault
-use Rattle.logon_client.specs.declared.plan.ClientPlan.{ClientPlan}
 use Rattle.logon_client.specs.declared.securing.Sending.{Sending}
 use Rattle.logon_client.specs.declared.state.After.{After}
 use Rattle.logon_client.specs.declared.state.ClientLink.{ClientLink}
@@ -51,11 +49,11 @@ use Rattle.logon_client.specs.declared.state.Running.{Running}
 use Rattle.logon_client.specs.declared.state.Talk.{Talk}
 use Rattle.logon_client.specs.declared.state.Terms.{Terms}
 use Rattle.logon_client.specs.declared.state.Work.{Work}
-use Rattle.logon_client.specs.Answering.{answer_of as answer_to, auth3_of, bind_for, drawn_for, is_enough, pairs_by}
+use Rattle.logon_client.specs.Answering.{answer_of as answer_to, auth3_of, drawn_for, is_enough, pairs_by}
 use Rattle.logon_client.specs.Asked.{HoldsOf, body_holds}
 use Rattle.logon_client.specs.Machine.{actions_after, after_stream, answers, answers_by, answers_part, asks, asks_echo, asks_who, by_close, by_event, by_piece, client_server, closed_with, echo_bytes, echo_number, echo_opnum, ends, halted, hear, hear_ack, hear_body, hear_call, hear_challenge, hear_flags, hear_pairs, hear_result, hear_trailer, hear_unit, serve_heard, standing_by, state_after, step_by_outcome, step_by_running, step_of, terms_of, told, who_number, who_opnum, work_of}
 use Rattle.logon_client.specs.Plans.{CanLogOn, offer_of}
-use Rattle.logon_client.specs.SendsBytes.{BringsBytes, ClientsSendBytes, InRangeEvent, InRangeLink, InRangeRunning, InRangeUnlessStopped, IsByteIfSent}
+use Rattle.logon_client.specs.SendsBytes.{ClientsSendBytes, InRangeEvent, InRangeLink, InRangeRunning, InRangeUnlessStopped, IsByteIfSent}
 use Rattle.logon_client.specs.State.{State}
 use Rattle.logon_client.proofs.ByteParts.{IfBytes, IfSending, IsDrawn, auth3_sends, bind_sends, call_sends, echo_fits, info_are, level_small, trailer_are}
 

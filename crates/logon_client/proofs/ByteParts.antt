@@ -1,22 +1,20 @@
 -- What a client sends is bytes, and no more than an end sends at once: the bind, the auth3 and the calls.
-use Rattle.std.proofs.Common.{◌≡◌, ◌⊎◌, ℕ, zero, suc, ◌+◌, ◌*◌, ◌%◌, ◌≤◌, ◌<◌, ◌==◌, ◌||◌, Bool, true, false, List, [], ◌∷◌, ◌++◌, length, drop, map, replicate, Option, Some, None, Result, Ok, Err, nat_le, refl, sym, ap, subst, ◌∙◌, arith, inl, inr}
+use Rattle.std.proofs.Common.{◌≡◌, ℕ, ◌+◌, ◌%◌, ◌≤◌, ◌<◌, ◌==◌, ◌||◌, Bool, true, false, List, [], ◌∷◌, length, drop, map, Option, Some, None, Result, Ok, Err, nat_le, refl, sym, subst, arith, inl, inr}
 use Rattle.std.specs.Prelude.{IsTrue}
-use Rattle.std.specs.List.{AllByRecursion, range_with_len}
-use Rattle.std.specs.Int.{w16, w32, to_le_bytes}
+use Rattle.std.specs.List.{range_with_len}
+use Rattle.std.specs.Int.{w16, w32}
 use Rattle.std.proofs.lemmas.Bool.{leb-true}
 use Rattle.std.proofs.lemmas.Bool.Decides.{Decides-eqb}
 use Rattle.std.proofs.lemmas.List.FromFn.{length-map-range_with_len}
 use Rattle.wire_base.specs.Numbers.{AreBytes}
-use Rattle.wire_base.specs.Units.{utf16_of}
-use Rattle.wire_base.proofs.NumberLaws.{AreBytes-append, AreBytes-drop, AreBytes-nil, AreBytes-take, all_from_bytes, bytes_from_all}
+use Rattle.wire_base.proofs.NumberLaws.{AreBytes-drop, AreBytes-nil, AreBytes-take, all_from_bytes, bytes_from_all}
 use Rattle.wire_base.proofs.UnitLaws.{AreBytes-utf16_of}
 use Rattle.rc4_stream.specs.Rc4.{applied}
 use Rattle.rc4_stream.proofs.Rc4Laws.{All-applied}
 use Rattle.ntlm_messages.specs.Authenticate.{authenticate_fields, authenticate_payload, authenticate_table, written_authenticate}
-use Rattle.ntlm_messages.specs.Challenge.{IsChallenge, challenge_of}
+use Rattle.ntlm_messages.specs.Challenge.{challenge_of}
 use Rattle.ntlm_messages.specs.Fields.{◌>>=◌, IsField, field_bytes, form_of, offset_at, signature}
 use Rattle.ntlm_messages.specs.Negotiate.{written_negotiate}
-use Rattle.ntlm_messages.specs.Pairs.{pair_bytes}
 use Rattle.ntlm_messages.specs.declared.messages.Authenticate.{Authenticate}
 use Rattle.ntlm_messages.specs.declared.messages.Challenge.{Challenge}
 use Rattle.ntlm_messages.specs.declared.refused.WriteRefused.{WriteRefused}
@@ -27,35 +25,30 @@ use Rattle.ntlm_seal.specs.Sessions.{SessionState}
 use Rattle.rpc_units.specs.declared.kind.Kind.{Kind}
 use Rattle.rpc_units.specs.declared.unit.Trailer.{Trailer}
 use Rattle.rpc_units.specs.declared.unit.Unit.{Unit as RpcUnit}
-use Rattle.rpc_units.specs.Calls.{bytes_of_call}
 use Rattle.rpc_units.specs.Grammar.{IsEnd, IsUnit}
-use Rattle.rpc_units.specs.Joining.{HasStub, stub_of}
 use Rattle.rpc_units.specs.Numbers.{ndr_syntax}
 use Rattle.rpc_units.specs.Reading.{unit_of}
 use Rattle.rpc_units.specs.Writing.{written}
 use Rattle.rpc_units.proofs.CuttingLaws.{call_short}
 use Rattle.rpc_units.proofs.GrammarLaws.{IsUnit-unit_of}
-use Rattle.rpc_units.proofs.WritingLaws.{length_written}
 use Rattle.memo_stubs.specs.Interface.{memo_syntax}
 use Rattle.memo_stubs.specs.Memo.{written_echo_request}
 use Rattle.memo_stubs.proofs.MemoLaws.{request_stub}
-use Rattle.end_links.specs.Binding.{bind_of}
 use Rattle.end_links.specs.Sending.{request_of}
 use Rattle.end_links.specs.Whole.{IsByteSend}
-use Rattle.end_links.proofs.ByteLaws.{IsBody, IsBytes, both, call_bytes, is_bytes, more, none, number, written_bytes, zero_bytes}
+use Rattle.end_links.proofs.ByteLaws.{IsBytes, both, call_bytes, is_bytes, more, none, number, written_bytes, zero_bytes}
 use Rattle.end_links.proofs.WholeLaws.{syntax_of_bytes}
 use Rattle.unit_security.specs.Levels.{is_level}
 use Rattle.unit_security.specs.Securing.{secure_call}
 use Rattle.unit_security.specs.declared.securing.Secured.{Secured}
 use Rattle.unit_security.proofs.ByteLaws.{IfSecured, IsSecured, call_secured}
 use Rattle.logon_client.specs.declared.answering.Drawn.{Drawn}
-use Rattle.logon_client.specs.declared.answering.Responses.{Responses}
 use Rattle.logon_client.specs.declared.answering.ServerOffer.{ServerOffer}
 use Rattle.logon_client.specs.declared.plan.AuthKind.{AuthKind}
 use Rattle.logon_client.specs.declared.plan.AuthKind.TheVariants.{V1, V1Ess, V2}
 use Rattle.logon_client.specs.declared.plan.ClientPlan.{ClientPlan}
 use Rattle.logon_client.specs.declared.securing.Sending.{Sending}
-use Rattle.logon_client.specs.Answering.{answer_of, auth3_by, auth3_of, auth3_unit, bind_for, bytes_if, keys_by, lm_by, negotiate_for, nt_by, pairs_sent, responses_of}
+use Rattle.logon_client.specs.Answering.{answer_of, auth3_by, auth3_of, auth3_unit, bind_for, bytes_if, keys_by, lm_by, nt_by, pairs_sent}
 use Rattle.logon_client.specs.Machine.{echo_bytes}
 use Rattle.logon_client.specs.Plans.{offer_of}
 use Rattle.logon_client.specs.Securing.{send_call, sent_secured, trailer_context}

@@ -1,6 +1,6 @@
 -- That what a client sends is bytes, and no more than an end sends at once (this project's own choice). It holds where
 -- what the client has is in its ranges, and a step leaves it so.
-use Rattle.std.specs.Prelude.{ℕ, ◌≡◌, List, Option, Some, None}
+use Rattle.std.specs.Prelude.{ℕ, List, Option, Some, None}
 use Rattle.std.specs.List.{AllByRecursion}
 use Rattle.wire_base.specs.Numbers.{AreBytes}
 use Rattle.outside.specs.declared.action.Action.{Action}

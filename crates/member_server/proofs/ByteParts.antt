@@ -1,18 +1,16 @@
 -- What a member sends on the links that it accepted is bytes, and no more than an end sends at once. For the law
 -- `what_turns_send_is_whole`.
-use Rattle.std.proofs.Common.{◌≡◌, ℕ, ◌+◌, ◌*◌, ◌%◌, ◌≤◌, ◌<◌, ◌^◌, ◌==◌, ◌&&◌, ◌||◌, Bool, true, false, List, [], ◌∷◌, ◌++◌, length, map, Option, Some, None, Result, Ok, Err, nat_le, refl, sym, ap, subst, ◌∙◌, arith, ◌-◌, zero, suc, drop}
+use Rattle.std.proofs.Common.{◌≡◌, ℕ, ◌+◌, ◌%◌, ◌≤◌, ◌<◌, ◌==◌, ◌&&◌, ◌||◌, Bool, true, false, List, [], ◌∷◌, ◌++◌, length, map, Option, Some, None, Result, Ok, Err, nat_le, refl, sym, ap, subst, arith, ◌-◌, zero, suc, drop}
 use Rattle.std.specs.Prelude.{IsTrue}
-use Rattle.std.specs.List.{AllByRecursion, flat_map}
 use Rattle.std.specs.Int.{w16, w32, w64, to_le_bytes}
 use Rattle.std.proofs.lemmas.Bool.{leb-true}
 use Rattle.std.proofs.lemmas.Bool.Decides.{Decides-eqb}
-use Rattle.std.proofs.Math.Nat.{mod-lt}
 use Rattle.wire_base.specs.Numbers.{AreBytes}
 use Rattle.wire_base.specs.Units.{AreUnits, utf16_of}
 use Rattle.wire_base.proofs.NumberLaws.{AreBytes-drop, AreBytes-take, AreBytes-append, AreBytes-cons, AreBytes-nil}
 use Rattle.wire_base.proofs.UnitLaws.{AreBytes-utf16_of}
 use Rattle.ntlm_messages.specs.Challenge.{written_challenge}
-use Rattle.ntlm_messages.specs.Fields.{bytes_of, field_bytes, signature}
+use Rattle.ntlm_messages.specs.Fields.{field_bytes, signature}
 use Rattle.ntlm_messages.specs.Negotiate.{negotiate_of}
 use Rattle.ntlm_messages.specs.Pairs.{pair_bytes, written_pairs}
 use Rattle.ntlm_messages.specs.declared.messages.Challenge.{Challenge}
@@ -32,16 +30,16 @@ use Rattle.rpc_units.proofs.CuttingLaws.{call_short}
 use Rattle.rpc_units.proofs.WritingLaws.{length_written}
 use Rattle.ndr_codec.specs.Stub.{Begins, HasLayout}
 use Rattle.memo_stubs.specs.Interface.{memo_syntax}
-use Rattle.memo_stubs.specs.Memo.{FitsEcho, echo_request, echo_request_of, put_who_reply, written_echo_reply, written_who_reply}
+use Rattle.memo_stubs.specs.Memo.{FitsEcho, echo_request, echo_request_of, put_who_reply, written_who_reply}
 use Rattle.memo_stubs.specs.declared.refused.MemoRefused.{MemoRefused}
 use Rattle.memo_stubs.proofs.MemoLaws.{parsed-Begins, reply_stub, request_fits, who_stub}
-use Rattle.end_links.specs.Binding.{ack_of, nak_of}
+use Rattle.end_links.specs.Binding.{nak_of}
 use Rattle.end_links.specs.Sending.{fault_of, response_of}
 use Rattle.end_links.specs.Whole.{IsByteSend}
 use Rattle.end_links.proofs.ByteLaws.{IsBytes, both, call_bytes, is_bytes, more, none, number, written_bytes}
 use Rattle.end_links.proofs.WholeLaws.{answers_of_bytes}
-use Rattle.unit_security.specs.Levels.{is_level, is_plain, is_sealed, is_signed}
-use Rattle.unit_security.specs.Securing.{open_unit, secure_call}
+use Rattle.unit_security.specs.Levels.{is_level}
+use Rattle.unit_security.specs.Securing.{secure_call}
 use Rattle.unit_security.specs.declared.securing.Secured.{Secured}
 use Rattle.unit_security.proofs.ByteLaws.{IfSecured, IsSecured, call_secured}
 use Rattle.std.proofs.lemmas.List.{length-map}
