@@ -85,9 +85,10 @@ negotiate_are flags =
 
 pub bind_sends : (level : ℕ) (auth : AuthKind) → level < 256 → IsByteSend (written (bind_for level auth))
 bind_sends level auth small = record {
-  are = written_bytes (bind_for level auth)
-      (((syntax_of_bytes memo_syntax refl, (syntax_of_bytes ndr_syntax refl, tt)), tt),
-      record { kind = omega arith; level = small; value = (negotiate_are (offer_of auth)).are });
+  are = written_bytes (bind_for level auth) (
+    ((syntax_of_bytes memo_syntax refl, (syntax_of_bytes ndr_syntax refl, tt)), tt),
+    record { kind = omega arith; level = small; value = (negotiate_are (offer_of auth)).are },
+  );
   short = omega (arith, bind_short level auth);
 }
 
