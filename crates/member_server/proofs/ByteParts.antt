@@ -241,16 +241,16 @@ other_stub Auth3 stub are = AreBytes-nil
 other_stub (Fault hint context status) stub are = AreBytes-nil
 
 grown_are : (joiner : Option RpcUnit) (unit : RpcUnit) → InRangeJoiner joiner → AreBytes (stub_of unit.body) → AreBytes (stub_of (grown joiner unit).body)
-grown_are None unit open are = are
-grown_are (Some first) unit open are =
-    other_stub first.body (stub_of first.body ++ stub_of unit.body) (AreBytes-append (stub_of first.body) (stub_of unit.body) open are)
+grown_are None unit begun are = are
+grown_are (Some first) unit begun are =
+    other_stub first.body (stub_of first.body ++ stub_of unit.body) (AreBytes-append (stub_of first.body) (stub_of unit.body) begun are)
 
 kept_are : (last : Bool) (unit : RpcUnit) → AreBytes (stub_of unit.body) → InRangeJoiner (kept_by last unit)
 kept_are true unit are = tt
 kept_are false unit are = are
 
 pub open_are : (joiner : Option RpcUnit) (unit : RpcUnit) → InRangeJoiner joiner → AreBytes (stub_of unit.body) → InRangeJoiner (open_after joiner unit)
-open_are joiner unit open are = kept_are unit.last (grown joiner unit) (grown_are joiner unit open are)
+open_are joiner unit begun are = kept_are unit.last (grown joiner unit) (grown_are joiner unit begun are)
 
 -- what is given of a fragment
 given_are : (last : Bool) (unit whole : RpcUnit) → AreBytes (stub_of unit.body) → given_by last unit ≡ Some whole → AreBytes (stub_of whole.body)
@@ -264,8 +264,8 @@ joined_are true true last unit whole are is = given_are last unit whole are (let
 
 pub whole_are : (joiner : Option RpcUnit) (unit whole : RpcUnit) → InRangeJoiner joiner → AreBytes (stub_of unit.body) → answer_of joiner unit ≡ Ok (Some whole) → AreBytes (stub_of whole.body)
 unfolding joined_of
-whole_are joiner unit whole open are is =
-    joined_are (in_place joiner unit) (nat_le (stub_len joiner unit) 65536) unit.last (grown joiner unit) whole (grown_are joiner unit open are) is
+whole_are joiner unit whole begun are is =
+    joined_are (in_place joiner unit) (nat_le (stub_len joiner unit) 65536) unit.last (grown joiner unit) whole (grown_are joiner unit begun are) is
 
 -- ---- the stub of a unit that came
 
