@@ -62,19 +62,18 @@ or_broken (heard.Waits joiner) later = later joiner
 or_broken (heard.Whole unit joiner) later = later joiner
 or_broken (heard.Broken cause) later = true
 
--- whether one is refused, or the rest of the stream is
+-- whether one of the units on a link is refused, or the rest of its stream
 abbrev pub is_refused : List (List ℕ) → Option UnitRefused → Option RpcUnit → Bool
 is_refused [] None joiner = false
 is_refused [] (Some why) joiner = true
 is_refused (bytes ∷ units) why joiner = or_broken (heard_of (unit_of bytes) joiner) (λ after. is_refused units why after)
 
--- the argument: whether the turn is still out
-abbrev pub while_out : Bool → Requester → (Requester → Requester) → Requester
+abbrev pub while_out : (turn_out : Bool) → Requester → (Requester → Requester) → Requester
 while_out false c later = c
 while_out true c later = later c
 
--- the channel takes whole units in order, up to the first that ends the turn. Where none does, the turn is lost if
--- something is refused behind them
+-- the channel takes whole units in order, up to the first that ends its turn; where none does, and something is
+-- refused behind them, the turn is lost
 abbrev pub taken_in_order : List RpcUnit → (refused : Bool) → Requester → Requester
 taken_in_order [] false c = c
 taken_in_order [] true c = (lose_of c).state

@@ -1,6 +1,6 @@
 -- What a member sends on the links that it accepted is bytes, and no more than an end sends at once. For the law
 -- `what_turns_send_is_whole`.
-use Rattle.std.proofs.Common.{◌≡◌, ℕ, ◌+◌, ◌%◌, ◌≤◌, ◌<◌, ◌==◌, ◌&&◌, ◌||◌, Bool, true, false, List, [], ◌∷◌, ◌++◌, length, map, Option, Some, None, Result, Ok, Err, nat_le, refl, sym, ap, subst, arith, ◌-◌, zero, suc, drop}
+use Rattle.std.proofs.Common.{◌≡◌, ℕ, ◌+◌, ◌%◌, ◌≤◌, ◌<◌, ◌==◌, ◌&&◌, ◌||◌, Bool, true, false, List, [], ◌∷◌, ◌++◌, length, map, Option, Some, None, Result, Ok, Err, nat_le, refl, sym, ap, subst, arith, ◌-◌, ◌/◌, zero, suc, drop}
 use Rattle.std.specs.Prelude.{IsTrue}
 use Rattle.std.specs.Int.{w16, w32, w64, to_le_bytes}
 use Rattle.std.proofs.lemmas.Bool.{leb-true}
@@ -10,9 +10,10 @@ use Rattle.wire_base.specs.Units.{AreUnits, utf16_of}
 use Rattle.wire_base.proofs.NumberLaws.{AreBytes-drop, AreBytes-take, AreBytes-append, AreBytes-cons, AreBytes-nil}
 use Rattle.wire_base.proofs.UnitLaws.{AreBytes-utf16_of}
 use Rattle.ntlm_messages.specs.Challenge.{written_challenge}
-use Rattle.ntlm_messages.specs.Fields.{field_bytes, signature}
+use Rattle.ntlm_messages.specs.Fields.{bytes_of, field_bytes, signature}
 use Rattle.ntlm_messages.specs.Negotiate.{negotiate_of}
 use Rattle.ntlm_messages.specs.Pairs.{pair_bytes, written_pairs}
+use Rattle.ntlm_messages.specs.Places.{challenge_size}
 use Rattle.ntlm_messages.specs.declared.messages.Challenge.{Challenge}
 use Rattle.ntlm_messages.specs.declared.messages.Negotiate.{Negotiate}
 use Rattle.ntlm_messages.specs.declared.refused.MessageRefused.{MessageRefused}
@@ -27,6 +28,7 @@ use Rattle.rpc_units.specs.Joining.{grown, kept_by, open_after, stub_of, answer_
 use Rattle.rpc_units.specs.Numbers.{ntlm_provider}
 use Rattle.rpc_units.specs.Writing.{written}
 use Rattle.rpc_units.proofs.CuttingLaws.{call_short}
+use Rattle.rpc_units.proofs.ShortLaws.{written_short}
 use Rattle.rpc_units.proofs.WritingLaws.{length_written}
 use Rattle.ndr_codec.specs.Stub.{Begins, HasLayout}
 use Rattle.memo_stubs.specs.Interface.{memo_syntax}
@@ -67,7 +69,7 @@ nak_send call = record { are = written_bytes (nak_of call) (tt, tt); short = ome
 
 pub fault_send : (call context status : ℕ) → IsByteSend (written (fault_of call context status))
 fault_send call context status =
-    record { are = written_bytes (fault_of call context status) (tt, tt); short = omega (arith, length_written (fault_of call context status)) }
+    record { are = written_bytes (fault_of call context status) (tt, tt); short = omega (arith, written_short (fault_of call context status) refl tt) }
 
 -- ---- the CHALLENGE
 
@@ -93,8 +95,9 @@ signature_are =
 message_are : (m : Challenge) → IsBytes m.target → IsBytes m.challenge → IsBytes m.info → IsBytes (written_challenge (record m { version = None }))
 unfolding written_challenge
 message_are m target challenge info =
-    both (both (both (both (both (both (both (both (both signature_are (number w32 2)) (field_are m.target _)) (number w32 m.flags)) challenge) (number w64 0))
-    (field_are m.info _)) none) target) info
+    let at : ℕ = challenge_size + length (bytes_of None) in
+    both (both (both (both (both (both (both (both (both signature_are (number w32 2)) (field_are m.target at)) (number w32 m.flags)) challenge) (number w64 0))
+    (field_are m.info (at + length m.target))) none) target) info
 
 -- ---- what is offered
 
