@@ -16,6 +16,9 @@ pub record SecureChannelState : Type 0 where
   pub server : List ℕ
   -- the flags that were negotiated
   pub flags : ℕ
+  -- the type of the channel (2.2.1.3.13) as the call named it that opened it, at an end that judges; an end that asks
+  -- keeps none here, since whoever asks names it
+  pub kind : Option ℕ
   -- the seed of the next authenticator
   pub seed : List ℕ
   -- the return credential that the call that is out waits for; an end that only judges awaits none
@@ -25,16 +28,21 @@ pub record SecureChannelState : Type 0 where
 abbrev pub key_of_channel : SecureChannelState → List ℕ
 key_of_channel c = key_of c.secret c.client c.server c.flags
 
--- as it opens: the seed is the client's credential, and none is awaited
+-- as it opens: the seed is the client's credential, and none is awaited. No type is kept yet
 abbrev pub fresh_channel : List ℕ → List ℕ → List ℕ → ℕ → SecureChannelState
 fresh_channel secret client server flags = record {
   secret = secret;
   client = client;
   server = server;
   flags = flags;
+  kind = None;
   seed = cred_of (key_of secret client server flags) client;
   awaited = None;
 }
+
+-- a channel of that type, at the end that judges
+abbrev pub with_kind : ℕ → SecureChannelState → SecureChannelState
+with_kind kind c = record c { kind = Some kind }
 
 -- the channel between both ends, by the number of its controller and the name of its computer
 abbrev pub channel_of : ℕ → List ℕ → SecureChannelState → ChannelIdentity

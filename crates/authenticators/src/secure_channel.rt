@@ -2,7 +2,7 @@
 
 ghost use Rattle.std.specs.Prelude.{◌≡◌};
 ghost use Rattle.authenticators.specs.Sequences.{authenticator_of};
-ghost use Rattle.authenticators.specs.SecureChannels.{key_of_channel, fresh_channel, after_call, is_awaited, after_return, passes_on, return_by, channel_by};
+ghost use Rattle.authenticators.specs.SecureChannels.{key_of_channel, fresh_channel, with_kind, after_call, is_awaited, after_return, passes_on, return_by, channel_by};
 
 use crate::sequence::Sequence;
 use channel_keys::{cred, session_key};
@@ -11,13 +11,14 @@ use wire_base::Authenticator;
 
 /// A secure channel at one of its ends (MS-NRPC 3.1.1): the secret, both challenges and the flags that it was made
 /// with, and the sequence of its authenticators. Clauses see its seed and the return credential that is awaited, and
-/// the key as what the rest gives. An end that only judges awaits none.
+/// the key as what the rest gives. An end that only judges awaits none, and keeps the type of the channel.
 #[derive(Drop)]
 pub struct SecureChannel {
     secret: [u8; 16],
     client: [u8; 8],
     server: [u8; 8],
     flags: u32,
+    kind: Option<u16>,
     sequence: Sequence,
 }
 
@@ -28,14 +29,14 @@ impl Model for SecureChannel {
 
     ghost Value = { SecureChannelState };
 
-    ghost view = { λ c. record { secret = c.secret; client = c.client; server = c.server; flags = c.flags; seed = c.sequence.seed; awaited = c.sequence.awaited } };
+    ghost view = { λ c. record { secret = c.secret; client = c.client; server = c.server; flags = c.flags; kind = c.kind; seed = c.sequence.seed; awaited = c.sequence.awaited } };
 
     ghost invariant = { λ c. c.sequence.key ≡ key_of c.secret c.client c.server c.flags };
 }
 
 impl SecureChannel {
     /// The channel as it opens (MS-NRPC 3.1.4.1): its seed is the client's credential, and no return credential is
-    /// awaited.
+    /// awaited. No type is kept yet.
     pub fn new(secret: [u8; 16], client: [u8; 8], server: [u8; 8], flags: u32) -> SecureChannel
         ensures { result ≡ fresh_channel secret client server flags }
     {
@@ -45,8 +46,26 @@ impl SecureChannel {
             client,
             server,
             flags,
+            kind: None,
             sequence: Sequence::new(key, cred(key, client)),
         }
+    }
+
+    /// The channel as one of that type (MS-NRPC 2.2.1.3.13), for the end that judges. Nothing else changes.
+    pub fn with_kind(self, kind: u16) -> SecureChannel
+        ensures { result ≡ with_kind kind self }
+    {
+        SecureChannel {
+            kind: Some(kind),
+            ..self
+        }
+    }
+
+    /// The type of the channel, where one is kept.
+    pub fn kind(&self) -> Option<u16>
+        ensures { result ≡ self.now.kind }
+    {
+        self.kind
     }
 
     /// The session key (MS-NRPC 3.1.4.3).

@@ -224,7 +224,7 @@ made_keeping key = record { at = 5; client = 0; link = 3; plan = client_plan; ch
 -- ---- a channel of FILE1
 
 abbrev pub small_channel : List ℕ → SecureChannelState
-small_channel seed = record { secret = []; client = []; server = []; flags = 0; seed = seed; awaited = None }
+small_channel seed = record { secret = []; client = []; server = []; flags = 0; kind = None; seed = seed; awaited = None }
 
 -- which channel it is
 abbrev pub small_name : ChannelIdentity

@@ -36,7 +36,7 @@ channel_secret = replicate 16 5
 
 abbrev pub kept_whole : List ℕ → SecureChannelState
 kept_whole seed =
-    record { secret = channel_secret; client = small_challenge; server = server_challenge; flags = 3; seed = seed; awaited = None }
+    record { secret = channel_secret; client = small_challenge; server = server_challenge; flags = 3; kind = None; seed = seed; awaited = None }
 
 abbrev pub whole_name : ChannelIdentity
 whole_name = channel_of 0 (codes "FILE1") (kept_whole [])

@@ -1,4 +1,5 @@
 pub mod Calls
+pub mod ChannelKinds
 pub mod Desk
 pub mod Logons
 pub mod Opening

@@ -14,7 +14,7 @@ use Rattle.logon_stubs.specs.Status.{access_denied, downgrade_detected, no_trust
 use Rattle.account_table.specs.declared.account.Account.{Account}
 use Rattle.account_table.specs.AccountTable.{AccountTable}
 use Rattle.account_table.specs.LookUps.{knows_in, machine_in}
-use Rattle.authenticators.specs.SecureChannels.{SecureChannelState, fresh_channel, key_of_channel}
+use Rattle.authenticators.specs.SecureChannels.{SecureChannelState, fresh_channel, key_of_channel, with_kind}
 use Rattle.controller_calls.specs.Desk.{put_channel, put_pair, send_reply, take_pair}
 use Rattle.controller_calls.specs.declared.line.Line.{Line}
 use Rattle.controller_calls.specs.declared.state.ChallengePair.{ChallengePair}
@@ -44,9 +44,9 @@ deny_channel work line offered status =
     send_reply work line
     (reply.Authenticate (record { credential = replicate 8 0; flags = grant_flags offered; status = status }))
 
--- the channel that an accepted call opens
+-- the channel that an accepted call opens, of the type that the call names
 abbrev pub channel_for : Account → ChallengePair → AuthCall → SecureChannelState
-channel_for account pair c = fresh_channel account.hash pair.client pair.server (grant_flags c.flags)
+channel_for account pair c = with_kind c.channel (fresh_channel account.hash pair.client pair.server (grant_flags c.flags))
 
 -- a channel opens where the client's credential is that of its challenge (MS-NRPC 3.1.4.4.2)
 abbrev pub open_channel : (is_its : Bool) → SecureChannelState → Line → AuthCall → Work → Work

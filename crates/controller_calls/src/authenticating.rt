@@ -101,6 +101,7 @@ fn judge_pair(
 {
     let flags = granted_flags(SUPPORTED_FLAGS, call.flags);
     let channel = SecureChannel::new(account.hash, pair.client, pair.server, flags);
+    let channel = channel.with_kind(call.channel);
     let key = channel.key();
     if call.credential != cred(key, pair.client) {
         return deny_channel(alloc, work, line, call.flags, STATUS_ACCESS_DENIED);

@@ -1,5 +1,6 @@
 pub mod AloneLaws
 pub mod ChangeLaws
+pub mod ChannelKindLaws
 pub mod CountLaws
 pub mod NumberedLaws
 pub mod OtherLaws

@@ -17,6 +17,7 @@ use Rattle.logon_stubs.specs.declared.calls.Call.{Call}
 use Rattle.logon_stubs.specs.declared.calls.LogonCall.{LogonCall}
 use Rattle.logon_stubs.specs.declared.calls.Reply.{Reply}
 use Rattle.logon_stubs.specs.Writing.{written_reply}
+use Rattle.account_table.specs.AccountTable.{AccountTable}
 use Rattle.account_table.specs.Changes.{DifferInCounts}
 use Rattle.end_links.specs.Binding.{ack_of, nak_of}
 use Rattle.end_links.specs.Links.{LinkState}
@@ -25,10 +26,11 @@ use Rattle.logon_stubs.specs.Interface.{netlogon_syntax}
 use Rattle.end_loop.specs.Acts.{is_made}
 use Rattle.end_loop.specs.Runs.{actions_of}
 use Rattle.domain_controller.specs.Hearing.{hear}
+use Rattle.controller_calls.specs.ChannelKinds.{HaveKinds}
 use Rattle.controller_calls.specs.Desk.{Desk}
 use Rattle.controller_calls.specs.Logons.{answer_logon, judge_info}
 use Rattle.domain_controller.specs.State.{State}
-use Rattle.domain_controller.specs.Step.{LinkMap, step_of}
+use Rattle.domain_controller.specs.Step.{LinkMap, first_state, step_of}
 use Rattle.controller_calls.specs.declared.line.Line.{Line}
 use Rattle.controller_calls.specs.declared.state.Computers.{Computers}
 use Rattle.domain_controller.specs.declared.state.Running.{Running}
@@ -166,6 +168,19 @@ pub record KeepsOthers : Type 0 where
   pub keeps : (s : State) (running : Running) (what : Event) (now : ℕ) (left : List (List ℕ)) (computer : List ℕ) → s.running ≡ Some running →
       AllByRecursion (λ (c : Call). names c computer ≡ false) (calls_of what running.links) →
       KeepsUnlessStopped computer running.computers (step_of s what now left).state.running
+
+-- ---- of which types channels are
+
+-- each channel that is kept has its type, while the controller runs
+abbrev pub HaveKindsAtWork : Option Running → Type 0
+HaveKindsAtWork None = Unit {0}
+HaveKindsAtWork (Some running) = HaveKinds running.computers
+
+-- A controller keeps no channel without its type: at first it keeps none, and a step leaves it so.
+pub record KeptHaveKinds : Type 0 where
+  pub first : (table : AccountTable) (name : List ℕ) → HaveKindsAtWork (first_state table name).running
+  pub stays : (s : State) (what : Event) (now : ℕ) (left : List (List ℕ)) → HaveKindsAtWork s.running →
+      HaveKindsAtWork (step_of s what now left).state.running
 
 -- ---- which counts of bad passwords change
 

@@ -1,6 +1,6 @@
 //! Laws of the steps of a controller, over their definitions. Each function does nothing, and its clauses are the laws.
 
-ghost use Rattle.domain_controller.specs.Laws.{ClosesNothing, AnswersUnits, KeepsOthers, CountsByVerdict};
+ghost use Rattle.domain_controller.specs.Laws.{ClosesNothing, AnswersUnits, KeepsOthers, KeptHaveKinds, CountsByVerdict};
 ghost use Rattle.domain_controller.specs.ReadBack.{RepliesAreReadBack};
 ghost use Rattle.domain_controller.specs.Whole.{SendsAreWhole};
 
@@ -35,6 +35,13 @@ pub fn replies_are_read_as_made()
 #[tactic(auto, using(crate::proofs::OtherLaws::keeps_others))]
 pub fn other_channels_stay()
     ensures { KeepsOthers }
+{}
+
+/// Each channel that a controller keeps has its type, that of the call that opened it: at first it keeps none, and each
+/// step leaves it so.
+#[tactic(auto, using(crate::proofs::ChannelKindLaws::kept_have_kinds))]
+pub fn kept_channels_have_kinds()
+    ensures { KeptHaveKinds }
 {}
 
 /// Of the accounts a step changes counts of bad passwords alone, and nothing where it isn't taken. A logon whose

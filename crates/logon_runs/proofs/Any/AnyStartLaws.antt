@@ -39,7 +39,7 @@ use Rattle.logon_runs.proofs.Seen.TwoLinkLaws.{got_last, turns_have_links}
 
 -- no channel is known at the controller
 abbrev pub no_channel : SecureChannelState
-no_channel = record { secret = []; client = []; server = []; flags = 0; seed = []; awaited = None }
+no_channel = record { secret = []; client = []; server = []; flags = 0; kind = None; seed = []; awaited = None }
 
 -- ---- the phase that follows
 
