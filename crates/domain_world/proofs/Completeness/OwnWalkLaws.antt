@@ -120,9 +120,9 @@ module _ (p : Coming) (w : World) (b : Book) (known : IsKnown p) (user : HasUser
         few = phases_go_on.draws p w.state (move.Tick more) known ready tt at asked arrives;
       }
 
-  under_goes : (what : Move) → IsStepOn what → IsSafe (note w what b) → (at : IsUnderWay p w.state) → IsWritten p (progress_of at.phase) b → GoesSoFar p w.state (act w.state what).state (note w what b)
+  under_goes : (what : Move) → IsStepOn what → IsSafe p (note w what b) → (at : IsUnderWay p w.state) → IsWritten p (progress_of at.phase) b → GoesSoFar p w.state (act w.state what).state (note w what b)
   under_goes what steps =
-      by_step (λ (one : Move). IsSafe (note w one b) → (at : IsUnderWay p w.state) → IsWritten p (progress_of at.phase) b → GoesSoFar p w.state (act w.state one).state (note w one b))
+      by_step (λ (one : Move). IsSafe p (note w one b) → (at : IsUnderWay p w.state) → IsWritten p (progress_of at.phase) b → GoesSoFar p w.state (act w.state one).state (note w one b))
       (λ safe at written. connect_goes at written) (λ safe at written. onward_goes safe at written) (λ more safe at written. tick_goes more at written) what steps
 
   over_goes : (what : Move) → IsStepOn what → (over : IsOver p w.state) → IsWritten p (WasTold over.asked) b → GoesSoFar p w.state (act w.state what).state (note w what b)

@@ -173,7 +173,7 @@ whole_carried s number at w piece whole own side came =
     let same_route : side.route ≡ came.route = some_is side.route came.route (sym side.made ∙ came.made) in
     let route = route_of w.back side.route at side.side (ap (λ (r : Route). is_own (kind_of r)) same_route ∙ ap is_own came.same_kind ∙ own number came.unit came.there) in
     let is : came.unit.kind ≡ kind.ToController = sym came.same_kind ∙ ap kind_of (sym same_route) ∙ ap kind_of route.1 in
-    let send : IsWholeSend came.unit.bytes = whole number came.unit came.there is in
+    let send : IsWholeSend came.unit.bytes = (whole number came.unit came.there).0 is in
     record {
       unit = came.unit;
       there = came.there;

@@ -301,7 +301,7 @@ marked_whole plan moves is n unit one there noted not =
     let same : had.unit ≡ unit = some_is had.unit unit (sym had.there ∙ there) in
     let fits : (unit.kind ≡ kind.ToController) × CarriesMark one.mark unit.bytes =
     subst (λ (u : BagUnit). (u.kind ≡ kind.ToController) × CarriesMark one.mark u.bytes) same (had.holds not) in
-    let send : IsWholeSend unit.bytes = quiet.bag n unit there fits.0 in
+    let send : IsWholeSend unit.bytes = (quiet.bag n unit there).0 fits.0 in
     record {
       whole = record { frames = send.frames; unit = send.unit; heard = send.heard };
       marked = as_marked bag (past plan moves).book.judged (judged_stand plan moves is) n unit.bytes send.frames send.unit (bytes_in bag has.bytes n unit there) send.heard one.mark fits.1

@@ -15,7 +15,7 @@ use Rattle.world_moves.specs.declared.moves.Move.TheVariants as move
 use Rattle.domain_world.specs.Accepting.Runs.{IsQuiet, IsQuietLink, IsQuietTurn}
 use Rattle.domain_world.specs.Past.{past}
 use Rattle.domain_world.specs.Schedules.{OfSchedules}
-use Rattle.domain_world.proofs.Accepting.Quiet.QuietStepLaws.{ClientIsQuiet, ControllerIsQuiet, IsClients, IsMade, Meets, MeetsMember, MemberIsQuiet, QuietAction, QuietFact, QuietState, StandsQuiet, WholeBag, WholeIfCarried, end_steps, with_bag, whole_bytes}
+use Rattle.domain_world.proofs.Accepting.Quiet.QuietStepLaws.{ClientIsQuiet, ControllerIsQuiet, IsClients, IsMade, Meets, MeetsClient, MeetsMember, MemberIsQuiet, QuietAction, QuietFact, QuietState, StandsQuiet, WholeBag, WholeIfCarried, end_steps, with_bag}
 use Rattle.domain_world.proofs.Frames.LeftLaws.{first_left_blocks}
 use Rattle.domain_world.proofs.Frames.StepFrameLaws.{HoldsAfterRun, run_carries}
 use Rattle.std.proofs.Common.{◌≡◌, ℕ, zero, suc, ◌+◌, ◌<◌, ◌≤◌, ◌^◌, Bool, true, false, List, [], ◌∷◌, ◌++◌, drop, length, map, min, nat_le, inl, inr, Option, Some, None, slice_get, slice_set, if◌then◌else◌, refl, sym, ap, subst, ◌∙◌, arith, append-nil}
@@ -155,7 +155,7 @@ last_meets end route links is = record {
   controllers = λ at same. (route, got_last links route);
   members = λ k same.
       (tt, tt, (λ number opened. subst (λ (n : ℕ). IsAcceptedBy (links ++ route ∷ []) k n) (some_is (length links) number opened) (record { route = route; at = got_last links route; acceptor = is ∙ same })));
-  clients = λ k same. tt;
+  clients = λ k same. (tt, tt);
 }
 
 no_link : (number : ℕ) (P : Type 0) → None ≡ Some number → P
@@ -178,7 +178,7 @@ dialled_meets end links link side = record {
   members = λ k same.
       let route = members_route side.route k (side.side ∙ ap (λ (one : EndId). Some one) same) in
       (record { controller = route.0; at = side.made ∙ ap (λ (r : Route). Some r) route.1 }, tt, (λ number opened. no_link number (IsAcceptedBy links k number) opened));
-  clients = λ k same. let route = clients_route side.route k (side.side ∙ ap (λ (one : EndId). Some one) same) in (route.0, side.made ∙ ap (λ (r : Route). Some r) route.1);
+  clients = λ k same. let route = clients_route side.route k (side.side ∙ ap (λ (one : EndId). Some one) same) in ((route.0, side.made ∙ ap (λ (r : Route). Some r) route.1), tt);
 }
 
 calm_member : (links : List Route) (k : ℕ) (what : Event) → IsCalm what → MeetsMember links what k
@@ -190,7 +190,7 @@ calm_meets : (end : EndId) (links : List Route) (what : Event) → IsCalm what �
 calm_meets end links what calm = record {
   controllers = λ at same. by_calm (λ (one : Event). OpensWell (IsOfMember links) (IsMade links) one) (λ link. tt) tt tt what calm;
   members = λ k same. calm_member links k what calm;
-  clients = λ k same. by_calm (λ (one : Event). DialledAt (IsClients links k) one) (λ link. tt) tt tt what calm;
+  clients = λ k same. by_calm (λ (one : Event). MeetsClient links one k) (λ link. (tt, tt)) (tt, tt) (tt, tt) what calm;
 }
 
 -- ---- bytes come
@@ -215,7 +215,7 @@ comes_whole None s w piece whole came own = absurd (came own.0 own.1 own.2)
 comes_whole (Some number) s w piece whole came own =
     let route : came.route ≡ ToController own.0 own.1 = some_is came.route (ToController own.0 own.1) (sym came.made ∙ own.2) in
     let is : came.unit.kind ≡ kind.ToController = sym came.same_kind ∙ ap kind_of route in
-    let send : IsWholeSend came.unit.bytes = whole number came.unit came.there is in
+    let send : IsWholeSend came.unit.bytes = (whole number came.unit came.there).0 is in
     let same : came.unit.bytes ≡ piece = one_piece came.unit.bytes piece send.few came.part in
     subst IsOneUnit same (record { frames = send.frames; unit = send.unit; heard = send.heard })
 
@@ -224,7 +224,7 @@ bytes_meet end s w piece whole came bytes = record {
   controllers = λ at same own. comes_whole w.unit s w piece whole came own;
   members = λ k same.
       ((λ own. comes_whole w.unit s w piece whole came (k, own.controller, own.at)), bytes, (λ number opened. no_link number (IsAcceptedBy s.links k number) opened));
-  clients = λ k same. tt;
+  clients = λ k same. (tt, bytes);
 }
 
 -- ---- an action is done
@@ -242,16 +242,16 @@ members_link (ToController member controller) is = (member, (controller, refl))
 members_link (ToMember one server) is = absurd (let never = is in cc)
 members_link (Stranger to) is = absurd (let never = is in cc)
 
--- the units that an action sends are whole where it may be done
+-- the units that an action sends are bytes, and whole where it goes to a controller
 sent_whole : (end : EndId) (links : List Route) (what : Action) (link : ℕ) (bytes : List ℕ) (route : Route) → what ≡ Send link bytes → QuietAction end links what → slice_get links link ≡ Some route →
     WholeIfCarried (kind_of route) bytes
-sent_whole end links what link bytes route is fine made on =
-    let own = members_link route on in
-    subst (QuietAction end links) is fine (own.0, own.1.0, made ∙ ap (λ (r : Route). Some r) own.1.1)
+sent_whole end links what link bytes route is fine made =
+    let all : QuietAction end links (Send link bytes) = subst (QuietAction end links) is fine in
+    ((λ on. let own = members_link route on in all.0 (own.0, own.1.0, made ∙ ap (λ (r : Route). Some r) own.1.1)), all.1)
 
 action_quiet : (end : EndId) (what : Action) (s : State) → QuietAction end s.links what → QuietState s → QuietState (perform_quietly end what s)
 action_quiet end what s fine quiet =
-    units_by (λ (units : List BagUnit). StandsQuiet s.member_plans s.links (s.bag ++ units) s.ends s.moment s.chances.left) s.links end what
+    units_by (λ (units : List BagUnit). StandsQuiet s.member_plans s.client_plans s.links (s.bag ++ units) s.ends s.moment s.chances.left) s.links end what
     (with_bag s (s.bag ++ []) quiet (subst WholeBag (sym (append-nil s.bag)) quiet.bag))
     (λ link bytes route sends made own.
     with_bag s (s.bag ++ unit_on route end link bytes ∷ []) quiet (bag_more s.bag (unit_on route end link bytes) quiet.bag (sent_whole end s.links what link bytes route sends fine made)))
@@ -284,7 +284,7 @@ with_ends s ends quiet controllers members clients = record {
 }
 
 controller_renewed : (c : ControllerState) (at : ℕ) (s : State) → slice_get s.ends.controllers at ≡ Some c → QuietState s →
-    StandsQuiet s.member_plans s.links s.bag (renew_controller (Some c) at s.ends) s.moment s.chances.left
+    StandsQuiet s.member_plans s.client_plans s.links s.bag (renew_controller (Some c) at s.ends) s.moment s.chances.left
 controller_renewed c at s is quiet =
     let was : ControllerIsQuiet s.links c = quiet.controllers at c is in
     with_ends s (renew_controller (Some c) at s.ends) quiet
@@ -296,7 +296,7 @@ fresh_quiet : (links : List Route) (k : ℕ) (plan : MemberPlan) → IsName plan
 fresh_quiet links k plan name = record { range = members_send_whole.first plan name; turn = tt; accepted = tt }
 
 member_renewed : (plan : MemberPlan) (at : ℕ) (s : State) → slice_get s.member_plans at ≡ Some plan → QuietState s →
-    StandsQuiet s.member_plans s.links s.bag (renew_member (Some plan) at s.ends) s.moment s.chances.left
+    StandsQuiet s.member_plans s.client_plans s.links s.bag (renew_member (Some plan) at s.ends) s.moment s.chances.left
 member_renewed plan at s is quiet =
     with_ends s (renew_member (Some plan) at s.ends) quiet quiet.controllers
     (each_put (λ i (one : MemberState). MemberIsQuiet s.links i one.running) s.ends.members at (member.fresh_member plan) (λ i one other there. quiet.members i one there)
@@ -308,10 +308,14 @@ client_put at new s is quiet =
     with_ends s (record s.ends { clients = slice_set s.ends.clients at new }) quiet quiet.controllers quiet.members
     (each_put (λ i (one : ClientState). ClientIsQuiet s.links i one) s.ends.clients at new (λ i one other there. quiet.clients i one there) is)
 
+-- a client that begins anew
+fresh_client : (links : List Route) (k : ℕ) (task : ClientPlan) → CanLogOn task → ClientIsQuiet links k (client.fresh_client task)
+fresh_client links k task follows = record { stands = tt; range = record { task = follows; standing = tt } }
+
 renewed_quiet : (end : EndId) (s : State) → QuietState s → QuietState (renewed end s)
 renewed_quiet end s quiet =
-    renew_by (λ (one : EndId) (ends : EndStates). StandsQuiet s.member_plans s.links s.bag ends s.moment s.chances.left) s (λ one. quiet) (λ at c is. controller_renewed c at s is quiet)
-    (λ at plan is. member_renewed plan at s is quiet) (λ at plan is. client_put at (client.fresh_client plan) s tt quiet) end
+    renew_by (λ (one : EndId) (ends : EndStates). StandsQuiet s.member_plans s.client_plans s.links s.bag ends s.moment s.chances.left) s (λ one. quiet) (λ at c is. controller_renewed c at s is quiet)
+    (λ at plan is. member_renewed plan at s is quiet) (λ at plan is. client_put at (client.fresh_client plan) s (fresh_client s.links at plan (quiet.follow at plan is)) quiet) end
 
 moment_by : (early : Bool) (more now : ℕ) → now < 2 ^ 64 → (if early then min (now + more) (2 ^ 63) else now) < 2 ^ 64
 moment_by true more now below = omega arith
@@ -433,15 +437,10 @@ handed (move.Restart number ∷ moves) forms = (tt, handed moves (All-tail HasMo
 handed (move.Tick more ∷ moves) forms = (tt, handed moves (All-tail HasMoveForm (move.Tick more) moves forms))
 
 -- the units of a quiet bag are short, and have bytes
-carried_bytes : (k : LinkKind) (bytes : List ℕ) → WholeIfCarried k bytes → IsByteSend bytes
-carried_bytes kind.ToController bytes whole = whole_bytes bytes whole
-carried_bytes kind.ToMember bytes sends = sends
-carried_bytes kind.Stranger bytes sends = sends
-
 quiet_bag : (bag : List BagUnit) → WholeBag bag → IsBytesBag bag
 quiet_bag bag whole = record {
-  short = λ n unit there. (carried_bytes unit.kind unit.bytes (whole n unit there)).short;
-  bytes = λ n unit there. (carried_bytes unit.kind unit.bytes (whole n unit there)).are;
+  short = λ n unit there. (whole n unit there).1.short;
+  bytes = λ n unit there. (whole n unit there).1.are;
 }
 
 quiet_after : OfSchedules (HoldsAfterRun QuietFact)
@@ -479,7 +478,7 @@ quiet_links links (Some one) running is well =
 
 pub is_quiet : (s : State) → QuietState s → IsQuiet s
 is_quiet s quiet = record {
-  bag = λ n unit there is. let send : IsWholeSend unit.bytes = quiet.bag n unit there is in
+  bag = λ n unit there is. let send : IsWholeSend unit.bytes = (quiet.bag n unit there).0 is in
       (record { frames = send.frames; unit = send.unit; heard = send.heard }, send.few);
   controllers = λ i c running there is. quiet_links s.links c.running running is (quiet.controllers i c there).well;
   members = λ k m running there is. quiet_running s.links k m.running running is (quiet.members k m there);

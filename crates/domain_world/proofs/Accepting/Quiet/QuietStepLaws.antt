@@ -81,9 +81,9 @@ pub record ClientIsQuiet (links : List Route) (k : ℕ) (c : ClientState) : Type
   pub stands : AtUnlessStopped (IsClients links k) c.running
   pub range : client_range.InRangeUnlessStopped c.running
 
--- what goes between a member and a controller is whole
+-- what goes on a link is bytes, and between a member and a controller it is whole
 abbrev pub WholeIfCarried : LinkKind → List ℕ → Type 0
-WholeIfCarried k bytes = k ≡ kind.ToController → IsWholeSend bytes
+WholeIfCarried k bytes = (k ≡ kind.ToController → IsWholeSend bytes) × IsByteSend bytes
 
 abbrev pub WholeBag : List BagUnit → Type 0
 WholeBag bag = (n : ℕ) (unit : BagUnit) → slice_get bag n ≡ Some unit → WholeIfCarried unit.kind unit.bytes
@@ -190,19 +190,23 @@ client_quiet end links k (Judged how ∷ actions) all are = (tt, client_quiet en
 abbrev pub MeetsMember : List Route → Event → ℕ → Type 0
 MeetsMember links what k = ComesWell (IsDialledBy links k) what × BringsBytes what × ((number : ℕ) → opened_link what ≡ Some number → IsAcceptedBy links k number)
 
+abbrev pub MeetsClient : List Route → Event → ℕ → Type 0
+MeetsClient links what k = DialledAt (IsClients links k) what × client_range.BringsBytes what
+
 pub record Meets (end : EndId) (links : List Route) (what : Event) : Type 0 where
   pub controllers : IfController (λ (at : ℕ). OpensWell (IsOfMember links) (IsMade links) what) end
   pub members : IfMember (MeetsMember links what) end
-  pub clients : IfClient (λ (k : ℕ). DialledAt (IsClients links k) what) end
+  pub clients : IfClient (MeetsClient links what) end
 
 pub record HasStepped (end : EndId) (plans : List MemberPlan) (tasks : List ClientPlan) (links : List Route) (bag : List BagUnit) (moment : ℕ) (ends : EndStates) (left : List (List ℕ)) (actions : List Action) : Type 0 where
   pub stands : StandsQuiet plans tasks links bag ends moment left
   pub fine : AllByRecursion (QuietAction end links) actions
 
-module _ (plans : List MemberPlan) (links : List Route) (bag : List BagUnit) (moment : ℕ) (ends : EndStates) (chances : Drawing) (quiet : StandsQuiet plans links bag ends moment chances.left) where
+module _ (plans : List MemberPlan) (tasks : List ClientPlan) (links : List Route) (bag : List BagUnit) (moment : ℕ) (ends : EndStates) (chances : Drawing)
+    (quiet : StandsQuiet plans tasks links bag ends moment chances.left) where
   controller_steps : (c : ControllerState) (at : ℕ) (what : Event) → slice_get ends.controllers at ≡ Some c → OpensWell (IsOfMember links) (IsMade links) what →
       AreBlocks (controller_step (Some c) at what moment ends chances).chances.left →
-      HasStepped (Controller at) plans links bag moment (controller_step (Some c) at what moment ends chances).ends (controller_step (Some c) at what moment ends chances).chances.left
+      HasStepped (Controller at) plans tasks links bag moment (controller_step (Some c) at what moment ends chances).ends (controller_step (Some c) at what moment ends chances).chances.left
       (controller_step (Some c) at what moment ends chances).actions
   controller_steps c at what is meets blocks =
       let was : ControllerIsQuiet links c = quiet.controllers at c is in
@@ -257,7 +261,7 @@ module _ (plans : List MemberPlan) (links : List Route) (bag : List BagUnit) (mo
 
   member_steps : (m : MemberState) (k : ℕ) (what : Event) → slice_get ends.members k ≡ Some m → MeetsMember links what k →
       AreBlocks (member_step (Some m) k what moment ends chances).chances.left →
-      HasStepped (Member k) plans links bag moment (member_step (Some m) k what moment ends chances).ends (member_step (Some m) k what moment ends chances).chances.left
+      HasStepped (Member k) plans tasks links bag moment (member_step (Some m) k what moment ends chances).ends (member_step (Some m) k what moment ends chances).chances.left
       (member_step (Some m) k what moment ends chances).actions
   member_steps m k what is meets blocks =
       let both = running_steps m.running m k what refl (quiet.members k m is) meets in
@@ -276,12 +280,14 @@ module _ (plans : List MemberPlan) (links : List Route) (bag : List BagUnit) (mo
         fine = both.1;
       }
 
-  client_steps : (c : ClientState) (k : ℕ) (what : Event) → slice_get ends.clients k ≡ Some c → DialledAt (IsClients links k) what →
+  client_steps : (c : ClientState) (k : ℕ) (what : Event) → slice_get ends.clients k ≡ Some c → MeetsClient links what k →
       AreBlocks (client_step (Some c) k what moment ends chances).chances.left →
-      HasStepped (Client k) plans links bag moment (client_step (Some c) k what moment ends chances).ends (client_step (Some c) k what moment ends chances).chances.left
+      HasStepped (Client k) plans tasks links bag moment (client_step (Some c) k what moment ends chances).ends (client_step (Some c) k what moment ends chances).chances.left
       (client_step (Some c) k what moment ends chances).actions
   client_steps c k what is meets blocks =
-      let sends : SendsAt (IsClients links k) (client.step_of c what moment chances.left) = client_sends (IsClients links k) c what moment chances.left meets (quiet.clients k c is) in
+      let was : ClientIsQuiet links k c = quiet.clients k c is in
+      let sends : SendsAt (IsClients links k) (client.step_of c what moment chances.left) = client_sends (IsClients links k) c what moment chances.left meets.0 was.stands in
+      let comes : client_range.InRangeEvent what chances.left = record { bytes = meets.1; challenges = blocks_bytes chances.left quiet.blocks } in
       record {
         stands = record {
           bag = quiet.bag;
@@ -304,9 +310,9 @@ module _ (plans : List MemberPlan) (links : List Route) (bag : List BagUnit) (mo
       all_rest (λ (challenge : List ℕ). IsBlock 8 challenge) (end_step end what moment ends chances).chances.left chances.left (end_rests end what moment ends chances) quiet.blocks
 
   pub end_steps : (end : EndId) (what : Event) → Meets end links what →
-      HasStepped end plans links bag moment (end_step end what moment ends chances).ends (end_step end what moment ends chances).chances.left (end_step end what moment ends chances).actions
+      HasStepped end plans tasks links bag moment (end_step end what moment ends chances).ends (end_step end what moment ends chances).chances.left (end_step end what moment ends chances).actions
   end_steps end what meets =
-      step_by (λ (one : EndId) (step : EndStep). Meets one links what → AreBlocks step.chances.left → HasStepped one plans links bag moment step.ends step.chances.left step.actions) what moment
+      step_by (λ (one : EndId) (step : EndStep). Meets one links what → AreBlocks step.chances.left → HasStepped one plans tasks links bag moment step.ends step.chances.left step.actions) what moment
       ends chances (λ one its blocks. record { stands = quiet; fine = tt }) (λ at c is its blocks. controller_steps c at what is (its.controllers at refl) blocks)
       (λ k m is its blocks. member_steps m k what is (its.members k refl) blocks) (λ k c is its blocks. client_steps c k what is (its.clients k refl) blocks) end meets
       (left_blocks end what)

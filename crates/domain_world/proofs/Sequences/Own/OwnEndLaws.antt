@@ -56,7 +56,7 @@ turns_are_called plan moves schedule clear =
     let all : AllKnow (IsTakenFor (past_at plan s b)) s b =
     λ k m there. known_if (IsTakenFor (past_at plan s b)) (marks_in b.sent) s.chances.drawn b.turns (controller_of k s) k m.running (facts.members k m there) in
     turns_called p (IsTakenFor (past_at plan s b))
-    (λ n is. taken_pass plan moves (units_heard plan moves schedule short bytes) clear.apart n (record {
+    (λ n is. taken_pass plan moves (units_heard plan moves schedule) clear.apart n (record {
       taken = is.taken;
       call = is.call;
       turn = taken_stays plan (world_in s) p.world b b (record { bag = kept_same s.bag; sent = λ k one there. there; ends = same_ends s.ends }) is.taken is.turn;
