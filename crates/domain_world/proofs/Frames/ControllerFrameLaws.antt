@@ -1,7 +1,6 @@
 -- What holds through the moves of a world of its controllers, of what was drawn and is left, and of a part of the book
 -- that controllers' bytes change alone: whatever holds through each step of a controller, and as others draw. It is an
--- instance of `FrameLaws`. It serves `controllers_grant_who_may_log_on`, `tables_follow_verdicts` and
--- `replays_pass_by_sum`.
+-- instance of `FrameLaws`. It serves `Proved.grants`, `Proved.tables` and `Proved.replays`.
 use Rattle.std.proofs.Common.{◌≡◌, ℕ, List, length, Some, slice_get, slice_set, sym, subst}
 use Rattle.outside.specs.Drawing.{Drawing}
 use Rattle.outside.specs.declared.event.Event.{Event}

@@ -1,5 +1,5 @@
 -- What is written down as told of an action, by the end that gave it: what a member tells, or nothing.
--- It serves `members_let_in_who_asked`, `schedules_are_heard` and others.
+-- It serves `Proved.let_in`, `schedules_are_heard` and others.
 use Rattle.std.proofs.Common.{◌≡◌, ℕ, List, [], ◌∷◌, refl}
 use Rattle.outside.specs.declared.action.Action.{Action}
 use Rattle.outside.specs.declared.action.Action.TheVariants as action

@@ -74,10 +74,6 @@ first_all seed count =
 pub first_left_blocks : (plan : Plan) → AreBlocks (first_world plan).state.chances.left
 first_left_blocks plan = first_all plan.seed (most_draws - 0)
 
-pub eights_of : (left : List (List ℕ)) → AreBlocks left → AreEights left
-eights_of [] blocks = tt
-eights_of (challenge ∷ left) blocks = (blocks.0.0, eights_of left blocks.1)
-
 -- ---- a controller
 
 stepped_rest : (c : ControllerState) (left : List (List ℕ)) (part : Result (Part (Desk × LinkMap)) StepRefused) → IsRest (left_by part) left →

@@ -1,7 +1,6 @@
 -- What holds through the moves of a world of its members, of what was drawn and is left, of the links, and of a part of
 -- the book that members' bytes change alone: whatever holds through each step of a member, and as others draw. It is an
--- instance of `FrameLaws`. It serves `messages_are_made`, `messages_have_own_challenges`, `members_ask_for_kept` and
--- others.
+-- instance of `FrameLaws`. It serves `messages_are_made`, `Proved.messages`, `Proved.kept` and others.
 use Rattle.std.proofs.Common.{◌≡◌, ℕ, List, [], ◌∷◌, ◌++◌, length, Some, slice_get, slice_set, refl, sym, subst}
 use Rattle.outside.specs.Drawing.{Drawing}
 use Rattle.outside.specs.declared.event.Event.{Event}

@@ -133,7 +133,7 @@ same_actions (Ok actions) = refl
 same_actions (Err why) = refl
 
 -- what is whole is bytes
-pub whole_bytes : (bytes : List ℕ) → IsWholeSend bytes → IsByteSend bytes
+whole_bytes : (bytes : List ℕ) → IsWholeSend bytes → IsByteSend bytes
 whole_bytes bytes whole = record { are = whole.are; short = omega (arith, whole.few) }
 
 whole_quiet : (end : EndId) (links : List Route) (actions : List Action) → AllByRecursion IsWholeIfSent actions → AllByRecursion (QuietAction end links) actions
