@@ -11,8 +11,8 @@ pub use answering::{
     carried_calls_are_heard, draws_of_runs_differ, keys_are_found_as_made, marked_units_are_whole,
     messages_are_called, messages_are_made, messages_are_taken_as_sent, outcomes_are_read_back,
     replies_are_read_back, runs_are_heard, runs_are_proved, runs_begin, runs_stand_so,
-    schedules_are_heard, schedules_send_bytes, schedules_stand_quiet, sequences_follow, taken_calls_pass,
-    what_is_heard_is_accepted,
+    schedules_are_heard, schedules_send_bytes, schedules_stand_quiet, sequences_follow,
+    taken_calls_pass, what_is_heard_is_accepted,
 };
 pub use claims::{claims_hold_of_runs, links_reach_the_named, members_leave_nothing_out};
 pub use driving::{drive, drive_from};

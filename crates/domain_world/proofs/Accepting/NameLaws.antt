@@ -71,13 +71,13 @@ module _ (past : Past) (known : IsProved past) (heard : AnswersAreHeard past) (c
         link = by.link;
         member = by.member;
         named = one_at (IsNamedBy told message) past.book.judged at.place j at.there (record {
-              answer = are_answers message j answered.request by.unit passed answered.call of.came by.reply at.is.0;
-              granted = of.carries.how ∙ ap (λ (status : ℕ). Some (judged.Passed status)) (status_done j c of.carries.next.channel asks.is ∙ nothing);
-              account = grant.grant.account;
-              found = ap (λ (info : NetworkInfo). account_in j.table.accounts info.user) (sym asks.info) ∙ grant.grant.stored;
-              names = subst (λ (how : Outcome). HasNames how j.table.domain grant.grant.account.name) (sym outcome)
-                  (named_by (channel_key answered.channel) (verdict_passed j c) message.logon _ grant.grant.is);
-            });
+          answer = are_answers message j answered.request by.unit passed answered.call of.came by.reply at.is.0;
+          granted = of.carries.how ∙ ap (λ (status : ℕ). Some (judged.Passed status)) (status_done j c of.carries.next.channel asks.is ∙ nothing);
+          account = grant.grant.account;
+          found = ap (λ (info : NetworkInfo). account_in j.table.accounts info.user) (sym asks.info) ∙ grant.grant.stored;
+          names = subst (λ (how : Outcome). HasNames how j.table.domain grant.grant.account.name) (sym outcome)
+              (named_by (channel_key answered.channel) (verdict_passed j c) message.logon _ grant.grant.is);
+        });
       }
 
   pub lets_in_by_name : LetsInByName past
