@@ -1,6 +1,6 @@
 -- A response of 24 bytes is accepted on one link alone: it answers one challenge under a hash, and no two links have
 -- one. So it lets in on one link alone. It serves `runs_are_proved`, `Proved.responses` and `Proved.once`.
-use Rattle.std.proofs.Common.{◌≡◌, inl, inr, List, [], length, Option, Some, None, IsSomeAnd, sym, ap, ◌∙◌, subst, arith, ℕ}
+use Rattle.std.proofs.Common.{◌≡◌, ◌≢◌, true, slice_get, inl, inr, List, [], length, Option, Some, None, IsSomeAnd, sym, ap, ◌∙◌, subst, arith, ℕ}
 use Rattle.std.proofs.lemmas.Option.{get_or_from_slice_get, slice_get_within}
 use Rattle.std.specs.List.{AllByRecursion}
 use Rattle.channel_keys.specs.Des.{IsBlock}
