@@ -76,10 +76,16 @@ pub record IsOfCaller (s : Requester) : Type 0 where
   pub secret : HasSecret s.caller.secret s.standing
   pub stamped : IsStampedStep s.caller s.standing (step_in s.turn)
 
+-- who asks is the caller of a plan but for the secret: by the names and the type of the channel
+abbrev pub IsNamedBy : Caller → MemberPlan → Type 0
+IsNamedBy caller plan = caller ≡ record (caller_of plan) { secret = caller.secret }
+
 -- What waits for its turn is what is asked for the logons that are kept, in their order; the turn is for the first of
--- them. The argument: whether the dial of a turn waits or its link is open.
+-- them. Who asks has the names of the plan; that the secret is the plan's is said apart. The argument: whether the dial
+-- of a turn waits or its link is open.
 pub record AsksForKept (dialled : Bool) (logons : Logons) : Type 0 where
-  pub caller : logons.channel.caller ≡ caller_of logons.plan
+  pub caller : IsNamedBy logons.channel.caller logons.plan
+  pub secret : logons.channel.caller.secret ≡ logons.plan.secret
   pub coherent : IsCoherent logons.channel
   pub waits : logons.channel.waiting ≡ map waiting_for logons.asked
   pub out : is_out logons.channel ≡ dialled
@@ -104,7 +110,7 @@ call_for plan given place logon = call.Logon (record {
 
 -- Frames are the request of that number for a logon that is kept, with the computer's name of the member's plan, and an
 -- authenticator of that timestamp on the channel, at the seed from which that timestamp moved the channel that stands;
--- and the channel is that of the plan, with that controller.
+-- and the channel is that of the plan's computer, by the secret of who asks, with that controller.
 pub record AreForLogon
     (controller : ℕ) (logons : Logons) (channel : ChannelIdentity) (number timestamp : ℕ) (frames : List (List ℕ)) : Type 0 where
   pub place : ℕ
@@ -112,7 +118,7 @@ pub record AreForLogon
   pub kept : lookup same_number place logons.asked ≡ Some logon
   pub with_controller : channel.controller ≡ controller
   pub computer : channel.computer ≡ logons.plan.computer
-  pub secret : channel.secret ≡ logons.plan.secret
+  pub secret : channel.secret ≡ logons.channel.caller.secret
   pub seed : List ℕ
   pub moved : seed_in logons.channel.standing ≡ Some (next_seed seed timestamp)
   pub asks : AreFramesOf number (call_for logons.plan (authenticator_of (channel_key channel) seed timestamp) place logon) frames

@@ -18,6 +18,7 @@ use Rattle.rpc_units.specs.Stream.{cut_stream}
 use Rattle.end_links.specs.Links.{LinkState}
 use Rattle.end_links.specs.Sending.{joined_frames}
 use Rattle.end_links.specs.Serving.{ServedPart, ServedUnit, served_units}
+use Rattle.channel_client.specs.declared.caller.Caller.{Caller}
 use Rattle.channel_client.specs.declared.hearing.Hearing.{Hearing}
 use Rattle.channel_client.specs.declared.hearing.Hearing.TheVariants as hearing
 use Rattle.channel_client.specs.declared.judging.Judgement.{Judgement}
@@ -114,10 +115,11 @@ pub record AreAsBefore (r : Option Running) (logons : Logons) : Type 0 where
   pub plan : logons.plan ≡ running.logons.plan
   pub asked : logons.asked ≡ running.logons.asked
   pub standing : logons.channel.standing ≡ running.logons.channel.standing
+  pub caller : logons.channel.caller ≡ running.logons.channel.caller
 
 as_first : (r : Option Running) → HoldsIn (AreAsBefore r) r
 as_first None = tt
-as_first (Some running) = record { running = running; runs = refl; plan = refl; asked = refl; standing = refl }
+as_first (Some running) = record { running = running; runs = refl; plan = refl; asked = refl; standing = refl; caller = refl }
 
 module _ (r : Option Running) where
   as_settled : (j : Judgement) (joiner : Option RpcUnit) (at : AtTurn) →
@@ -133,7 +135,7 @@ module _ (r : Option Running) where
       HoldsBy (AreAsBefore r) served.1 served.0.work.logons
   as_acted hearing.Skip joiner at alike = alike
   as_acted (hearing.Next q frames) joiner at alike =
-      record { running = alike.running; runs = alike.runs; plan = alike.plan; asked = alike.asked; standing = alike.standing }
+      record { running = alike.running; runs = alike.runs; plan = alike.plan; asked = alike.asked; standing = alike.standing; caller = alike.caller }
   as_acted (hearing.Reply q reply) joiner at alike =
       as_settled (judge q reply at.work.logons.channel.standing at.work.logons.channel.caller.secret) joiner at
   as_acted (hearing.Drop cause) joiner at alike = tt
@@ -153,14 +155,14 @@ module _ (r : Option Running) where
   as_kept (Ok unit) joiner at alike = as_joined (answer_of joiner unit) (open_after joiner unit) at alike
 
 for_same : (controller : ℕ) (one other : Logons) (channel : ChannelIdentity) (number timestamp : ℕ) (frames : List (List ℕ)) → one.plan ≡ other.plan → one.asked ≡ other.asked →
-    one.channel.standing ≡ other.channel.standing → AreForLogon controller one channel number timestamp frames → AreForLogon controller other channel number timestamp frames
-for_same controller one other channel number timestamp frames plan asked standing are = record {
+    one.channel.standing ≡ other.channel.standing → one.channel.caller ≡ other.channel.caller → AreForLogon controller one channel number timestamp frames → AreForLogon controller other channel number timestamp frames
+for_same controller one other channel number timestamp frames plan asked standing caller are = record {
   place = are.place;
   logon = are.logon;
   kept = subst (λ (a : List (ℕ × Logon)). lookup same_number are.place a ≡ Some are.logon) asked are.kept;
   with_controller = are.with_controller;
   computer = are.computer ∙ ap (λ (p : MemberPlan). p.computer) plan;
-  secret = are.secret ∙ ap (λ (p : MemberPlan). p.secret) plan;
+  secret = are.secret ∙ ap (λ (c : Caller). c.secret) caller;
   seed = are.seed;
   moved = sym (ap seed_in standing) ∙ are.moved;
   asks = subst (λ (p : MemberPlan). AreFramesOf number (call_for p (authenticator_of (channel_key channel) are.seed timestamp) are.place are.logon) frames) plan are.asks;
@@ -242,7 +244,7 @@ module _ (member : ℕ) (m : MemberState) (messages : List MessageTaken) (contro
         running = alike.running;
         runs = alike.runs;
         frames = its.carries.frames;
-        asks = for_same controller before.work.logons alike.running.logons channel number timestamp its.carries.frames alike.plan alike.asked alike.standing its.carries.asks;
+        asks = for_same controller before.work.logons alike.running.logons channel number timestamp its.carries.frames alike.plan alike.asked alike.standing alike.caller its.carries.asks;
         message = its.message;
         is = bytes_are before.link bytes (joined_frames its.carries.frames)
             (last_is before.work.actions (action.Send before.link bytes) (action.Send before.link (joined_frames its.carries.frames))

@@ -73,7 +73,7 @@ use Rattle.member_server.specs.State.{State as MemberState}
 use Rattle.member_server.specs.Turns.{AtTurn, DialWork, TurnServed, break_turn, dial_for, do_taken, lose_turn, next_turn, tell_turn_closed, timestamp_of, turn_by, turn_by_join, turn_server, turn_unit, with_requester, with_work}
 use Rattle.member_server.specs.Units.{body_challenged, bound_unit, first_unit, is_fresh, link_server, serve_held, unit_by, unit_challenged}
 use Rattle.member_server.specs.Work.{Served}
-use Rattle.step_notes.specs.CallLogons.{AsksForKept, AsksUnlessStopped, HasSecret, IsOfCaller, IsStampedStep, waiting_for}
+use Rattle.step_notes.specs.CallLogons.{AsksForKept, AsksUnlessStopped, HasSecret, IsNamedBy, IsOfCaller, IsStampedStep, waiting_for}
 use Rattle.step_notes.proofs.Channels.ChannelNameLaws.{Fits, fits}
 use Rattle.step_notes.proofs.Members.SameLogonLaws.{IsIdlePart, bound_idle, first_idle, held_idle}
 use Rattle.step_notes.proofs.Members.UnservedLaws.{ended_serves}
@@ -170,6 +170,7 @@ ended how place l is kept coherent own =
     let first : HasFirst l.channel.turn l.channel.waiting = first_is l.channel.turn l.channel.waiting kept.out kept.coherent.first in
     record {
       caller = kept.caller;
+      secret = kept.secret;
       coherent = coherent;
       waits = sym (out_waits place l.asked first.0 (later_logons l.channel.waiting) (sym kept.waits ∙ first.1) (first.2 ∙ sym is));
       out = refl;
@@ -194,6 +195,7 @@ module _ (dialled : Bool) where
       (absent l.channel.waiting (waiting_for (next, logon)) (steps_have_effects.places (ask_channel false l.channel (info_of message agreed challenge)).state coherent)) in
       record {
         caller = kept.caller;
+        secret = kept.secret;
         coherent = coherent;
         waits = ap (λ (waiting : List Waiting). waiting ++ waiting_for (next, logon) ∷ []) kept.waits
             ∙ sym (put_waits next logon l.asked away)
@@ -341,8 +343,8 @@ at_channel at channel = with_work at (with_requester at.work channel)
 
 settled_asks : (j : Judgement) (joiner : Option RpcUnit) (at : AtTurn) → AsksForKept true at.work.logons → IsCoherent (settle j at.work.logons.channel).state → IsOfCaller (settle j at.work.logons.channel).state →
     TurnAsks (do_taken (settle j at.work.logons.channel).taken joiner (at_channel at (settle j at.work.logons.channel).state))
-settled_asks (judgement.Half client server) joiner at kept coherent own = record { caller = kept.caller; coherent = coherent; waits = kept.waits; out = refl; own = own }
-settled_asks (judgement.Opened o) joiner at kept coherent own = record { caller = kept.caller; coherent = coherent; waits = kept.waits; out = refl; own = own }
+settled_asks (judgement.Half client server) joiner at kept coherent own = record { caller = kept.caller; secret = kept.secret; coherent = coherent; waits = kept.waits; out = refl; own = own }
+settled_asks (judgement.Opened o) joiner at kept coherent own = record { caller = kept.caller; secret = kept.secret; coherent = coherent; waits = kept.waits; out = refl; own = own }
 settled_asks (judgement.Answer o v) joiner at kept coherent own =
     let l : Logons = at.work.logons in
     end_asks (standing.Open o) (place_of l.channel.turn) _ l (tell_turn_closed close.CallDone (at_channel at (remove_first (standing.Open o) l.channel))) refl refl kept coherent own
@@ -354,7 +356,7 @@ acted_asks : (h : Hearing) (joiner : Option RpcUnit) (at : AtTurn) → AsksForKe
     TurnAsks (do_taken (act h at.work.logons.channel).taken joiner (at_channel at (act h at.work.logons.channel).state))
 acted_asks hearing.Skip joiner at kept coherent = kept
 acted_asks (hearing.Next q frames) joiner at kept coherent =
-    record { caller = kept.caller; coherent = coherent; waits = kept.waits; out = refl; own = record { secret = kept.own.secret; stamped = tt } }
+    record { caller = kept.caller; secret = kept.secret; coherent = coherent; waits = kept.waits; out = refl; own = record { secret = kept.own.secret; stamped = tt } }
 acted_asks (hearing.Reply q r) joiner at kept coherent =
     let s : Requester = at.work.logons.channel in
     settled_asks (judge q r s.standing s.caller.secret) joiner at kept coherent
@@ -469,7 +471,8 @@ dial_asks None timestamp challenge w how some can kept = absurd (let x = some in
 dial_asks (Some start) timestamp challenge w how some can kept =
     let s : Requester = w.logons.channel in
     record {
-      caller = started_caller s.turn s.waiting s timestamp challenge ∙ kept.caller;
+      caller = subst (λ (c : Caller). IsNamedBy c w.logons.plan) (sym (started_caller s.turn s.waiting s timestamp challenge)) kept.caller;
+      secret = ap (λ (c : Caller). c.secret) (started_caller s.turn s.waiting s timestamp challenge) ∙ kept.secret;
       coherent = (steps_have_effects.start 0 s timestamp challenge kept.coherent).1;
       waits = started_waits s.turn s.waiting s timestamp challenge ∙ kept.waits;
       out = (one_turn.started s timestamp challenge can).1;
@@ -511,6 +514,7 @@ step_asks m what now left kept = running_asks what now left m m.running kept kep
 pub fresh_asks : (plan : MemberPlan) → AsksUnlessStopped (fresh_member plan).running
 fresh_asks plan = record {
   caller = refl;
+  secret = refl;
   coherent = steps_have_effects.fresh (caller_of plan);
   waits = refl;
   out = refl;

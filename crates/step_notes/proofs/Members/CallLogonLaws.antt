@@ -85,7 +85,7 @@ module _ (controller : ℕ) (at : AtTurn) (joiner : Option RpcUnit) (kept : Asks
           kept = first.1;
           with_controller = refl;
           computer = ap (λ (caller : Caller). caller.computer) kept.caller;
-          secret = subst (λ (how : Standing). HasSecret s.caller.secret how) stands kept.own.secret ∙ ap (λ (caller : Caller). caller.secret) kept.caller;
+          secret = subst (λ (how : Standing). HasSecret s.caller.secret how) stands kept.own.secret;
           seed = earlier.seed;
           moved = subst (λ (t : ℕ). seed_in s.standing ≡ Some (next_seed earlier.seed t)) (sym when) (ap seed_in stamped.stands);
           asks = subst (λ (t : ℕ). AreFramesOf s.next_call (call_for plan (authenticator_of (channel_key channel) earlier.seed t) place first.0) frames) (sym when)
