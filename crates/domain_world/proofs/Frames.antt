@@ -16,6 +16,7 @@ pub mod GivenLaws
 pub mod LeftLaws
 pub mod MarkPlaceLaws
 pub mod MemberFrameLaws
+pub mod MemberPlanLaws
 pub mod MoveFrameLaws
 pub mod NewUnitLaws
 pub mod NoBytesLaws

@@ -9,6 +9,7 @@ pub mod Forms
 pub mod Generator
 pub mod LinkIndexes
 pub mod Links
+pub mod MemberPlans
 pub mod Moving
 pub mod Outcomes
 pub mod Running

@@ -24,6 +24,7 @@ use Rattle.world_moves.specs.Acting.{Given, forget, given_by, hear, heard_by, he
 use Rattle.world_moves.specs.Counting.{is_in}
 use Rattle.world_moves.specs.Ends.{EndStates, EndStep, client_step, controller_step, no_step}
 use Rattle.world_moves.specs.Links.{acceptor_of}
+use Rattle.world_moves.specs.MemberPlans.{AreAlikeButSecrets}
 use Rattle.world_moves.specs.Moving.{answered_link, begun, renewed, settle, tick, with_link, without_first}
 use Rattle.world_moves.specs.World.{World, first_world}
 use Rattle.domain_world.specs.Accepting.Carried.{IsAnswerFor, IsTakenAs, IsTakenInTurn}
@@ -47,11 +48,11 @@ use Rattle.domain_world.proofs.Frames.EndNoteLaws.{noted_by}
 abbrev pub TurnsRestOn : Plan → RunFact
 TurnsRestOn plan n s given b = TurnSide plan s b
 
--- The plans of the members stay; and where there was no clash, no two messages came on one link, and what goes back was
--- made by controllers that are there, which all hold of what is earlier where they hold of what is later, the facts
--- hold, of what was told also in this move.
+-- The plans of the members stay but for their secrets; and where there was no clash, no two messages came on one link,
+-- and what goes back was made by controllers that are there, which all hold of what is earlier where they hold of what
+-- is later, the facts hold, of what was told also in this move.
 abbrev pub TurnsHold : Plan → RunFact
-TurnsHold plan n s given b = (s.member_plans ≡ plan.members) × (b.clash ≡ false → AreApart (links_in b.messages) → MarksAreKnown s b → TurnFacts plan s b b.messages b.answers (told_yet given b))
+TurnsHold plan n s given b = AreAlikeButSecrets plan.members s.member_plans × (b.clash ≡ false → AreApart (links_in b.messages) → MarksAreKnown s b → TurnFacts plan s b b.messages b.answers (told_yet given b))
 
 calm_dials : (what : Event) → IsCalm what → Dials Any what
 calm_dials = by_calm (Dials Any) (λ link. tt) tt tt
@@ -69,13 +70,13 @@ module _ (plan : Plan) where
     fine = all_any (hear end what s).actions;
   }
 
-  changed : (n : ℕ) (s t : State) (given : Given) (b : Book) → t.member_plans ≡ s.member_plans → StillHas s.bag t.bag → SameEnds s.ends t.ends →
+  changed : (n : ℕ) (s t : State) (given : Given) (b : Book) → AreAlikeButSecrets s.member_plans t.member_plans → StillHas s.bag t.bag → SameEnds s.ends t.ends →
       (TurnFacts plan s b b.messages b.answers (told_yet given b) → TurnFacts plan t b b.messages b.answers (told_yet given b)) → TurnsHold plan n s given b → TurnsHold plan n t given b
   changed n s t given b plans still same so holds =
       (plans ∙ holds.0, λ unclashed apart marks. so (holds.1 unclashed apart (marks_before s t b b (record { bag = still; sent = λ k one there. there; ends = same }) marks)))
 
   -- neither the bag nor an end is changed
-  beside : (n : ℕ) (s t : State) (given : Given) (b : Book) → t.member_plans ≡ s.member_plans → t.bag ≡ s.bag → t.ends ≡ s.ends → TurnsHold plan n s given b → TurnsHold plan n t given b
+  beside : (n : ℕ) (s t : State) (given : Given) (b : Book) → AreAlikeButSecrets s.member_plans t.member_plans → t.bag ≡ s.bag → t.ends ≡ s.ends → TurnsHold plan n s given b → TurnsHold plan n t given b
   beside n s t given b plans bag ends =
       let still : StillHas s.bag t.bag = subst (λ (x : List BagUnit). StillHas s.bag x) (sym bag) (kept_same s.bag) in
       let same : SameEnds s.ends t.ends = subst (λ (x : EndStates). SameEnds s.ends x) (sym ends) (same_ends s.ends) in

@@ -45,6 +45,7 @@ use Rattle.world_moves.specs.declared.state.State.{State}
 use Rattle.world_moves.specs.Acting.{Given, Heard, given_by, heard_by}
 use Rattle.world_moves.specs.Ends.{EndStates, actions_by, member_step}
 use Rattle.world_moves.specs.Links.{kind_of}
+use Rattle.world_moves.specs.MemberPlans.{AreAlikeButSecrets}
 use Rattle.world_moves.specs.Moving.{end_of_peer}
 use Rattle.domain_world.specs.Accepting.Carried.{CallsHaveNumbers, IsWholeUnit}
 use Rattle.domain_world.specs.Accepting.ReadBack.{IsLetInInTurn}
@@ -61,6 +62,7 @@ use Rattle.domain_world.proofs.Accepting.Turns.TurnWholeLaws.{ComesWhole, whole_
 use Rattle.domain_world.proofs.Challenges.MessageApartLaws.{links_append, links_in, turns_links}
 use Rattle.domain_world.proofs.Challenges.MessageOnceLaws.{set_cases}
 use Rattle.domain_world.proofs.Frames.ComingLaws.{CameFrom, IsPieceOf, kept_same}
+use Rattle.domain_world.proofs.Frames.MemberPlanLaws.{controllers_alike}
 use Rattle.domain_world.proofs.Frames.OpenMadeLaws.{IsAtSide, side_of}
 use Rattle.domain_world.proofs.Frames.TurnFrameLaws.{notes_keep, turns_answers, turns_sent, turns_told}
 use Rattle.domain_world.proofs.Requests.WholeOutLaws.{noted as noted_by}
@@ -280,7 +282,7 @@ module _ (plan : Plan) (k : ℕ) (w : Coming) (piece : List ℕ) (s after : Stat
     is_back at = back_by w.back at.route (some_is at.route (ToController k dialled_on.controller) (sym at.made ∙ dialled_on.at)) at.side
 
     module _ (u : ℕ) (piece_of : IsPieceOf s u w piece) (back : w.back ≡ true) (facts : TurnFacts plan s b b.messages b.answers (told_yet given b)) (carried : w.unit ≡ Some u)
-        (unclashed : (book_after run).clash ≡ false) (apart : AreApart (links_in (messages_in run))) (plans : s.member_plans ≡ plan.members) (marks : MarksAreKnown (heard run).state (book_after run)) where
+        (unclashed : (book_after run).clash ≡ false) (apart : AreApart (links_in (messages_in run))) (plans : AreAlikeButSecrets plan.members s.member_plans) (marks : MarksAreKnown (heard run).state (book_after run)) where
       -- the unit
       pub whole : IsWholeUnit piece_of.unit.bytes × (length piece_of.unit.bytes ≤ 65536)
       whole =
@@ -346,8 +348,10 @@ module _ (plan : Plan) (k : ℕ) (w : Coming) (piece : List ℕ) (s after : Stat
             ((noted part is).clash unclashed).1;
         controlled = λ few.
             controller_stays (slice_get plan.members k) s.ends (heard run).state.ends (controller_of k s) (ends_same run)
-            (subst (λ (plans : List MemberPlan). HasController (slice_get plans k) s.ends (controller_of k s)) plans
-            (own_controller (slice_get s.member_plans k) s.ends (subst (λ (count : ℕ). controller_of k s < count) (sym (ends_same run).controllers) few)));
+            (let alike : controller_of k s ≡ controller_of_plan (slice_get plan.members k) s.ends = controllers_alike plan.members s.member_plans k s.ends plans in
+            subst (λ (n : ℕ). HasController (slice_get plan.members k) s.ends n) (sym alike)
+            (own_controller (slice_get plan.members k) s.ends
+            (subst (λ (n : ℕ). n < length s.ends.controllers) alike (subst (λ (count : ℕ). controller_of k s < count) (sym (ends_same run).controllers) few))));
         marks = marks;
         asks = side.asks k (member run) there;
         free = each_so (HasFree k b.messages) (HasFree k (messages_in run)) (λ place logon one. one_before _ b.messages (new_in run) one) running.logons.asked (facts.free k (member run) there).0;
@@ -383,12 +387,12 @@ module _ (plan : Plan) (k : ℕ) (w : Coming) (piece : List ℕ) (s after : Stat
       turn_comes = elim (part_cases part_of) [ inl ok ↦ taken ok.0 ok.1 | inr err ↦ refused err.0 err.1 ]
 
     from_bag : (unit : Option ℕ) → w.unit ≡ unit → CameFrom unit s w piece → IsAtSide s.links w.link w.back (Member k) → TurnFacts plan s b b.messages b.answers (told_yet given b) → (book_after run).clash ≡ false →
-        AreApart (links_in (messages_in run)) → s.member_plans ≡ plan.members → MarksAreKnown (heard run).state (book_after run) →
+        AreApart (links_in (messages_in run)) → AreAlikeButSecrets plan.members s.member_plans → MarksAreKnown (heard run).state (book_after run) →
         TurnFacts plan (heard run).state (book_after run) (book_after run).messages (book_after run).answers (told_yet (given ++ given_by (Member k) (heard run).actions) (book_after run))
     from_bag None is came at facts unclashed apart plans marks = absurd (came k dialled_on.controller dialled_on.at)
     from_bag (Some u) is came at facts unclashed apart plans marks = turn_comes u came (is_back at) facts is unclashed apart plans marks
 
-  running_comes : TurnSide plan s b → (r : Option Running) → slice_get s.ends.members k ≡ Some (member r) → CameFrom w.unit s w piece → IsAtSide s.links w.link w.back (Member k) → s.member_plans ≡ plan.members →
+  running_comes : TurnSide plan s b → (r : Option Running) → slice_get s.ends.members k ≡ Some (member r) → CameFrom w.unit s w piece → IsAtSide s.links w.link w.back (Member k) → AreAlikeButSecrets plan.members s.member_plans →
       (book_after r).clash ≡ false → AreApart (links_in (messages_in r)) → MarksAreKnown (heard r).state (book_after r) → TurnFacts plan s b b.messages b.answers (told_yet given b) →
       TurnFacts plan (heard r).state (book_after r) (book_after r).messages (book_after r).answers (told_yet (given ++ given_by (Member k) (heard r).actions) (book_after r))
   running_comes side None there came at plans unclashed apart marks facts = other_comes None tt (first_facts None (told_yet given b) there (side.accepts k (member None) there) facts)
@@ -398,7 +402,7 @@ module _ (plan : Plan) (k : ℕ) (w : Coming) (piece : List ℕ) (s after : Stat
   ]
 
   -- of a member that is there
-  pub member_comes : TurnSide plan s b → (m : MemberState) → slice_get s.ends.members k ≡ Some m → CameFrom w.unit s w piece → IsAtSide s.links w.link w.back (Member k) → s.member_plans ≡ plan.members →
+  pub member_comes : TurnSide plan s b → (m : MemberState) → slice_get s.ends.members k ≡ Some m → CameFrom w.unit s w piece → IsAtSide s.links w.link w.back (Member k) → AreAlikeButSecrets plan.members s.member_plans →
       (note_member (Some m) k w piece s after b).clash ≡ false → AreApart (links_in (note_member (Some m) k w piece s after b).messages) →
       MarksAreKnown (heard_by (member_step (Some m) k (event.Bytes w.link piece) s.moment s.ends s.chances) s).state (note_member (Some m) k w piece s after b) →
       (b.clash ≡ false → AreApart (links_in b.messages) → MarksAreKnown s b → TurnFacts plan s b b.messages b.answers (told_yet given b)) →

@@ -21,6 +21,7 @@ use Rattle.world_moves.specs.declared.plan.Plan.{Plan}
 use Rattle.world_moves.specs.declared.state.State.{State}
 use Rattle.world_moves.specs.Acting.{Given, given_by}
 use Rattle.world_moves.specs.Ends.{EndStates, renew_client, renew_controller, renew_member}
+use Rattle.world_moves.specs.MemberPlans.{AreAlikeButSecrets}
 use Rattle.world_moves.specs.Moving.{begun, renewed}
 use Rattle.world_moves.specs.World.{first_world}
 use Rattle.world_moves.proofs.EndKindLaws.{renew_by}
@@ -60,7 +61,7 @@ none_if (Some m) what none = none_in m.running what none
 module _ (plan : Plan) where
   -- ---- one thing changes
 
-  pub changed : (n : ℕ) (s t : State) (given : Given) (b : Book) → t.member_plans ≡ s.member_plans → StillHas s.bag t.bag → t.ends ≡ s.ends → t.chances ≡ s.chances → OwnHolds plan n s given b →
+  pub changed : (n : ℕ) (s t : State) (given : Given) (b : Book) → AreAlikeButSecrets s.member_plans t.member_plans → StillHas s.bag t.bag → t.ends ≡ s.ends → t.chances ≡ s.chances → OwnHolds plan n s given b →
       OwnHolds plan n t given b
   changed n s t given b plans bag ends chances known few unclashed apart marks differ =
       let drawn : t.chances.drawn ≡ s.chances.drawn = ap (λ (c : Drawing). c.drawn) chances in

@@ -10,7 +10,6 @@ use Rattle.channel_events.specs.Marks.{Mark, Calling}
 use Rattle.member_server.specs.Laws.{InOrderUnlessStopped}
 use Rattle.member_server.specs.Machine.{step_of}
 use Rattle.member_server.specs.State.{State as MemberState}
-use Rattle.member_server.specs.declared.plan.MemberPlan.{MemberPlan}
 use Rattle.member_server.specs.declared.state.Running.{Running}
 use Rattle.member_server.proofs.AskedLaws.{asks_what_waits}
 use Rattle.step_notes.specs.Records.{Book, ChannelTurn, Sent}
@@ -19,11 +18,13 @@ use Rattle.world_moves.specs.declared.plan.Plan.{Plan}
 use Rattle.world_moves.specs.declared.state.State.{State}
 use Rattle.world_moves.specs.Acting.{Given, Heard, given_by, heard_by}
 use Rattle.world_moves.specs.Ends.{actions_by, member_step}
+use Rattle.world_moves.specs.MemberPlans.{AreAlikeButSecrets}
 use Rattle.domain_world.specs.Accepting.Sequences.{IsTakenFor}
-use Rattle.domain_world.specs.Past.{controller_of, controller_of_plan}
+use Rattle.domain_world.specs.Past.{controller_of}
 use Rattle.domain_world.proofs.Accepting.Turns.TurnFactLaws.{GrowsTo, SameEnds, past_at, taken_stays, world_in}
 use Rattle.domain_world.proofs.Challenges.MessageOnceLaws.{set_cases}
 use Rattle.domain_world.proofs.Frames.MarkPlaceLaws.{got_map}
+use Rattle.domain_world.proofs.Frames.MemberPlanLaws.{controllers_alike}
 use Rattle.domain_world.proofs.Requests.CallHoldsLaws.{controller_same, differ_front, mark_there, marks_in}
 use Rattle.domain_world.proofs.Requests.StepApartLaws.{Differ, HearsNone}
 use Rattle.domain_world.proofs.Sequences.CallStepLaws.{OwnCalls, own_grows}
@@ -56,9 +57,9 @@ pub marks_still : (sent later : List Sent) → ((k : ℕ) (one : Sent) → slice
 marks_still sent later grown j mark there =
     let found = got_map (λ (one : Sent). one.mark) sent j mark there in mark_there later j found.0 (grown j found.0 found.1) ∙ ap Some found.2
 
-pub controller_kept : (k : ℕ) (s t : State) → t.member_plans ≡ s.member_plans → SameEnds s.ends t.ends → controller_of k t ≡ controller_of k s
+pub controller_kept : (k : ℕ) (s t : State) → AreAlikeButSecrets s.member_plans t.member_plans → SameEnds s.ends t.ends → controller_of k t ≡ controller_of k s
 controller_kept k s t plans same =
-    ap (λ (all : List MemberPlan). controller_of_plan (slice_get all k) t.ends) plans
+    controllers_alike s.member_plans t.member_plans k t.ends plans
     ∙ controller_same (slice_get s.member_plans k) s.ends t.ends (record { controllers = sym same.controllers; members = sym same.members; clients = sym same.clients })
 
 -- each call was written down before
@@ -76,7 +77,7 @@ abbrev pub OnStanding : (ChannelIdentity → Type 0) → ℕ → Option Running 
 OnStanding P controller None = Unit {0}
 OnStanding P controller (Some running) = (c : ChannelIdentity) → stands_in controller running.logons.channel.caller.computer running.logons.channel.standing ≡ Some c → P c
 
-module _ (plan : Plan) (s t : State) (b d : Book) (given more : Given) (plans : t.member_plans ≡ s.member_plans) (grows : GrowsTo s t b d) (drawn : StillDrawn s.chances.drawn t.chances.drawn)
+module _ (plan : Plan) (s t : State) (b d : Book) (given more : Given) (plans : AreAlikeButSecrets s.member_plans t.member_plans) (grows : GrowsTo s t b d) (drawn : StillDrawn s.chances.drawn t.chances.drawn)
     (turns : d.turns ≡ b.turns) where
   -- of a member that takes no step
   pub one_stays : (k : ℕ) (r : Option Running) → given_dials k more ≡ given_dials k given → OnStanding (NoNewOn (marks_in b.sent) (marks_in d.sent)) (controller_of k s) r →
