@@ -1,6 +1,5 @@
 -- What holds through the moves of a world, of its links, those that are open and its bag: whatever holds through each
--- change of one of them. It serves `each_unit_is_marked`, `marks_have_their_way`, `replies_carry_their_judgement` and 4
--- more.
+-- change of one of them. It serves `Proved.marked`, `Proved.ways`, `Proved.replies` and 4 more.
 use Rattle.std.proofs.Common.{◌≡◌, ℕ, true, List, [], ◌∷◌, ◌++◌, length, Option, Some, slice_get, refl, sym, subst, append-nil}
 use Rattle.wire_base.specs.Maps.{lookup, put, same_number, take_out}
 use Rattle.outside.specs.declared.action.Action.{Action}

@@ -1,5 +1,5 @@
 -- The logons that a member keeps, through its steps: each is that of a message that it took. And the link of its turn
--- is one that it dialled. It serves `members_ask_for_messages`, `members_let_in_who_asked`, `sends_ask_for_messages`.
+-- is one that it dialled. It serves `Proved.asked`, `Proved.let_in`, `Proved.sends`.
 use Rattle.std.proofs.Common.{◌≡◌, ℕ, ◌==◌, ◌<◌, Bool, true, false, List, [], ◌∷◌, ◌++◌, replicate, ◌⊎◌, inl, inr, Option, Some, None, Result, Ok, Err, refl, sym, subst, ◌∙◌, nat_le, length, if◌then◌else◌}
 use Rattle.std.specs.Prelude.{flat_map}
 use Rattle.std.specs.List.{AllByRecursion}

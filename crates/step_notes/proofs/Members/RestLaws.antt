@@ -1,5 +1,5 @@
 -- The challenges that a step of a member or a client leaves are a rest of those that were left before it.
--- It serves `controllers_grant_who_may_log_on`, `messages_have_own_challenges`, `replays_pass_by_sum` and 4 more.
+-- It serves `Proved.grants`, `Proved.messages`, `Proved.replays` and 4 more.
 use Rattle.std.proofs.Common.{ℕ, ◌==◌, Bool, true, false, List, [], ◌∷◌, ◌++◌, Option, Some, None, Result, Ok, Err}
 use Rattle.wire_base.specs.Maps.{lookup, same_number}
 use Rattle.outside.specs.declared.action.Action.{Action}

@@ -1,5 +1,5 @@
 -- Where a member takes an answer, a unit of its turn that it serves is written down as the answer of that place.
--- It serves `members_ask_for_messages`, `members_let_in_who_asked`, `sends_ask_for_messages`.
+-- It serves `Proved.asked`, `Proved.let_in`, `Proved.sends`.
 use Rattle.std.proofs.Common.{◌≡◌, ℕ, ◌==◌, Bool, true, false, List, [], ◌∷◌, ◌++◌, map, ◌⊎◌, inl, inr, Option, Some, None, Result, Ok, Err, refl, sym, ap, subst, ◌∙◌}
 use Rattle.wire_base.specs.Maps.{lookup, same_number}
 use Rattle.rpc_units.specs.declared.refused.JoinRefused.{JoinRefused}
