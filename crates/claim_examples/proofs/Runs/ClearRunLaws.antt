@@ -95,6 +95,7 @@ use Rattle.claim_examples.proofs.Runs.LogonTrailLaws.{FineSo, logon_trail}
 use Rattle.claim_examples.proofs.Runs.JudgedOnLaws.{HearsNoCall, OnlyTravels, travels_still}
 use Rattle.claim_examples.proofs.Runs.NotedLaws.{Fine, Leads, Trail, then_on, world_at}
 use Rattle.domain_world.proofs.Completeness.UnitNotedLaws.{Came, comes_so}
+use Rattle.domain_world.proofs.Frames.MemberPlanLaws.{found_but_secret}
 use Rattle.domain_world.proofs.Accepting.LetInLaws.{lets_in_who_asked}
 use Rattle.claim_examples.proofs.SequenceLaws.{one_apart}
 use Rattle.claim_examples.proofs.Runs.SharedChannelLaws.{shared_channel}
@@ -289,7 +290,7 @@ module _ (plan : Plan) (client member controller : ℕ) (can : CanComeIn plan cl
       let accounts : AccountTable = cleared can.table j.task.user in
       let same6 : HasSameEnds s0 s6 = both_same s0 (meets number s0) s6 (meets_same number s0) (twice_same (meets number s0)) in
       let same_turn : (s : State) → HasSameEnds s (turned s) = λ s. both_same s (connects s) (turned s) (connects_same s) (both_same (connects s) (goes (goes (connects s))) (turned s) (twice_same (connects s)) (twice_same (goes (goes (connects s))))) in
-      let names6 : Names s6 t1 = names_stay s0 s6 t1 same6 (record { plan = can.is_member_plan; reach = can.is_controller }) in
+      let names6 : Names s6 t1 = names_stay s0 s6 t1 same6 (record { plan = found_but_secret plan.members member can.member_plan can.is_member_plan; reach = can.is_controller }) in
       let names7 : Names s7 t1 = names_stay s6 s7 t1 (same_turn s6) names6 in
       let names8 : Names s8 t1 = names_stay s7 s8 t1 (same_turn s7) names7 in
       let found = lookup-put_same same_name j.caller.computer c paired.channels (same_computer j.caller.computer) in

@@ -34,6 +34,7 @@ use Rattle.logon_runs.proofs.RunLaws.{same_computer}
 use Rattle.logon_runs.proofs.Seen.StayingLaws.{ends_stay}
 use Rattle.claim_examples.specs.ClearRuns.{HasSharedChannel}
 use Rattle.step_notes.specs.Records.{OfMember}
+use Rattle.domain_world.proofs.Frames.MemberPlanLaws.{controllers_alike}
 
 -- ---- a member's controller stays so
 
@@ -74,7 +75,8 @@ module _ (plan : Plan) (client member controller number : ℕ) (is : IsPlan plan
   its_controller : controller_of member s ≡ controller
   its_controller =
       let stays : HasSameEnds (first_world plan).state s = same_ends moves (first_world plan) in
-      by_plan (slice_get s.member_plans member) can.member_plan s.ends controller (ap (λ (plans : List MemberPlan). slice_get plans member) stays.members ∙ can.is_member_plan)
+      controllers_alike plan.members s.member_plans member s.ends stays.members
+      ∙ by_plan (slice_get plan.members member) can.member_plan s.ends controller can.is_member_plan
       (ends_stay.reach can.member_plan.controller (first_world plan).state.ends s.ends stays.ends ∙ can.is_controller)
 
   pub shared_channel : HasSharedChannel (past plan moves)

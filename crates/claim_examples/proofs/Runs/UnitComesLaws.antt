@@ -46,6 +46,7 @@ use Rattle.world_moves.specs.Acting.{Heard, done, sent_if, unit_on}
 use Rattle.world_moves.specs.Bag.{first_waiting}
 use Rattle.world_moves.specs.Ends.{EndStates}
 use Rattle.world_moves.specs.Links.{OpenMap}
+use Rattle.world_moves.specs.MemberPlans.{but_secret}
 use Rattle.world_moves.specs.Moving.{connect, end_of_peer, settle, start}
 use Rattle.domain_world.specs.Past.{Coming, answers_of, any_clash, at_controller, controller_number, controller_of, controller_of_plan, is_sent_on, judged_of, note, note_at, note_client, note_controller, note_member, numbers_on, onto}
 use Rattle.logon_steps.specs.ControllerTurns.{controller_at, one_link, turn_link}
@@ -67,6 +68,7 @@ use Rattle.logon_runs.proofs.Seen.WaitingLaws.{waiting_comes}
 use Rattle.domain_world.proofs.Completeness.HeardOnceLaws.{ComeTo, bind_answers, controller_answers, turn_answer}
 use Rattle.claim_examples.proofs.Runs.NotedLaws.{AreOwn, Fine, Leads, Waits, Written, client_fine, controller_fine, given_fine, grows, member_fine, world_at}
 use Rattle.domain_world.proofs.Completeness.UnitNotedLaws.{Came, comes_so, coming, state_then}
+use Rattle.domain_world.proofs.Frames.MemberPlanLaws.{controller_but_secret}
 use Rattle.claim_examples.proofs.Runs.NotedOnLaws.{came_fine, onward_waits, written_few}
 use Rattle.claim_examples.proofs.Runs.TakenOnceLaws.{ack_notes, own_notes, reply_own, rests_quiet, waits_quiet}
 
@@ -174,14 +176,16 @@ bind_leads s t next number what computers left moment count between below shows 
 
 -- ---- the answer to it
 
--- the member's plan names the controller
+-- the member's plan, but for the secret, names the controller
 pub record Names (s : State) (t : Turn) : Type 0 where
-  pub plan : slice_get s.member_plans t.at_member ≡ Some t.plan
+  pub plan : slice_get (map but_secret s.member_plans) t.at_member ≡ Some (but_secret t.plan)
   pub reach : end_of_peer t.plan.controller s.ends ≡ Some (Controller t.at_controller)
 
 pub named_so : (s : State) (t : Turn) → Names s t → controller_of t.at_member s ≡ t.at_controller
 named_so s t names =
-    ap (λ (plan : _). controller_of_plan plan s.ends) names.plan ∙ ap (λ (end : Option EndId). controller_number end (length s.ends.controllers)) names.reach
+    sym (controller_but_secret s.member_plans t.at_member s.ends)
+    ∙ ap (λ (plan : _). controller_of_plan plan s.ends) names.plan
+    ∙ ap (λ (end : Option EndId). controller_number end (length s.ends.controllers)) names.reach
 
 -- what the turn's channel is
 abbrev pub channel_in_turn : Turn → ℕ → ℕ → Step → Requester

@@ -14,6 +14,7 @@ use Rattle.world_moves.specs.declared.moves.Move.TheVariants as move
 use Rattle.world_moves.specs.declared.state.State.{State}
 use Rattle.world_moves.specs.Acting.{forget, hear, perform_quietly, shut_link}
 use Rattle.world_moves.specs.Ends.{EndStates, EndStep, end_in}
+use Rattle.world_moves.specs.MemberPlans.{AreAlikeButSecrets}
 use Rattle.world_moves.specs.Moving.{answered_link, begun, connect, end_of_peer, onward, renewed, settle, start, tick, with_link, without_first}
 use Rattle.world_moves.proofs.EndKindLaws.{renew_by, step_by}
 use Rattle.world_moves.proofs.StateFrameLaws.{HoldsMoving, move_so}
@@ -26,7 +27,7 @@ same_ends : (s : State) → HasSameEnds s s
 same_ends s = record { ends = as_many s.ends; members = refl; clients = refl }
 
 -- the ends alone change
-of_ends : (s after : State) → after.member_plans ≡ s.member_plans → after.client_plans ≡ s.client_plans → AreAsMany s.ends after.ends → HasSameEnds s after
+of_ends : (s after : State) → AreAlikeButSecrets s.member_plans after.member_plans → after.client_plans ≡ s.client_plans → AreAsMany s.ends after.ends → HasSameEnds s after
 of_ends s after members clients ends = record { ends = ends; members = members; clients = clients }
 
 pub both_same : (s between after : State) → HasSameEnds s between → HasSameEnds between after → HasSameEnds s after

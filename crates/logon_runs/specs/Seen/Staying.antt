@@ -1,9 +1,10 @@
--- Which ends there are, and the plans of members and clients: none of it changes at any move, so that an address is
--- the same end's in each state of a run (this project's own choice).
+-- Which ends there are, and the plans of clients, and those of members but for their secrets: none of it changes at any
+-- move, so that an address is the same end's in each state of a run (this project's own choice).
 use Rattle.std.specs.Prelude.{ℕ, ◌≡◌, List, length}
 use Rattle.world_moves.specs.declared.moves.Move.{Move}
 use Rattle.world_moves.specs.declared.state.State.{State}
 use Rattle.world_moves.specs.Ends.{EndStates}
+use Rattle.world_moves.specs.MemberPlans.{AreAlikeButSecrets}
 use Rattle.world_moves.specs.Moving.{act, end_of_peer}
 
 -- as many ends of each kind
@@ -12,10 +13,10 @@ pub record AreAsMany (ends after : EndStates) : Type 0 where
   pub members : length after.members ≡ length ends.members
   pub clients : length after.clients ≡ length ends.clients
 
--- and the same plans
+-- and the same plans, those of members but for their secrets
 pub record HasSameEnds (s after : State) : Type 0 where
   pub ends : AreAsMany s.ends after.ends
-  pub members : after.member_plans ≡ s.member_plans
+  pub members : AreAlikeButSecrets s.member_plans after.member_plans
   pub clients : after.client_plans ≡ s.client_plans
 
 pub record EndsStay : Type 0 where
