@@ -46,7 +46,7 @@ use Rattle.step_notes.proofs.Members.CallLogonLaws.{calls_carry}
 use Rattle.domain_world.specs.Claims.AskedFor.{AsksForItsMessage, IsForItsMessage, IsOfMessage, MembersAskForKept}
 use Rattle.channel_events.specs.Marks.{OneOf, Calling, Mark, Opened, Opening, Plain, ReplyTo}
 use Rattle.channel_events.proofs.ListLaws.{got_nothing, no_some, some_is}
-use Rattle.step_notes.specs.Records.{Judging, MessageMade, MessageTaken, Sent, blank}
+use Rattle.step_notes.specs.Records.{InUnit, Judging, MessageMade, MessageTaken, Outside, Sent, blank}
 use Rattle.world_moves.specs.declared.bag.BagUnit.{BagUnit}
 use Rattle.world_moves.specs.declared.links.Route.TheVariants.{ToController, ToMember}
 use Rattle.world_moves.specs.Forms.{HasMoveForm, IsByte}
@@ -256,9 +256,9 @@ raised_second = record {
   grew = omega arith;
 }
 
-from_outside : (place : ℕ) (j : Judging) → slice_get (foreign wrong_call ∷ foreign wrong_call ∷ []) place ≡ Some j → j.unit ≡ None
-from_outside zero j there = sym (ap Judging.unit (some_is (foreign wrong_call) j there))
-from_outside (suc zero) j there = sym (ap Judging.unit (some_is (foreign wrong_call) j there))
+from_outside : (place : ℕ) (j : Judging) → slice_get (foreign wrong_call ∷ foreign wrong_call ∷ []) place ≡ Some j → j.source ≡ Outside
+from_outside zero j there = sym (ap Judging.source (some_is (foreign wrong_call) j there))
+from_outside (suc zero) j there = sym (ap Judging.source (some_is (foreign wrong_call) j there))
 from_outside (suc (suc place)) j there = absurd (got_nothing place j there)
 
 of_counts : OfCounts
@@ -268,7 +268,7 @@ of_counts = record {
   fails_later = λ claim. absurd (let never : 0 ≡ 1 = claim 0 1 7 (record wrong_call { at = 9 }) wrong_call refl refl refl refl (raised_at 9 0) (raised_at 6 0) in cc);
   fails_elsewhere = λ claim. absurd (let never : 0 ≡ 1 = claim 0 1 7 (record wrong_call { controller = 1 }) wrong_call refl refl refl refl (raised_at 6 1) (raised_at 6 0) in cc);
   outside = λ one other unit first second here there came too raises more.
-      absurd (let never : None ≡ Some unit = sym (from_outside one first here) ∙ came in cc);
+      absurd (let never : Outside ≡ InUnit unit = sym (from_outside one first here) ∙ came in cc);
 }
 
 -- ---- units of the bag, and messages

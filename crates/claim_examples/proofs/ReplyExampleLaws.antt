@@ -16,7 +16,7 @@ use Rattle.domain_controller.specs.Machine.{status_of}
 use Rattle.channel_events.specs.Marks.{Mark, Plain, ReplyTo}
 use Rattle.step_notes.specs.ControllerNotes.{identity_by}
 use Rattle.step_notes.specs.Judged.{IsNextOn}
-use Rattle.step_notes.specs.Records.{Judging, Sent, given_in}
+use Rattle.step_notes.specs.Records.{InUnit, Judging, Sent, given_in}
 use Rattle.step_notes.specs.ReplySends.{IsReplyOfCall, verdict_passed}
 use Rattle.world_moves.specs.declared.bag.BagUnit.{BagUnit}
 use Rattle.domain_world.specs.Claims.Replies.{IsReplyOfOne, RepliesCarryTheirJudgement}
@@ -95,7 +95,7 @@ of_replies = record {
   fails_barred = λ claim.
       let how = (the_reply small_reply small_name 3 7 (judged_as judged.Barred replied_call) claim).1.carries.how in absurd cc;
   fails_number = λ claim. let never : 3 ≡ 4 = (the_reply small_reply small_name 4 7 replied_call claim).1.call in absurd cc;
-  fails_unit = λ claim. let never : Some 7 ≡ Some 6 = (the_reply small_reply small_name 3 6 replied_call claim).1.came in absurd cc;
+  fails_unit = λ claim. let never : InUnit 7 ≡ InUnit 6 = (the_reply small_reply small_name 3 6 replied_call claim).1.came in absurd cc;
   fails_channel = λ claim.
       let other : ChannelIdentity = channel_of 1 (codes "FILE1") (small_channel []) in
       other_controller small_name other refl refl

@@ -20,7 +20,7 @@ use Rattle.channel_events.specs.Marks.{Calling, Mark, Opened, Opening, ReplyTo}
 use Rattle.channel_events.specs.Requests.{Holds}
 use Rattle.channel_events.specs.Seeds.{channel_seed}
 use Rattle.channel_events.specs.Sound.{Accepted, Sound, passed_units}
-use Rattle.step_notes.specs.Records.{Book, blank, OfMember}
+use Rattle.step_notes.specs.Records.{Book, InUnit, OfMember, Outside, blank}
 use Rattle.domain_world.specs.Claims.SharedSequences.{IsBeforeTurn, Keeps, SequencesAreShared, Stands, any_foreign, timestamps_on}
 use Rattle.domain_world.specs.Past.{controller_of}
 use Rattle.claim_examples.specs.ClaimExamples.{OfInStep, OfSequences, OfSoundness, keeping_controller, keeping_running, one_call, one_turn, small_channel, open_member, open_running, passed_from, run_open, seed_after_one, seed_after_two, small_computers, small_name, small_seed, small_turn, small_view, small_views, turn_out, two_turns, whole_history, whole_view, world_open}
@@ -162,7 +162,7 @@ the_earlier (one ∷ two ∷ earlier) last is = absurd (not_nothing earlier last
 two_behind : IsBeforeTurn (Some turn_out) small_seed small_name (0 ∷ 0 ∷ []) → ⊥
 two_behind before = none_one (before.seed_before ∙ ap (λ (all : List ℕ). channel_seed small_name all) (the_earlier before.earlier before.last before.all))
 
-foreign_small : any_foreign small_name (passed_from None).judged ≡ true
+foreign_small : any_foreign small_name (passed_from Outside).judged ≡ true
 unfolding same_name names.upper_of
 foreign_small = refl
 
@@ -179,8 +179,8 @@ of_sequences = record {
     | inl is ↦ none_two is
     | inr before ↦ two_behind (subst (λ (all : List ℕ). IsBeforeTurn (Some turn_out) small_seed small_name all) two_stamps before)
   ];
-  foreign = shares_by (passed_from None) None small_seed (1 ∷ []) [] refl refl (λ none. absurd (let never : true ≡ false = sym foreign_small ∙ none in cc));
-  fails_own = λ claim. elim (shared_small (passed_from (Some 7)) None small_seed (1 ∷ []) claim refl) [ inl is ↦ not_one_byte is | inr before ↦ no_turn _ _ before ];
+  foreign = shares_by (passed_from Outside) None small_seed (1 ∷ []) [] refl refl (λ none. absurd (let never : true ≡ false = sym foreign_small ∙ none in cc));
+  fails_own = λ claim. elim (shared_small (passed_from (InUnit 7)) None small_seed (1 ∷ []) claim refl) [ inl is ↦ not_one_byte is | inr before ↦ no_turn _ _ before ];
 }
 
 -- ---- channels, as they are seen from outside

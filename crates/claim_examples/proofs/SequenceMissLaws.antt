@@ -17,7 +17,7 @@ use Rattle.member_server.specs.declared.state.Running.{Running as MemberRunning}
 use Rattle.channel_events.specs.Marks.{Calling, OneOf, Plain, ReplyTo}
 use Rattle.channel_events.proofs.ListLaws.{got_nothing, one_weaker, some_is}
 use Rattle.step_notes.specs.ControllerNotes.{has_passed}
-use Rattle.step_notes.specs.Records.{Book, Judging, ChannelTurn, Sent, blank, OfMember}
+use Rattle.step_notes.specs.Records.{Book, ChannelTurn, InUnit, Judging, OfMember, Sent, blank}
 use Rattle.world_moves.specs.declared.links.EndId.TheVariants.{Member, Client}
 use Rattle.world_moves.specs.declared.state.State.{State}
 use Rattle.domain_world.specs.Accepting.Sequences.{AnswersCall, AreSoFar, CallsOfTurns, HavePassed, IsMadeOn, IsPassedIn, TurnsAreCalled, stamps_of}
@@ -372,7 +372,7 @@ of_calls = record {
   out = calls_by (called_once []) (Some turn_out)
       (once [] (Some turn_out) (inr (inr (record { pending = turn_out; is_out = refl; earlier = []; last = (0, 0); split = refl; all = refl; passed = tt }))));
   fails_unjudged = λ claim. one_passed (called_once []) refl claim;
-  fails_barred = λ claim. elim (one_passed (called_once (record (judged_as judged.Barred (on_channel 0)) { unit = Some 0 } ∷ [])) refl claim) [
+  fails_barred = λ claim. elim (one_passed (called_once (record (judged_as judged.Barred (on_channel 0)) { source = InUnit 0 } ∷ [])) refl claim) [
     | inl never ↦ absurd (let is : false ≡ true = never in cc)
     | inr none ↦ none
   ];

@@ -47,7 +47,7 @@ use Rattle.channel_events.specs.Sound.{AreInStep, History, Sound}
 use Rattle.step_notes.specs.ControllerNotes.{passing}
 use Rattle.step_notes.specs.Marking.{clashes}
 use Rattle.step_notes.specs.MemberNotes.{no_note}
-use Rattle.step_notes.specs.Records.{Book, ChallengeSent, Judging, JudgementTold, ChannelTurn, MessageMade, MessageTaken, Network, OfMember, OutcomeTold, blank}
+use Rattle.step_notes.specs.Records.{Book, ChallengeSent, ChannelTurn, InUnit, JudgementTold, Judging, MessageMade, MessageTaken, Network, OfMember, OutcomeTold, Outside, Source, blank}
 use Rattle.world_moves.specs.declared.links.Route.{Route}
 use Rattle.world_moves.specs.declared.links.Route.TheVariants.{ToController, ToMember}
 use Rattle.world_moves.specs.declared.plan.Plan.{Plan}
@@ -179,7 +179,7 @@ judging = record {
   at = 6;
   controller = 0;
   name = codes "PDC";
-  unit = Some 7;
+  source = InUnit 7;
   number = 3;
   asked = Network (call_with (record { credential = []; timestamp = 0 }));
   checks = None;
@@ -275,7 +275,7 @@ passed_in mark =
 
 -- the same in a unit from outside
 abbrev pub passed_outside : Book
-passed_outside = with_answers (passing (Some small_name) (record (on_channel 0) { unit = None }) ∷ []) None (8 ∷ []) blank
+passed_outside = with_answers (passing (Some small_name) (record (on_channel 0) { source = Outside }) ∷ []) None (8 ∷ []) blank
 
 -- a member took an answer on the channel in unit 0 of the bag, which was made for this, whatever turn it was in
 abbrev pub taken_in : Mark → ServedUnit AtTurn TurnTalk → Book
@@ -336,7 +336,7 @@ other_table = record small_table { accounts = record small_account { hash = repl
 
 -- the second one's call was judged by that
 abbrev pub other_judging : Judging
-other_judging = record judging { unit = Some 17; table = other_table; reply = Some 18 }
+other_judging = record judging { source = InUnit 17; table = other_table; reply = Some 18 }
 
 abbrev pub two_hashes : Book
 two_hashes = record two_logons {
@@ -442,8 +442,8 @@ abbrev pub turn_out : Pending
 turn_out = record { number = 3; place = 0; step = step.Reply question.Logon }
 
 -- a call passed in a unit, or from outside
-abbrev pub passed_from : Option ℕ → Book
-passed_from unit = record blank { judged = record (on_channel 0) { unit = unit } ∷ [] }
+abbrev pub passed_from : Source → Book
+passed_from source = record blank { judged = record (on_channel 0) { source = source } ∷ [] }
 
 -- Shared sequences: both ends have the client's credential; not where the member's seed has one byte, nor where the
 -- controller's has. With a turn out the controller has the seed after it, or the one before; not where the turn isn't
@@ -457,8 +457,8 @@ pub record OfSequences : Type 0 where
   pub turn_behind : SequencesAreShared (run_open one_turn (Some turn_out) seed_after_one small_seed)
   pub fails_behind : SequencesAreShared (run_open one_turn None seed_after_one small_seed) → ⊥
   pub fails_two_behind : SequencesAreShared (run_open two_turns (Some turn_out) seed_after_two small_seed) → ⊥
-  pub foreign : SequencesAreShared (run_open (passed_from None) None small_seed (1 ∷ []))
-  pub fails_own : SequencesAreShared (run_open (passed_from (Some 7)) None small_seed (1 ∷ [])) → ⊥
+  pub foreign : SequencesAreShared (run_open (passed_from Outside) None small_seed (1 ∷ []))
+  pub fails_own : SequencesAreShared (run_open (passed_from (InUnit 7)) None small_seed (1 ∷ [])) → ⊥
 
 -- ---- channels, as they are seen from outside
 

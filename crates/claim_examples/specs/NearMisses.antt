@@ -37,7 +37,7 @@ use Rattle.step_notes.specs.MemberNotes.{LinkAt, turn_note, turn_units}
 use Rattle.domain_world.specs.Claims.AskedFor.{MembersAskForKept, MembersAskForMessages}
 use Rattle.channel_events.specs.Marks.{Calling, Mark, Opened, Opening, Plain, ReplyTo}
 use Rattle.channel_events.specs.Requests.{fresh_view}
-use Rattle.step_notes.specs.Records.{Book, ChallengeSent, Judging, MessageMade, MessageTaken, OfMember, blank}
+use Rattle.step_notes.specs.Records.{Book, ChallengeSent, InUnit, Judging, MessageMade, MessageTaken, OfMember, Outside, blank}
 use Rattle.world_moves.specs.declared.links.LinkKind.TheVariants as kind
 use Rattle.world_moves.specs.declared.links.Route.TheVariants.{ToController, ToMember}
 use Rattle.world_moves.specs.declared.moves.Move.{Move}
@@ -63,7 +63,7 @@ judged_two second first = record blank { judged = second ∷ first ∷ [] }
 
 -- the call came in bytes from outside
 abbrev pub foreign : Judging → Judging
-foreign j = record j { unit = None }
+foreign j = record j { source = Outside }
 
 -- a timestamp that moves a seed by 2^31
 abbrev pub half_timestamp : ℕ
@@ -144,7 +144,7 @@ pub record OfShortResponses : Type 0 where
 
 -- no answer was taken for a message whose call didn't go out, though a call from outside passed
 pub record OfTakenAnswers : Type 0 where
-  pub none : taken_answer_on 3 (record one_logon { messages = record message { call = None; reply = None } ∷ []; judged = record judging { unit = None; reply = None } ∷ [] })
+  pub none : taken_answer_on 3 (record one_logon { messages = record message { call = None; reply = None } ∷ []; judged = record judging { source = Outside; reply = None } ∷ [] })
       ≡ None
 
 -- ---- keys
@@ -193,7 +193,7 @@ sent_one back mark =
 -- a call passed in unit 0, which was made for this, and it was written down whether there was a clash
 abbrev pub passed_for : Mark → Bool → Past
 passed_for mark clash =
-    small_run (record blank { sent = sent_at 0 mark ∷ []; judged = record (on_channel 0) { unit = Some 0 } ∷ []; clash = clash })
+    small_run (record blank { sent = sent_at 0 mark ∷ []; judged = record (on_channel 0) { source = InUnit 0 } ∷ []; clash = clash })
 
 -- Each unit has its mark: not where there is one less or one more. Requests go on and replies back, and not the other
 -- way. Messages come on two links, not on one. A call passes on the channel for which its unit was made, unless there

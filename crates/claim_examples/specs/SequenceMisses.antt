@@ -15,7 +15,7 @@ use Rattle.member_server.specs.State.{State as MemberState}
 use Rattle.member_server.specs.declared.plan.MemberPlan.{MemberPlan}
 use Rattle.member_server.specs.declared.state.Running.{Running as MemberRunning}
 use Rattle.channel_events.specs.Marks.{Calling, Mark, Plain, ReplyTo}
-use Rattle.step_notes.specs.Records.{Book, Judging, ChannelTurn, OfMember, blank}
+use Rattle.step_notes.specs.Records.{Book, ChannelTurn, InUnit, Judging, OfMember, Outside, blank}
 use Rattle.world_moves.specs.declared.bag.BagUnit.{BagUnit}
 use Rattle.world_moves.specs.declared.links.EndId.{EndId}
 use Rattle.world_moves.specs.declared.links.EndId.TheVariants.{Member, Client}
@@ -97,7 +97,7 @@ mixed_turns = record blank {
 
 -- a call came from outside
 abbrev pub judged_outside : Judging → Book
-judged_outside j = record blank { judged = record j { unit = None } ∷ [] }
+judged_outside j = record blank { judged = record j { source = Outside } ∷ [] }
 
 -- two members, of which the second has that seed
 abbrev pub run_second : List ℕ → Past
@@ -168,7 +168,7 @@ run_small book turn = run_by book turn (small_channel seed_after_one) (codes "FI
 
 -- the call in unit 0 passed
 abbrev pub in_unit : Judging
-in_unit = record (on_channel 0) { unit = Some 0 }
+in_unit = record (on_channel 0) { source = InUnit 0 }
 
 abbrev pub sent_as : List Mark → Book
 sent_as marks = record (called_once (in_unit ∷ [])) { sent = map (sent_at 0) marks }
@@ -180,7 +180,7 @@ pub record OfCalls : Type 0 where
   pub meets : TurnsAreCalled (run_small (called_once (in_unit ∷ [])) None)
   pub out : TurnsAreCalled (run_small (called_once []) (Some turn_out))
   pub fails_unjudged : TurnsAreCalled (run_small (called_once []) None) → ⊥
-  pub fails_barred : TurnsAreCalled (run_small (called_once (record (judged_as judged.Barred (on_channel 0)) { unit = Some 0 } ∷ [])) None) → ⊥
+  pub fails_barred : TurnsAreCalled (run_small (called_once (record (judged_as judged.Barred (on_channel 0)) { source = InUnit 0 } ∷ [])) None) → ⊥
   pub fails_uncalled : TurnsAreCalled (run_small one_turn None) → ⊥
   pub fails_unsent : TurnsAreCalled (run_small (sent_as []) None) → ⊥
   pub fails_stamp : TurnsAreCalled (run_small (sent_as (Calling small_name 3 5 ∷ [])) None) → ⊥
@@ -202,7 +202,7 @@ abbrev pub replied : ℕ → List Judging → Past
 replied number judged = replied_for (Calling small_name 3 0) number judged
 
 abbrev pub passed_then : Judging
-passed_then = record (on_channel 0) { unit = Some 0; reply = Some 1 }
+passed_then = record (on_channel 0) { source = InUnit 0; reply = Some 1 }
 
 -- Replies to calls: not where the number is another, the call was barred, or its reply is another unit; nor where unit
 -- 0 was made for no channel, or for another controller's.

@@ -37,7 +37,7 @@ use Rattle.channel_events.specs.Marks.{OneOf}
 use Rattle.step_notes.specs.ControllerNotes.{channel_in, has_passed}
 use Rattle.step_notes.specs.Judged.{IsJudgedRight, base_key_asked, passed_channel, stored_hash}
 use Rattle.step_notes.specs.Marking.{is_channel}
-use Rattle.step_notes.specs.Records.{Book, ChallengeSent, Judging, JudgementTold, MessageMade, MessageTaken, OutcomeTold, computer_named, given_in, timestamp_in}
+use Rattle.step_notes.specs.Records.{Book, ChallengeSent, JudgementTold, Judging, MessageMade, MessageTaken, OutcomeTold, computer_named, given_in, timestamp_in, unit_in}
 use Rattle.world_moves.specs.declared.links.EndId.TheVariants.{Controller, Member}
 use Rattle.world_moves.specs.declared.links.Route.{Route}
 use Rattle.world_moves.specs.Counting.{is_in}
@@ -94,7 +94,7 @@ same_unit (Some one) (Some other) = one == other
 -- The call passed at this step, came in the unit that carries the Logon call which the member made for the place of the
 -- message, and was answered by the unit that the member took in the turn of that place.
 abbrev pub answers : MessageTaken → Judging → Bool
-answers message j = has_passed j.how && same_unit message.call j.unit && same_unit message.reply j.reply
+answers message j = has_passed j.how && same_unit message.call (unit_in j.source) && same_unit message.reply j.reply
 
 -- the step that gave the answer which a member took for a message, where it took one
 abbrev pub taken_answer : MessageTaken → List Judging → Option Judging
@@ -125,7 +125,7 @@ HasController (Some plan) ends controller = end_of_peer plan.controller ends ≡
 -- the unit came to no other step at which it passed
 abbrev pub PassesOnce : Judging → List Judging → Type 0
 PassesOnce j judgings =
-    AllByRecursion (λ (other : Judging). has_passed other.how && same_unit other.unit j.unit ≡ true → other.at ≡ j.at) judgings
+    AllByRecursion (λ (other : Judging). has_passed other.how && same_unit (unit_in other.source) (unit_in j.source) ≡ true → other.at ≡ j.at) judgings
 
 -- Its controller's answer: the member took an answer for the message, of the controller of its plan, and the call
 -- passed at this step and at no other.

@@ -19,7 +19,7 @@ use Rattle.step_notes.specs.ClientNotes.{made_note, units_of_client}
 use Rattle.step_notes.specs.ControllerNotes.{Answered, Where, answer_on, units_of_controller}
 use Rattle.step_notes.specs.Marking.{answered_marks, clashes, turn_marks}
 use Rattle.step_notes.specs.MemberNotes.{LinkAt, TurnNote, challenge_note, link_of_place, link_units, message_note, taken_link, turn_in, turn_note, turn_units}
-use Rattle.step_notes.specs.Records.{Book, CallTaken, ChannelTurn, Judging, JudgementTold, MessageTaken, OfMember, OutcomeTold, RequesterId, Sent, blank}
+use Rattle.step_notes.specs.Records.{Book, CallTaken, ChannelTurn, InUnit, JudgementTold, Judging, MessageTaken, OfMember, OutcomeTold, Outside, RequesterId, Sent, Source, blank, unit_in}
 use Rattle.world_moves.specs.declared.bag.BagUnit.{BagUnit}
 use Rattle.world_moves.specs.declared.links.EndId.{EndId}
 use Rattle.world_moves.specs.declared.links.EndId.TheVariants.{Controller, Member, Client}
@@ -185,15 +185,15 @@ controller_asked (OfMember member) s = controller_of member s
 
 -- ---- bytes come at an end
 
--- after how many moves, in which unit of the bag, on which link, in which direction
+-- after how many moves, where they came from, on which link, in which direction
 pub record Coming : Type 0 where
   pub at : ℕ
-  pub unit : Option ℕ
+  pub source : Source
   pub link : ℕ
   pub back : Bool
 
 abbrev pub at_controller : ℕ → ControllerState → Coming → State → Where
-at_controller controller c w s = record { at = w.at; controller = controller; unit = w.unit; name = c.name; moment = s.moment }
+at_controller controller c w s = record { at = w.at; controller = controller; source = w.source; name = c.name; moment = s.moment }
 
 abbrev pub answers_of : ℕ → ControllerState → Coming → List ℕ → State → List Answered
 answers_of controller c w piece s =
@@ -203,7 +203,7 @@ abbrev pub note_controller : Option ControllerState → ℕ → Coming → List 
 note_controller None controller w piece s after b = b
 note_controller (Some c) controller w piece s after b =
     with_marks w.at w.link true (drop (length s.bag) after.bag) (answered_marks (answers_of controller c w piece s))
-    (with_answers (answers_of controller c w piece s) w.unit (numbers_on w.link true s.bag after.bag) b)
+    (with_answers (answers_of controller c w piece s) (unit_in w.source) (numbers_on w.link true s.bag after.bag) b)
 
 abbrev pub at_member : ℕ → Coming → State → LinkAt
 at_member member w s =
@@ -220,8 +220,8 @@ abbrev pub note_requests : ℕ → MemberState → Coming → List ℕ → State
 note_requests member m w piece s after b =
     with_marks w.at w.link false (drop (length s.bag) after.bag)
     (turn_marks (map (turn_note (controller_of member s)) (turn_units m w.link piece s.moment s.chances.left)))
-    (with_taken (OfMember member) w.at w.unit (map (turn_note (controller_of member s)) (turn_units m w.link piece s.moment s.chances.left))
-    (note_turns (controller_of member s) (turn_units m w.link piece s.moment s.chances.left) w.unit (numbers_on w.link false s.bag after.bag) b))
+    (with_taken (OfMember member) w.at (unit_in w.source) (map (turn_note (controller_of member s)) (turn_units m w.link piece s.moment s.chances.left))
+    (note_turns (controller_of member s) (turn_units m w.link piece s.moment s.chances.left) (unit_in w.source) (numbers_on w.link false s.bag after.bag) b))
 
 abbrev pub note_member : Option MemberState → ℕ → Coming → List ℕ → State → State → Book → Book
 note_member None member w piece s after b = b
@@ -257,7 +257,7 @@ note_pieces w (piece ∷ pieces) s b =
 abbrev pub note_unit : Option BagUnit → ℕ → ℕ → ℕ → State → Book → Book
 note_unit None number link at s b = b
 note_unit (Some unit) number link at s b =
-    note_pieces (record { at = at; unit = Some number; link = link; back = unit.back }) (pieces_of unit.bytes) s b
+    note_pieces (record { at = at; source = InUnit number; link = link; back = unit.back }) (pieces_of unit.bytes) s b
 
 -- it counts as delivered then
 abbrev pub note_settled : ℕ → ℕ → ℕ → State → Book → Book
@@ -286,7 +286,7 @@ note_deliver (Some number) link at s b = note_chosen (slice_get s.bag number) nu
 abbrev pub note_hand : Option ℕ → Bool → List ℕ → ℕ → State → Book → Book
 note_hand None back bytes at s b = b
 note_hand (Some link) back bytes at s b =
-    note_pieces (record { at = at; unit = None; link = link; back = back }) (bytes ∷ []) s b
+    note_pieces (record { at = at; source = Outside; link = link; back = back }) (bytes ∷ []) s b
 
 -- after so many moves
 abbrev pub note_coming : Move → ℕ → State → Book → Book

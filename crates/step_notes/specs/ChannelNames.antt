@@ -67,7 +67,7 @@ use Rattle.step_notes.specs.ClientNotes.{ClientAt, made_note, units_of_client}
 use Rattle.step_notes.specs.ControllerNotes.{Where, answer_on, call_answer, checked_on, has_passed, logon_answer, opened_by, opening, passing, units_of_controller}
 use Rattle.step_notes.specs.Marking.{answered_marks, clashes, sent_channel}
 use Rattle.step_notes.specs.MemberNotes.{TurnNote, half_channel, request_note, taking_note, turn_note}
-use Rattle.step_notes.specs.Records.{Judging, MessageMade, Sent, computer_named, timestamp_in}
+use Rattle.step_notes.specs.Records.{Judging, MessageMade, Sent, computer_named, timestamp_in, unit_in}
 use Rattle.step_notes.specs.Served.{talk_after, work_after}
 
 -- ---- at a member
@@ -258,8 +258,8 @@ channel_marked (Some unit) sent = sent_channel (slice_get sent unit)
 -- at the member that takes the answer on it.
 pub record ExchangesHaveNoClash : Type 0 where
   pub opening : (s : Requester) (client server : List ℕ) (w : Where) (line : Line) (before : Desk) (after : Option Desk) (sent : List Sent) →
-      Expects before s client server → channel_marked w.unit sent ≡ Some (half_channel w.controller s client server) →
-      clashes (call_answer (auth_call s.caller client server) line w before after).checked w.unit sent ≡ false
+      Expects before s client server → channel_marked (unit_in w.source) sent ≡ Some (half_channel w.controller s client server) →
+      clashes (call_answer (auth_call s.caller client server) line w before after).checked (unit_in w.source) sent ≡ false
   pub opened : (controller : ℕ) (s : Requester) (unit : RpcUnit) (client server : List ℕ) (number : Option ℕ) (sent : List Sent) →
       s.standing ≡ standing.Half client server → (take_of s unit).taken ≡ taken.Opened →
       channel_marked number sent ≡ Some (half_channel controller s client server) →
@@ -267,7 +267,7 @@ pub record ExchangesHaveNoClash : Type 0 where
   pub calling : (j : Judging) (computers : Computers) (channel : ChannelIdentity) (sent : List Sent) →
       j.checks ≡ checked_on (computer_named j.asked) computers → j.controller ≡ channel.controller →
       computer_named j.asked ≡ Some channel.computer → HasChannel computers channel → has_passed j.how ≡ true →
-      channel_marked j.unit sent ≡ Some channel → clashes (logon_answer j).checked j.unit sent ≡ false
+      channel_marked (unit_in j.source) sent ≡ Some channel → clashes (logon_answer j).checked (unit_in j.source) sent ≡ false
   pub answered : (controller : ℕ) (s : Requester) (unit : RpcUnit) (place : ℕ) (channel : ChannelIdentity) (number : Option ℕ) (sent : List Sent) →
       standing_channel controller s ≡ Some channel → place_answered (take_of s unit).taken ≡ Some place →
       channel_marked number sent ≡ Some channel → clashes (taking_note (Some (take_of s unit)) controller s).checked number sent ≡ false

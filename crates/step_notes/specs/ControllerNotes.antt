@@ -33,7 +33,7 @@ use Rattle.controller_calls.specs.declared.state.ChallengePair.{ChallengePair}
 use Rattle.domain_controller.specs.declared.state.Running.{Running}
 use Rattle.domain_controller.specs.declared.state.Talk.{Talk}
 use Rattle.channel_events.specs.Marks.{Mark, Plain, Opened, ReplyTo}
-use Rattle.step_notes.specs.Records.{JudgedCall, Judging, Network, computer_named}
+use Rattle.step_notes.specs.Records.{JudgedCall, Judging, Network, Source, computer_named, unit_in}
 use Rattle.step_notes.specs.Served.{units_if_taken, work_after}
 
 -- ---- the units
@@ -132,18 +132,18 @@ reply_mark (Some unit) channel number = ReplyTo channel number unit
 abbrev pub passing : Option ChannelIdentity → Judging → Answered
 passing None j = record { sends = true; mark = Plain; checked = None; judging = Some j }
 passing (Some channel) j =
-    record { sends = true; mark = reply_mark j.unit channel j.number; checked = Some channel; judging = Some j }
+    record { sends = true; mark = reply_mark (unit_in j.source) channel j.number; checked = Some channel; judging = Some j }
 
 -- the argument: whether it passed
 abbrev pub judging_by : Bool → Judging → Answered
 judging_by false j = record { sends = true; mark = Plain; checked = None; judging = Some j }
 judging_by true j = passing (channel_in j.controller (computer_named j.asked) j.checks) j
 
--- at which controller, in which unit of the bag, and after how many moves
+-- at which controller, from where, and after how many moves
 pub record Where : Type 0 where
   pub at : ℕ
   pub controller : ℕ
-  pub unit : Option ℕ
+  pub source : Source
   pub name : List ℕ
   pub moment : ℕ
 
@@ -156,14 +156,14 @@ opened_mark (Some unit) channel number = Opened channel number unit
 abbrev pub opening : Option ChannelIdentity → Where → ℕ → Answered
 opening None w number = plain
 opening (Some channel) w number =
-    record { sends = true; mark = opened_mark w.unit channel number; checked = Some channel; judging = None }
+    record { sends = true; mark = opened_mark (unit_in w.source) channel number; checked = Some channel; judging = None }
 
 abbrev pub judging_of : Where → Line → JudgedCall → Desk → Option Desk → Judging
 judging_of w line asked before after = record {
   at = w.at;
   controller = w.controller;
   name = w.name;
-  unit = w.unit;
+  source = w.source;
   number = line.call;
   asked = asked;
   checks = checked_on (computer_named asked) before.work.computers;

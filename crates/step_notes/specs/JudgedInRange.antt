@@ -1,7 +1,7 @@
 -- That the Logon calls which a controller judges are judged in ranges: by accounts and a name that are in theirs, at a
 -- moment of 64 bits; and that the reply to one that passed is read as it was made (MS-NRPC 3.5.4.5.3; what is claimed
 -- is this project's own choice, in the standard's terms).
-use Rattle.std.specs.Prelude.{ℕ, ◌≡◌, ◌<◌, ◌^◌, List, Option, Ok, map}
+use Rattle.std.specs.Prelude.{ℕ, ◌≡◌, ◌<◌, ◌^◌, List, Ok, map}
 use Rattle.std.specs.List.{AllByRecursion}
 use Rattle.wire_base.specs.Names.{IsName}
 use Rattle.rpc_units.specs.declared.unit.Unit.{Unit as RpcUnit}
@@ -14,7 +14,7 @@ use Rattle.domain_controller.specs.ReadBack.{heard_reply}
 use Rattle.domain_controller.specs.State.{State as ControllerState}
 use Rattle.domain_controller.specs.Whole.{AreChallenges, InRangeState, InRangeTable}
 use Rattle.step_notes.specs.ControllerNotes.{Answered, answer_on, units_of_controller}
-use Rattle.step_notes.specs.Records.{IfNetwork, JudgedCall, Judging}
+use Rattle.step_notes.specs.Records.{IfNetwork, JudgedCall, Judging, Source}
 use Rattle.step_notes.specs.ReplySends.{IsItsReply, reply_passed, standing_at, stub_passed}
 
 pub record IsJudgedInRange (j : Judging) : Type 0 where
@@ -34,9 +34,9 @@ pub record IsReadAsMade (j : Judging) (bytes : List ℕ) (is : IsItsReply j byte
 
 pub record PassedRepliesAreRead : Type 0 where
   -- whatever bytes come at a controller that has its ranges
-  pub judged : (c : ControllerState) (at controller : ℕ) (unit : Option ℕ) (link : ℕ) (piece : List ℕ) (now : ℕ) (left : List (List ℕ)) →
+  pub judged : (c : ControllerState) (at controller : ℕ) (source : Source) (link : ℕ) (piece : List ℕ) (now : ℕ) (left : List (List ℕ)) →
       InRangeState c → now < 2 ^ 64 → AreChallenges left →
       AllByRecursion (λ (one : Answered). IfThere IsJudgedInRange one.judging)
-      (map (answer_on link (standing_at at controller unit c now)) (units_of_controller c link piece now left))
+      (map (answer_on link (standing_at at controller source c now)) (units_of_controller c link piece now left))
   pub read : (j : Judging) (bytes : List ℕ) (is : IsItsReply j bytes) (frames : List RpcUnit) (unit : RpcUnit) →
       IsJudgedInRange j → HasLevel j.asked → IsHeard bytes frames unit → IsReadAsMade j bytes is unit

@@ -20,6 +20,19 @@ pub record Sent : Type 0 where
   pub mark : Mark
   pub at : ℕ
 
+-- ---- where bytes came from
+
+-- Where bytes came from that an end hears: in a unit of the bag, by its number, or from outside, from a client or a
+-- stranger. A kind of bytes that are neither has a name of its own here.
+pub data Source : Type 0 where
+  InUnit : (number : ℕ) → Source
+  Outside : Source
+
+-- the unit of the bag in which they came, where they came in one
+abbrev pub unit_in : Source → Option ℕ
+unit_in (InUnit number) = Some number
+unit_in Outside = None
+
 -- ---- at a controller
 
 -- the timestamp of an authenticator; 0 of none
@@ -34,8 +47,8 @@ pub record Judging : Type 0 where
   -- which controller, and its name
   pub controller : ℕ
   pub name : List ℕ
-  -- the unit of the bag that carried the call, where it came from an end of this world
-  pub unit : Option ℕ
+  -- where the call's bytes came from
+  pub source : Source
   -- the call's number, and what it asked
   pub number : ℕ
   pub asked : JudgedCall

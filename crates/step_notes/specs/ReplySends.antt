@@ -26,7 +26,7 @@ use Rattle.channel_events.specs.Marks.{Mark, Plain, Opening, Opened, Calling, Re
 use Rattle.step_notes.specs.ChannelNames.{sends_in}
 use Rattle.step_notes.specs.ControllerNotes.{Answered, Where, answer_on, units_of_controller}
 use Rattle.step_notes.specs.Judged.{IsNextOn, passed_channel}
-use Rattle.step_notes.specs.Records.{JudgedCall, Judging, Network, given_in}
+use Rattle.step_notes.specs.Records.{InUnit, JudgedCall, Judging, Network, Source, given_in}
 
 -- ---- the reply to a call that passed
 
@@ -76,7 +76,7 @@ pub record IsItsReply (j : Judging) (bytes : List ℕ) : Type 0 where
 
 -- The call came in that unit of the bag, passed on that channel and had that number, and these bytes are its reply.
 pub record IsReplyOfCall (channel : ChannelIdentity) (number request : ℕ) (j : Judging) (bytes : List ℕ) : Type 0 where
-  pub came : j.unit ≡ Some request
+  pub came : j.source ≡ InUnit request
   pub passed : passed_channel j ≡ Some channel
   pub call : j.number ≡ number
   pub carries : IsItsReply j bytes
@@ -116,18 +116,18 @@ AreSentFor [] [] = Unit {0}
 AreSentFor [] (bytes ∷ sent) = ⊥
 AreSentFor (one ∷ answers) sent = IsSentIf one.sends one sent (λ (rest : List (List ℕ)). AreSentFor answers rest)
 
--- where a controller stands as bytes come: after how many moves, at which controller, in which unit of the bag, under
--- which name and at which moment
-abbrev pub standing_at : ℕ → ℕ → Option ℕ → ControllerState → ℕ → Where
-standing_at at controller unit c now = record { at = at; controller = controller; unit = unit; name = c.name; moment = now }
+-- where a controller stands as bytes come: after how many moves, at which controller, where they came from, under which
+-- name and at which moment
+abbrev pub standing_at : ℕ → ℕ → Source → ControllerState → ℕ → Where
+standing_at at controller source c now = record { at = at; controller = controller; source = source; name = c.name; moment = now }
 
 -- Whatever bytes come at a controller, and whoever sent them: it sends one unit of bytes for each unit that is written
 -- down as answered, in their order. Each that is marked as a reply carries what its call came to, and each that is
 -- marked as the reply to an opening is a reply that opens a channel. None is marked as a request.
 abbrev pub RepliesAreSentAsJudged : Type 0
 RepliesAreSentAsJudged =
-    (c : ControllerState) (at controller : ℕ) (unit : Option ℕ) (link : ℕ) (piece : List ℕ) (now : ℕ) (left : List (List ℕ)) (actions : List Action) →
+    (c : ControllerState) (at controller : ℕ) (source : Source) (link : ℕ) (piece : List ℕ) (now : ℕ) (left : List (List ℕ)) (actions : List Action) →
     (controller_step c (event.Bytes link piece) now left).answer ≡ Ok actions →
     AreSentFor
-    (map (answer_on link (standing_at at controller unit c now)) (units_of_controller c link piece now left))
+    (map (answer_on link (standing_at at controller source c now)) (units_of_controller c link piece now left))
     (sends_in actions)

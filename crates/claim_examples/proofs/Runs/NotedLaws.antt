@@ -15,7 +15,7 @@ use Rattle.authenticators.specs.Channels.{ChannelIdentity}
 use Rattle.channel_events.specs.Marks.{Mark}
 use Rattle.step_notes.specs.Marking.{answered_marks, clashes, mark_channel, turn_marks}
 use Rattle.step_notes.specs.MemberNotes.{turn_note, turn_units}
-use Rattle.step_notes.specs.Records.{Book, Sent}
+use Rattle.step_notes.specs.Records.{Book, Sent, unit_in}
 use Rattle.world_moves.specs.declared.moves.Move.{Move}
 use Rattle.world_moves.specs.declared.state.State.{State}
 use Rattle.world_moves.specs.Acting.{Given}
@@ -114,12 +114,12 @@ pub record Written (k link : ℕ) (back : Bool) (s after : State) (count : ℕ) 
   pub sent : now.sent ≡ b.sent ++ map (sent_at k) (marks_of link back (drop (length s.bag) after.bag) marks)
 
 pub member_fine : (m : MemberState) (at : ℕ) (w : Coming) (piece : List ℕ) (s after : State) (count : ℕ) (b : Book) → b.clash ≡ false → length b.judged ≤ count →
-    AreOwn (controller_of at s) w.unit b.sent (turn_units m w.link piece s.moment s.chances.left) →
+    AreOwn (controller_of at s) (unit_in w.source) b.sent (turn_units m w.link piece s.moment s.chances.left) →
     Written w.at w.link false s after count (turn_marks (map (turn_note (controller_of at s)) (turn_units m w.link piece s.moment s.chances.left))) b (note_member (Some m) at w piece s after b)
 member_fine m at w piece s after count b apart few own =
     let units : List (ServedUnit AtTurn TurnTalk) = turn_units m w.link piece s.moment s.chances.left in
     let controller : ℕ = controller_of at s in
-    let fine = turns_fine controller units w.unit (numbers_on w.link false s.bag after.bag) (note_messages at m w piece s b) apart own in
+    let fine = turns_fine controller units (unit_in w.source) (numbers_on w.link false s.bag after.bag) (note_messages at m w piece s b) apart own in
     record {
       apart = fine.0;
       few = omega (arith, few, ap (λ (judged : _). length judged) fine.1);
@@ -133,10 +133,10 @@ length_onto [] older = omega arith
 length_onto (item ∷ items) older = omega (arith, length_onto items (item ∷ older))
 
 pub controller_fine : (c : ControllerState) (at : ℕ) (w : Coming) (piece : List ℕ) (s after : State) (count total : ℕ) (b : Book) → b.clash ≡ false → length b.judged ≤ count →
-    any_clash (answers_of at c w piece s) w.unit b.sent ≡ false → length (judged_of (answers_of at c w piece s) (numbers_on w.link true s.bag after.bag)) + count ≤ total →
+    any_clash (answers_of at c w piece s) (unit_in w.source) b.sent ≡ false → length (judged_of (answers_of at c w piece s) (numbers_on w.link true s.bag after.bag)) + count ≤ total →
     Written w.at w.link true s after total (answered_marks (answers_of at c w piece s)) b (note_controller (Some c) at w piece s after b)
 controller_fine c at w piece s after count total b apart few own judged = record {
-  apart = or_none b.clash (any_clash (answers_of at c w piece s) w.unit b.sent) apart own;
+  apart = or_none b.clash (any_clash (answers_of at c w piece s) (unit_in w.source) b.sent) apart own;
   few = omega (arith, few, judged, length_onto (judged_of (answers_of at c w piece s) (numbers_on w.link true s.bag after.bag)) b.judged);
   sent = refl;
 }

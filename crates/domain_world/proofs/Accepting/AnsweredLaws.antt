@@ -34,7 +34,7 @@ use Rattle.channel_events.specs.Marks.{OneOf, ReplyTo}
 use Rattle.step_notes.specs.ControllerNotes.{identity_by, channel_in, has_passed}
 use Rattle.step_notes.specs.Judged.{IsJudgedRight, IsNextOn, IsOfName, base_key_asked, channel_if, hash_in, passed_channel, stored_hash}
 use Rattle.step_notes.specs.Marking.{clashes, is_channel, sent_channel}
-use Rattle.step_notes.specs.Records.{ChallengeSent, Judging, JudgementTold, MessageMade, MessageTaken, Network, OutcomeTold, Sent, computer_named, given_in}
+use Rattle.step_notes.specs.Records.{ChallengeSent, InUnit, JudgementTold, Judging, MessageMade, MessageTaken, Network, OutcomeTold, Outside, Sent, Source, computer_named, given_in, unit_in}
 use Rattle.step_notes.specs.ReplySends.{IsReplyOfCall, done_on, verdict_passed}
 use Rattle.world_moves.specs.declared.bag.BagUnit.{BagUnit}
 use Rattle.world_moves.specs.Counting.{is_in}
@@ -76,6 +76,11 @@ in_unit None other is = absurd (let x = is in cc)
 in_unit (Some one) None is = absurd (let x = is in cc)
 in_unit (Some one) (Some other) is = record { unit = one; first = refl; second = ap Some (sym ((Decides-eqb one other).0 is)) }
 
+-- bytes that came in a unit came from there
+pub came_in : (source : Source) (unit : ℕ) → unit_in source ≡ Some unit → source ≡ InUnit unit
+came_in (InUnit number) unit is = ap InUnit (some_is number unit is)
+came_in Outside unit is = absurd (let x = is in cc)
+
 pub unit_same : (unit : ℕ) → same_unit (Some unit) (Some unit) ≡ true
 unit_same unit = (Decides-eqb unit unit).1 refl
 
@@ -83,20 +88,20 @@ unit_same unit = (Decides-eqb unit unit).1 refl
 
 pub record IsAnswerOf (message : MessageTaken) (j : Judging) : Type 0 where
   pub passed : has_passed j.how ≡ true
-  pub call : AreInUnit message.call j.unit
+  pub call : AreInUnit message.call (unit_in j.source)
   pub reply : AreInUnit message.reply j.reply
 
 answers_are : (message : MessageTaken) (j : Judging) → answers message j ≡ true → IsAnswerOf message j
 answers_are message j is =
-    let first = both_true (has_passed j.how && same_unit message.call j.unit) (same_unit message.reply j.reply) is in
-    let second = both_true (has_passed j.how) (same_unit message.call j.unit) first.0 in
-    record { passed = second.0; call = in_unit message.call j.unit second.1; reply = in_unit message.reply j.reply first.1 }
+    let first = both_true (has_passed j.how && same_unit message.call (unit_in j.source)) (same_unit message.reply j.reply) is in
+    let second = both_true (has_passed j.how) (same_unit message.call (unit_in j.source)) first.0 in
+    record { passed = second.0; call = in_unit message.call (unit_in j.source) second.1; reply = in_unit message.reply j.reply first.1 }
 
-pub are_answers : (message : MessageTaken) (j : Judging) (request unit : ℕ) → has_passed j.how ≡ true → message.call ≡ Some request → j.unit ≡ Some request → message.reply ≡ Some unit → j.reply ≡ Some unit →
+pub are_answers : (message : MessageTaken) (j : Judging) (request unit : ℕ) → has_passed j.how ≡ true → message.call ≡ Some request → j.source ≡ InUnit request → message.reply ≡ Some unit → j.reply ≡ Some unit →
     answers message j ≡ true
 are_answers message j request unit passed call came reply sent =
-    ap (λ (p : Bool). p && same_unit message.call j.unit && same_unit message.reply j.reply) passed
-    ∙ ap₂ (λ (one other : Option ℕ). same_unit one other && same_unit message.reply j.reply) call came
+    ap (λ (p : Bool). p && same_unit message.call (unit_in j.source) && same_unit message.reply j.reply) passed
+    ∙ ap₂ (λ (one other : Option ℕ). same_unit one other && same_unit message.reply j.reply) call (ap unit_in came)
     ∙ ap (λ (p : Bool). p && same_unit message.reply j.reply) (unit_same request)
     ∙ ap₂ (λ (one other : Option ℕ). same_unit one other) reply sent
     ∙ unit_same unit
@@ -128,10 +133,10 @@ on_made : (made : Option ChannelIdentity) (channel : ChannelIdentity) → not (i
 on_made None channel is = absurd (let x = is in cc)
 on_made (Some named) channel is = record { named = named; is = refl; same = one_channel named channel (not_false (same_channel named channel) is) }
 
-made_for : (j : Judging) (channel : ChannelIdentity) (unit : ℕ) (sent : List Sent) → passed_channel j ≡ Some channel → j.unit ≡ Some unit → clashes (passed_channel j) j.unit sent ≡ false →
+made_for : (j : Judging) (channel : ChannelIdentity) (unit : ℕ) (sent : List Sent) → passed_channel j ≡ Some channel → j.source ≡ InUnit unit → clashes (passed_channel j) (unit_in j.source) sent ≡ false →
     IsMade (sent_channel (slice_get sent unit)) channel
 made_for j channel unit sent passed came none =
-    on_made (sent_channel (slice_get sent unit)) channel (ap₂ (λ (c : Option ChannelIdentity) (u : Option ℕ). clashes c u sent) (sym passed) (sym came) ∙ none)
+    on_made (sent_channel (slice_get sent unit)) channel (ap₂ (λ (c : Option ChannelIdentity) (from : Source). clashes c (unit_in from) sent) (sym passed) (sym came) ∙ none)
 
 right_told : (told : List JudgementTold) (judgings : List Judging) → AreTheirJudgements told judgings → AllByRecursion IsJudgedRight judgings
 right_told [] [] are = tt
@@ -211,15 +216,15 @@ module _ (past : Past) (known : IsProved past) (heard : AnswersAreHeard past) (c
   pub right_at : (k : ℕ) (j : Judging) → slice_get all_judged k ≡ Some j → IsJudgedRight j
   right_at k j there = all_at IsJudgedRight all_judged k j (right_judged past.book.judgements all_judged known.credentials) there
 
-  pub made_at : (k : ℕ) (j : Judging) (channel : ChannelIdentity) (unit : ℕ) → slice_get all_judged k ≡ Some j → passed_channel j ≡ Some channel → j.unit ≡ Some unit →
+  pub made_at : (k : ℕ) (j : Judging) (channel : ChannelIdentity) (unit : ℕ) → slice_get all_judged k ≡ Some j → passed_channel j ≡ Some channel → j.source ≡ InUnit unit →
       IsMade (sent_channel (slice_get past.book.sent unit)) channel
   made_at k j channel unit there passed came =
       made_for j channel unit past.book.sent passed came
-      (all_at (λ (one : Judging). clashes (passed_channel one) one.unit past.book.sent ≡ false) all_judged k j (heard.passes clear.apart) there)
+      (all_at (λ (one : Judging). clashes (passed_channel one) (unit_in one.source) past.book.sent ≡ false) all_judged k j (heard.passes clear.apart) there)
 
   -- no call passes twice
   pub no_twice : (k l : ℕ) (second first : Judging) (unit : ℕ) → k < l → slice_get all_judged k ≡ Some second → slice_get all_judged l ≡ Some first → has_passed second.how ≡ true →
-      has_passed first.how ≡ true → second.unit ≡ Some unit → first.unit ≡ Some unit → ⊥
+      has_passed first.how ≡ true → second.source ≡ InUnit unit → first.source ≡ InUnit unit → ⊥
   no_twice k l second first unit before at_second at_first passed_second passed_first came_second came_first =
       let cut : Cut all_judged second first = cut_twice all_judged k l second first before at_second at_first in
       let early : StandsFor first = channel_there first (right_at l first at_first) passed_first in
@@ -232,8 +237,8 @@ module _ (past : Past) (known : IsProved past) (heard : AnswersAreHeard past) (c
       (subst (λ (c : ChannelIdentity). SameChannel c early.channel) (sym one) made_early.same) in
       let is_same : same_channel late.channel early.channel ≡ true = (same_channel-Decides late.channel early.channel).1 same in
       let alike : second.asked ≡ first.asked =
-      all_at (λ (other : Judging). (u : ℕ) → second.unit ≡ Some u → other.unit ≡ Some u → second.asked ≡ other.asked) all_judged l first
-      (all_at (λ (j : Judging). AllByRecursion (λ (other : Judging). (u : ℕ) → j.unit ≡ Some u → other.unit ≡ Some u → j.asked ≡ other.asked) all_judged) all_judged k second heard.alike at_second)
+      all_at (λ (other : Judging). (u : ℕ) → second.source ≡ InUnit u → other.source ≡ InUnit u → second.asked ≡ other.asked) all_judged l first
+      (all_at (λ (j : Judging). AllByRecursion (λ (other : Judging). (u : ℕ) → j.source ≡ InUnit u → other.source ≡ InUnit u → j.asked ≡ other.asked) all_judged) all_judged k second heard.alike at_second)
       at_first unit came_second came_first in
       let first_on : passed_on early.channel first ≡ true = ap (λ (c : Option ChannelIdentity). is_channel c early.channel) early.passed ∙ itself early.channel in
       let law = known.replays early.channel cut.later cut.between cut.earlier second first cut.is first_on
@@ -253,7 +258,7 @@ module _ (past : Past) (known : IsProved past) (heard : AnswersAreHeard past) (c
 
   -- of the calls that came in one unit one alone passed
   one_pass : (k l : ℕ) (one other : Judging) (unit : ℕ) → slice_get all_judged k ≡ Some one → slice_get all_judged l ≡ Some other → has_passed one.how ≡ true → has_passed other.how ≡ true →
-      one.unit ≡ Some unit → other.unit ≡ Some unit → one ≡ other
+      one.source ≡ InUnit unit → other.source ≡ InUnit unit → one ≡ other
   one_pass k l one other unit here there passed also came too = elim (ordered k l) [
     | inl before ↦ absurd (no_twice k l one other unit before here there passed also came too)
     | inr rest ↦ elim rest [
@@ -272,13 +277,14 @@ module _ (past : Past) (known : IsProved past) (heard : AnswersAreHeard past) (c
     ]
   ]
 
-  passes_once : (k : ℕ) (j : Judging) (unit : ℕ) → slice_get all_judged k ≡ Some j → has_passed j.how ≡ true → j.unit ≡ Some unit → PassesOnce j all_judged
+  passes_once : (k : ℕ) (j : Judging) (unit : ℕ) → slice_get all_judged k ≡ Some j → has_passed j.how ≡ true → j.source ≡ InUnit unit → PassesOnce j all_judged
   passes_once k j unit there passed came =
-      all_by_place (λ (other : Judging). has_passed other.how && same_unit other.unit j.unit ≡ true → other.at ≡ j.at) all_judged
+      all_by_place (λ (other : Judging). has_passed other.how && same_unit (unit_in other.source) (unit_in j.source) ≡ true → other.at ≡ j.at) all_judged
       (λ l other here both.
-      let is = both_true (has_passed other.how) (same_unit other.unit j.unit) both in
-      let in_one : AreInUnit other.unit j.unit = in_unit other.unit j.unit is.1 in
-      ap (λ (one : Judging). one.at) (one_pass l k other j in_one.unit here there is.0 passed in_one.first in_one.second))
+      let is = both_true (has_passed other.how) (same_unit (unit_in other.source) (unit_in j.source)) both in
+      let in_one : AreInUnit (unit_in other.source) (unit_in j.source) = in_unit (unit_in other.source) (unit_in j.source) is.1 in
+      ap (λ (one : Judging). one.at) (one_pass l k other j in_one.unit here there is.0 passed
+      (came_in other.source in_one.unit in_one.first) (came_in j.source in_one.unit in_one.second)))
 
   -- the answer that was taken for a message
   pub judged_as : (place : ℕ) (message : MessageTaken) (unit : ℕ) → slice_get past.book.messages place ≡ Some message → message.reply ≡ Some unit → IsJudgedAs past message unit
@@ -295,7 +301,7 @@ module _ (past : Past) (known : IsProved past) (heard : AnswersAreHeard past) (c
       let found = first_found (answers message) all_judged at.place j at.there (are_answers message j is.request unit passed is.call of.came reply at.is.0) in
       let other : IsAnswerOf message found.item = answers_are message found.item found.passes in
       let request : other.call.unit ≡ is.request = some_is other.call.unit is.request (sym other.call.first ∙ is.call) in
-      let same : found.item ≡ j = one_pass found.place at.place found.item j is.request found.there at.there other.passed passed (other.call.second ∙ ap Some request) of.came in
+      let same : found.item ≡ j = one_pass found.place at.place found.item j is.request found.there at.there other.passed passed (came_in found.item.source is.request (other.call.second ∙ ap Some request)) of.came in
       let on : IsFound j.controller (computer_named j.asked) j.checks is.channel = passed_in j is.channel of.passed in
       record {
         in_reply = is;
@@ -319,8 +325,8 @@ module _ (past : Past) (known : IsProved past) (heard : AnswersAreHeard past) (c
 
   asks_at : (place : ℕ) (message : MessageTaken) (unit : ℕ) → slice_get past.book.messages place ≡ Some message → (judged_so : IsJudgedAs past message unit) → AsksForIt message judged_so.j
   asks_at place message unit there judged_so =
-      all_at (λ (j : Judging). (u : ℕ) → message.call ≡ Some u → j.unit ≡ Some u → AsksForIt message j) all_judged judged_so.place judged_so.j
-      (all_at (λ (m : MessageTaken). AllByRecursion (λ (j : Judging). (u : ℕ) → m.call ≡ Some u → j.unit ≡ Some u → AsksForIt m j) all_judged) past.book.messages place message heard.asks there)
+      all_at (λ (j : Judging). (u : ℕ) → message.call ≡ Some u → j.source ≡ InUnit u → AsksForIt message j) all_judged judged_so.place judged_so.j
+      (all_at (λ (m : MessageTaken). AllByRecursion (λ (j : Judging). (u : ℕ) → m.call ≡ Some u → j.source ≡ InUnit u → AsksForIt m j) all_judged) past.book.messages place message heard.asks there)
       judged_so.there judged_so.in_reply.request judged_so.in_reply.call judged_so.of.came
 
   -- what the member told of it

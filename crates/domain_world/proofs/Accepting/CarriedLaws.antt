@@ -17,7 +17,7 @@ use Rattle.logon_stubs.specs.declared.calls.LogonCall.{LogonCall}
 use Rattle.channel_events.specs.Marks.{Mark, Plain, Opening, Opened, Calling, ReplyTo}
 use Rattle.step_notes.specs.Judged.{passed_channel}
 use Rattle.step_notes.specs.Marking.{clashes, is_channel, mark_channel, sent_channel}
-use Rattle.step_notes.specs.Records.{CallTaken, JudgedCall, Judging, MessageTaken, Network, RequesterId, Sent}
+use Rattle.step_notes.specs.Records.{CallTaken, InUnit, JudgedCall, Judging, MessageTaken, Network, RequesterId, Sent, Source, unit_in}
 use Rattle.step_notes.specs.ReplySends.{IsReplyOfCall}
 use Rattle.world_moves.specs.declared.bag.BagUnit.{BagUnit}
 use Rattle.domain_world.specs.Accepting.Answered.{AsksForIt, IsAnsweredIn, IsItsWay, MarksHaveTheirWay, PassesAreUnclashed}
@@ -91,15 +91,15 @@ module _ (past : Past) where
       let units : is.whole.unit ≡ also.whole.unit = carried_units n is.carrier also.carrier is.whole also.whole is.there also.there in
       asked_is one.asked other.asked (sym is.carried ∙ ap (λ (u : RpcUnit). call_carried u.body) units ∙ also.carried)
 
-  judged_at : JudgedAsCarried past → (k : ℕ) (j : Judging) (n : ℕ) → slice_get past.book.judged k ≡ Some j → j.unit ≡ Some n → IsJudgedAsCarried past j n
-  judged_at judged k j n there came = all_at (λ (one : Judging). (u : ℕ) → one.unit ≡ Some u → IsJudgedAsCarried past one u) past.book.judged k j judged there n came
+  judged_at : JudgedAsCarried past → (k : ℕ) (j : Judging) (n : ℕ) → slice_get past.book.judged k ≡ Some j → j.source ≡ InUnit n → IsJudgedAsCarried past j n
+  judged_at judged k j n there came = all_at (λ (one : Judging). (u : ℕ) → one.source ≡ InUnit u → IsJudgedAsCarried past one u) past.book.judged k j judged there n came
 
-  heard_alike : JudgedAsCarried past → AllByRecursion (λ (one : Judging). AllByRecursion (λ (other : Judging). (unit : ℕ) → one.unit ≡ Some unit → other.unit ≡ Some unit →
+  heard_alike : JudgedAsCarried past → AllByRecursion (λ (one : Judging). AllByRecursion (λ (other : Judging). (unit : ℕ) → one.source ≡ InUnit unit → other.source ≡ InUnit unit →
       one.asked ≡ other.asked) past.book.judged) past.book.judged
   heard_alike judged =
-      all_by_place (λ (one : Judging). AllByRecursion (λ (other : Judging). (unit : ℕ) → one.unit ≡ Some unit → other.unit ≡ Some unit → one.asked ≡ other.asked) past.book.judged)
+      all_by_place (λ (one : Judging). AllByRecursion (λ (other : Judging). (unit : ℕ) → one.source ≡ InUnit unit → other.source ≡ InUnit unit → one.asked ≡ other.asked) past.book.judged)
       past.book.judged
-      (λ k one at. all_by_place (λ (other : Judging). (unit : ℕ) → one.unit ≡ Some unit → other.unit ≡ Some unit → one.asked ≡ other.asked) past.book.judged
+      (λ k one at. all_by_place (λ (other : Judging). (unit : ℕ) → one.source ≡ InUnit unit → other.source ≡ InUnit unit → one.asked ≡ other.asked) past.book.judged
       (λ l other also unit came too. same_call unit one other (judged_at judged k one unit at came) (judged_at judged l other unit also too)))
 
   -- ---- what is asked is what the message asks
@@ -113,12 +113,12 @@ module _ (past : Past) where
       record { call = called.logon; is = sym same; info = called.info; level = called.level }
 
   asks_for : JudgedAsCarried past → MessagesAreCalled past →
-      AllByRecursion (λ (message : MessageTaken). AllByRecursion (λ (j : Judging). (unit : ℕ) → message.call ≡ Some unit → j.unit ≡ Some unit → AsksForIt message j) past.book.judged)
+      AllByRecursion (λ (message : MessageTaken). AllByRecursion (λ (j : Judging). (unit : ℕ) → message.call ≡ Some unit → j.source ≡ InUnit unit → AsksForIt message j) past.book.judged)
       past.book.messages
   asks_for judged called =
-      all_by_place (λ (message : MessageTaken). AllByRecursion (λ (j : Judging). (unit : ℕ) → message.call ≡ Some unit → j.unit ≡ Some unit → AsksForIt message j) past.book.judged)
+      all_by_place (λ (message : MessageTaken). AllByRecursion (λ (j : Judging). (unit : ℕ) → message.call ≡ Some unit → j.source ≡ InUnit unit → AsksForIt message j) past.book.judged)
       past.book.messages
-      (λ k message at. all_by_place (λ (j : Judging). (unit : ℕ) → message.call ≡ Some unit → j.unit ≡ Some unit → AsksForIt message j) past.book.judged
+      (λ k message at. all_by_place (λ (j : Judging). (unit : ℕ) → message.call ≡ Some unit → j.source ≡ InUnit unit → AsksForIt message j) past.book.judged
       (λ l j also unit call came. asked_as message j unit
       (all_at (λ (m : MessageTaken). (n : ℕ) → m.call ≡ Some n → IsCalledFor past m n) past.book.messages k message called at unit call) (judged_at judged l j unit also came)))
 
@@ -157,7 +157,7 @@ module _ (past : Past) where
 
   module _ (whole : MarkedUnitsAreWhole past) (way : MarksHaveTheirWay past) (judged : JudgedAsCarried past) (passes : PassesAreUnclashed past)
       (replies : RepliesCarryTheirJudgement past) (numbers : CallsHaveNumbers past) (clear : past.book.clash ≡ false) where
-    requested_in : (found : Option Sent) (k : ℕ) (channel : ChannelIdentity) (j : Judging) (request number : ℕ) → slice_get past.book.judged k ≡ Some j → j.unit ≡ Some request →
+    requested_in : (found : Option Sent) (k : ℕ) (channel : ChannelIdentity) (j : Judging) (request number : ℕ) → slice_get past.book.judged k ≡ Some j → j.source ≡ InUnit request →
         slice_get past.book.sent request ≡ found → not (is_channel (sent_channel found) channel) ≡ false → j.number ≡ number → IsRequested channel number request
     requested_in None k channel j request number at came there on numbered = absurd (let x = on in cc)
     requested_in (Some one) k channel j request number at came there on numbered =
@@ -168,10 +168,10 @@ module _ (past : Past) where
     pub requested : (k : ℕ) (channel : ChannelIdentity) (j : Judging) (request number : ℕ) (bytes : List ℕ) → slice_get past.book.judged k ≡ Some j → IsReplyOfCall channel number request j bytes →
         IsRequested channel number request
     requested k channel j request number bytes at reply =
-        let free : clashes (passed_channel j) j.unit past.book.sent ≡ false =
-        all_at (λ (one : Judging). clashes (passed_channel one) one.unit past.book.sent ≡ false) past.book.judged k j (passes clear) at in
+        let free : clashes (passed_channel j) (unit_in j.source) past.book.sent ≡ false =
+        all_at (λ (one : Judging). clashes (passed_channel one) (unit_in one.source) past.book.sent ≡ false) past.book.judged k j (passes clear) at in
         requested_in (slice_get past.book.sent request) k channel j request number at reply.came refl
-        (sym (ap (λ (u : Option ℕ). clashes (passed_channel j) u past.book.sent) reply.came
+        (sym (ap (λ (from : Source). clashes (passed_channel j) (unit_in from) past.book.sent) reply.came
         ∙ ap (λ (c : Option ChannelIdentity). clashes c (Some request) past.book.sent) reply.passed) ∙ free)
         reply.call
 

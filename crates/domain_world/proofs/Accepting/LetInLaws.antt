@@ -27,7 +27,7 @@ use Rattle.channel_turns.specs.declared.state.TurnTalk.{TurnTalk}
 use Rattle.member_server.proofs.KeptLaws.{lets_in_the_granted}
 use Rattle.channel_events.specs.Marks.{OneOf}
 use Rattle.step_notes.specs.MemberNotes.{link_units, message_note, taken_link, turn_units, turn_units_by, turn_units_in, turn_units_on}
-use Rattle.step_notes.specs.Records.{Book, MessageTaken, OutcomeTold, blank}
+use Rattle.step_notes.specs.Records.{Book, InUnit, MessageTaken, OutcomeTold, Outside, Source, blank, unit_in}
 use Rattle.step_notes.specs.Served.{units_if_taken}
 use Rattle.world_moves.specs.declared.links.EndId.{EndId}
 use Rattle.world_moves.specs.declared.links.EndId.TheVariants.{Controller, Member, Client}
@@ -64,9 +64,9 @@ abbrev pub IsCarried : Option ℕ → List Route → ℕ → Type 0
 IsCarried None links link = (member : ℕ) → IsDialledBy links member link → ⊥
 IsCarried (Some unit) links link = Unit {0}
 
-carried_from : (unit : Option ℕ) (s : State) (w : Coming) (piece : List ℕ) → CameFrom unit s w piece → IsCarried unit s.links w.link
-carried_from None s w piece came = λ member dialled. came member dialled.controller dialled.at
-carried_from (Some number) s w piece came = tt
+carried_from : (source : Source) (s : State) (w : Coming) (piece : List ℕ) → CameFrom source s w piece → IsCarried (unit_in source) s.links w.link
+carried_from Outside s w piece came = λ member dialled. came member dialled.controller dialled.at
+carried_from (InUnit number) s w piece came = tt
 
 turn_none_by : (hit : Bool) (Own : ℕ → Type 0) (other : ℕ) (said : LinkState TurnTalk) (link : ℕ) (piece : List ℕ) (running : Running) (left : List (List ℕ)) → (other == link) ≡ hit →
     Own other → (Own link → ⊥) → turn_units_by hit said link piece running left ≡ []
@@ -262,7 +262,7 @@ heard_goes w b later s given end heard old kept known grows told = record {
 }
 
 member_goes : (m : MemberState) (member : ℕ) (w : Coming) (piece : List ℕ) (s after : State) (given : Given) (b : Book) → slice_get s.ends.members member ≡ Some m →
-    IsCarried w.unit s.links w.link → IsKept w.at (Some w) (ends_in s) given b →
+    IsCarried (unit_in w.source) s.links w.link → IsKept w.at (Some w) (ends_in s) given b →
     let heard : Heard = heard_by (member_step (Some m) member (event.Bytes w.link piece) s.moment s.ends s.chances) s in
     IsKept w.at (Some w) (ends_in heard.state) (given ++ given_by (Member member) heard.actions) (note_member (Some m) member w piece s after b)
 member_goes m member w piece s after given b is carries kept =
@@ -277,11 +277,11 @@ member_goes m member w piece s after given b is carries kept =
     let own : ℕ → Type 0 = λ number. IsDialledBy s.links member number in
     let mine : KeptIn (HasFor (late member) w.at member b.messages) own m.running = kept.keeps.each member m is in
     let accepted : LinksIn (λ number p. IsAcceptedBy s.links member number) m.running = kept.keeps.accepts member m is in
-    let all : AreCarried w.unit units = carried w.unit (HasFor (late member) w.at member b.messages) s.links member m w.link piece s.moment s.chances.left carries mine in
+    let all : AreCarried (unit_in w.source) units = carried (unit_in w.source) (HasFor (late member) w.at member b.messages) s.links member m w.link piece s.moment s.chances.left carries mine in
     let noted : (k place : ℕ) (logon : Logon) → HasFor (late k) w.at k b.messages place logon → HasFor (late k) w.at k first.messages place logon = λ k place logon one.
     one_before (IsFor (late k) w.at k place logon) b.messages more one in
     let grown : (k place : ℕ) (logon : Logon) → HasFor (late k) w.at k first.messages place logon → HasFor (late k) w.at k later.messages place logon = λ k place logon one.
-    notes_grow (IsFor (late k) w.at k place logon) (for_stable (late k) w.at k place logon) controller units w.unit numbers first all one in
+    notes_grow (IsFor (late k) w.at k place logon) (for_stable (late k) w.at k place logon) controller units (unit_in w.source) numbers first all one in
     let stepped : KeptIn (HasFor (late member) w.at member later.messages) own new.running =
     kept_so (HasFor (late member) w.at member first.messages) (HasFor (late member) w.at member later.messages) own own (grown member) (λ number dialled. dialled) new.running
     (bytes_keep (λ number. IsAcceptedBy s.links member number) own (at_member member w s) m piece s.moment s.chances.left b.messages accepted mine) in
@@ -291,12 +291,12 @@ member_goes m member w piece s after given b is carries kept =
     stepped
     (took_known (λ number. IsAcceptedBy s.links member number) (flat_map (taken_link (at_member member w s)) (link_units m w.link piece s.moment s.chances.left)) new.running
     (bytes_took (λ number. IsAcceptedBy s.links member number) (at_member member w s) m piece s.moment s.chances.left accepted)))
-    (running_known m.running w.at member s.links b.messages w.link piece m s.moment s.chances.left controller numbers first w.unit refl carries (noted member) mine)
+    (running_known m.running w.at member s.links b.messages w.link piece m s.moment s.chances.left controller numbers first (unit_in w.source) refl carries (noted member) mine)
     (λ told known.
-    notes_grow (IsLetInBy told) (let_in_stable told) controller units w.unit numbers first all (one_before (IsLetInBy told) b.messages more known))
-    (turns_told controller units w.unit numbers first)
+    notes_grow (IsLetInBy told) (let_in_stable told) controller units (unit_in w.source) numbers first all (one_before (IsLetInBy told) b.messages more known))
+    (turns_told controller units (unit_in w.source) numbers first)
 
-end_goes : (end : EndId) (w : Coming) (piece : List ℕ) (s after : State) (given : Given) (b : Book) → IsCarried w.unit s.links w.link → IsKept w.at (Some w) (ends_in s) given b →
+end_goes : (end : EndId) (w : Coming) (piece : List ℕ) (s after : State) (given : Given) (b : Book) → IsCarried (unit_in w.source) s.links w.link → IsKept w.at (Some w) (ends_in s) given b →
     let heard : Heard = hear end (event.Bytes w.link piece) s in IsKept w.at (Some w) (ends_in heard.state) (given ++ given_by end heard.actions) (note_at (Some end) w piece s after b)
 end_goes end w piece s after given b carries kept =
     noted_by (λ (one : EndId) (step : EndStep) (now : Book). IsKept w.at (Some w) (ends_in (heard_by step s).state) (given ++ given_by one step.actions) now) w piece s after b
@@ -324,7 +324,7 @@ kept_on = record {
         (nobody_so (IsKnown at b.messages) _ (end_silent (acceptor_of route) (event.Opened (length s.links)) (with_link route s) tt));
   };
   begins = λ at client plan s b is kept. record { keeps = kept.keeps; known = kept.known; let_in = others_tell (IsKnown at b.messages) (Client client) refl (begun client plan s).actions };
-  comes = λ end w piece s given b side came kept. end_goes end w piece s (hear_and_act end (event.Bytes w.link piece) s).state given b (carried_from w.unit s w piece came) kept;
+  comes = λ end w piece s given b side came kept. end_goes end w piece s (hear_and_act end (event.Bytes w.link piece) s).state given b (carried_from w.source s w piece came) kept;
   renews = λ at end s b kept. record { keeps = renewed_keeps NotLate at b.messages end s kept.keeps; known = kept.known; let_in = kept.let_in };
   over = λ at on next s given b kept. record {
     keeps = later_keeps (Late on) (Late next) at b.messages s.ends.members s.links kept.keeps;

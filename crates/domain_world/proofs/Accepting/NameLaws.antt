@@ -18,7 +18,7 @@ use Rattle.member_server.specs.declared.state.Logon.{Logon}
 use Rattle.channel_events.specs.Marks.{OneOf}
 use Rattle.step_notes.specs.ControllerNotes.{has_passed}
 use Rattle.logon_stubs.specs.declared.calls.LogonCall.{LogonCall}
-use Rattle.step_notes.specs.Records.{Judging, MessageTaken, OutcomeTold}
+use Rattle.step_notes.specs.Records.{InUnit, Judging, MessageTaken, OutcomeTold}
 use Rattle.step_notes.specs.ReplySends.{IsReplyOfCall, verdict_passed}
 use Rattle.world_moves.specs.Counting.{is_in}
 use Rattle.domain_world.specs.Accepting.Answered.{AnswersAreHeard, AsksForIt, IsAnsweredIn, IsLetInAsRead, IsProved, outcome_read, verdict_read}
@@ -58,8 +58,8 @@ module _ (past : Past) (known : IsProved past) (heard : AnswersAreHeard past) (c
       let of : IsReplyOfCall answered.channel answered.number answered.request j carrier.0.bytes = at.is.1 in
       let passed : has_passed j.how ≡ true = passed_of (has_passed j.how) j answered.channel refl of.passed in
       let asks : AsksForIt message j =
-      all_at (λ (i : Judging). (u : ℕ) → message.call ≡ Some u → i.unit ≡ Some u → AsksForIt message i) past.book.judged at.place j
-      (all_at (λ (m : MessageTaken). AllByRecursion (λ (i : Judging). (u : ℕ) → m.call ≡ Some u → i.unit ≡ Some u → AsksForIt m i) past.book.judged) past.book.messages place message heard.asks there)
+      all_at (λ (i : Judging). (u : ℕ) → message.call ≡ Some u → i.source ≡ InUnit u → AsksForIt message i) past.book.judged at.place j
+      (all_at (λ (m : MessageTaken). AllByRecursion (λ (i : Judging). (u : ℕ) → m.call ≡ Some u → i.source ≡ InUnit u → AsksForIt m i) past.book.judged) past.book.messages place message heard.asks there)
       at.there answered.request answered.call of.came in
       let c : LogonCall = asks.call in
       let outcome : told.outcome ≡ outcome_read answered.channel j message c =

@@ -16,7 +16,7 @@ use Rattle.member_server.specs.declared.state.Phase.TheVariants as phase
 use Rattle.member_server.specs.declared.state.Talk.{Talk}
 use Rattle.channel_turns.specs.declared.state.TurnTalk.{TurnTalk}
 use Rattle.step_notes.specs.MemberNotes.{LinkAt, is_challenged, link_if, link_of_place, link_units, message_after, message_at, message_by, message_kept, message_note, taken_after, taken_by, taken_link, turn_units, TurnNote}
-use Rattle.step_notes.specs.Records.{Book, MessageTaken}
+use Rattle.step_notes.specs.Records.{Book, MessageTaken, unit_in}
 use Rattle.step_notes.specs.Served.{work_after, talk_after}
 use Rattle.world_moves.specs.declared.links.EndId.{EndId}
 use Rattle.world_moves.specs.declared.moves.Move.{Move}
@@ -170,7 +170,7 @@ turns_among controller units unit numbers b among =
 member_among : (m : MemberState) (at : ℕ) (w : Coming) (piece : List ℕ) (s after : State) (b : Book) → AreAmong b → AreAmong (note_member (Some m) at w piece s after b)
 member_among m at w piece s after b among =
     let units = link_units m w.link piece s.moment s.chances.left in
-    turns_among (controller_of at s) (turn_units m w.link piece s.moment s.chances.left) w.unit (numbers_on w.link false s.bag after.bag) (note_messages at m w piece s b)
+    turns_among (controller_of at s) (turn_units m w.link piece s.moment s.chances.left) (unit_in w.source) (numbers_on w.link false s.bag after.bag) (note_messages at m w piece s b)
     (subst (λ (links : List ℕ). Among links (b.taken ++ flat_map (taken_link (at_member at w s)) units)) (sym (links_append b.messages (flat_map (message_note (at_member at w s)) units)))
     (among_append (links_in b.messages) b.taken (links_in (flat_map (message_note (at_member at w s)) units)) (flat_map (taken_link (at_member at w s)) units) among
     (units_among (at_member at w s) units)))

@@ -13,7 +13,7 @@ use Rattle.member_server.specs.State.{State as MemberState}
 use Rattle.member_server.specs.declared.plan.MemberPlan.{MemberPlan}
 use Rattle.member_server.specs.declared.state.Phase.{Phase}
 use Rattle.step_notes.specs.MemberNotes.{link_units, taken_link, turn_units}
-use Rattle.step_notes.specs.Records.{Book}
+use Rattle.step_notes.specs.Records.{Book, unit_in}
 use Rattle.world_moves.specs.declared.links.EndId.TheVariants.{Member}
 use Rattle.world_moves.specs.declared.links.Route.{Route}
 use Rattle.world_moves.specs.declared.moves.Move.{Move}
@@ -161,7 +161,7 @@ member_bytes m at w piece s after b is kept =
     let new : MemberState = (step_of m (event.Bytes w.link piece) s.moment s.chances.left).state in
     let more : List ℕ = flat_map (taken_link (at_member at w s)) (link_units m w.link piece s.moment s.chances.left) in
     subst (λ (all : List ℕ). IsTakenOnce all (slice_set s.ends.members at new) s.links)
-    (sym (turns_taken (controller_of at s) (turn_units m w.link piece s.moment s.chances.left) w.unit (numbers_on w.link false s.bag after.bag) (note_messages at m w piece s b)))
+    (sym (turns_taken (controller_of at s) (turn_units m w.link piece s.moment s.chances.left) (unit_in w.source) (numbers_on w.link false s.bag after.bag) (note_messages at m w piece s b)))
     (member_took b.taken more s.ends.members s.links at new kept
     (bytes_took (λ link. MayTake b.taken s.links at link) (at_member at w s) m piece s.moment s.chances.left (kept.each at m is)))
 

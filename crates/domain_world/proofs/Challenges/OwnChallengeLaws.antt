@@ -23,7 +23,7 @@ use Rattle.member_server.specs.Machine.{fresh_member, step_of}
 use Rattle.member_server.specs.State.{State as MemberState}
 use Rattle.channel_events.specs.Marks.{OneOf}
 use Rattle.step_notes.specs.MemberNotes.{LinkAt, TurnNote, challenge_note, link_of_place, link_units, message_note, taken_link, turn_units}
-use Rattle.step_notes.specs.Records.{Book, ChallengeSent, MessageTaken, blank}
+use Rattle.step_notes.specs.Records.{Book, ChallengeSent, MessageTaken, blank, unit_in}
 use Rattle.world_moves.specs.declared.links.EndId.TheVariants.{Member}
 use Rattle.world_moves.specs.declared.links.Route.{Route}
 use Rattle.world_moves.specs.declared.moves.Move.{Move}
@@ -287,7 +287,7 @@ member_heard m at w piece s after b is kept =
     (λ (notes : Notes).
     AreOwn notes (slice_set s.ends.members at (step_of m (event.Bytes w.link piece) s.moment s.chances.left).state)
     (s.chances.drawn ++ (step_of m (event.Bytes w.link piece) s.moment s.chances.left).drawn) s.links)
-    (sym (turns_notes (controller_of at s) (turn_units m w.link piece s.moment s.chances.left) w.unit (numbers_on w.link false s.bag after.bag) (note_messages at m w piece s b)))
+    (sym (turns_notes (controller_of at s) (turn_units m w.link piece s.moment s.chances.left) (unit_in w.source) (numbers_on w.link false s.bag after.bag) (note_messages at m w piece s b)))
     (messages_heard m at w piece s b is kept)
 
 -- ---- a run

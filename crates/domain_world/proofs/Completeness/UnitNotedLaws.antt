@@ -3,7 +3,7 @@
 use Rattle.std.proofs.Common.{◌≡◌, ℕ, ◌≤◌, ◌<◌, List, length, Option, Some, ap, ◌∙◌, slice_get}
 use Rattle.wire_base.specs.Maps.{lookup, same_number}
 use Rattle.outside.specs.declared.event.Event.TheVariants as event
-use Rattle.step_notes.specs.Records.{Book}
+use Rattle.step_notes.specs.Records.{Book, InUnit}
 use Rattle.world_moves.specs.declared.bag.BagUnit.{BagUnit}
 use Rattle.world_moves.specs.declared.links.EndId.{EndId}
 use Rattle.world_moves.specs.declared.links.OpenLink.{OpenLink}
@@ -19,7 +19,7 @@ use Rattle.logon_runs.proofs.Seen.WaitingLaws.{comes_by, one_piece, set_there, s
 use Rattle.domain_world.specs.Past.{Coming, note_at, note_coming, note_onward, note_own, note_pieces, note_unit}
 
 abbrev pub coming : ℕ → ℕ → BagUnit → Coming
-coming k number unit = record { at = k; unit = Some number; link = unit.link; back = unit.back }
+coming k number unit = record { at = k; source = InUnit number; link = unit.link; back = unit.back }
 
 abbrev pub state_then : EndId → BagUnit → ℕ → State → State
 state_then end unit number s = (hear_and_act end (event.Bytes unit.link unit.bytes) (settle number s)).state

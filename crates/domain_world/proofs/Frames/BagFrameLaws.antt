@@ -13,7 +13,7 @@ use Rattle.member_server.specs.State.{State as MemberState}
 use Rattle.channel_events.specs.Marks.{Mark, Plain}
 use Rattle.step_notes.specs.Marking.{answered_marks, turn_marks}
 use Rattle.step_notes.specs.MemberNotes.{turn_note, turn_units}
-use Rattle.step_notes.specs.Records.{Book, Sent, blank}
+use Rattle.step_notes.specs.Records.{Book, Sent, blank, unit_in}
 use Rattle.world_moves.specs.declared.bag.BagUnit.{BagUnit}
 use Rattle.world_moves.specs.declared.links.EndId.{EndId}
 use Rattle.world_moves.specs.declared.links.EndId.TheVariants.{Controller, Member, Client}
@@ -226,9 +226,9 @@ module _ {X : Type 0} (part : Book → X) (Side : X → Fact) (P : UnitFact X) (
       let after : State = (done (Member at) heard).state in
       let now : X = part (note_member (Some m) at w piece s after b) in
       let more : IsMore s.links s.bag after.links after.bag = actions_stay (MoreOf s.links s.bag) (goes_on s.links s.bag) (Member at) heard.actions heard.state (no_more s.links s.bag) in
-      let old : List Sent = (note_turns (controller_of at s) (turn_units m w.link piece s.moment s.chances.left) w.unit (numbers_on w.link false s.bag after.bag) (note_messages at m w piece s b)).sent in
+      let old : List Sent = (note_turns (controller_of at s) (turn_units m w.link piece s.moment s.chances.left) (unit_in w.source) (numbers_on w.link false s.bag after.bag) (note_messages at m w piece s b)).sent in
       let same : old ≡ b.sent =
-      turns_sent (controller_of at s) (turn_units m w.link piece s.moment s.chances.left) w.unit (numbers_on w.link false s.bag after.bag) (note_messages at m w piece s b) in
+      turns_sent (controller_of at s) (turn_units m w.link piece s.moment s.chances.left) (unit_in w.source) (numbers_on w.link false s.bag after.bag) (note_messages at m w piece s b) in
       subst (λ (sent : List Sent). IsMarked P now after.bag (sent ++ map (sent_at w.at) (marks_of w.link false (drop (length s.bag) after.bag) (member_marks at m w piece s)))) (sym same)
       (marked_more (part b) now s after.bag b.sent w.link false (member_marks at m w piece s) w.at more.units more.is grows
       (λ place unit mark there marked. stays.members m at w piece s b is side hears before.all more.units more.is more.on place unit mark there marked) before)

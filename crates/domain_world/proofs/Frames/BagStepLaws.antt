@@ -36,7 +36,7 @@ BookFact = List BagUnit → Book → Type 0
 -- mark before, where a controller or a member hears them.
 pub record BagKeeps {X : Type 0} (Holds : RunFact) (part : Book → X) (Side : X → Fact) (Fits : BookFact) : Type 0 where
   pub still : (old bag : List BagUnit) (b : Book) → StillHas old bag → Fits old b → Fits bag b
-  pub comes : (n : ℕ) (end : EndId) (w : Coming) (piece : List ℕ) (s : State) (given : Given) (b : Book) → IsAtSide s.links w.link w.back end → CameFrom w.unit s w piece → AreBytes piece →
+  pub comes : (n : ℕ) (end : EndId) (w : Coming) (piece : List ℕ) (s : State) (given : Given) (b : Book) → IsAtSide s.links w.link w.back end → CameFrom w.source s w piece → AreBytes piece →
       (IsServer end → length b.sent ≡ length s.bag) → Holds n s given b → HoldsIn (Side (part b)) s → Fits s.bag b →
       Fits (hear_and_act end (event.Bytes w.link piece) s).state.bag (note_at (Some end) w piece s (hear_and_act end (event.Bytes w.link piece) s).state b)
   pub over : (at : ℕ) (given : Given) (s : State) (b : Book) → Fits s.bag b → Fits s.bag (note_given at given s b)

@@ -20,6 +20,7 @@ use Rattle.world_moves.specs.Links.{OpenMap, dialler_of, handed_links, is_handed
 use Rattle.world_moves.specs.Moving.{act, route_to}
 use Rattle.world_moves.specs.World.{World, happens, run}
 use Rattle.domain_world.specs.Past.{Coming}
+use Rattle.step_notes.specs.Records.{InUnit, Outside, Source}
 use Rattle.channel_events.proofs.ListLaws.{got_append, got_nothing}
 use Rattle.world_moves.proofs.LinkFrameLaws.{IsOnLink, LinkFact, StaysAlways, StaysOnLinks, move_stays}
 use Rattle.domain_world.proofs.Frames.MarkPlaceLaws.{SettledOr, got_beside, got_settled, later_or, settled_length}
@@ -39,9 +40,9 @@ pub record IsPieceOf (s : State) (number : ℕ) (w : Coming) (piece : List ℕ) 
 abbrev pub IsFromOutside : List Route → ℕ → Type 0
 IsFromOutside links link = (member controller : ℕ) → slice_get links link ≡ Some (ToController member controller) → ⊥
 
-abbrev pub CameFrom : Option ℕ → State → Coming → List ℕ → Type 0
-CameFrom None s w piece = IsFromOutside s.links w.link
-CameFrom (Some number) s w piece = IsPieceOf s number w piece
+abbrev pub CameFrom : Source → State → Coming → List ℕ → Type 0
+CameFrom Outside s w piece = IsFromOutside s.links w.link
+CameFrom (InUnit number) s w piece = IsPieceOf s number w piece
 
 -- ---- places of the items that pass
 

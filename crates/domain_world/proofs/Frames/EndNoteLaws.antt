@@ -10,7 +10,7 @@ use Rattle.logon_client.specs.Machine.{step_of as client_step_of}
 use Rattle.member_server.specs.State.{State as MemberState}
 use Rattle.member_server.specs.Machine.{step_of as member_step_of}
 use Rattle.step_notes.specs.MemberNotes.{turn_units}
-use Rattle.step_notes.specs.Records.{Book, Judging, MessageMade, MessageTaken}
+use Rattle.step_notes.specs.Records.{Book, Judging, MessageMade, MessageTaken, unit_in}
 use Rattle.world_moves.specs.declared.links.EndId.{EndId}
 use Rattle.world_moves.specs.declared.links.EndId.TheVariants.{Controller, Member, Client}
 use Rattle.world_moves.specs.declared.state.State.{State}
@@ -136,7 +136,7 @@ judgings_of b = b.judged
 pub judged_so : OfControllers judgings_of
 judged_so = record {
   members = λ m at w piece s after b.
-      turns_judged (controller_of at s) (turn_units m w.link piece s.moment s.chances.left) w.unit (numbers_on w.link false s.bag after.bag) (note_messages at m w piece s b);
+      turns_judged (controller_of at s) (turn_units m w.link piece s.moment s.chances.left) (unit_in w.source) (numbers_on w.link false s.bag after.bag) (note_messages at m w piece s b);
   clients = λ c at w piece s b. refl;
 }
 
@@ -159,19 +159,19 @@ pub made_so : OfClients made_in
 made_so = record {
   controllers = λ c at w piece s after b. refl;
   members = λ m at w piece s after b.
-      turns_made (controller_of at s) (turn_units m w.link piece s.moment s.chances.left) w.unit (numbers_on w.link false s.bag after.bag) (note_messages at m w piece s b);
+      turns_made (controller_of at s) (turn_units m w.link piece s.moment s.chances.left) (unit_in w.source) (numbers_on w.link false s.bag after.bag) (note_messages at m w piece s b);
 }
 
 -- ---- parts that bytes don't change
 
 pub turns_leave : MembersLeave (λ (b : Book). b.turns)
 turns_leave m at w piece s after b =
-    units_turns (controller_of at s) (turn_units m w.link piece s.moment s.chances.left) w.unit (numbers_on w.link false s.bag after.bag) (note_messages at m w piece s b)
+    units_turns (controller_of at s) (turn_units m w.link piece s.moment s.chances.left) (unit_in w.source) (numbers_on w.link false s.bag after.bag) (note_messages at m w piece s b)
 
 pub bytes_told : (end : EndId) (w : Coming) (piece : List ℕ) (s after : State) (b : Book) → (note_at (Some end) w piece s after b).told ≡ b.told
 bytes_told end w piece s after b =
     book_by (λ (one : EndId) (now : Book). now.told ≡ b.told) w piece s after b (λ one. refl) (λ at c is. refl)
-    (λ at m is. turns_told (controller_of at s) (turn_units m w.link piece s.moment s.chances.left) w.unit (numbers_on w.link false s.bag after.bag) (note_messages at m w piece s b))
+    (λ at m is. turns_told (controller_of at s) (turn_units m w.link piece s.moment s.chances.left) (unit_in w.source) (numbers_on w.link false s.bag after.bag) (note_messages at m w piece s b))
     (λ at c is. refl) end
 
 pub bytes_turns : (end : EndId) (w : Coming) (piece : List ℕ) (s after : State) (b : Book) → (note_at (Some end) w piece s after b).turns ≡ b.turns

@@ -12,7 +12,7 @@ use Rattle.outside.specs.declared.action.Action.{Action}
 use Rattle.outside.specs.declared.event.Event.TheVariants as event
 use Rattle.logon_client.specs.declared.plan.ClientPlan.{ClientPlan}
 use Rattle.channel_events.specs.Marks.{OneOf}
-use Rattle.step_notes.specs.Records.{Book, blank}
+use Rattle.step_notes.specs.Records.{Book, InUnit, Outside, blank}
 use Rattle.world_moves.specs.declared.bag.BagUnit.{BagUnit}
 use Rattle.world_moves.specs.declared.links.EndId.{EndId}
 use Rattle.world_moves.specs.declared.links.EndId.TheVariants.{Client}
@@ -102,7 +102,7 @@ pub record KeepsMoves (Known : Type 0) (Side Holds : MoveFact) : Type 0 where
       IsHeard Holds n (waiting at None) end (hear end event.DialFailed s) [] b
   pub begins : (n at client : ℕ) (plan : ClientPlan) (s : State) (b : Book) → slice_get s.client_plans client ≡ Some plan → Side n (waiting at None) s [] b →
       Holds n (waiting at None) s [] b → IsHeard Holds n (waiting at None) (Client client) (begun client plan s) [] b
-  pub comes : (n : ℕ) (end : EndId) (w : Coming) (piece : List ℕ) (s : State) (given : Given) (b : Book) → IsAtSide s.links w.link w.back end → CameFrom w.unit s w piece →
+  pub comes : (n : ℕ) (end : EndId) (w : Coming) (piece : List ℕ) (s : State) (given : Given) (b : Book) → IsAtSide s.links w.link w.back end → CameFrom w.source s w piece →
       (Known → AreBytes piece) → Side n (coming w) s given b → Holds n (coming w) s given b →
       let after : State = (hear_and_act end (event.Bytes w.link piece) s).state in
       IsHeard Holds n (record (coming w) { to = Some after }) end (hear end (event.Bytes w.link piece) s) given (note_at (Some end) w piece s after b)
@@ -394,7 +394,7 @@ module _ (Known : Type 0) (Holds : MoveFact) (keeps : KeepsMoves Known NoSide Ho
   -- ---- bytes come
 
   piece_part : (end : Option EndId) (w : Coming) (piece : List ℕ) (n : ℕ) (s : State) (given : Given) (b : Book) → hearer_of w.back (lookup same_number w.link s.open_links) ≡ end →
-      CameFrom w.unit s w piece → (Known → AreBytes piece) → IsPlaced s → Holds n (coming w) s given b →
+      CameFrom w.source s w piece → (Known → AreBytes piece) → IsPlaced s → Holds n (coming w) s given b →
       After (coming w) (n + 1 + 2 * length s.open_links) (hear_and_act_if end (event.Bytes w.link piece) s) given (note_at end w piece s (hear_and_act_if end (event.Bytes w.link piece) s).state b)
   piece_part None w piece n s given b is came bytes placed holds = nothing (coming w) (n + 1 + 2 * length s.open_links) n s given b holds (omega arith)
   piece_part (Some end) w piece n s given b is came bytes placed holds =
@@ -406,7 +406,7 @@ module _ (Known : Type 0) (Holds : MoveFact) (keeps : KeepsMoves Known NoSide Ho
       record { steps = all.steps; holds = keeps.reaches all.steps w after (given ++ (hear_and_act end (event.Bytes w.link piece) s).given) now tt all.holds; few = all.few }
 
   pieces_part : (w : Coming) (links : List Route) (old : List BagUnit) (pieces : List (List ℕ)) (n : ℕ) (s : State) (given : Given) (b : Book) →
-      ((later : State) (piece : List ℕ) → Since links old later.links later.open_links later.bag → OneOf (λ (one : List ℕ). one ≡ piece) pieces → CameFrom w.unit later w piece) →
+      ((later : State) (piece : List ℕ) → Since links old later.links later.open_links later.bag → OneOf (λ (one : List ℕ). one ≡ piece) pieces → CameFrom w.source later w piece) →
       ((piece : List ℕ) → OneOf (λ (one : List ℕ). one ≡ piece) pieces → Known → AreBytes piece) → Since links old s.links s.open_links s.bag → Holds n (coming w) s given b →
       After (coming w) (n + length pieces + 2 * length s.open_links) (pieces_come w.back w.link pieces s) given (note_pieces w pieces s b)
   pieces_part w links old [] n s given b came bytes since holds = nothing (coming w) (n + 0 + 2 * length s.open_links) n s given b holds (omega arith)
@@ -449,7 +449,7 @@ module _ (Known : Type 0) (Holds : MoveFact) (keeps : KeepsMoves Known NoSide Ho
       IsPlaced s → (Known → IsBytesBag s.bag) → HoldsFor n at s b → Moved n at s (come_by unit link s) (note_unit unit number link at s b)
   unit_part None number link n at s b is of placed have holds = unmoved n at s b placed holds
   unit_part (Some unit) number link n at s b is of placed have holds =
-      let w : Coming = record { at = at; unit = Some number; link = link; back = unit.back } in
+      let w : Coming = record { at = at; source = InUnit number; link = link; back = unit.back } in
       let start : Since s.links s.bag s.links s.open_links s.bag = record { same = refl; still = kept_same s.bag; placed = placed } in
       let all : After (coming w) (n + length (pieces_of unit.bytes) + 2 * length s.open_links) (come_by (Some unit) link s) [] (note_unit (Some unit) number link at s b) =
       pieces_part w s.links s.bag (pieces_of unit.bytes) n s [] b (λ later piece since one. same_piece number unit link at s later piece is (of unit refl) since one)
@@ -507,7 +507,7 @@ module _ (Known : Type 0) (Holds : MoveFact) (keeps : KeepsMoves Known NoSide Ho
       IsPlaced s → (Known → AreBytes piece) → HoldsFor n at s b → Moved n at s (hand_on link back piece s) (note_hand link back piece at s b)
   hand_part None back piece n at s b outside placed bytes holds = unmoved n at s b placed holds
   hand_part (Some link) back piece n at s b outside placed bytes holds =
-      let w : Coming = record { at = at; unit = None; link = link; back = back } in
+      let w : Coming = record { at = at; source = Outside; link = link; back = back } in
       let end : Option EndId = hearer_of back (lookup same_number link s.open_links) in
       let one : After (coming w) (n + 1 + 2 * length s.open_links) (hear_and_act_if end (event.Bytes link piece) s) [] (note_at end w piece s (hear_and_act_if end (event.Bytes link piece) s).state b) =
       piece_part end w piece n s [] b refl (outside link refl) bytes placed (holds (Some w)) in

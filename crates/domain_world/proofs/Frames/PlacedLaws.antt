@@ -17,6 +17,7 @@ use Rattle.world_moves.specs.Bag.{AreShortUnits, HaveBytes, pieces_of, settle_at
 use Rattle.world_moves.specs.Links.{OpenMap}
 use Rattle.world_moves.specs.World.{first_world}
 use Rattle.domain_world.specs.Past.{past}
+use Rattle.step_notes.specs.Records.{InUnit}
 use Rattle.channel_events.proofs.ListLaws.{got_nothing, some_is}
 use Rattle.world_moves.proofs.LinkFrameLaws.{StaysAlways, StaysOnLinks}
 use Rattle.domain_world.proofs.Frames.ComingLaws.{HaveKinds, IsLinkOf, IsPieceOf, IsStill, StillHas, kept_sent, kept_settled, kinds_sent, kinds_stay}
@@ -119,7 +120,7 @@ settled_link number link unit found s there of is =
 -- a piece of the unit as the bag was when it began to come is one of it now
 pub same_piece : (number : ℕ) (unit : BagUnit) (link at : ℕ) (s later : State) (piece : List ℕ) → slice_get s.bag number ≡ Some unit → IsLinkOf s.links link unit.kind →
     Since s.links s.bag later.links later.open_links later.bag → OneOf (λ (one : List ℕ). one ≡ piece) (pieces_of unit.bytes) →
-    IsPieceOf later number (record { at = at; unit = Some number; link = link; back = unit.back }) piece
+    IsPieceOf later number (record { at = at; source = InUnit number; link = link; back = unit.back }) piece
 same_piece number unit link at s later piece there of since one =
     let now : IsStill unit later.bag number = since.still number unit there in
     record {

@@ -60,7 +60,7 @@ pub record KeepsWith (Over : Type 0) (Side Holds : RunFact) (Fine : ActionFact) 
   pub begins : (n client : ℕ) (plan : ClientPlan) (s : State) (given : Given) (b : Book) → slice_get s.client_plans client ≡ Some plan → Side n s given b → Holds n s given b →
       HasHeard Holds Fine (n + 1) (Client client) (begun client plan s) given b
   -- each unit of the bag has its mark, where a controller or a member hears bytes
-  pub comes : (n : ℕ) (end : EndId) (w : Coming) (piece : List ℕ) (s : State) (given : Given) (b : Book) → IsAtSide s.links w.link w.back end → CameFrom w.unit s w piece → AreBytes piece →
+  pub comes : (n : ℕ) (end : EndId) (w : Coming) (piece : List ℕ) (s : State) (given : Given) (b : Book) → IsAtSide s.links w.link w.back end → CameFrom w.source s w piece → AreBytes piece →
       (IsServer end → length b.sent ≡ length s.bag) → Side n s given b → Holds n s given b →
       HasHeard Holds Fine (n + 1) end (hear end (event.Bytes w.link piece) s) given (note_at (Some end) w piece s (hear_and_act end (event.Bytes w.link piece) s).state b)
   -- an action is done: a unit goes into the bag, or a dial waits

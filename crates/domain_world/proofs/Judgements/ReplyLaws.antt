@@ -237,7 +237,7 @@ new_reply : (answer : Result (List Action) StepRefused) (c : ControllerState) (a
 new_reply (Err why) c at w piece s numbers place number bytes mark is marked sends numbered = absurd (got_nothing place bytes sends)
 new_reply (Ok actions) c at w piece s numbers place number bytes mark is marked sends numbered =
     all_placed number bytes mark (answers_of at c w piece s) (sends_in actions) numbers place
-    (replies_sent c w.at at w.unit w.link piece s.moment s.chances.left actions is) marked sends numbered
+    (replies_sent c w.at at w.source w.link piece s.moment s.chances.left actions is) marked sends numbered
 
 controller_new : (c : ControllerState) (at : ℕ) (w : Coming) (piece : List ℕ) (s after : State) (b : Book) (number : ℕ) (unit : BagUnit) (mark : Mark) →
     IsNewUnit w.link true (actions_by (step_of c (event.Bytes w.link piece) s.moment s.chances.left).answer) (controller_marks at c w piece s)

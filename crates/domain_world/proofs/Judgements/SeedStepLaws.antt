@@ -24,7 +24,7 @@ use Rattle.controller_calls.specs.declared.state.Computers.{Computers}
 use Rattle.domain_controller.specs.declared.state.Running.{Running}
 use Rattle.domain_controller.specs.declared.state.Talk.{Talk}
 use Rattle.step_notes.specs.ControllerNotes.{Answered, Where, answer_on, channel_in, has_passed, heard_answer, judged_in, judging_by, judging_of, new_actions, opened_by, opening, passing, units_at, units_by}
-use Rattle.step_notes.specs.Records.{Judging, Network, computer_named}
+use Rattle.step_notes.specs.Records.{Judging, Network, Source, computer_named}
 use Rattle.step_notes.specs.Served.{units_if_taken, work_after}
 use Rattle.domain_world.specs.Claims.{moved_on}
 use Rattle.domain_world.specs.Past.{first_of, judged_of, later_of, onto, with_reply}
@@ -233,28 +233,28 @@ part_step : (judgings : List Judging) (link : ℕ) (w : Where) (c : ControllerSt
 part_step judgings link w c (Err why) units rest others left numbers order goes = step_ends judgings left w.controller order
 part_step judgings link w c (Ok part) units rest others left numbers order goes = record { order = goes.order; kept = goes.kept; fewer = goes.fewer; others = goes.others }
 
-link_step : (found : Option (LinkState Talk)) (judgings : List Judging) (at controller : ℕ) (unit : Option ℕ) (link : ℕ) (piece : List ℕ) (c : ControllerState) (running : Running) (now : ℕ)
+link_step : (found : Option (LinkState Talk)) (judgings : List Judging) (at controller : ℕ) (source : Source) (link : ℕ) (piece : List ℕ) (c : ControllerState) (running : Running) (now : ℕ)
     (left : List (List ℕ)) (numbers : List ℕ) → IsInOrder judgings left → AreKept judgings left controller running.computers →
     StepGoes judgings
-    (judged_at link (standing_at at controller unit c now) (units_if_taken (step_link found link piece c running now left).answer (units_at found link piece c running now left)) numbers judgings)
+    (judged_at link (standing_at at controller source c now) (units_if_taken (step_link found link piece c running now left).answer (units_at found link piece c running now left)) numbers judgings)
     left (step_link found link piece c running now left).left controller (step_link found link piece c running now left).state.running
-link_step None judgings at controller unit link piece c running now left numbers order kept =
+link_step None judgings at controller source link piece c running now left numbers order kept =
     step_stays judgings left controller (step_link None link piece c running now left).state.running order kept
-link_step (Some there) judgings at controller unit link piece c running now left numbers order kept =
-    let w : Where = standing_at at controller unit c now in
+link_step (Some there) judgings at controller source link piece c running now left numbers order kept =
+    let w : Where = standing_at at controller source c now in
     let cut = cut_stream (there.rest ++ piece) in
     part_step judgings link w c (served_cut (controller_server c.name now link) cut (first_desk c.table running) there.talk left) (units_at (Some there) link piece c running now left) cut.rest
     (take_out same_number link running.links) left numbers order
     (units_go link w cut (first_desk c.table running) there.talk left numbers judgings order kept)
 
-bytes_step : (running : Option Running) (judgings : List Judging) (at controller : ℕ) (unit : Option ℕ) (link : ℕ) (piece : List ℕ) (c : ControllerState) (now : ℕ) (left : List (List ℕ))
+bytes_step : (running : Option Running) (judgings : List Judging) (at controller : ℕ) (source : Source) (link : ℕ) (piece : List ℕ) (c : ControllerState) (now : ℕ) (left : List (List ℕ))
     (numbers : List ℕ) → IsInOrder judgings left → AreKeptIf judgings left controller c.running → AreKeptIf judgings left controller running →
     StepGoes judgings
-    (judged_at link (standing_at at controller unit c now) (units_if_taken (step_on running c (event.Bytes link piece) now left).answer (units_by running link piece c now left)) numbers judgings)
+    (judged_at link (standing_at at controller source c now) (units_if_taken (step_on running c (event.Bytes link piece) now left).answer (units_by running link piece c now left)) numbers judgings)
     left (step_on running c (event.Bytes link piece) now left).left controller (step_on running c (event.Bytes link piece) now left).state.running
-bytes_step None judgings at controller unit link piece c now left numbers order was kept = step_stays judgings left controller c.running order was
-bytes_step (Some running) judgings at controller unit link piece c now left numbers order was kept =
-    link_step (lookup same_number link running.links) judgings at controller unit link piece c running now left numbers order kept
+bytes_step None judgings at controller source link piece c now left numbers order was kept = step_stays judgings left controller c.running order was
+bytes_step (Some running) judgings at controller source link piece c now left numbers order was kept =
+    link_step (lookup same_number link running.links) judgings at controller source link piece c running now left numbers order kept
 
 -- ---- a step at which no bytes come
 
@@ -308,14 +308,14 @@ drawn_follow judgings left rest controllers is follow = record {
 }
 
 -- a controller hears bytes
-pub bytes_follow : (c : ControllerState) (judgings : List Judging) (at controller : ℕ) (unit : Option ℕ) (link : ℕ) (piece : List ℕ) (now : ℕ) (controllers : List ControllerState)
+pub bytes_follow : (c : ControllerState) (judgings : List Judging) (at controller : ℕ) (source : Source) (link : ℕ) (piece : List ℕ) (now : ℕ) (controllers : List ControllerState)
     (left : List (List ℕ)) (numbers : List ℕ) → slice_get controllers controller ≡ Some c → SeedsFollow judgings left controllers →
-    SeedsFollow (judged_at link (standing_at at controller unit c now) (units_if_taken (step_of c (event.Bytes link piece) now left).answer (units_by c.running link piece c now left)) numbers judgings)
+    SeedsFollow (judged_at link (standing_at at controller source c now) (units_if_taken (step_of c (event.Bytes link piece) now left).answer (units_by c.running link piece c now left)) numbers judgings)
     (step_of c (event.Bytes link piece) now left).left (slice_set controllers controller (step_of c (event.Bytes link piece) now left).state)
-bytes_follow c judgings at controller unit link piece now controllers left numbers is follow =
+bytes_follow c judgings at controller source link piece now controllers left numbers is follow =
     let kept : AreKeptIf judgings left controller c.running = follow.each controller c is in
     controller_put judgings _ left _ controllers controller (step_of c (event.Bytes link piece) now left).state follow
-    (bytes_step c.running judgings at controller unit link piece c now left numbers follow.order kept kept)
+    (bytes_step c.running judgings at controller source link piece c now left numbers follow.order kept kept)
 
 -- it hears something else
 pub quiet_follow : (c : ControllerState) (judgings : List Judging) (controller : ℕ) (what : Event) (now : ℕ) (controllers : List ControllerState) (left : List (List ℕ)) →

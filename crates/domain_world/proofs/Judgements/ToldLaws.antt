@@ -40,7 +40,7 @@ use Rattle.controller_calls.specs.declared.state.Work.{Work}
 use Rattle.step_notes.specs.ControllerNotes.{Answered, Where, answer_on, channel_in, has_passed, heard_answer, judging_by, judging_of, opened_by, opening, passing, units_at, units_by}
 use Rattle.step_notes.specs.Judged.{IsJudgedRight, IsRightOf}
 use Rattle.step_notes.specs.MemberNotes.{turn_units}
-use Rattle.step_notes.specs.Records.{Book, JudgementTold, Judging, Network, computer_named, given_in}
+use Rattle.step_notes.specs.Records.{Book, JudgementTold, Judging, Network, Source, computer_named, given_in, unit_in}
 use Rattle.step_notes.specs.Served.{units_if_taken, work_after}
 use Rattle.world_moves.specs.declared.links.EndId.{EndId}
 use Rattle.world_moves.specs.declared.links.EndId.TheVariants.{Controller, Member, Client}
@@ -239,32 +239,32 @@ bytes_told w link c (Err why) units rest others left is = refl
 bytes_told w link c (Ok part) units rest others left is = is
 
 -- where a controller stands as bytes come
-abbrev pub standing_at : ℕ → ℕ → Option ℕ → ControllerState → ℕ → Where
-standing_at at controller unit c now = record { at = at; controller = controller; unit = unit; name = c.name; moment = now }
+abbrev pub standing_at : ℕ → ℕ → Source → ControllerState → ℕ → Where
+standing_at at controller source c now = record { at = at; controller = controller; source = source; name = c.name; moment = now }
 
 abbrev pub step_link : Option (LinkState Talk) → ℕ → List ℕ → ControllerState → Running → ℕ → List (List ℕ) → Stepped ControllerState
 step_link found link piece c running now left =
     step_by (λ after. after.0.work.actions) (λ after. state_after c after) (halted c) left
     (then_part (serve_on found link piece c.name now (first_desk c.table running) (take_out same_number link running.links) left) (λ after rest. start_turn after rest))
 
-link_told : (found : Option (LinkState Talk)) (at controller : ℕ) (unit : Option ℕ) (link : ℕ) (piece : List ℕ) (c : ControllerState) (running : Running) (now : ℕ) (left : List (List ℕ)) →
-    acted (standing_at at controller unit c now) (actions_by (step_link found link piece c running now left).answer)
-    ≡ all_told link (standing_at at controller unit c now)
+link_told : (found : Option (LinkState Talk)) (at controller : ℕ) (source : Source) (link : ℕ) (piece : List ℕ) (c : ControllerState) (running : Running) (now : ℕ) (left : List (List ℕ)) →
+    acted (standing_at at controller source c now) (actions_by (step_link found link piece c running now left).answer)
+    ≡ all_told link (standing_at at controller source c now)
     (units_if_taken (step_link found link piece c running now left).answer (units_at found link piece c running now left))
-link_told None at controller unit link piece c running now left = refl
-link_told (Some there) at controller unit link piece c running now left =
-    bytes_told (standing_at at controller unit c now) link c
+link_told None at controller source link piece c running now left = refl
+link_told (Some there) at controller source link piece c running now left =
+    bytes_told (standing_at at controller source c now) link c
     (served_cut (controller_server c.name now link) (cut_stream (there.rest ++ piece)) (first_desk c.table running) there.talk left)
     (units_at (Some there) link piece c running now left) (cut_stream (there.rest ++ piece)).rest (take_out same_number link running.links) left
-    (units_told (standing_at at controller unit c now) link (cut_stream (there.rest ++ piece)) (first_desk c.table running) there.talk left refl)
+    (units_told (standing_at at controller source c now) link (cut_stream (there.rest ++ piece)) (first_desk c.table running) there.talk left refl)
 
-step_told : (running : Option Running) (at controller : ℕ) (unit : Option ℕ) (link : ℕ) (piece : List ℕ) (c : ControllerState) (now : ℕ) (left : List (List ℕ)) →
-    acted (standing_at at controller unit c now) (actions_by (step_on running c (event.Bytes link piece) now left).answer)
-    ≡ all_told link (standing_at at controller unit c now)
+step_told : (running : Option Running) (at controller : ℕ) (source : Source) (link : ℕ) (piece : List ℕ) (c : ControllerState) (now : ℕ) (left : List (List ℕ)) →
+    acted (standing_at at controller source c now) (actions_by (step_on running c (event.Bytes link piece) now left).answer)
+    ≡ all_told link (standing_at at controller source c now)
     (units_if_taken (step_on running c (event.Bytes link piece) now left).answer (units_by running link piece c now left))
-step_told None at controller unit link piece c now left = refl
-step_told (Some running) at controller unit link piece c now left =
-    link_told (lookup same_number link running.links) at controller unit link piece c running now left
+step_told None at controller source link piece c now left = refl
+step_told (Some running) at controller source link piece c now left =
+    link_told (lookup same_number link running.links) at controller source link piece c running now left
 
 -- ---- steps that tell no judgement
 
@@ -348,7 +348,7 @@ controller_told c controller w piece s after given b told =
     more_told w.at given _ b (note_controller (Some c) controller w piece s after b) told
     (tellings_onto (judged_of (answers_of controller c w piece s) numbers) b.judged
     ∙ ap (λ all. onto all (tellings b.judged)) (judged_told (answers_of controller c w piece s) numbers
-    ∙ sym (step_told c.running w.at controller w.unit w.link piece c s.moment s.chances.left)))
+    ∙ sym (step_told c.running w.at controller w.source w.link piece c s.moment s.chances.left)))
     refl
 
 end_told : (end : EndId) (w : Coming) (piece : List ℕ) (s after : State) (given : Given) (b : Book) → AreTold w.at given b →
@@ -360,7 +360,7 @@ end_told end w piece s after given b told =
     (λ k m is.
     let actions : List Action = (member_step (Some m) k what s.moment s.ends s.chances).actions in
     none_told w.at given (given_by (Member k) actions) b (note_member (Some m) k w piece s after b) told (others_quiet (Member k) refl actions w.at) (judged_so.members m k w piece s after b)
-    (turns_judgements (controller_of k s) (turn_units m w.link piece s.moment s.chances.left) w.unit (numbers_on w.link false s.bag after.bag) (note_messages k m w piece s b)))
+    (turns_judgements (controller_of k s) (turn_units m w.link piece s.moment s.chances.left) (unit_in w.source) (numbers_on w.link false s.bag after.bag) (note_messages k m w piece s b)))
     (λ k c is.
     let actions : List Action = (client_step (Some c) k what s.moment s.ends s.chances).actions in
     none_told w.at given (given_by (Client k) actions) b (note_client (Some c) k w piece s b) told (others_quiet (Client k) refl actions w.at) refl refl) end

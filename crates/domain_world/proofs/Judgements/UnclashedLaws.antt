@@ -20,7 +20,7 @@ use Rattle.step_notes.specs.ControllerNotes.{Answered, Where, answer_on, call_an
 use Rattle.step_notes.specs.Judged.{channel_if, passed_channel}
 use Rattle.step_notes.specs.Marking.{clashes, is_channel, sent_channel}
 use Rattle.step_notes.specs.MemberNotes.{turn_units}
-use Rattle.step_notes.specs.Records.{Book, Judging, Network, Sent, computer_named}
+use Rattle.step_notes.specs.Records.{Book, Judging, Network, Sent, Source, computer_named, unit_in}
 use Rattle.step_notes.specs.Served.{work_after}
 use Rattle.world_moves.specs.declared.links.EndId.{EndId}
 use Rattle.world_moves.specs.declared.moves.Move.{Move}
@@ -37,7 +37,7 @@ use Rattle.domain_world.proofs.Frames.EndNoteLaws.{book_by}
 -- ---- what is to hold
 
 abbrev Fits : List Sent → Judging → Type 0
-Fits sent j = clashes (passed_channel j) j.unit sent ≡ false
+Fits sent j = clashes (passed_channel j) (unit_in j.source) sent ≡ false
 
 abbrev AreUnclashed : Book → Type 0
 AreUnclashed b = b.clash ≡ false → AllByRecursion (Fits b.sent) b.judged
@@ -57,7 +57,7 @@ clashes_more (Some channel) (Some unit) sent more none = more_by (slice_get sent
 
 sent_more : (b : Book) (more : List Sent) → AreUnclashed b → AreUnclashed (record b { sent = b.sent ++ more })
 sent_more b more all apart =
-    all_weaker (Fits b.sent) (Fits (b.sent ++ more)) b.judged (λ j fits. clashes_more (passed_channel j) j.unit b.sent more fits) (all apart)
+    all_weaker (Fits b.sent) (Fits (b.sent ++ more)) b.judged (λ j fits. clashes_more (passed_channel j) (unit_in j.source) b.sent more fits) (all apart)
 
 or_false : (one other : Bool) → (one || other) ≡ false → (one ≡ false) × (other ≡ false)
 or_false false false is = (refl, refl)
@@ -67,38 +67,38 @@ or_false true other is = absurd (let x = is in cc)
 -- ---- what a controller answers
 
 -- a call that was judged came in that unit, and what is checked is the channel on which it passed
-abbrev IfNoted : Option ℕ → Option ChannelIdentity → Option Judging → Type 0
-IfNoted unit checked None = Unit {0}
-IfNoted unit checked (Some j) = (passed_channel j ≡ checked) × (j.unit ≡ unit)
+abbrev IfNoted : Source → Option ChannelIdentity → Option Judging → Type 0
+IfNoted source checked None = Unit {0}
+IfNoted source checked (Some j) = (passed_channel j ≡ checked) × (j.source ≡ source)
 
-abbrev IsNoted : Option ℕ → Answered → Type 0
-IsNoted unit one = IfNoted unit one.checked one.judging
+abbrev IsNoted : Source → Answered → Type 0
+IsNoted source one = IfNoted source one.checked one.judging
 
-passing_noted : (found : Option ChannelIdentity) (j : Judging) → has_passed j.how ≡ true → channel_in j.controller (computer_named j.asked) j.checks ≡ found → IsNoted j.unit (passing found j)
+passing_noted : (found : Option ChannelIdentity) (j : Judging) → has_passed j.how ≡ true → channel_in j.controller (computer_named j.asked) j.checks ≡ found → IsNoted j.source (passing found j)
 passing_noted None j passed is = (ap (λ (p : Bool). channel_if p j) passed ∙ is, refl)
 passing_noted (Some channel) j passed is = (ap (λ (p : Bool). channel_if p j) passed ∙ is, refl)
 
-judging_noted : (passed : Bool) (j : Judging) → has_passed j.how ≡ passed → IsNoted j.unit (judging_by passed j)
+judging_noted : (passed : Bool) (j : Judging) → has_passed j.how ≡ passed → IsNoted j.source (judging_by passed j)
 judging_noted false j is = (ap (λ (p : Bool). channel_if p j) is, refl)
 judging_noted true j is = passing_noted (channel_in j.controller (computer_named j.asked) j.checks) j is refl
 
-opening_noted : (channel : Option ChannelIdentity) (w : Where) (number : ℕ) → IsNoted w.unit (opening channel w number)
+opening_noted : (channel : Option ChannelIdentity) (w : Where) (number : ℕ) → IsNoted w.source (opening channel w number)
 opening_noted None w number = tt
 opening_noted (Some channel) w number = tt
 
-call_noted : (c : Call) (line : Line) (w : Where) (before : Desk) (after : Option Desk) → IsNoted w.unit (call_answer c line w before after)
+call_noted : (c : Call) (line : Line) (w : Where) (before : Desk) (after : Option Desk) → IsNoted w.source (call_answer c line w before after)
 call_noted (call.Challenge c) line w before after = tt
 call_noted (call.Authenticate c) line w before after = opening_noted (opened_by w.controller c before) w line.call
 call_noted (call.Logon c) line w before after = judging_noted (has_passed (judging_of w line (Network c) before after).how) (judging_of w line (Network c) before after) refl
 call_noted (call.Logoff c) line w before after = tt
 
-heard_noted : (what : Heard) (w : Where) (before : Desk) (after : Option Desk) → IsNoted w.unit (heard_answer what w before after)
+heard_noted : (what : Heard) (w : Where) (before : Desk) (after : Option Desk) → IsNoted w.source (heard_answer what w before after)
 heard_noted (heard.Close cause) w before after = tt
 heard_noted (heard.Answer bytes talk) w before after = tt
 heard_noted (heard.Waits talk) w before after = tt
 heard_noted (heard.Asked line c talk) w before after = call_noted c line w before after
 
-answers_noted : (link : ℕ) (w : Where) (units : List (ServedUnit Desk Talk)) → AllByRecursion (IsNoted w.unit) (map (answer_on link w) units)
+answers_noted : (link : ℕ) (w : Where) (units : List (ServedUnit Desk Talk)) → AllByRecursion (IsNoted w.source) (map (answer_on link w) units)
 answers_noted link w [] = tt
 answers_noted link w (unit ∷ units) = (heard_noted (hear link unit.bytes unit.talk) w unit.work (work_after unit.part), answers_noted link w units)
 
@@ -107,32 +107,32 @@ reply_same : (passed : Bool) (j : Judging) (number : Option ℕ) → channel_if 
 reply_same false j number = refl
 reply_same true j number = refl
 
-judging_fits : (judging : Option Judging) (checked : Option ChannelIdentity) (unit number : Option ℕ) (sent : List Sent) (later : List Judging) → IfNoted unit checked judging →
-    clashes checked unit sent ≡ false → AllByRecursion (Fits sent) later → AllByRecursion (Fits sent) (with_reply judging number ++ later)
-judging_fits None checked unit number sent later noted none fits = fits
-judging_fits (Some j) checked unit number sent later noted none fits = (
-  ap₂ (λ (c : Option ChannelIdentity) (u : Option ℕ). clashes c u sent) (reply_same (has_passed j.how) j number ∙ noted.0) noted.1 ∙ none,
+judging_fits : (judging : Option Judging) (checked : Option ChannelIdentity) (source : Source) (number : Option ℕ) (sent : List Sent) (later : List Judging) → IfNoted source checked judging →
+    clashes checked (unit_in source) sent ≡ false → AllByRecursion (Fits sent) later → AllByRecursion (Fits sent) (with_reply judging number ++ later)
+judging_fits None checked source number sent later noted none fits = fits
+judging_fits (Some j) checked source number sent later noted none fits = (
+  ap₂ (λ (c : Option ChannelIdentity) (from : Source). clashes c (unit_in from) sent) (reply_same (has_passed j.how) j number ∙ noted.0) noted.1 ∙ none,
   fits,
 )
 
-judged_fit : (answers : List Answered) (unit : Option ℕ) (numbers : List ℕ) (sent : List Sent) → AllByRecursion (IsNoted unit) answers → any_clash answers unit sent ≡ false →
+judged_fit : (answers : List Answered) (source : Source) (numbers : List ℕ) (sent : List Sent) → AllByRecursion (IsNoted source) answers → any_clash answers (unit_in source) sent ≡ false →
     AllByRecursion (Fits sent) (judged_of answers numbers)
-judged_fit [] unit numbers sent noted none = tt
-judged_fit (one ∷ answers) unit numbers sent noted none =
-    let both = or_false (clashes one.checked unit sent) (any_clash answers unit sent) none in
-    judging_fits one.judging one.checked unit (first_of numbers) sent (judged_of answers (later_of one.sends numbers)) noted.0 both.0
-    (judged_fit answers unit (later_of one.sends numbers) sent noted.1 both.1)
+judged_fit [] source numbers sent noted none = tt
+judged_fit (one ∷ answers) source numbers sent noted none =
+    let both = or_false (clashes one.checked (unit_in source) sent) (any_clash answers (unit_in source) sent) none in
+    judging_fits one.judging one.checked source (first_of numbers) sent (judged_of answers (later_of one.sends numbers)) noted.0 both.0
+    (judged_fit answers source (later_of one.sends numbers) sent noted.1 both.1)
 
 -- ---- bytes that an end hears
 
 controller_unclashed : (c : ControllerState) (at : ℕ) (w : Coming) (piece : List ℕ) (s after : State) (b : Book) → AreUnclashed b → AreUnclashed (note_controller (Some c) at w piece s after b)
 controller_unclashed c at w piece s after b all = λ apart.
     let answers : List Answered = answers_of at c w piece s in
-    let both = or_false b.clash (any_clash answers w.unit b.sent) apart in
+    let both = or_false b.clash (any_clash answers (unit_in w.source) b.sent) apart in
     let numbers : List ℕ = numbers_on w.link true s.bag after.bag in
-    all_weaker (Fits b.sent) (Fits _) (onto (judged_of answers numbers) b.judged) (λ j fits. clashes_more (passed_channel j) j.unit b.sent _ fits)
+    all_weaker (Fits b.sent) (Fits _) (onto (judged_of answers numbers) b.judged) (λ j fits. clashes_more (passed_channel j) (unit_in j.source) b.sent _ fits)
     (onto_hold (Fits b.sent) (judged_of answers numbers) b.judged
-    (judged_fit answers w.unit numbers b.sent (answers_noted w.link (at_controller at c w s) (units_of_controller c w.link piece s.moment s.chances.left)) both.1) (all both.0))
+    (judged_fit answers w.source numbers b.sent (answers_noted w.link (at_controller at c w s) (units_of_controller c w.link piece s.moment s.chances.left)) both.1) (all both.0))
 
 turns_unclashed : (controller : ℕ) (units : List (ServedUnit AtTurn TurnTalk)) (unit : Option ℕ) (numbers : List ℕ) (b : Book) → AreUnclashed b →
     AreUnclashed (note_turns controller units unit numbers b)
@@ -141,8 +141,8 @@ turns_unclashed controller units unit numbers b all =
 
 member_unclashed : (m : MemberState) (at : ℕ) (w : Coming) (piece : List ℕ) (s after : State) (b : Book) → AreUnclashed b → AreUnclashed (note_member (Some m) at w piece s after b)
 member_unclashed m at w piece s after b all =
-    sent_more (note_turns (controller_of at s) (turn_units m w.link piece s.moment s.chances.left) w.unit (numbers_on w.link false s.bag after.bag) (note_messages at m w piece s b)) _
-    (turns_unclashed (controller_of at s) (turn_units m w.link piece s.moment s.chances.left) w.unit (numbers_on w.link false s.bag after.bag) (note_messages at m w piece s b) all)
+    sent_more (note_turns (controller_of at s) (turn_units m w.link piece s.moment s.chances.left) (unit_in w.source) (numbers_on w.link false s.bag after.bag) (note_messages at m w piece s b)) _
+    (turns_unclashed (controller_of at s) (turn_units m w.link piece s.moment s.chances.left) (unit_in w.source) (numbers_on w.link false s.bag after.bag) (note_messages at m w piece s b) all)
 
 end_unclashed : (end : EndId) (w : Coming) (piece : List ℕ) (s after : State) (b : Book) → AreUnclashed b → AreUnclashed (note_at (Some end) w piece s after b)
 end_unclashed end w piece s after b all =

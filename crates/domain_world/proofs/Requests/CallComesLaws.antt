@@ -26,7 +26,7 @@ use Rattle.step_notes.specs.CallLogons.{AreFirst}
 use Rattle.step_notes.specs.ControllerNotes.{units_of_controller}
 use Rattle.step_notes.specs.Marking.{answered_marks, turn_marks}
 use Rattle.step_notes.specs.MemberNotes.{LinkAt, TurnNote, is_turn_link, link_units, message_note, turn_note, turn_units, turn_units_by, turn_units_in, turn_units_on}
-use Rattle.step_notes.specs.Records.{Book, MessageTaken, Sent}
+use Rattle.step_notes.specs.Records.{Book, MessageTaken, Sent, unit_in}
 use Rattle.step_notes.specs.Served.{units_if_taken}
 use Rattle.step_notes.specs.TakenWhole.{TakesWhole}
 use Rattle.step_notes.proofs.Members.KeptLogonLaws.{one_before}
@@ -160,8 +160,8 @@ module _ (n at : ℕ) (w : Coming) (piece : List ℕ) (s after : State) (b : Boo
   NotedBy m units =
       KeptSo (n + 1) s.member_plans (member_step (Some m) at (event.Bytes w.link piece) s.moment s.ends s.chances).ends
       (member_step (Some m) at (event.Bytes w.link piece) s.moment s.ends s.chances).chances.drawn s.links
-      ((note_turns its units w.unit (numbers_on w.link false s.bag after.bag) (note_messages at m w piece s b)).sent ++ units_by m (drop (length s.bag) after.bag) units)
-      (note_turns its units w.unit (numbers_on w.link false s.bag after.bag) (note_messages at m w piece s b)).messages
+      ((note_turns its units (unit_in w.source) (numbers_on w.link false s.bag after.bag) (note_messages at m w piece s b)).sent ++ units_by m (drop (length s.bag) after.bag) units)
+      (note_turns its units (unit_in w.source) (numbers_on w.link false s.bag after.bag) (note_messages at m w piece s b)).messages
 
   -- no whole unit is taken
   pub other_comes : (m : MemberState) → slice_get s.ends.members at ≡ Some m → IsOther m.running w.link → KeptIn n s b → NotedBy m (turn_units m w.link piece s.moment s.chances.left)
@@ -237,15 +237,15 @@ module _ (n at : ℕ) (w : Coming) (piece : List ℕ) (s after : State) (b : Boo
     -- and what the step changes of them
     abbrev pub noted_by : Result (Part DialWork) StepRefused → List MessageTaken
     noted_by (Err why) = all_messages
-    noted_by (Ok part) = noted note running.logons w.unit (first_of numbers) all_messages
+    noted_by (Ok part) = noted note running.logons (unit_in w.source) (first_of numbers) all_messages
 
     -- the last of them is taken whole
     pub units_whole : TakesWhole turn whole.unit left served
     units_whole = whole_units running w.link whole.said piece whole.frames whole.unit left whole.on whole.rest whole.none whole.heard
 
-    messages_are : (part : Result (Part DialWork) StepRefused) → (note_turns its (taken part) w.unit numbers (note_messages at m w piece s b)).messages ≡ noted_by part
+    messages_are : (part : Result (Part DialWork) StepRefused) → (note_turns its (taken part) (unit_in w.source) numbers (note_messages at m w piece s b)).messages ≡ noted_by part
     messages_are (Err why) = refl
-    messages_are (Ok part) = whole_messages its turn whole.unit left served w.unit numbers (note_messages at m w piece s b) units_whole
+    messages_are (Ok part) = whole_messages its turn whole.unit left served (unit_in w.source) numbers (note_messages at m w piece s b) units_whole
 
     one_mark : (part : Part DialWork) → stepped ≡ Ok part → note.sends ≡ true → turn_marks (map (turn_note its) (taken stepped)) ≡ note.mark ∷ []
     one_mark part is sends =
@@ -307,8 +307,8 @@ module _ (n at : ℕ) (w : Coming) (piece : List ℕ) (s after : State) (b : Boo
       own_after (Err why) is own = record { asks = tt; kept = tt; accepts = tt; out = tt }
       own_after (Ok part) is own =
           subst (λ (p : Result (Part DialWork) StepRefused).
-          MemberHolds s.links sent (noted note running.logons w.unit (first_of numbers) all_messages) its at (step_by actions_in state_in halted_state left p).state.running) is
-          (whole_holds s.links b.sent sent b.messages its here running whole.said piece whole.frames whole.unit s.moment left w.unit (first_of numbers) grown whole.on whole.rest whole.none
+          MemberHolds s.links sent (noted note running.logons (unit_in w.source) (first_of numbers) all_messages) its at (step_by actions_in state_in halted_state left p).state.running) is
+          (whole_holds s.links b.sent sent b.messages its here running whole.said piece whole.frames whole.unit s.moment left (unit_in w.source) (first_of numbers) grown whole.on whole.rest whole.none
           whole.heard request_sent own)
 
       accepted_messages : CallsHold n s.member_plans s.ends s.chances.drawn s.links b.sent b.messages → MemberHolds s.links b.sent b.messages its at (Some running) → AreAccepted s.links all_messages
@@ -320,12 +320,12 @@ module _ (n at : ℕ) (w : Coming) (piece : List ℕ) (s after : State) (b : Boo
           StaysKnown s.links s.links b.sent sent b.messages (noted_by part) k
       others_after (Err why) k differs accepted own = messages_more s.links b.sent sent b.messages (news m) k grown
       others_after (Ok part) k differs accepted own =
-          others_known s.links b.sent sent b.messages all_messages its at k note running w.unit (first_of numbers) (λ number. IsDialledBy s.links at number) grown
+          others_known s.links b.sent sent b.messages all_messages its at k note running (unit_in w.source) (first_of numbers) (λ number. IsDialledBy s.links at number) grown
           (λ P one. one_before P b.messages (news m) one) differs accepted own.kept
 
       accepted_after : (part : Result (Part DialWork) StepRefused) → AreAccepted s.links all_messages → AreAccepted s.links (noted_by part)
       accepted_after (Err why) accepted = accepted
-      accepted_after (Ok part) accepted = noted_accepted s.links note running.logons w.unit (first_of numbers) all_messages accepted
+      accepted_after (Ok part) accepted = noted_accepted s.links note running.logons (unit_in w.source) (first_of numbers) all_messages accepted
 
       -- the whole unit is taken
       pub whole_comes : slice_get s.ends.members at ≡ Some m → KeptIn n s b → NotedBy m (turn_units m w.link piece s.moment left)
@@ -344,9 +344,9 @@ module _ (n at : ℕ) (w : Coming) (piece : List ℕ) (s after : State) (b : Boo
           (placed_part its turn whole.unit stepped w.link (drop (length s.bag) after.bag) left served units_whole) holds.apart differ in
           subst (λ (messages : List MessageTaken).
           CallsHold (n + 1) s.member_plans step.ends step.chances.drawn s.links
-          ((note_turns its (taken stepped) w.unit numbers (note_messages at m w piece s b)).sent ++ map (sent_at w.at) marks) messages) (sym (messages_are stepped))
+          ((note_turns its (taken stepped) (unit_in w.source) numbers (note_messages at m w piece s b)).sent ++ map (sent_at w.at) marks) messages) (sym (messages_are stepped))
           (subst (λ (old : List Sent). CallsHold (n + 1) s.member_plans step.ends step.chances.drawn s.links (old ++ map (sent_at w.at) marks) (noted_by stepped))
-          (sym (turns_sent its (taken stepped) w.unit numbers (note_messages at m w piece s b)))
+          (sym (turns_sent its (taken stepped) (unit_in w.source) numbers (note_messages at m w piece s b)))
           (member_changed s.member_plans s.ends at (step_of m (event.Bytes w.link piece) s.moment left).state n (n + 1) (2 * n + 2) s.chances.drawn (s.chances.drawn ++ drawn) s.links b.sent sent
           b.messages (noted_by stepped) (omega arith) holds
           (subst (λ (all : List Mark).

@@ -24,7 +24,7 @@ use Rattle.channel_turns.specs.declared.state.TurnTalk.{TurnTalk}
 use Rattle.end_links.specs.Links.{LinkState}
 use Rattle.step_notes.specs.ChannelNames.{standing_channel}
 use Rattle.step_notes.specs.MemberNotes.{is_turn_link}
-use Rattle.step_notes.specs.Records.{Book, MessageTaken, OfMember, RequesterId, Sent, blank}
+use Rattle.step_notes.specs.Records.{Book, InUnit, MessageTaken, OfMember, Outside, RequesterId, Sent, Source, blank}
 use Rattle.step_notes.proofs.Members.CallKeptLaws.{fresh_asks}
 use Rattle.step_notes.proofs.Members.KeptLogonLaws.{IfDialled, KeptIn as LogonsKept}
 use Rattle.world_moves.specs.declared.links.EndId.{EndId}
@@ -65,9 +65,9 @@ use Rattle.domain_world.proofs.Requests.ByRequesterLaws.{by_requester, by_reques
 
 -- ---- a unit that comes on the link of a turn is whole, and comes in one piece
 
-pub came_whole : (unit : Option ℕ) (s : State) (w : Coming) (piece : List ℕ) (at : ℕ) → CameFrom unit s w piece → IsDialledBy s.links at w.link → BagIsWhole s → IsWholeUnit piece
-came_whole None s w piece at came dialled whole = absurd (came at dialled.controller dialled.at)
-came_whole (Some number) s w piece at came dialled whole =
+pub came_whole : (source : Source) (s : State) (w : Coming) (piece : List ℕ) (at : ℕ) → CameFrom source s w piece → IsDialledBy s.links at w.link → BagIsWhole s → IsWholeUnit piece
+came_whole Outside s w piece at came dialled whole = absurd (came at dialled.controller dialled.at)
+came_whole (InUnit number) s w piece at came dialled whole =
     let both : Some came.route ≡ Some (ToController at dialled.controller) = sym came.made ∙ dialled.at in
     let route : came.route ≡ ToController at dialled.controller = (let x = both in cc) in
     let is = whole number came.unit came.there (sym came.same_kind ∙ ap kind_of route) in
@@ -139,7 +139,7 @@ abbrev member_after : MemberState → ℕ → Coming → List ℕ → State → 
 member_after m at w piece s = stepped (Member at) (member_step (Some m) at (event.Bytes w.link piece) s.moment s.ends s.chances) s
 
 member_comes : (n : ℕ) (m : MemberState) (at : ℕ) (w : Coming) (piece : List ℕ) (s : State) (b : Book) → slice_get s.ends.members at ≡ Some m → IsQuiet s →
-    CameFrom w.unit s w piece → length b.sent ≡ length s.bag → KeptIn n s b →
+    CameFrom w.source s w piece → length b.sent ≡ length s.bag → KeptIn n s b →
     KeptAfter (n + 1) s (member_step (Some m) at (event.Bytes w.link piece) s.moment s.ends s.chances) (note_member (Some m) at w piece s (member_after m at w piece s) b)
 member_comes n m at w piece s b is quiet came even kept = λ few differ.
     let after : State = member_after m at w piece s in
@@ -152,7 +152,7 @@ member_comes n m at w piece s b is quiet came even kept = λ few differ.
           let now : MemberState = record { running = Some on.running } in
           let same : m ≡ now = ap (λ (r : Option Running). record { running = r }) on.runs in
           let dialled : IsDialledBy s.links at w.link = dialled_on _ (λ number. IsDialledBy s.links at number) m.running w.link on own.kept in
-          let unit : IsWholeUnit piece = came_whole w.unit s w piece at came dialled quiet.bag in
+          let unit : IsWholeUnit piece = came_whole w.source s w piece at came dialled quiet.bag in
           let turn : IsQuietTurn (dialling.On w.link on.said) = subst IsQuietTurn on.on (quiet.members at m on.running is on.runs) in
           let whole : IsWhole w.link piece on.running =
           record { said = on.said; on = on.on; rest = turn.0; none = turn.1; frames = unit.frames; unit = unit.unit; heard = unit.heard } in
@@ -161,7 +161,7 @@ member_comes n m at w piece s b is quiet came even kept = λ few differ.
           few differ
     ]
 
-comes_so : (n : ℕ) (end : EndId) (w : Coming) (piece : List ℕ) (s : State) (b : Book) → CameFrom w.unit s w piece → (IsServer end → length b.sent ≡ length s.bag) → IsQuiet s → KeptIn n s b →
+comes_so : (n : ℕ) (end : EndId) (w : Coming) (piece : List ℕ) (s : State) (b : Book) → CameFrom w.source s w piece → (IsServer end → length b.sent ≡ length s.bag) → IsQuiet s → KeptIn n s b →
     KeptIn (n + 1) (hear end (event.Bytes w.link piece) s).state (note_at (Some end) w piece s (hear_and_act end (event.Bytes w.link piece) s).state b)
 comes_so n end w piece s b came even quiet kept =
     acted_by (λ (one : EndId) (step : EndStep) (after : State) (now : Book). (IsServer one → length b.sent ≡ length s.bag) → KeptAfter (n + 1) s step now) w piece s b

@@ -37,7 +37,7 @@ use Rattle.member_server.specs.State.{State as MemberState}
 use Rattle.channel_events.specs.Marks.{OneOf}
 use Rattle.step_notes.specs.CallLogons.{AreFirst, AsksForKept, IsFirstBy, info_at}
 use Rattle.step_notes.specs.MemberNotes.{LinkAt, TurnNote, is_challenged, link_of_logon, link_of_place, link_units, message_after, message_at, message_by, message_kept, message_note, turn_note, turn_units, turn_units_by, turn_units_in, turn_units_on}
-use Rattle.step_notes.specs.Records.{Book, MessageTaken}
+use Rattle.step_notes.specs.Records.{Book, MessageTaken, unit_in}
 use Rattle.step_notes.specs.Served.{talk_after, units_if_taken, work_after}
 use Rattle.world_moves.specs.declared.bag.BagUnit.{BagUnit}
 use Rattle.world_moves.specs.declared.links.EndId.{EndId}
@@ -366,7 +366,7 @@ module _ (m : MemberState) (at : ℕ) (w : Coming) (piece : List ℕ) (s : State
       let old : AllGood Now b.messages = good_so (IsCallAt s.bag b.messages) Now
       (λ link n one. call_still s.bag member_after.bag b.messages now_messages link n still
       (λ logon asked. member_stays (IsAskedOn link logon) (asked_call link logon) (asked_answer link logon) at m w piece s member_after b asked) one) b.messages called in
-      turns_good Now (controller_of at s) own_units w.unit own_numbers first (turns_called (controller_of at s) there side kept)
+      turns_good Now (controller_of at s) own_units (unit_in w.source) own_numbers first (turns_called (controller_of at s) there side kept)
       (all_join (IsGood Now) b.messages (flat_map (message_note (at_member at w s)) (link_units m w.link piece s.moment s.chances.left)) old
       (notes_good Now (at_member at w s) (link_units m w.link piece s.moment s.chances.left)))
 

@@ -28,7 +28,7 @@ use Rattle.channel_events.specs.Marks.{Mark, Plain}
 use Rattle.step_notes.specs.ControllerNotes.{Where, answer_on, call_answer, channel_in, has_passed, heard_answer, judging_by, judging_of, opened_by, opened_mark, opening, passing, reply_mark, units_of_controller}
 use Rattle.step_notes.specs.Marking.{answered_marks, mark_if, turn_marks}
 use Rattle.step_notes.specs.MemberNotes.{asked_note, taken_note, taking_at, taking_note, turn_note, turn_units}
-use Rattle.step_notes.specs.Records.{Book, Judging, Network, computer_named}
+use Rattle.step_notes.specs.Records.{Book, Judging, Network, computer_named, unit_in}
 use Rattle.step_notes.specs.Served.{work_after}
 use Rattle.world_moves.specs.declared.bag.BagUnit.{BagUnit}
 use Rattle.world_moves.specs.declared.moves.Move.{Move}
@@ -77,7 +77,7 @@ opened_way (Some unit) channel number = refl
 
 opening_way : (channel : Option ChannelIdentity) (w : Where) (number : ℕ) → IsReply (opening channel w number).mark
 opening_way None w number = tt
-opening_way (Some channel) w number = opened_way w.unit channel number
+opening_way (Some channel) w number = opened_way (unit_in w.source) channel number
 
 reply_way : (unit : Option ℕ) (channel : ChannelIdentity) (number : ℕ) → IsReply (reply_mark unit channel number)
 reply_way None channel number = tt
@@ -85,7 +85,7 @@ reply_way (Some unit) channel number = refl
 
 passing_way : (channel : Option ChannelIdentity) (j : Judging) → IsReply (passing channel j).mark
 passing_way None j = tt
-passing_way (Some channel) j = reply_way j.unit channel j.number
+passing_way (Some channel) j = reply_way (unit_in j.source) channel j.number
 
 judging_way : (passed : Bool) (j : Judging) → IsReply (judging_by passed j).mark
 judging_way false j = tt

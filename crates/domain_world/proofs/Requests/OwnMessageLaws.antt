@@ -18,7 +18,7 @@ use Rattle.channel_turns.specs.declared.state.TurnTalk.{TurnTalk}
 use Rattle.channel_events.specs.Marks.{OneOf}
 use Rattle.step_notes.specs.CallLogons.{AsksUnlessStopped}
 use Rattle.step_notes.specs.MemberNotes.{LinkAt, link_of_place, link_units, message_note, taken_link, turn_units}
-use Rattle.step_notes.specs.Records.{Book, MessageTaken}
+use Rattle.step_notes.specs.Records.{Book, MessageTaken, unit_in}
 use Rattle.world_moves.specs.declared.state.State.{State}
 use Rattle.domain_world.specs.Past.{Coming, at_member, change_message, controller_of, note_member, note_messages, note_turns, numbers_on, with_answer, with_call}
 use Rattle.step_notes.proofs.Members.CallKeptLaws.{fresh_asks, step_asks}
@@ -64,7 +64,7 @@ module _ (Fits : MessageTaken → Type 0) (call : (number : Option ℕ) (message
     (answer : (number : Option ℕ) (message : MessageTaken) → Fits message → Fits (with_answer number message)) (at : ℕ) (m : MemberState) (w : Coming) (piece : List ℕ) (s after : State) (b : Book) where
   pub noted_stays : OneOf Fits (note_messages at m w piece s b).messages → OneOf Fits (member_messages at m w piece s after b)
   noted_stays one =
-      turns_stay Fits call answer (controller_of at s) (turn_units m w.link piece s.moment s.chances.left) w.unit (numbers_on w.link false s.bag after.bag) (note_messages at m w piece s b) one
+      turns_stay Fits call answer (controller_of at s) (turn_units m w.link piece s.moment s.chances.left) (unit_in w.source) (numbers_on w.link false s.bag after.bag) (note_messages at m w piece s b) one
 
   pub member_stays : OneOf Fits b.messages → OneOf Fits (member_messages at m w piece s after b)
   member_stays one = noted_stays (one_before Fits b.messages (flat_map (message_note (at_member at w s)) (link_units m w.link piece s.moment s.chances.left)) one)

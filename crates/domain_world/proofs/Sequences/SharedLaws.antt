@@ -21,7 +21,7 @@ use Rattle.channel_events.proofs.SameLaws.{one_channel, same_back}
 use Rattle.step_notes.specs.ControllerNotes.{has_passed}
 use Rattle.step_notes.specs.Judged.{passed_channel}
 use Rattle.step_notes.specs.Marking.{is_channel, mark_channel, sent_channel}
-use Rattle.step_notes.specs.Records.{Judging, Sent}
+use Rattle.step_notes.specs.Records.{InUnit, Judging, Outside, Sent, Source, unit_in}
 use Rattle.world_moves.specs.Draws.{DrawsDiffer}
 use Rattle.step_notes.specs.ReplySends.{IsReplyOfCall}
 use Rattle.domain_world.specs.Claims.Replies.{IsReplyOfOne}
@@ -34,7 +34,7 @@ use Rattle.domain_world.specs.Accepting.Sequences.{HavePassed, CallsAreStamped, 
 use Rattle.domain_world.specs.Claims.{IsClear, moved_on, passed_on, same_unit, judged_timestamp}
 use Rattle.domain_world.specs.Claims.SharedSequences.{IsBeforeTurn, Keeps, SequencesAreOwn, SequencesAreShared, any_foreign, is_foreign, timestamps_on}
 use Rattle.domain_world.specs.Past.{Past, past}
-use Rattle.domain_world.proofs.Accepting.AnsweredLaws.{AreInUnit, IsMade, StandsFor, both_true, channel_there, in_unit, made_at, no_twice, passed_of, right_at, unit_same}
+use Rattle.domain_world.proofs.Accepting.AnsweredLaws.{AreInUnit, IsMade, StandsFor, both_true, channel_there, in_unit, made_at, no_twice, passed_of, right_at, unit_same, came_in}
 use Rattle.domain_world.proofs.Accepting.AnsweredRunLaws.{is_proved}
 use Rattle.domain_world.proofs.Accepting.CarriedLaws.{one_unit, replies_to}
 use Rattle.domain_world.proofs.Accepting.UnitLaws.{heard_in}
@@ -48,16 +48,16 @@ use Rattle.domain_world.proofs.Sequences.SumLaws.{CameIn, is_hit, moved_total, t
 
 -- ---- nothing from outside passed
 
-none_foreign : (channel : ChannelIdentity) (judgings : List Judging) (k : ℕ) (j : Judging) → any_foreign channel judgings ≡ false → slice_get judgings k ≡ Some j → is_foreign channel j.unit j ≡ false
+none_foreign : (channel : ChannelIdentity) (judgings : List Judging) (k : ℕ) (j : Judging) → any_foreign channel judgings ≡ false → slice_get judgings k ≡ Some j → is_foreign channel j.source j ≡ false
 none_foreign channel [] k j none there = absurd (let x = there in cc)
 none_foreign channel (first ∷ judgings) zero j none there =
-    subst (λ (x : Judging). is_foreign channel x.unit x ≡ false) (some_is first j there) (neither (is_foreign channel first.unit first) (any_foreign channel judgings) none).0
+    subst (λ (x : Judging). is_foreign channel x.source x ≡ false) (some_is first j there) (neither (is_foreign channel first.source first) (any_foreign channel judgings) none).0
   where
     neither : (one other : Bool) → (one || other) ≡ false → (one ≡ false) × (other ≡ false)
     neither false other is = (refl, is)
     neither true other is = absurd (let x = is in cc)
 none_foreign channel (first ∷ judgings) (suc k) j none there =
-    none_foreign channel judgings k j (neither (is_foreign channel first.unit first) (any_foreign channel judgings) none).1 there
+    none_foreign channel judgings k j (neither (is_foreign channel first.source first) (any_foreign channel judgings) none).1 there
   where
     neither : (one other : Bool) → (one || other) ≡ false → (one ≡ false) × (other ≡ false)
     neither false other is = (refl, is)
@@ -126,27 +126,27 @@ module _ (past : Past) (known : IsProved past) (heard : AnswersAreHeard past) (c
   by_sent None n j named carried there made client = absurd (let x = made in cc)
   by_sent (Some sent) n j named carried there made client = by_mark sent.mark n j sent named carried there refl made client
 
-  came_by : (unit : Option ℕ) (k : ℕ) (j : Judging) → j.unit ≡ unit → slice_get all_judged k ≡ Some j → passed_on channel j ≡ true → CameIn calls.made j
-  came_by None k j came there passed =
+  came_by : (source : Source) (k : ℕ) (j : Judging) → j.source ≡ source → slice_get all_judged k ≡ Some j → passed_on channel j ≡ true → CameIn calls.made j
+  came_by Outside k j came there passed =
       absurd
-      (let foreign : is_foreign channel None j ≡ false = subst (λ (u : Option ℕ). is_foreign channel u j ≡ false) came (none_foreign channel all_judged k j own there) in
+      (let foreign : is_foreign channel Outside j ≡ false = subst (λ (from : Source). is_foreign channel from j ≡ false) came (none_foreign channel all_judged k j own there) in
       let x : true ≡ false = sym passed ∙ foreign in cc)
-  came_by (Some n) k j came there passed =
+  came_by (InUnit n) k j came there passed =
       let on : PassedOn (passed_channel j) channel = passed_by (passed_channel j) channel passed in
       let made : IsMade (sent_channel (slice_get past.book.sent n)) on.other = made_at past known heard clear k j on.other n there on.is came in
-      let carried : IsJudgedAsCarried past j n = all_at (λ (one : Judging). (u : ℕ) → one.unit ≡ Some u → IsJudgedAsCarried past one u) all_judged k j judged there n came in
+      let carried : IsJudgedAsCarried past j n = all_at (λ (one : Judging). (u : ℕ) → one.source ≡ InUnit u → IsJudgedAsCarried past one u) all_judged k j judged there n came in
       record { unit = n; came = came; one = by_sent (slice_get past.book.sent n) n j made.named carried refl made.is (made.same.client ∙ on.same.client) }
 
   moved_by_made : moved_on channel all_judged ≡ total channel calls.made all_judged
-  moved_by_made = moved_total channel calls.made all_judged calls.apart (λ k j there passed. came_by j.unit k j refl there passed)
+  moved_by_made = moved_total channel calls.made all_judged calls.apart (λ k j there passed. came_by j.source k j refl there passed)
 
   -- ---- each passes once, and each that is answered did
 
-  hit_parts : (m : ℕ) (j : Judging) → is_hit channel m j ≡ true → (has_passed j.how ≡ true) × (j.unit ≡ Some m)
+  hit_parts : (m : ℕ) (j : Judging) → is_hit channel m j ≡ true → (has_passed j.how ≡ true) × (j.source ≡ InUnit m)
   hit_parts m j is =
-      let both = both_true (passed_on channel j) (same_unit (Some m) j.unit) is in
-      let in_one : AreInUnit (Some m) j.unit = in_unit (Some m) j.unit both.1 in
-      ((on_if (has_passed j.how) j channel both.0).0, in_one.second ∙ sym in_one.first)
+      let both = both_true (passed_on channel j) (same_unit (Some m) (unit_in j.source)) is in
+      let in_one : AreInUnit (Some m) (unit_in j.source) = in_unit (Some m) (unit_in j.source) both.1 in
+      ((on_if (has_passed j.how) j channel both.0).0, came_in j.source m (in_one.second ∙ sym in_one.first))
 
   once : (m timestamp : ℕ) → (weight channel m timestamp all_judged ≡ 0) ⊎ (weight channel m timestamp all_judged ≡ timestamp + 1)
   once m timestamp =
@@ -160,14 +160,14 @@ module _ (past : Past) (known : IsProved past) (heard : AnswersAreHeard past) (c
       let n : ℕ = one.0 in
       let at : Placed (IsPassedIn n) all_judged = placed (IsPassedIn n) all_judged has in
       let j : Judging = at.item in
-      let came : j.unit ≡ Some n = at.is.1 in
+      let came : j.source ≡ InUnit n = at.is.1 in
       let stands : StandsFor j = channel_there j (right_at past known heard clear at.place j at.there) at.is.0 in
       let made : IsMade (sent_channel (slice_get past.book.sent n)) stands.channel = made_at past known heard clear at.place j stands.channel n at.there stands.passed came in
       let named : channel ≡ made.named =
       some_is channel made.named (sym (ap mark_channel on.mark) ∙ sym (ap sent_channel on.there) ∙ made.is) in
       let same : SameChannel stands.channel channel = same_back channel stands.channel (subst (λ (c : ChannelIdentity). SameChannel c stands.channel) (sym named) made.same) in
       let passed : passed_on channel j ≡ true = ap (λ (c : Option ChannelIdentity). is_channel c channel) stands.passed ∙ (same_channel-Decides stands.channel channel).1 same in
-      let hit : is_hit channel n j ≡ true = both_so (passed_on channel j) (same_unit (Some n) j.unit) passed (ap (same_unit (Some n)) came ∙ unit_same n) in
+      let hit : is_hit channel n j ≡ true = both_so (passed_on channel j) (same_unit (Some n) (unit_in j.source)) passed (ap (same_unit (Some n)) (ap unit_in came) ∙ unit_same n) in
       elim (once n one.1) [
         | inl none ↦ absurd (omega (arith, none, weight_some channel n one.1 all_judged at.place j at.there hit))
         | inr is ↦ is
@@ -275,4 +275,4 @@ taken_pass plan moves heard clear n is =
     let its = replies_to p heard.whole (marks_have_their_way plan moves) heard.judged (passes_unclashed plan moves) replies heard.numbers clear is.taken is.turn in
     let replied = subst (λ (m : Mark). IsReplyOfOne p.book.judged is.taken.reply is.turn.carrier.bytes m) its.mark (replies is.taken.reply is.turn.carrier its.sent is.turn.there its.there) in
     one_weaker (λ (j : Judging). (j.reply ≡ Some is.taken.reply) × IsReplyOfCall its.channel its.number is.taken.call j is.turn.carrier.bytes) (IsPassedIn n) p.book.judged
-    (λ j of. (passed_of (has_passed j.how) j its.channel refl of.1.passed, of.1.came ∙ ap Some is.call)) replied
+    (λ j of. (passed_of (has_passed j.how) j its.channel refl of.1.passed, of.1.came ∙ ap InUnit is.call)) replied

@@ -1,20 +1,20 @@
 -- How far the calls that passed on a channel moved its seed, call by call: each unit that was made for the channel
 -- counts as often as a call passed in it.
 -- It serves `Proved.sequences`.
-use Rattle.std.proofs.Common.{◌≡◌, ◌≢◌, ◌⊎◌, ℕ, zero, suc, ◌+◌, ◌<◌, ◌≤◌, ◌==◌, ◌&&◌, Bool, true, false, List, [], ◌∷◌, ◌++◌, inl, inr, Option, Some, slice_get, refl, sym, ap, ap₂, subst, ◌∙◌, arith}
+use Rattle.std.proofs.Common.{◌≡◌, ◌≢◌, ◌⊎◌, ℕ, zero, suc, ◌+◌, ◌<◌, ◌≤◌, ◌==◌, ◌&&◌, Bool, true, false, List, [], ◌∷◌, ◌++◌, inl, inr, Some, slice_get, refl, sym, ap, ap₂, subst, ◌∙◌, arith}
 use Rattle.std.specs.List.{AllByRecursion}
 use Rattle.std.proofs.lemmas.Bool.Decides.{Decides-eqb}
 use Rattle.authenticators.specs.Channels.{ChannelIdentity}
 use Rattle.authenticators.specs.Sequences.{moved_by}
 use Rattle.channel_events.specs.Marks.{OneOf}
 use Rattle.channel_events.proofs.ListLaws.{got_nothing, moved_none, moved_one, some_is}
-use Rattle.step_notes.specs.Records.{Judging}
+use Rattle.step_notes.specs.Records.{InUnit, Judging, Source, unit_in}
 use Rattle.domain_world.specs.Accepting.Sequences.{AreUnitsApart, stamps_of}
 use Rattle.domain_world.specs.Claims.{moved_if, moved_on, passed_on, same_unit, judged_timestamp}
 
 -- the call passed on the channel, in that unit
 abbrev pub is_hit : ChannelIdentity → ℕ → Judging → Bool
-is_hit channel m j = passed_on channel j && same_unit (Some m) j.unit
+is_hit channel m j = passed_on channel j && same_unit (Some m) (unit_in j.source)
 
 abbrev pub stamp_if : Bool → ℕ → ℕ
 stamp_if false timestamp = 0
@@ -37,7 +37,7 @@ added channel (one ∷ made) j = stamp_if (is_hit channel one.0 j) one.1 + added
 -- a call that passed came in one of the units, and has its timestamp
 pub record CameIn (made : List (ℕ × ℕ)) (j : Judging) : Type 0 where
   pub unit : ℕ
-  pub came : j.unit ≡ Some unit
+  pub came : j.source ≡ InUnit unit
   pub one : OneOf (λ (one : ℕ × ℕ). (one.0 ≡ unit) × (one.1 ≡ judged_timestamp j)) made
 
 module _ (channel : ChannelIdentity) where
@@ -57,7 +57,7 @@ module _ (channel : ChannelIdentity) where
 
   added_not : (made : List (ℕ × ℕ)) (j : Judging) → passed_on channel j ≡ false → added channel made j ≡ 0
   added_not [] j passed = refl
-  added_not (one ∷ made) j passed = omega (arith, ap (λ (b : Bool). stamp_if (b && same_unit (Some one.0) j.unit) one.1) passed, added_not made j passed)
+  added_not (one ∷ made) j passed = omega (arith, ap (λ (b : Bool). stamp_if (b && same_unit (Some one.0) (unit_in j.source)) one.1) passed, added_not made j passed)
 
   other_unit : (m n : ℕ) → n ≢ m → (m == n) ≡ false
   other_unit m n differs = by (m == n) refl
@@ -67,11 +67,11 @@ module _ (channel : ChannelIdentity) where
       by true is = absurd (differs (sym ((Decides-eqb m n).0 is)))
 
   -- it came in another unit
-  miss : (m n timestamp : ℕ) (j : Judging) → passed_on channel j ≡ true → j.unit ≡ Some n → n ≢ m → stamp_if (is_hit channel m j) timestamp ≡ 0
+  miss : (m n timestamp : ℕ) (j : Judging) → passed_on channel j ≡ true → j.source ≡ InUnit n → n ≢ m → stamp_if (is_hit channel m j) timestamp ≡ 0
   miss m n timestamp j passed came differs =
-      ap₂ (λ (b : Bool) (unit : Option ℕ). stamp_if (b && same_unit (Some m) unit) timestamp) passed came ∙ ap (λ (b : Bool). stamp_if b timestamp) (other_unit m n differs)
+      ap₂ (λ (b : Bool) (from : Source). stamp_if (b && same_unit (Some m) (unit_in from)) timestamp) passed came ∙ ap (λ (b : Bool). stamp_if b timestamp) (other_unit m n differs)
 
-  added_apart : (made : List (ℕ × ℕ)) (j : Judging) (n : ℕ) → passed_on channel j ≡ true → j.unit ≡ Some n → AllByRecursion (λ (other : ℕ × ℕ). n ≢ other.0) made → added channel made j ≡ 0
+  added_apart : (made : List (ℕ × ℕ)) (j : Judging) (n : ℕ) → passed_on channel j ≡ true → j.source ≡ InUnit n → AllByRecursion (λ (other : ℕ × ℕ). n ≢ other.0) made → added channel made j ≡ 0
   added_apart [] j n passed came apart = refl
   added_apart (one ∷ made) j n passed came apart = omega (arith, miss one.0 n one.1 j passed came apart.0, added_apart made j n passed came apart.1)
 
@@ -84,13 +84,13 @@ module _ (channel : ChannelIdentity) where
     | inr later ↦ later_differs first n timestamp made apart.1 later
   ]
 
-  added_one : (made : List (ℕ × ℕ)) (j : Judging) (n timestamp : ℕ) → passed_on channel j ≡ true → j.unit ≡ Some n → AreUnitsApart made →
+  added_one : (made : List (ℕ × ℕ)) (j : Judging) (n timestamp : ℕ) → passed_on channel j ≡ true → j.source ≡ InUnit n → AreUnitsApart made →
       OneOf (λ (one : ℕ × ℕ). (one.0 ≡ n) × (one.1 ≡ timestamp)) made → added channel made j ≡ timestamp + 1
   added_one [] j n timestamp passed came apart one = absurd one
   added_one (first ∷ made) j n timestamp passed came apart one = elim one [
     | inl here ↦
         let hit : stamp_if (is_hit channel first.0 j) first.1 ≡ timestamp + 1 =
-        ap₂ (λ (b : Bool) (unit : Option ℕ). stamp_if (b && same_unit (Some first.0) unit) first.1) passed came
+        ap₂ (λ (b : Bool) (from : Source). stamp_if (b && same_unit (Some first.0) (unit_in from)) first.1) passed came
         ∙ ap (λ (b : Bool). stamp_if b first.1) ((Decides-eqb first.0 n).1 here.0)
         ∙ ap (λ (t : ℕ). t + 1) here.1 in
         let rest : added channel made j ≡ 0 = added_apart made j n passed came (subst (λ (m : ℕ). AllByRecursion (λ (other : ℕ × ℕ). m ≢ other.0) made) here.0 apart.0) in

@@ -16,7 +16,7 @@ use Rattle.member_server.specs.Turns.{ending_of}
 use Rattle.channel_events.specs.Marks.{Mark, OneOf, Plain, Opening, Opened, Calling, ReplyTo}
 use Rattle.step_notes.specs.Judged.{passed_channel}
 use Rattle.step_notes.specs.Marking.{clashes}
-use Rattle.step_notes.specs.Records.{ChallengeSent, IfNetwork, Judging, MessageMade, MessageTaken, Network, OutcomeTold, Sent}
+use Rattle.step_notes.specs.Records.{ChallengeSent, IfNetwork, InUnit, Judging, MessageMade, MessageTaken, Network, OutcomeTold, Sent, unit_in}
 use Rattle.step_notes.specs.ReplySends.{IsReplyOfCall, verdict_passed}
 use Rattle.world_moves.specs.declared.bag.BagUnit.{BagUnit}
 use Rattle.world_moves.specs.Counting.{is_in}
@@ -48,12 +48,12 @@ MarksHaveTheirWay past =
 -- that carried the call
 abbrev pub PassesAreUnclashed : Past → Type 0
 PassesAreUnclashed past =
-    past.book.clash ≡ false → AllByRecursion (λ (j : Judging). clashes (passed_channel j) j.unit past.book.sent ≡ false) past.book.judged
+    past.book.clash ≡ false → AllByRecursion (λ (j : Judging). clashes (passed_channel j) (unit_in j.source) past.book.sent ≡ false) past.book.judged
 
 -- two calls that came in one unit of the bag are one call
 abbrev pub UnitsAreHeardAlike : Past → Type 0
 UnitsAreHeardAlike past =
-    AllByRecursion (λ (one : Judging). AllByRecursion (λ (other : Judging). (unit : ℕ) → one.unit ≡ Some unit → other.unit ≡ Some unit →
+    AllByRecursion (λ (one : Judging). AllByRecursion (λ (other : Judging). (unit : ℕ) → one.source ≡ InUnit unit → other.source ≡ InUnit unit →
     one.asked ≡ other.asked) past.book.judged) past.book.judged
 
 -- what was judged is a network logon that asks what the message asks, with its place as the identity of the logon
@@ -67,7 +67,7 @@ pub record AsksForIt (message : MessageTaken) (j : Judging) : Type 0 where
 -- so it is of each call that came in the unit which carries the Logon call of a message
 abbrev pub CallsAskForMessages : Past → Type 0
 CallsAskForMessages past =
-    AllByRecursion (λ (message : MessageTaken). AllByRecursion (λ (j : Judging). (unit : ℕ) → message.call ≡ Some unit → j.unit ≡ Some unit →
+    AllByRecursion (λ (message : MessageTaken). AllByRecursion (λ (j : Judging). (unit : ℕ) → message.call ≡ Some unit → j.source ≡ InUnit unit →
     AsksForIt message j) past.book.judged) past.book.messages
 
 -- ---- at a member

@@ -21,7 +21,7 @@ use Rattle.logon_stubs.specs.declared.refused.StubRefused.{StubRefused}
 use Rattle.end_links.specs.Sending.{request_of}
 use Rattle.channel_events.specs.Marks.{Mark, OneOf, Plain, Opening, Opened, Calling, ReplyTo}
 use Rattle.step_notes.specs.Marking.{sent_channel}
-use Rattle.step_notes.specs.Records.{CallTaken, JudgedCall, Judging, MessageTaken, Network, OfMember, RequesterId, Sent}
+use Rattle.step_notes.specs.Records.{CallTaken, InUnit, JudgedCall, Judging, MessageTaken, Network, OfMember, RequesterId, Sent}
 use Rattle.world_moves.specs.declared.bag.BagUnit.{BagUnit}
 use Rattle.domain_world.specs.Accepting.Answered.{AnswersAreToCalls, CallsAskForMessages, MarksHaveTheirWay, PassesAreUnclashed, UnitsAreHeardAlike}
 use Rattle.domain_world.specs.Claims.{HasController, info_asked}
@@ -96,7 +96,7 @@ pub record IsJudgedAsCarried (past : Past) (j : Judging) (n : ℕ) : Type 0 wher
   pub carried : call_carried whole.unit.body ≡ Some (call_judged j.asked)
 
 abbrev pub JudgedAsCarried : Past → Type 0
-JudgedAsCarried past = AllByRecursion (λ (j : Judging). (n : ℕ) → j.unit ≡ Some n → IsJudgedAsCarried past j n) past.book.judged
+JudgedAsCarried past = AllByRecursion (λ (j : Judging). (n : ℕ) → j.source ≡ InUnit n → IsJudgedAsCarried past j n) past.book.judged
 
 -- ---- at a member
 

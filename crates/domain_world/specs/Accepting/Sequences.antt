@@ -7,7 +7,7 @@ use Rattle.authenticators.specs.SecureChannels.{SecureChannelState}
 use Rattle.channel_client.specs.declared.state.Pending.{Pending}
 use Rattle.channel_events.specs.Marks.{Calling, OneOf, ReplyTo}
 use Rattle.step_notes.specs.ControllerNotes.{has_passed}
-use Rattle.step_notes.specs.Records.{CallTaken, JudgedCall, Judging, RequesterId, Sent, given_in, timestamp_in}
+use Rattle.step_notes.specs.Records.{CallTaken, InUnit, JudgedCall, Judging, RequesterId, Sent, given_in, timestamp_in}
 use Rattle.world_moves.specs.declared.bag.BagUnit.{BagUnit}
 use Rattle.world_moves.specs.declared.moves.Move.{Move}
 use Rattle.world_moves.specs.declared.plan.Plan.{Plan}
@@ -43,7 +43,7 @@ pub record IsTakenFor (past : Past) (n : ℕ) : Type 0 where
 
 -- the call passed
 abbrev pub IsPassedIn : ℕ → Judging → Type 0
-IsPassedIn n j = (has_passed j.how ≡ true) × (j.unit ≡ Some n)
+IsPassedIn n j = (has_passed j.how ≡ true) × (j.source ≡ InUnit n)
 
 abbrev pub HasPassed : Past → ℕ → Type 0
 HasPassed past n = OneOf (IsPassedIn n) past.book.judged

@@ -2,7 +2,7 @@
 use Rattle.std.specs.Prelude.{ℕ, ◌≡◌, ◌<◌, true, Some, slice_get}
 use Rattle.account_table.specs.declared.account.Account.{Account}
 use Rattle.step_notes.specs.ControllerNotes.{has_passed}
-use Rattle.step_notes.specs.Records.{Judging}
+use Rattle.step_notes.specs.Records.{InUnit, Judging}
 use Rattle.domain_world.specs.Claims.Tables.{left_by}
 use Rattle.domain_world.specs.Past.{Past}
 
@@ -22,4 +22,4 @@ abbrev pub EachCallRaisesOnce : Past → Type 0
 EachCallRaisesOnce past =
     (one other unit : ℕ) (first second : Judging) →
     slice_get past.book.judged one ≡ Some first → slice_get past.book.judged other ≡ Some second →
-    first.unit ≡ Some unit → second.unit ≡ Some unit → RaisesCount first → RaisesCount second → one ≡ other
+    first.source ≡ InUnit unit → second.source ≡ InUnit unit → RaisesCount first → RaisesCount second → one ≡ other

@@ -1,6 +1,6 @@
 -- How the two ends of a secure channel stand to each other in a run (MS-NRPC 3.1.4.5; that one turn is out at a time is
 -- this project's own choice).
-use Rattle.std.specs.Prelude.{ℕ, ◌≡◌, ◌≤◌, ◌⊎◌, ◌&&◌, Bool, false, List, [], ◌∷◌, ◌++◌, filter, length, map, Option, Some, None, slice_get}
+use Rattle.std.specs.Prelude.{ℕ, ◌≡◌, ◌≤◌, ◌⊎◌, ◌&&◌, Bool, false, List, [], ◌∷◌, ◌++◌, filter, length, map, Option, Some, slice_get}
 use Rattle.std.specs.List.{list_any}
 use Rattle.wire_base.specs.Maps.{lookup}
 use Rattle.wire_base.specs.Names.{same_name}
@@ -15,7 +15,7 @@ use Rattle.member_server.specs.Dials.{IsWaiting}
 use Rattle.member_server.specs.Laws.{is_dialled}
 use Rattle.member_server.specs.State.{State as MemberState}
 use Rattle.member_server.specs.declared.state.Running.{Running as MemberRunning}
-use Rattle.step_notes.specs.Records.{Judging, ChannelTurn, RequesterId, same_requester}
+use Rattle.step_notes.specs.Records.{ChannelTurn, InUnit, Judging, Outside, RequesterId, Source, same_requester}
 use Rattle.world_moves.specs.declared.links.EndId.TheVariants.{Member}
 use Rattle.world_moves.specs.declared.state.State.{State}
 use Rattle.world_moves.specs.declared.state.WaitingDial.{WaitingDial}
@@ -83,12 +83,12 @@ pub record Keeps (s : State) (controller : ℕ) (computer : List ℕ) (c : Secur
   pub kept : lookup same_name computer running.computers.channels ≡ Some c
 
 -- an authenticator of bytes from outside passed on the channel
-abbrev pub is_foreign : ChannelIdentity → Option ℕ → Judging → Bool
-is_foreign channel None j = passed_on channel j
-is_foreign channel (Some unit) j = false
+abbrev pub is_foreign : ChannelIdentity → Source → Judging → Bool
+is_foreign channel Outside j = passed_on channel j
+is_foreign channel (InUnit unit) j = false
 
 abbrev pub any_foreign : ChannelIdentity → List Judging → Bool
-any_foreign channel judgings = list_any (λ (j : Judging). is_foreign channel j.unit j) judgings
+any_foreign channel judgings = list_any (λ (j : Judging). is_foreign channel j.source j) judgings
 
 -- ---- the claim
 

@@ -65,7 +65,7 @@ use Rattle.step_notes.specs.ChannelNames.{AreFramesOf, CallsAreNamedAlike, Chall
 use Rattle.step_notes.specs.ControllerNotes.{Answered, identity_by, channel_in, checked_on, has_passed, judging_by, opened_account, opened_by, opened_if, opened_offer, opened_pair, opening, passing}
 use Rattle.step_notes.specs.Marking.{clashes, is_channel}
 use Rattle.step_notes.specs.MemberNotes.{TurnNote, asked_note, half_channel, request_note, taking_note, timestamp_bound}
-use Rattle.step_notes.specs.Records.{Judging, Sent, computer_named, timestamp_in}
+use Rattle.step_notes.specs.Records.{Judging, Sent, computer_named, timestamp_in, unit_in}
 use Rattle.step_notes.specs.Served.{work_after}
 
 some_is : {T : Type 0} (one other : T) → Some one ≡ Some other → one ≡ other
@@ -705,18 +705,18 @@ answered_clear : (controller : ℕ) (s : Requester) (taking : Taking) (place : �
 answered_clear controller s taking place channel number sent stands on is =
     ap (λ (note : TurnNote). clashes note.checked number sent) on.3 ∙ own_passes on.0 number sent (is ∙ sym stands ∙ on.1)
 
-passing_clear : (j : Judging) (channel : ChannelIdentity) (sent : List Sent) → channel_marked j.unit sent ≡ Some channel → clashes (passing (Some channel) j).checked j.unit sent ≡ false
-passing_clear j channel sent is = own_passes channel j.unit sent is
+passing_clear : (j : Judging) (channel : ChannelIdentity) (sent : List Sent) → channel_marked (unit_in j.source) sent ≡ Some channel → clashes (passing (Some channel) j).checked (unit_in j.source) sent ≡ false
+passing_clear j channel sent is = own_passes channel (unit_in j.source) sent is
 
 exchanges : ExchangesHaveNoClash
 exchanges = record {
   opening = λ s client server w line before later sent expects is.
-      ap (λ (channel : Option ChannelIdentity). clashes (opening channel w line.call).checked w.unit sent) (opens_named w.controller s client server before expects)
-      ∙ own_passes (half_channel w.controller s client server) w.unit sent is;
+      ap (λ (channel : Option ChannelIdentity). clashes (opening channel w line.call).checked (unit_in w.source) sent) (opens_named w.controller s client server before expects)
+      ∙ own_passes (half_channel w.controller s client server) (unit_in w.source) sent is;
   opened = λ controller s unit client server number sent half taken_so is.
       opened_clear controller s _ client server number sent half (opened_acts (hear s.turn unit s.next_call) controller s taken_so) is;
   calling = λ j computers channel sent checks at names has passed is.
-      ap (λ (one : Answered). clashes one.checked j.unit sent) (passes_named j computers channel checks at names has passed) ∙ passing_clear j channel sent is;
+      ap (λ (one : Answered). clashes one.checked (unit_in j.source) sent) (passes_named j computers channel checks at names has passed) ∙ passing_clear j channel sent is;
   answered = λ controller s unit place channel number sent stands took is.
       answered_clear controller s _ place channel number sent stands (answer_acts (hear s.turn unit s.next_call) controller s place took) is;
 }

@@ -35,7 +35,7 @@ use Rattle.domain_controller.proofs.ReadBackLaws.{replies_are_read_back}
 use Rattle.domain_controller.proofs.WholeLaws.{found_link, sends_are_whole}
 use Rattle.step_notes.specs.ControllerNotes.{Answered, Where, answer_on, channel_in, has_passed, heard_answer, judging_by, judging_of, opened_by, opening, passing, units_at, units_by, units_of_controller}
 use Rattle.step_notes.specs.JudgedInRange.{HasLevel, IsJudgedInRange, IsReadAsMade, PassedRepliesAreRead}
-use Rattle.step_notes.specs.Records.{JudgedCall, Judging, Network, computer_named}
+use Rattle.step_notes.specs.Records.{JudgedCall, Judging, Network, Source, computer_named}
 use Rattle.step_notes.specs.ReplySends.{IsItsReply, reply_passed, reply_stub, standing_at, stub_passed}
 use Rattle.step_notes.specs.Served.{units_if_taken, work_after}
 use Rattle.step_notes.proofs.Controllers.JudgedCallLaws.{if_network, of_network}
@@ -90,9 +90,9 @@ units_fit link w units d talk left name moment fits limit eight =
 
 -- ---- a step
 
-module _ (at controller : ℕ) (unit : Option ℕ) (link : ℕ) (piece : List ℕ) (c : ControllerState) (now : ℕ) (left : List (List ℕ)) where
+module _ (at controller : ℕ) (source : Source) (link : ℕ) (piece : List ℕ) (c : ControllerState) (now : ℕ) (left : List (List ℕ)) where
   abbrev here : Where
-  here = standing_at at controller unit c now
+  here = standing_at at controller source c now
 
   at_fits : (found : Option (LinkState Talk)) (running : Running) → IfThere (λ (link : LinkState Talk). InRangeTalk link.talk) found → InRangeState c → now < 2 ^ 64 → AreChallenges left →
       AllFit link here (units_at found link piece c running now left)
@@ -108,11 +108,11 @@ module _ (at controller : ℕ) (unit : Option ℕ) (link : ℕ) (piece : List �
   taken_fits (Err why) units fit = tt
   taken_fits (Ok actions) units fit = fit
 
-judgings_in_range : (c : ControllerState) (at controller : ℕ) (unit : Option ℕ) (link : ℕ) (piece : List ℕ) (now : ℕ) (left : List (List ℕ)) → InRangeState c → now < 2 ^ 64 → AreChallenges left →
-    AllFit link (standing_at at controller unit c now) (units_of_controller c link piece now left)
-judgings_in_range c at controller unit link piece now left is moment eight =
-    taken_fits at controller unit link piece c now left (step_of c (event.Bytes link piece) now left).answer (units_by c.running link piece c now left)
-    (by_fits at controller unit link piece c now left c.running is.running is moment eight)
+judgings_in_range : (c : ControllerState) (at controller : ℕ) (source : Source) (link : ℕ) (piece : List ℕ) (now : ℕ) (left : List (List ℕ)) → InRangeState c → now < 2 ^ 64 → AreChallenges left →
+    AllFit link (standing_at at controller source c now) (units_of_controller c link piece now left)
+judgings_in_range c at controller source link piece now left is moment eight =
+    taken_fits at controller source link piece c now left (step_of c (event.Bytes link piece) now left).answer (units_by c.running link piece c now left)
+    (by_fits at controller source link piece c now left c.running is.running is moment eight)
 
 -- ---- a reply is read
 

@@ -35,7 +35,7 @@ use Rattle.controller_calls.specs.declared.state.Work.{Work}
 use Rattle.step_notes.specs.ChannelNames.{sends_in, sent_by}
 use Rattle.step_notes.specs.ControllerNotes.{Answered, Where, answer_on, channel_in, identity_by, has_passed, heard_answer, judged_in, judging_by, judging_of, logon_answer, new_actions, opened_account, opened_if, opened_mark, opened_offer, opened_pair, opening, passing, plain, reply_mark, units_at, units_by}
 use Rattle.step_notes.specs.Judged.{channel_if}
-use Rattle.step_notes.specs.Records.{Judging, Network, computer_named}
+use Rattle.step_notes.specs.Records.{InUnit, Judging, Network, Outside, Source, computer_named, unit_in}
 use Rattle.step_notes.specs.ReplySends.{AreSentFor, CarriesReply, IsItsReply, IsOpeningReply, IsSentIf, RepliesAreSentAsJudged, standing_at}
 use Rattle.step_notes.specs.Served.{units_if_taken, work_after}
 use Rattle.step_notes.proofs.Controllers.JudgedStepLaws.{Told, by_names}
@@ -149,19 +149,19 @@ opened_carries (Some unit) channel number bytes opens = opens
 opening_sent : (opened : Option SecureChannelState) (w : Where) (computer : List ℕ) (number : ℕ) (bytes : List ℕ) → OpensBy opened bytes →
     AreSentFor (opening (identity_by w.controller computer opened) w number ∷ []) (bytes ∷ [])
 opening_sent None w computer number bytes opens = (tt, tt)
-opening_sent (Some channel) w computer number bytes opens = (opened_carries w.unit (channel_of w.controller computer channel) number bytes opens, tt)
+opening_sent (Some channel) w computer number bytes opens = (opened_carries (unit_in w.source) (channel_of w.controller computer channel) number bytes opens, tt)
 
 -- ---- a Logon call
 
-reply_carries : (unit : Option ℕ) (channel : ChannelIdentity) (j : Judging) (bytes : List ℕ) → j.unit ≡ unit → channel_if true j ≡ Some channel → has_passed j.how ≡ true → IsItsReply j bytes →
-    CarriesReply (reply_mark unit channel j.number) (Some j) bytes
-reply_carries None channel j bytes came is passed carries = tt
-reply_carries (Some unit) channel j bytes came is passed carries =
+reply_carries : (source : Source) (channel : ChannelIdentity) (j : Judging) (bytes : List ℕ) → j.source ≡ source → channel_if true j ≡ Some channel → has_passed j.how ≡ true → IsItsReply j bytes →
+    CarriesReply (reply_mark (unit_in source) channel j.number) (Some j) bytes
+reply_carries Outside channel j bytes came is passed carries = tt
+reply_carries (InUnit unit) channel j bytes came is passed carries =
     record { came = came; passed = ap (λ (b : Bool). channel_if b j) passed ∙ is; call = refl; carries = carries }
 
 passing_sent : (channel : Option ChannelIdentity) (j : Judging) (bytes : List ℕ) → channel_if true j ≡ channel → has_passed j.how ≡ true → IsItsReply j bytes → AreSentFor (passing channel j ∷ []) (bytes ∷ [])
 passing_sent None j bytes is passed carries = (tt, tt)
-passing_sent (Some channel) j bytes is passed carries = (reply_carries j.unit channel j bytes refl is passed carries, tt)
+passing_sent (Some channel) j bytes is passed carries = (reply_carries j.source channel j bytes refl is passed carries, tt)
 
 judging_sent : (passed : Bool) (j : Judging) (bytes : List ℕ) → has_passed j.how ≡ passed → (has_passed j.how ≡ true → IsItsReply j bytes) → AreSentFor (judging_by passed j ∷ []) (bytes ∷ [])
 judging_sent false j bytes is carries = (tt, tt)
@@ -276,27 +276,27 @@ bytes_sent w link c (Ok part) units rest others left actions each is =
     let same : part.value.0.work.actions ≡ actions = cc in
     subst (λ (all : List Action). AreSentFor (all_answers link w units) (sends_in all)) same (beside_nothing (all_answers link w units) part.value.0.work.actions each)
 
-module _ (at controller : ℕ) (unit : Option ℕ) (link : ℕ) (piece : List ℕ) (c : ControllerState) (now : ℕ) (left : List (List ℕ)) (actions : List Action) where
+module _ (at controller : ℕ) (source : Source) (link : ℕ) (piece : List ℕ) (c : ControllerState) (now : ℕ) (left : List (List ℕ)) (actions : List Action) where
   link_sent_for : (found : Option (LinkState Talk)) (running : Running) →
       let stepped = step_by (λ (after : Desk × LinkMap). after.0.work.actions) (λ (after : Desk × LinkMap). state_after c after) (halted c) left
       (then_part (serve_on found link piece c.name now (first_desk c.table running) (take_out same_number link running.links) left) (λ (after : Desk × LinkMap) (rest : List (List ℕ)). start_turn after rest)) in
       stepped.answer ≡ Ok actions →
-      AreSentFor (all_answers link (standing_at at controller unit c now) (units_if_taken stepped.answer (units_at found link piece c running now left))) (sends_in actions)
+      AreSentFor (all_answers link (standing_at at controller source c now) (units_if_taken stepped.answer (units_at found link piece c running now left))) (sends_in actions)
   link_sent_for None running is =
       let same : [] ≡ actions = cc in
       subst (λ (all : List Action). AreSentFor [] (sends_in all)) same tt
   link_sent_for (Some there) running is =
-      bytes_sent (standing_at at controller unit c now) link c
+      bytes_sent (standing_at at controller source c now) link c
       (served_cut (controller_server c.name now link) (cut_stream (there.rest ++ piece)) (first_desk c.table running) there.talk left)
       (units_at (Some there) link piece c running now left) (cut_stream (there.rest ++ piece)).rest (take_out same_number link running.links) left actions
-      (units_sent (standing_at at controller unit c now) link (cut_stream (there.rest ++ piece)) (first_desk c.table running) there.talk left) is
+      (units_sent (standing_at at controller source c now) link (cut_stream (there.rest ++ piece)) (first_desk c.table running) there.talk left) is
 
   step_sent : (running : Option Running) → (step_on running c (event.Bytes link piece) now left).answer ≡ Ok actions →
-      AreSentFor (all_answers link (standing_at at controller unit c now) (units_if_taken (step_on running c (event.Bytes link piece) now left).answer (units_by running link piece c now left)))
+      AreSentFor (all_answers link (standing_at at controller source c now) (units_if_taken (step_on running c (event.Bytes link piece) now left).answer (units_by running link piece c now left)))
       (sends_in actions)
   step_sent None is = absurd cc
   step_sent (Some running) is = link_sent_for (lookup same_number link running.links) running is
 
 -- in every step each reply is sent as it was judged
 pub replies_sent : RepliesAreSentAsJudged
-replies_sent c at controller unit link piece now left actions is = step_sent at controller unit link piece c now left actions c.running is
+replies_sent c at controller source link piece now left actions is = step_sent at controller source link piece c now left actions c.running is

@@ -13,7 +13,7 @@ use Rattle.domain_controller.specs.Step.{step_of}
 use Rattle.domain_controller.specs.declared.state.Talk.{Talk}
 use Rattle.step_notes.specs.ControllerNotes.{Answered, Where, answer_on, units_by, units_of_controller}
 use Rattle.step_notes.specs.JudgedInRange.{IsJudgedInRange}
-use Rattle.step_notes.specs.Records.{Book, Judging}
+use Rattle.step_notes.specs.Records.{Book, InUnit, Judging, Outside, Source}
 use Rattle.step_notes.specs.Served.{work_after}
 use Rattle.step_notes.proofs.Controllers.JudgedInRangeLaws.{replies_are_read}
 use Rattle.domain_controller.specs.Hearing.{hear as hear_unit}
@@ -56,47 +56,47 @@ both_all A B C so (answer ∷ answers) one other = (both_if A B C so answer.judg
 
 -- the call came so, if it came in a unit of the bag
 abbrev IsCarriedBy : List BagUnit → Judging → Type 0
-IsCarriedBy bag j = CarriedIf bag j.unit j.number j.asked
+IsCarriedBy bag j = CarriedIf bag j.source j.number j.asked
 
-served_carried : (bag : List BagUnit) (w : Where) (link : ℕ) (units : List (ServedUnit Desk Talk)) → AllHeardSo (CarriedIf bag w.unit) link units →
+served_carried : (bag : List BagUnit) (w : Where) (link : ℕ) (units : List (ServedUnit Desk Talk)) → AllHeardSo (CarriedIf bag w.source) link units →
     AllByRecursion (λ (one : Answered). HoldsIf (IsCarriedBy bag) one.judging) (map (answer_on link w) units)
 served_carried bag w link [] all = tt
 served_carried bag w link (unit ∷ units) all = (
-  answer_holds (IsCarriedBy bag) (CarriedIf bag w.unit) (hear_unit link unit.bytes unit.talk) w unit.work (work_after unit.part) (λ line asked is. is) all.0,
+  answer_holds (IsCarriedBy bag) (CarriedIf bag w.source) (hear_unit link unit.bytes unit.talk) w unit.work (work_after unit.part) (λ line asked is. is) all.0,
   served_carried bag w link units all.1,
 )
 
 -- by where the bytes come from
-units_so : (unit : Option ℕ) (c : ControllerState) (at : ℕ) (s : State) (w : Coming) (piece : List ℕ) → w.unit ≡ unit → QuietState s → JudgedStand s.bag [] → ControllerIsQuiet s.links c →
-    IsAtSide s.links w.link w.back (Controller at) → CameFrom unit s w piece → AreBytes piece →
-    AllHeardSo (CarriedIf s.bag w.unit) w.link (units_by c.running w.link piece c s.moment s.chances.left)
-units_so None c at s w piece is quiet stand own side came bytes =
-    any_heard (CarriedIf s.bag w.unit) w.link (units_by c.running w.link piece c s.moment s.chances.left) (λ number asked n there. absurd (let never = sym is ∙ there in cc))
-units_so (Some number) c at s w piece is quiet stand own side came bytes =
+units_so : (source : Source) (c : ControllerState) (at : ℕ) (s : State) (w : Coming) (piece : List ℕ) → w.source ≡ source → QuietState s → JudgedStand s.bag [] → ControllerIsQuiet s.links c →
+    IsAtSide s.links w.link w.back (Controller at) → CameFrom source s w piece → AreBytes piece →
+    AllHeardSo (CarriedIf s.bag w.source) w.link (units_by c.running w.link piece c s.moment s.chances.left)
+units_so Outside c at s w piece is quiet stand own side came bytes =
+    any_heard (CarriedIf s.bag w.source) w.link (units_by c.running w.link piece c s.moment s.chances.left) (λ number asked n there. absurd (let never = sym is ∙ there in cc))
+units_so (InUnit number) c at s w piece is quiet stand own side came bytes =
     let whole : IsWholeCarried s number w piece = whole_carried s number at w piece quiet.bag stand.kinds side came in
-    running_so c s w piece number whole (CarriedIf s.bag w.unit) (λ n asked numbered carries. unit_so s number w piece whole is bytes n asked numbered carries) c.running own.well
+    running_so c s w piece number whole (CarriedIf s.bag w.source) (λ n asked numbered carries. unit_so s number w piece whole is bytes n asked numbered carries) c.running own.well
 
 module _ (at : ℕ) (w : Coming) (piece : List ℕ) (s after : State) (quiet : QuietState s) where
   controller_stand : (c : ControllerState) (b : Book) → slice_get s.ends.controllers at ≡ Some c → JudgedStand s.bag b.judged → IsAtSide s.links w.link w.back (Controller at) →
-      CameFrom w.unit s w piece → AreBytes piece → AllByRecursion (IsJudgedWell s.bag) (note_controller (Some c) at w piece s after b).judged
+      CameFrom w.source s w piece → AreBytes piece → AllByRecursion (IsJudgedWell s.bag) (note_controller (Some c) at w piece s after b).judged
   controller_stand c b is stand side came bytes =
       let own : ControllerIsQuiet s.links c = quiet.controllers at c is in
       let answers : List Answered = answers_of at c w piece s in
       let units : List (ServedUnit Desk Talk) = units_of_controller c w.link piece s.moment s.chances.left in
-      let carried : AllHeardSo (CarriedIf s.bag w.unit) w.link units =
-      are_if_taken (λ (served : ServedUnit Desk Talk). HeardSo (CarriedIf s.bag w.unit) (hear_unit w.link served.bytes served.talk))
+      let carried : AllHeardSo (CarriedIf s.bag w.source) w.link units =
+      are_if_taken (λ (served : ServedUnit Desk Talk). HeardSo (CarriedIf s.bag w.source) (hear_unit w.link served.bytes served.talk))
       (step_of c (event.Bytes w.link piece) s.moment s.chances.left).answer (units_by c.running w.link piece c s.moment s.chances.left)
-      (units_so w.unit c at s w piece refl quiet (record { kinds = stand.kinds; judged = tt }) own side came bytes) in
+      (units_so w.source c at s w piece refl quiet (record { kinds = stand.kinds; judged = tt }) own side came bytes) in
       onto_hold (IsJudgedWell s.bag) (judged_of answers (numbers_on w.link true s.bag after.bag)) b.judged
       (judged_hold (IsJudgedWell s.bag)
       (λ j number is. record { carried = is.carried; range = record { table = is.range.table; name = is.range.name; moment = is.range.moment } })
       answers (numbers_on w.link true s.bag after.bag)
       (both_all (IsCarriedBy s.bag) IsJudgedInRange (IsJudgedWell s.bag) (λ j one other. record { carried = one; range = other }) answers
       (served_carried s.bag (at_controller at c w s) w.link units carried)
-      (replies_are_read.judged c w.at at w.unit w.link piece s.moment s.chances.left own.range quiet.moment quiet.blocks)))
+      (replies_are_read.judged c w.at at w.source w.link piece s.moment s.chances.left own.range quiet.moment quiet.blocks)))
       stand.judged
 
-end_stand : (end : EndId) (w : Coming) (piece : List ℕ) (s after : State) (b : Book) → QuietState s → JudgedStand s.bag b.judged → IsAtSide s.links w.link w.back end → CameFrom w.unit s w piece →
+end_stand : (end : EndId) (w : Coming) (piece : List ℕ) (s after : State) (b : Book) → QuietState s → JudgedStand s.bag b.judged → IsAtSide s.links w.link w.back end → CameFrom w.source s w piece →
     AreBytes piece → JudgedStand s.bag (note_at (Some end) w piece s after b).judged
 end_stand end w piece s after b quiet stand side came bytes =
     book_by (λ (one : EndId) (now : Book). IsAtSide s.links w.link w.back one → JudgedStand s.bag now.judged) w piece s after b (λ one at_side. stand)
@@ -143,7 +143,7 @@ module _ (plan : Plan) (moves : List Move) (is : IsSchedule plan moves) where
       ran.holds.1
 
 carried_as : (past : Past) (js : List Judging) → AllByRecursion (IsJudgedWell past.world.state.bag) js →
-    AllByRecursion (λ (j : Judging). (n : ℕ) → j.unit ≡ Some n → IsJudgedAsCarried past j n) js
+    AllByRecursion (λ (j : Judging). (n : ℕ) → j.source ≡ InUnit n → IsJudgedAsCarried past j n) js
 carried_as past [] all = tt
 carried_as past (j ∷ js) all = (
   (λ n came.

@@ -31,7 +31,7 @@ use Rattle.domain_controller.specs.declared.state.Talk.{Talk}
 use Rattle.step_notes.specs.ControllerNotes.{Where, has_passed, heard_answer, judging_of, opened_by, units_at, units_by}
 use Rattle.step_notes.specs.HeardWhole.{IsCallOf, call_carried as carried_there, call_read as read_there}
 use Rattle.step_notes.specs.JudgedInRange.{HasLevel, IsJudgedInRange}
-use Rattle.step_notes.specs.Records.{JudgedCall, Judging, Network}
+use Rattle.step_notes.specs.Records.{InUnit, JudgedCall, Judging, Network, Source, unit_in}
 use Rattle.step_notes.proofs.Controllers.HeardLaws.{controllers_hear}
 use Rattle.step_notes.proofs.Controllers.JudgedCallLaws.{if_network}
 use Rattle.world_moves.specs.declared.bag.BagUnit.{BagUnit}
@@ -71,11 +71,11 @@ pub record IsCarriedCall (bag : List BagUnit) (number : ℕ) (asked : JudgedCall
   pub level : HasLevel asked
 
 -- it came in that unit of the bag, if it came in one
-abbrev pub CarriedIf : List BagUnit → Option ℕ → ℕ → JudgedCall → Type 0
-CarriedIf bag unit number asked = (n : ℕ) → unit ≡ Some n → IsCarriedCall bag number asked n
+abbrev pub CarriedIf : List BagUnit → Source → ℕ → JudgedCall → Type 0
+CarriedIf bag source number asked = (n : ℕ) → source ≡ InUnit n → IsCarriedCall bag number asked n
 
 pub record IsJudgedWell (bag : List BagUnit) (j : Judging) : Type 0 where
-  pub carried : CarriedIf bag j.unit j.number j.asked
+  pub carried : CarriedIf bag j.source j.number j.asked
   pub range : IsJudgedInRange j
 
 -- each unit of the bag went on a link of ends of this world
@@ -253,10 +253,10 @@ same_carried Auth3 = refl
 same_carried (Fault hint context status) = refl
 
 -- the call of a whole unit of the bag is carried by it
-pub unit_so : (s : State) (number : ℕ) (w : Coming) (piece : List ℕ) (is : IsWholeCarried s number w piece) → w.unit ≡ Some number → AreBytes piece → (n : ℕ) (asked : JudgedCall) →
-    n ≡ is.send.unit.call → carried_there is.send.unit.body ≡ Some (call_judged asked) → CarriedIf s.bag w.unit n asked
+pub unit_so : (s : State) (number : ℕ) (w : Coming) (piece : List ℕ) (is : IsWholeCarried s number w piece) → w.source ≡ InUnit number → AreBytes piece → (n : ℕ) (asked : JudgedCall) →
+    n ≡ is.send.unit.call → carried_there is.send.unit.body ≡ Some (call_judged asked) → CarriedIf s.bag w.source n asked
 unit_so s number w piece is came bytes n asked numbered carries other there =
-    let same : number ≡ other = some_is number other (sym came ∙ there) in
+    let same : number ≡ other = some_is number other (ap unit_in (sym came ∙ there)) in
     subst (λ (m : ℕ). IsCarriedCall s.bag n asked m) same (record {
       carrier = is.unit;
       there = is.there;

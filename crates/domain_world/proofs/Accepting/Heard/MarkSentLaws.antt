@@ -135,7 +135,7 @@ by_answer : (answer : Result (List Action) StepRefused) (c : ControllerState) (a
     (controller_step_of c (event.Bytes w.link piece) s.moment s.chances.left).answer ≡ answer → AtSent (controller_marks at c w piece s) (sends_in (actions_by answer))
 by_answer (Err why) c at w piece s is = λ place mark bytes marked sends. absurd (got_nothing place bytes sends)
 by_answer (Ok actions) c at w piece s is =
-    all_answers (answers_of at c w piece s) (sends_in actions) (replies_sent c w.at at w.unit w.link piece s.moment s.chances.left actions is)
+    all_answers (answers_of at c w piece s) (sends_in actions) (replies_sent c w.at at w.source w.link piece s.moment s.chances.left actions is)
 
 pub controller_sends : (c : ControllerState) (at : ℕ) (w : Coming) (piece : List ℕ) (s : State) →
     AtSent (controller_marks at c w piece s) (sends_in (actions_by (controller_step_of c (event.Bytes w.link piece) s.moment s.chances.left).answer))

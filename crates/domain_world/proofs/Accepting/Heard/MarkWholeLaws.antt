@@ -33,7 +33,7 @@ use Rattle.domain_world.proofs.Accepting.CarriedLaws.{one_whole}
 use Rattle.channel_events.specs.Marks.{Mark, Plain, Opening, Opened, Calling, ReplyTo}
 use Rattle.step_notes.specs.JudgedInRange.{IsReadAsMade}
 use Rattle.step_notes.specs.MemberNotes.{turn_units}
-use Rattle.step_notes.specs.Records.{Book, Judging, Network, Sent}
+use Rattle.step_notes.specs.Records.{Book, Judging, Network, Sent, unit_in}
 use Rattle.step_notes.specs.ReplySends.{IsOpeningReply, IsReplyOfCall}
 use Rattle.step_notes.proofs.Controllers.JudgedInRangeLaws.{replies_are_read}
 use Rattle.world_moves.specs.declared.bag.BagUnit.{BagUnit}
@@ -171,7 +171,7 @@ known_running links k None running is quiet = absurd (let never = is in cc)
 known_running links k (Some one) running is quiet =
     subst (λ (x : Running). InRangeRequester x.logons.channel × IfOn (IsDialledBy links k) x.dialling) (some_is one running is) (quiet.range.channel, quiet.turn)
 
-member_fits : (m : MemberState) (at : ℕ) (w : Coming) (piece : List ℕ) (s : State) (b : Book) → slice_get s.ends.members at ≡ Some m → QuietState s → CameFrom w.unit s w piece →
+member_fits : (m : MemberState) (at : ℕ) (w : Coming) (piece : List ℕ) (s : State) (b : Book) → slice_get s.ends.members at ≡ Some m → QuietState s → CameFrom w.source s w piece →
     length b.sent ≡ length s.bag → MarksFit s.bag b →
     let after : State = (done (Member at) (heard_by (member_step (Some m) at (event.Bytes w.link piece) s.moment s.ends s.chances) s)).state in
     MarksFit after.bag (note_member (Some m) at w piece s after b)
@@ -181,11 +181,11 @@ member_fits m at w piece s b is quiet came same each =
     let marks : List Mark = member_marks at m w piece s in
     let more : IsMore s.links s.bag after.links after.bag = actions_stay (MoreOf s.links s.bag) (goes_on s.links s.bag) (Member at) heard.actions heard.state (no_more s.links s.bag) in
     let sends : SendsIf (IsDialledBy s.links at w.link) w.link marks heard.actions =
-    member_sends (IsDialledBy s.links at) (controller_of at s) w.link piece s.chances.left (λ own. comes_whole w.unit s w piece quiet.bag came (at, own.controller, own.at)) m s.moment
+    member_sends (IsDialledBy s.links at) (controller_of at s) w.link piece s.chances.left (λ own. comes_whole w.source s w piece quiet.bag came (at, own.controller, own.at)) m s.moment
     (λ running runs. known_running s.links at m.running running runs (quiet.members at m is)) in
-    let old : List Sent = (note_turns (controller_of at s) (turn_units m w.link piece s.moment s.chances.left) w.unit (numbers_on w.link false s.bag after.bag) (note_messages at m w piece s b)).sent in
+    let old : List Sent = (note_turns (controller_of at s) (turn_units m w.link piece s.moment s.chances.left) (unit_in w.source) (numbers_on w.link false s.bag after.bag) (note_messages at m w piece s b)).sent in
     let kept : old ≡ b.sent =
-    turns_sent (controller_of at s) (turn_units m w.link piece s.moment s.chances.left) w.unit (numbers_on w.link false s.bag after.bag) (note_messages at m w piece s b) in
+    turns_sent (controller_of at s) (turn_units m w.link piece s.moment s.chances.left) (unit_in w.source) (numbers_on w.link false s.bag after.bag) (note_messages at m w piece s b) in
     subst (λ (sent : List Sent). OfEachUnit OfMark tt after.bag (sent ++ map (sent_at w.at) (marks_of w.link false (drop (length s.bag) after.bag) marks))) (sym kept)
     (fit_more s.bag after.bag more.units b.sent w.link false marks w.at more.is same
     (λ place unit mark there marked.
@@ -200,7 +200,7 @@ member_fits m at w piece s b is quiet came same each =
       ]
     ]) each)
 
-end_fits : (end : EndId) (w : Coming) (piece : List ℕ) (s : State) (b : Book) → IsAtSide s.links w.link w.back end → CameFrom w.unit s w piece → (IsServer end → length b.sent ≡ length s.bag) →
+end_fits : (end : EndId) (w : Coming) (piece : List ℕ) (s : State) (b : Book) → IsAtSide s.links w.link w.back end → CameFrom w.source s w piece → (IsServer end → length b.sent ≡ length s.bag) →
     QuietState s → MarksFit s.bag b →
     MarksFit (hear_and_act end (event.Bytes w.link piece) s).state.bag (note_at (Some end) w piece s (hear_and_act end (event.Bytes w.link piece) s).state b)
 end_fits end w piece s b side came same quiet each =

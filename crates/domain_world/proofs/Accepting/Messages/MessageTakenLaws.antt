@@ -21,7 +21,7 @@ use Rattle.member_server.specs.declared.state.Talk.{Talk}
 use Rattle.channel_turns.specs.declared.state.TurnTalk.{TurnTalk}
 use Rattle.channel_events.specs.Marks.{OneOf}
 use Rattle.step_notes.specs.MemberNotes.{LinkAt, TurnNote, challenge_note, link_of_place, link_units, message_note, taken_link, turn_units}
-use Rattle.step_notes.specs.Records.{Book, ChallengeSent, MessageTaken, blank}
+use Rattle.step_notes.specs.Records.{Book, ChallengeSent, MessageTaken, blank, unit_in}
 use Rattle.step_notes.proofs.Members.UnservedLaws.{LinksIn, Opens, in_so, step_known}
 use Rattle.step_notes.proofs.Members.RestLaws.{member_leaves}
 use Rattle.world_moves.specs.declared.links.EndId.TheVariants.{Member}
@@ -270,7 +270,7 @@ member_heard m at w piece s after b is kept =
     let units : List (ServedUnit AtLink Talk) = link_units m w.link piece s.moment s.chances.left in
     let what : Event = event.Bytes w.link piece in
     let new : MemberState = (step_of m what s.moment s.chances.left).state in
-    turns_for (controller_of at s) (turn_units m w.link piece s.moment s.chances.left) w.unit (numbers_on w.link false s.bag after.bag) (note_messages at m w piece s b) (slice_set s.ends.members at new)
+    turns_for (controller_of at s) (turn_units m w.link piece s.moment s.chances.left) (unit_in w.source) (numbers_on w.link false s.bag after.bag) (note_messages at m w piece s b) (slice_set s.ends.members at new)
     s.links (step_of m what s.moment s.chances.left).left
     (member_came (written_of b) (flat_map (challenge_note l) units) (flat_map (message_note l) units) s.ends.members s.links s.chances.left (step_of m what s.moment s.chances.left).left at w.link new kept
     (eights_rest (step_of m what s.moment s.chances.left).left s.chances.left (member_leaves m what s.moment s.chances.left) kept.eights)

@@ -45,7 +45,7 @@ use Rattle.member_server.specs.declared.plan.MemberPlan.{MemberPlan}
 use Rattle.member_server.specs.declared.state.Running.{Running}
 use Rattle.member_server.specs.declared.state.Talk.{Talk}
 use Rattle.member_server.proofs.WholeLaws.{members_send_whole}
-use Rattle.step_notes.specs.Records.{Book}
+use Rattle.step_notes.specs.Records.{Book, InUnit, Outside, Source}
 use Rattle.world_moves.specs.declared.bag.BagUnit.{BagUnit}
 use Rattle.world_moves.specs.declared.links.EndId.{EndId}
 use Rattle.world_moves.specs.declared.links.EndId.TheVariants.{Member, Client}
@@ -210,20 +210,20 @@ one_piece (byte ∷ bytes) piece few one =
     ]
 
 -- what comes on a link between a member and a controller is one whole unit
-pub comes_whole : (unit : Option ℕ) (s : State) (w : Coming) (piece : List ℕ) → WholeBag s.bag → CameFrom unit s w piece → IsOfMember s.links w.link → IsOneUnit piece
-comes_whole None s w piece whole came own = absurd (came own.0 own.1 own.2)
-comes_whole (Some number) s w piece whole came own =
+pub comes_whole : (source : Source) (s : State) (w : Coming) (piece : List ℕ) → WholeBag s.bag → CameFrom source s w piece → IsOfMember s.links w.link → IsOneUnit piece
+comes_whole Outside s w piece whole came own = absurd (came own.0 own.1 own.2)
+comes_whole (InUnit number) s w piece whole came own =
     let route : came.route ≡ ToController own.0 own.1 = some_is came.route (ToController own.0 own.1) (sym came.made ∙ own.2) in
     let is : came.unit.kind ≡ kind.ToController = sym came.same_kind ∙ ap kind_of route in
     let send : IsWholeSend came.unit.bytes = (whole number came.unit came.there).0 is in
     let same : came.unit.bytes ≡ piece = one_piece came.unit.bytes piece send.few came.part in
     subst IsOneUnit same (record { frames = send.frames; unit = send.unit; heard = send.heard })
 
-bytes_meet : (end : EndId) (s : State) (w : Coming) (piece : List ℕ) → WholeBag s.bag → CameFrom w.unit s w piece → AreBytes piece → Meets end s.links (event.Bytes w.link piece)
+bytes_meet : (end : EndId) (s : State) (w : Coming) (piece : List ℕ) → WholeBag s.bag → CameFrom w.source s w piece → AreBytes piece → Meets end s.links (event.Bytes w.link piece)
 bytes_meet end s w piece whole came bytes = record {
-  controllers = λ at same own. comes_whole w.unit s w piece whole came own;
+  controllers = λ at same own. comes_whole w.source s w piece whole came own;
   members = λ k same.
-      ((λ own. comes_whole w.unit s w piece whole came (k, own.controller, own.at)), bytes, (λ number opened. no_link number (IsAcceptedBy s.links k number) opened));
+      ((λ own. comes_whole w.source s w piece whole came (k, own.controller, own.at)), bytes, (λ number opened. no_link number (IsAcceptedBy s.links k number) opened));
   clients = λ k same. (tt, bytes);
 }
 

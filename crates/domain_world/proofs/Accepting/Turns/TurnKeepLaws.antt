@@ -12,7 +12,7 @@ use Rattle.member_server.specs.State.{State as MemberState}
 use Rattle.member_server.specs.declared.plan.MemberPlan.{MemberPlan}
 use Rattle.channel_events.specs.Marks.{OneOf}
 use Rattle.channel_events.proofs.ListLaws.{all_weaker, got_append, got_nothing, one_weaker, some_is, one_found}
-use Rattle.step_notes.specs.Records.{Book, MessageTaken, OutcomeTold, Sent, blank}
+use Rattle.step_notes.specs.Records.{Book, MessageTaken, OutcomeTold, Sent, blank, unit_in}
 use Rattle.step_notes.proofs.Members.KeptLogonLaws.{Dials, KeptIn}
 use Rattle.world_moves.specs.declared.bag.BagUnit.{BagUnit}
 use Rattle.world_moves.specs.declared.links.EndId.{EndId}
@@ -94,7 +94,7 @@ module _ (plan : Plan) where
       let grows : GrowsTo s (heard_by step s).state b d = record { bag = kept_same s.bag; sent = sent; ends = same } in
       others_hear plan s (heard_by step s).state b d given (given_by end step.actions) grows members told none (facts (marks_before s (heard_by step s).state b d grows marks))
 
-  end_comes : (end : EndId) (n : ℕ) (w : Coming) (piece : List ℕ) (s after : State) (given : Given) (b : Book) → IsAtSide s.links w.link w.back end → CameFrom w.unit s w piece → TurnSide plan s b →
+  end_comes : (end : EndId) (n : ℕ) (w : Coming) (piece : List ℕ) (s after : State) (given : Given) (b : Book) → IsAtSide s.links w.link w.back end → CameFrom w.source s w piece → TurnSide plan s b →
       TurnsHold plan n s given b → HasHeard (TurnsHold plan) AnyAction (n + 1) end (hear end (event.Bytes w.link piece) s) given (note_at (Some end) w piece s after b)
   end_comes end n w piece s after given b side came rests holds =
       let what : Event = event.Bytes w.link piece in
@@ -113,7 +113,7 @@ module _ (plan : Plan) where
           λ unclashed apart marks.
               others_come (Controller at) (controller_step (Some c) at what s.moment s.ends s.chances) s given b (note_controller (Some c) at w piece s after b) refl
               (others_tell (Controller at) refl (controller_step (Some c) at what s.moment s.ends s.chances).actions)
-              (λ k sent got. got_append b.sent _ k sent got) refl same (λ before. holds.1 (or_false b.clash (any_clash (answers_of at c w piece s) w.unit b.sent) unclashed).0 apart before) marks,
+              (λ k sent got. got_append b.sent _ k sent got) refl same (λ before. holds.1 (or_false b.clash (any_clash (answers_of at c w piece s) (unit_in w.source) b.sent) unclashed).0 apart before) marks,
         );
         fine = all_any _;
       })

@@ -17,7 +17,7 @@ use Rattle.channel_events.specs.Marks.{Mark, Plain, Opening, Opened, Calling, Re
 use Rattle.channel_events.proofs.ListLaws.{all_weaker, got_nothing, some_is}
 use Rattle.step_notes.specs.ControllerNotes.{Where, answer_on, call_answer, identity_by, channel_in, has_passed, heard_answer, judging_by, judging_of, opened_by, opened_mark, opening, passing, reply_mark, units_of_controller}
 use Rattle.step_notes.specs.Marking.{answered_marks, mark_channel, turn_marks}
-use Rattle.step_notes.specs.Records.{Book, Judging, Network, computer_named}
+use Rattle.step_notes.specs.Records.{Book, Judging, Network, computer_named, unit_in}
 use Rattle.step_notes.specs.Served.{work_after}
 use Rattle.world_moves.specs.declared.bag.BagUnit.{BagUnit}
 use Rattle.world_moves.specs.declared.moves.Move.{Move}
@@ -68,7 +68,7 @@ module _ (count : ℕ) where
 
   opening_known : (channel : Option ChannelIdentity) (w : Where) (number : ℕ) → IfChannel channel → IsKnownMark (opening channel w number).mark
   opening_known None w number few = tt
-  opening_known (Some channel) w number few = opened_known w.unit channel number few
+  opening_known (Some channel) w number few = opened_known (unit_in w.source) channel number few
 
   reply_known : (unit : Option ℕ) (channel : ChannelIdentity) (number : ℕ) → channel.controller < count → IsKnownMark (reply_mark unit channel number)
   reply_known None channel number few = tt
@@ -76,7 +76,7 @@ module _ (count : ℕ) where
 
   passing_known : (channel : Option ChannelIdentity) (j : Judging) → IfChannel channel → IsKnownMark (passing channel j).mark
   passing_known None j few = tt
-  passing_known (Some channel) j few = reply_known j.unit channel j.number few
+  passing_known (Some channel) j few = reply_known (unit_in j.source) channel j.number few
 
   judging_known : (passed : Bool) (j : Judging) → j.controller < count → IsKnownMark (judging_by passed j).mark
   judging_known false j few = tt

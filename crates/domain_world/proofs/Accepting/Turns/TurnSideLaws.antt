@@ -32,7 +32,7 @@ use Rattle.step_notes.specs.CallLogons.{AsksUnlessStopped}
 use Rattle.step_notes.specs.ChannelNames.{standing_channel}
 use Rattle.step_notes.specs.Marking.{clashes}
 use Rattle.step_notes.specs.MemberNotes.{TurnNote, is_turn_link, link_units, message_note, taking_note, turn_note, turn_units, turn_units_by, turn_units_in, turn_units_on}
-use Rattle.step_notes.specs.Records.{Book, CallTaken, MessageTaken, OfMember, OutcomeTold, Sent}
+use Rattle.step_notes.specs.Records.{Book, CallTaken, InUnit, MessageTaken, OfMember, OutcomeTold, Outside, Sent, Source, unit_in}
 use Rattle.step_notes.specs.Served.{units_if_taken}
 use Rattle.step_notes.proofs.Members.KeptLogonLaws.{IfDialled, KeptIn, each_so, kept_so, one_before}
 use Rattle.step_notes.proofs.Members.UnservedLaws.{LinksIn, in_so}
@@ -168,7 +168,7 @@ module _ (plan : Plan) (k : ℕ) (w : Coming) (piece : List ℕ) (s after : Stat
   numbers = numbers_on w.link false s.bag after.bag
 
   abbrev pub turn_book : Option Running → Book
-  turn_book r = note_turns (controller_of k s) (units_of r) w.unit numbers (first_book r)
+  turn_book r = note_turns (controller_of k s) (units_of r) (unit_in w.source) numbers (first_book r)
 
   abbrev pub book_after : Option Running → Book
   book_after r = note_member (Some (member r)) k w piece s after b
@@ -180,7 +180,7 @@ module _ (plan : Plan) (k : ℕ) (w : Coming) (piece : List ℕ) (s after : Stat
   pub sent_stays : (r : Option Running) (n : ℕ) (one : Sent) → slice_get b.sent n ≡ Some one → slice_get (book_after r).sent n ≡ Some one
   sent_stays r n one there =
       got_append (turn_book r).sent _ n one
-      (subst (λ (units : List Sent). slice_get units n ≡ Some one) (sym (turns_sent (controller_of k s) (units_of r) w.unit numbers (first_book r))) there)
+      (subst (λ (units : List Sent). slice_get units n ≡ Some one) (sym (turns_sent (controller_of k s) (units_of r) (unit_in w.source) numbers (first_book r))) there)
 
   pub ends_same : (r : Option Running) → SameEnds s.ends (heard r).state.ends
   ends_same r = record { controllers = refl; members = sym (length-set s.ends.members k _); clients = refl }
@@ -219,11 +219,11 @@ module _ (plan : Plan) (k : ℕ) (w : Coming) (piece : List ℕ) (s after : Stat
 
   -- which answers are written down
   answers_from : (r : Option Running) →
-      (book_after r).answers ≡ b.answers ++ flat_map (answers_by (OfMember k) w.at w.unit b.sent) (map (turn_note (controller_of k s)) (units_of r))
+      (book_after r).answers ≡ b.answers ++ flat_map (answers_by (OfMember k) w.at (unit_in w.source) b.sent) (map (turn_note (controller_of k s)) (units_of r))
   answers_from r =
       let notes : List TurnNote = map (turn_note (controller_of k s)) (units_of r) in
-      ap (λ (old : List CallTaken). old ++ flat_map (answers_by (OfMember k) w.at w.unit (turn_book r).sent) notes) (turns_answers (controller_of k s) (units_of r) w.unit numbers (first_book r))
-      ∙ ap (λ (sent : List Sent). b.answers ++ flat_map (answers_by (OfMember k) w.at w.unit sent) notes) (turns_sent (controller_of k s) (units_of r) w.unit numbers (first_book r))
+      ap (λ (old : List CallTaken). old ++ flat_map (answers_by (OfMember k) w.at (unit_in w.source) (turn_book r).sent) notes) (turns_answers (controller_of k s) (units_of r) (unit_in w.source) numbers (first_book r))
+      ∙ ap (λ (sent : List Sent). b.answers ++ flat_map (answers_by (OfMember k) w.at (unit_in w.source) sent) notes) (turns_sent (controller_of k s) (units_of r) (unit_in w.source) numbers (first_book r))
 
   -- as it is written down
   as_noted : (r : Option Running) (messages : List MessageTaken) (answers : List CallTaken) → (book_after r).messages ≡ messages → (book_after r).answers ≡ answers →
@@ -234,7 +234,7 @@ module _ (plan : Plan) (k : ℕ) (w : Coming) (piece : List ℕ) (s after : Stat
       let d : Book = book_after r in
       let same : told_yet (given ++ given_by (Member k) (heard r).actions) d ≡ told_yet given b ++ more_told r =
       yet_more given (given_by (Member k) (heard r).actions) d
-      ∙ ap (λ (old : List OutcomeTold). (old ++ told_in given 0) ++ more_told r) (turns_told (controller_of k s) (units_of r) w.unit numbers (first_book r)) in
+      ∙ ap (λ (old : List OutcomeTold). (old ++ told_in given 0) ++ more_told r) (turns_told (controller_of k s) (units_of r) (unit_in w.source) numbers (first_book r)) in
       subst (λ (all : List OutcomeTold). TurnFacts plan t d d.messages d.answers all) (sym same)
       (subst (λ (m : List MessageTaken). TurnFacts plan t d m d.answers (told_yet given b ++ more_told r)) (sym is)
       (subst (λ (all : List CallTaken). TurnFacts plan t d messages all (told_yet given b ++ more_told r)) (sym also) facts))
@@ -245,9 +245,9 @@ module _ (plan : Plan) (k : ℕ) (w : Coming) (piece : List ℕ) (s after : Stat
       TurnFacts plan (heard r).state (book_after r) (book_after r).messages (book_after r).answers (told_yet (given ++ given_by (Member k) (heard r).actions) (book_after r))
   without_units r none known facts =
       as_noted r (messages_in r) b.answers
-      (ap (λ (units : List (ServedUnit AtTurn TurnTalk)). (note_turns (controller_of k s) units w.unit numbers (first_book r)).messages) none)
+      (ap (λ (units : List (ServedUnit AtTurn TurnTalk)). (note_turns (controller_of k s) units (unit_in w.source) numbers (first_book r)).messages) none)
       (answers_from r
-      ∙ ap (λ (units : List (ServedUnit AtTurn TurnTalk)). b.answers ++ flat_map (answers_by (OfMember k) w.at w.unit b.sent) (map (turn_note (controller_of k s)) units)) none
+      ∙ ap (λ (units : List (ServedUnit AtTurn TurnTalk)). b.answers ++ flat_map (answers_by (OfMember k) w.at (unit_in w.source) b.sent) (map (turn_note (controller_of k s)) units)) none
       ∙ append-nil b.answers) (more_facts r (messages_in r) (told_yet given b) known facts)
 
   other_comes : (r : Option Running) → IsOther r w.link → TurnFacts plan (heard r).state (book_after r) (messages_in r) b.answers (told_yet given b) →
@@ -281,7 +281,7 @@ module _ (plan : Plan) (k : ℕ) (w : Coming) (piece : List ℕ) (s after : Stat
     pub is_back : IsAtSide s.links w.link w.back (Member k) → w.back ≡ true
     is_back at = back_by w.back at.route (some_is at.route (ToController k dialled_on.controller) (sym at.made ∙ dialled_on.at)) at.side
 
-    module _ (u : ℕ) (piece_of : IsPieceOf s u w piece) (back : w.back ≡ true) (facts : TurnFacts plan s b b.messages b.answers (told_yet given b)) (carried : w.unit ≡ Some u)
+    module _ (u : ℕ) (piece_of : IsPieceOf s u w piece) (back : w.back ≡ true) (facts : TurnFacts plan s b b.messages b.answers (told_yet given b)) (carried : unit_in w.source ≡ Some u)
         (unclashed : (book_after run).clash ≡ false) (apart : AreApart (links_in (messages_in run))) (plans : AreAlikeButSecrets plan.members s.member_plans) (marks : MarksAreKnown (heard run).state (book_after run)) where
       -- the unit
       pub whole : IsWholeUnit piece_of.unit.bytes × (length piece_of.unit.bytes ≤ 65536)
@@ -319,20 +319,20 @@ module _ (plan : Plan) (k : ℕ) (w : Coming) (piece : List ℕ) (s after : Stat
           (subst (λ (part : Result (Part DialWork) StepRefused). AllByRecursion (IsKnown plan (heard run).state (book_after run) (messages_in run)) (told_in (given_by (Member k) (actions_by (answer_to part))) 0))
           (sym is) tt) before
 
-      noted : (part : Part DialWork) → part_of ≡ Ok part → IsTurnNoted (controller_of k s) running whole.0.unit w.unit (first_of numbers) (first_book run) (turn_book run)
+      noted : (part : Part DialWork) → part_of ≡ Ok part → IsTurnNoted (controller_of k s) running whole.0.unit (unit_in w.source) (first_of numbers) (first_book run) (turn_book run)
       noted part is =
           subst (λ (units : List (ServedUnit AtTurn TurnTalk)).
-          IsTurnNoted (controller_of k s) running whole.0.unit w.unit (first_of numbers) (first_book run) (note_turns (controller_of k s) units w.unit numbers (first_book run)))
+          IsTurnNoted (controller_of k s) running whole.0.unit (unit_in w.source) (first_of numbers) (first_book run) (note_turns (controller_of k s) units (unit_in w.source) numbers (first_book run)))
           (sym (ap (λ (part : Result (Part DialWork) StepRefused). units_if_taken (answer_to part) (turn_units_in run w.link piece s.chances.left)) is))
-          (turn_noted (controller_of k s) running w.link piece whole.0.unit s.chances.left w.unit numbers (first_book run) hears)
+          (turn_noted (controller_of k s) running w.link piece whole.0.unit s.chances.left (unit_in w.source) numbers (first_book run) hears)
 
       answers_noted : (part : Part DialWork) → part_of ≡ Ok part →
           (book_after run).answers ≡ b.answers ++ answers_by (OfMember k) w.at (Some u) b.sent (taking_note (Some (take_of running.logons.channel whole.0.unit)) (controller_of k s) running.logons.channel)
       answers_noted part is =
           answers_from run
           ∙ ap (λ (part : Result (Part DialWork) StepRefused).
-          b.answers ++ flat_map (answers_by (OfMember k) w.at w.unit b.sent) (map (turn_note (controller_of k s)) (units_if_taken (answer_to part) (turn_units_in run w.link piece s.chances.left)))) is
-          ∙ ap (λ (all : List CallTaken). b.answers ++ all) (turn_answers (controller_of k s) running w.link piece whole.0.unit s.chances.left (OfMember k) w.at w.unit b.sent hears)
+          b.answers ++ flat_map (answers_by (OfMember k) w.at (unit_in w.source) b.sent) (map (turn_note (controller_of k s)) (units_if_taken (answer_to part) (turn_units_in run w.link piece s.chances.left)))) is
+          ∙ ap (λ (all : List CallTaken). b.answers ++ all) (turn_answers (controller_of k s) running w.link piece whole.0.unit s.chances.left (OfMember k) w.at (unit_in w.source) b.sent hears)
           ∙ ap (λ (unit : Option ℕ).
           b.answers ++ answers_by (OfMember k) w.at unit b.sent (taking_note (Some (take_of running.logons.channel whole.0.unit)) (controller_of k s) running.logons.channel)) carried
 
@@ -386,23 +386,23 @@ module _ (plan : Plan) (k : ℕ) (w : Coming) (piece : List ℕ) (s after : Stat
       turn_comes : TurnFacts plan (heard run).state (book_after run) (book_after run).messages (book_after run).answers (told_yet (given ++ given_by (Member k) (heard run).actions) (book_after run))
       turn_comes = elim (part_cases part_of) [ inl ok ↦ taken ok.0 ok.1 | inr err ↦ refused err.0 err.1 ]
 
-    from_bag : (unit : Option ℕ) → w.unit ≡ unit → CameFrom unit s w piece → IsAtSide s.links w.link w.back (Member k) → TurnFacts plan s b b.messages b.answers (told_yet given b) → (book_after run).clash ≡ false →
+    from_bag : (source : Source) → w.source ≡ source → CameFrom source s w piece → IsAtSide s.links w.link w.back (Member k) → TurnFacts plan s b b.messages b.answers (told_yet given b) → (book_after run).clash ≡ false →
         AreApart (links_in (messages_in run)) → AreAlikeButSecrets plan.members s.member_plans → MarksAreKnown (heard run).state (book_after run) →
         TurnFacts plan (heard run).state (book_after run) (book_after run).messages (book_after run).answers (told_yet (given ++ given_by (Member k) (heard run).actions) (book_after run))
-    from_bag None is came at facts unclashed apart plans marks = absurd (came k dialled_on.controller dialled_on.at)
-    from_bag (Some u) is came at facts unclashed apart plans marks = turn_comes u came (is_back at) facts is unclashed apart plans marks
+    from_bag Outside is came at facts unclashed apart plans marks = absurd (came k dialled_on.controller dialled_on.at)
+    from_bag (InUnit u) is came at facts unclashed apart plans marks = turn_comes u came (is_back at) facts (ap unit_in is) unclashed apart plans marks
 
-  running_comes : TurnSide plan s b → (r : Option Running) → slice_get s.ends.members k ≡ Some (member r) → CameFrom w.unit s w piece → IsAtSide s.links w.link w.back (Member k) → AreAlikeButSecrets plan.members s.member_plans →
+  running_comes : TurnSide plan s b → (r : Option Running) → slice_get s.ends.members k ≡ Some (member r) → CameFrom w.source s w piece → IsAtSide s.links w.link w.back (Member k) → AreAlikeButSecrets plan.members s.member_plans →
       (book_after r).clash ≡ false → AreApart (links_in (messages_in r)) → MarksAreKnown (heard r).state (book_after r) → TurnFacts plan s b b.messages b.answers (told_yet given b) →
       TurnFacts plan (heard r).state (book_after r) (book_after r).messages (book_after r).answers (told_yet (given ++ given_by (Member k) (heard r).actions) (book_after r))
   running_comes side None there came at plans unclashed apart marks facts = other_comes None tt (first_facts None (told_yet given b) there (side.accepts k (member None) there) facts)
   running_comes side (Some running) there came at plans unclashed apart marks facts = elim (turn_cases running.dialling w.link) [
     | inl other ↦ other_comes (Some running) other (first_facts (Some running) (told_yet given b) there (side.accepts k (member (Some running)) there) facts)
-    | inr on ↦ from_bag side running on.0 there on.1 w.unit refl came at facts unclashed apart plans marks
+    | inr on ↦ from_bag side running on.0 there on.1 w.source refl came at facts unclashed apart plans marks
   ]
 
   -- of a member that is there
-  pub member_comes : TurnSide plan s b → (m : MemberState) → slice_get s.ends.members k ≡ Some m → CameFrom w.unit s w piece → IsAtSide s.links w.link w.back (Member k) → AreAlikeButSecrets plan.members s.member_plans →
+  pub member_comes : TurnSide plan s b → (m : MemberState) → slice_get s.ends.members k ≡ Some m → CameFrom w.source s w piece → IsAtSide s.links w.link w.back (Member k) → AreAlikeButSecrets plan.members s.member_plans →
       (note_member (Some m) k w piece s after b).clash ≡ false → AreApart (links_in (note_member (Some m) k w piece s after b).messages) →
       MarksAreKnown (heard_by (member_step (Some m) k (event.Bytes w.link piece) s.moment s.ends s.chances) s).state (note_member (Some m) k w piece s after b) →
       (b.clash ≡ false → AreApart (links_in b.messages) → MarksAreKnown s b → TurnFacts plan s b b.messages b.answers (told_yet given b)) →
@@ -411,8 +411,8 @@ module _ (plan : Plan) (k : ℕ) (w : Coming) (piece : List ℕ) (s after : Stat
       (told_yet (given ++ given_by (Member k) t.actions) (note_member (Some m) k w piece s after b))
   member_comes side m there came at plans unclashed apart marks facts =
       let first : AreApart (links_in (messages_in m.running)) =
-      subst AreApart (turns_links (controller_of k s) (units_of m.running) w.unit numbers (first_book m.running)) apart in
+      subst AreApart (turns_links (controller_of k s) (units_of m.running) (unit_in w.source) numbers (first_book m.running)) apart in
       running_comes side m.running there came at plans unclashed first marks
-      (facts (turns_clash (controller_of k s) (units_of m.running) w.unit numbers (first_book m.running) unclashed)
+      (facts (turns_clash (controller_of k s) (units_of m.running) (unit_in w.source) numbers (first_book m.running) unclashed)
       (apart_front (links_in b.messages) (links_in (new_in m.running)) (subst AreApart (links_append b.messages (new_in m.running)) first))
       (marks_before s (heard m.running).state b (book_after m.running) (record { bag = kept_same s.bag; sent = sent_stays m.running; ends = ends_same m.running }) marks))

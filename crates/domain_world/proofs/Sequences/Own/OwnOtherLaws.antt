@@ -12,7 +12,7 @@ use Rattle.member_server.specs.Turns.{AtTurn}
 use Rattle.channel_turns.specs.declared.state.TurnTalk.{TurnTalk}
 use Rattle.step_notes.specs.Marking.{turn_marks}
 use Rattle.step_notes.specs.MemberNotes.{link_units, message_note, turn_note, turn_units}
-use Rattle.step_notes.specs.Records.{Book, MessageTaken, OfMember}
+use Rattle.step_notes.specs.Records.{Book, MessageTaken, OfMember, unit_in}
 use Rattle.step_notes.specs.Served.{units_if_taken}
 use Rattle.std.specs.Prelude.{flat_map}
 use Rattle.world_moves.specs.declared.links.EndId.TheVariants.{Member}
@@ -37,8 +37,8 @@ module _ (plan : Plan) (n at : ℕ) (w : Coming) (piece : List ℕ) (s t after :
   NotedBy units =
       OwnHolds plan n t given
       (with_marks w.at w.link false (drop (length s.bag) after.bag) (turn_marks (map (turn_note (controller_of at s)) units))
-      (with_taken (OfMember at) w.at w.unit (map (turn_note (controller_of at s)) units)
-      (note_turns (controller_of at s) units w.unit (numbers_on w.link false s.bag after.bag) (note_messages at m w piece s b))))
+      (with_taken (OfMember at) w.at (unit_in w.source) (map (turn_note (controller_of at s)) units)
+      (note_turns (controller_of at s) units (unit_in w.source) (numbers_on w.link false s.bag after.bag) (note_messages at m w piece s b))))
 
   other_noted : IsOther m.running w.link → OwnHolds plan n t given b → OwnHolds plan n t given (note_member (Some m) at w piece s after b)
   other_noted other holds =
@@ -49,7 +49,7 @@ module _ (plan : Plan) (n at : ℕ) (w : Coming) (piece : List ℕ) (s t after :
       let new : List Mark = marks_of w.link false (drop (length s.bag) after.bag) [] in
       let news : List MessageTaken = flat_map (message_note (at_member at w s)) (link_units m w.link piece s.moment s.chances.left) in
       subst NotedBy (sym none)
-      (book_changed plan n t given b (with_marks w.at w.link false (drop (length s.bag) after.bag) [] (with_taken (OfMember at) w.at w.unit [] (note_messages at m w piece s b)))
+      (book_changed plan n t given b (with_marks w.at w.link false (drop (length s.bag) after.bag) [] (with_taken (OfMember at) w.at (unit_in w.source) [] (note_messages at m w piece s b)))
       (λ k one there. got_append b.sent (map (sent_at w.at) new) k one there) (λ unclashed. unclashed)
       (λ apart. apart_front (links_in b.messages) (links_in news) (subst AreApart (links_append b.messages news) apart)) refl
       (λ k number timestamp e there.

@@ -11,7 +11,7 @@ use Rattle.domain_controller.specs.State.{State as ControllerState}
 use Rattle.logon_client.specs.State.{State as ClientState}
 use Rattle.step_notes.specs.ControllerNotes.{units_of_controller}
 use Rattle.step_notes.specs.Marking.{answered_marks}
-use Rattle.step_notes.specs.Records.{Book}
+use Rattle.step_notes.specs.Records.{Book, unit_in}
 use Rattle.world_moves.specs.declared.links.EndId.{EndId}
 use Rattle.world_moves.specs.declared.links.EndId.TheVariants.{Member}
 use Rattle.world_moves.specs.declared.plan.Plan.{Plan}
@@ -46,7 +46,7 @@ no_unit end what s none at is = none_if (slice_get s.ends.members at) what none
 -- What is known is kept as bytes come at a member, by what the fact rests on.
 abbrev pub MemberComes : Plan → RunFact → Type 0
 MemberComes plan Side =
-    (n at : ℕ) (w : Coming) (piece : List ℕ) (s : State) (given : Given) (b : Book) → IsAtSide s.links w.link w.back (Member at) → CameFrom w.unit s w piece → length b.sent ≡ length s.bag →
+    (n at : ℕ) (w : Coming) (piece : List ℕ) (s : State) (given : Given) (b : Book) → IsAtSide s.links w.link w.back (Member at) → CameFrom w.source s w piece → length b.sent ≡ length s.bag →
     Side n s given b → OwnHolds plan n s given b →
     OwnHolds plan (n + 1) (hear (Member at) (event.Bytes w.link piece) s).state (given ++ given_by (Member at) (hear (Member at) (event.Bytes w.link piece) s).actions)
     (note_at (Some (Member at)) w piece s (hear_and_act (Member at) (event.Bytes w.link piece) s).state b)
@@ -66,7 +66,7 @@ module _ (plan : Plan) where
       all_weaker (λ (mark : Mark). IsItsWay true mark) IsNoCall marks reply_no_call
       (answers_way w.link (at_controller at c w s) (units_of_controller c w.link piece s.moment s.chances.left)) in
       book_changed plan n t given b (note_controller (Some c) at w piece s after b) (λ k one there. got_append b.sent (map (sent_at w.at) new) k one there)
-      (λ unclashed. (or_false b.clash (any_clash (answers_of at c w piece s) w.unit b.sent) unclashed).0) (λ apart. apart) refl
+      (λ unclashed. (or_false b.clash (any_clash (answers_of at c w piece s) (unit_in w.source) b.sent) unclashed).0) (λ apart. apart) refl
       (λ k number timestamp e there.
       calls_before (marks_in b.sent) (marks_in (map (sent_at w.at) new)) (no_calls_sent w.at new (no_calls_marked w.link true (drop (length s.bag) after.bag) marks none)) k number timestamp e
       (subst (λ (all : List Mark). slice_get all k ≡ Some (Calling e number timestamp)) (marks_append b.sent (map (sent_at w.at) new)) there)) holds
@@ -85,7 +85,7 @@ module _ (plan : Plan) where
       (λ at c is none. client_noted c at n w piece s t given b holds) end other
 
   module _ (Side : RunFact) (member_comes : MemberComes plan Side) where
-    end_comes : (n : ℕ) (end : EndId) (w : Coming) (piece : List ℕ) (s : State) (given : Given) (b : Book) → IsAtSide s.links w.link w.back end → CameFrom w.unit s w piece →
+    end_comes : (n : ℕ) (end : EndId) (w : Coming) (piece : List ℕ) (s : State) (given : Given) (b : Book) → IsAtSide s.links w.link w.back end → CameFrom w.source s w piece →
         (IsServer end → length b.sent ≡ length s.bag) → Side n s given b → OwnHolds plan n s given b →
         OwnHolds plan (n + 1) (hear end (event.Bytes w.link piece) s).state (given ++ given_by end (hear end (event.Bytes w.link piece) s).actions)
         (note_at (Some end) w piece s (hear_and_act end (event.Bytes w.link piece) s).state b)

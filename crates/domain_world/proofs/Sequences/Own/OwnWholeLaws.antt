@@ -19,7 +19,7 @@ use Rattle.channel_turns.specs.declared.state.TurnTalk.{TurnTalk}
 use Rattle.member_server.proofs.AskedLaws.{asks_what_waits}
 use Rattle.end_links.specs.Links.{LinkState}
 use Rattle.step_notes.specs.MemberNotes.{TurnNote, taking_note}
-use Rattle.step_notes.specs.Records.{Book, ChannelTurn, Sent}
+use Rattle.step_notes.specs.Records.{Book, ChannelTurn, InUnit, Outside, Sent, Source, unit_in}
 use Rattle.world_moves.specs.declared.links.EndId.TheVariants.{Member}
 use Rattle.world_moves.specs.declared.plan.Plan.{Plan}
 use Rattle.world_moves.specs.declared.state.State.{State}
@@ -137,7 +137,7 @@ module _ (plan : Plan) (n at : ℕ) (w : Coming) (piece : List ℕ)
     now_marks : marks_in d.sent ≡ marks_in b.sent ++ new
     now_marks =
         ap (λ (old : List Sent). marks_in (old ++ map (sent_at w.at) new))
-        (turns_sent its (units_of plan at w piece s after given b (Some running)) w.unit (numbers plan at w piece s after given b) (first_book plan at w piece s after given b (Some running)))
+        (turns_sent its (units_of plan at w piece s after given b (Some running)) (unit_in w.source) (numbers plan at w piece s after given b) (first_book plan at w piece s after given b (Some running)))
         ∙ marks_append b.sent (map (sent_at w.at) new) ∙ ap (λ (more : List Mark). marks_in b.sent ++ more) (marks_sent w.at new)
 
     placed_by : PlacedBy part_of note new
@@ -223,13 +223,13 @@ module _ (plan : Plan) (n at : ℕ) (w : Coming) (piece : List ℕ)
           }
 
   -- with what is known at that time
-  from_bag : (u : ℕ) → IsPieceOf s u w piece → w.unit ≡ Some u → IsAtSide s.links w.link w.back (Member at) → TurnSide plan n s given b → OwnHolds plan n s given b → OwnHolds plan (n + 1) t more_given d
+  from_bag : (u : ℕ) → IsPieceOf s u w piece → unit_in w.source ≡ Some u → IsAtSide s.links w.link w.back (Member at) → TurnSide plan n s given b → OwnHolds plan n s given b → OwnHolds plan (n + 1) t more_given d
   from_bag u piece_of carried at_side side known few unclashed apart marks_known differ =
       let first : AreApart (links_in (messages_in plan at w piece s after given b (Some running))) =
-      subst AreApart (turns_links its (units_of plan at w piece s after given b (Some running)) w.unit (numbers plan at w piece s after given b) (first_book plan at w piece s after given b (Some running))) apart in
+      subst AreApart (turns_links its (units_of plan at w piece s after given b (Some running)) (unit_in w.source) (numbers plan at w piece s after given b) (first_book plan at w piece s after given b (Some running))) apart in
       let few_before : n ≤ most_steps = omega (arith, few) in
       let unclashed_before : b.clash ≡ false =
-      turns_clash its (units_of plan at w piece s after given b (Some running)) w.unit (numbers plan at w piece s after given b) (first_book plan at w piece s after given b (Some running)) unclashed in
+      turns_clash its (units_of plan at w piece s after given b (Some running)) (unit_in w.source) (numbers plan at w piece s after given b) (first_book plan at w piece s after given b (Some running)) unclashed in
       let apart_before : AreApart (links_in b.messages) =
       apart_front (links_in b.messages) (links_in (new_in plan at w piece s after given b (Some running)))
       (subst AreApart (links_append b.messages (new_in plan at w piece s after given b (Some running))) first) in
@@ -250,18 +250,18 @@ module _ (plan : Plan) (n at : ℕ) (w : Coming) (piece : List ℕ)
       taken_for plan at w.link u s t b d (messages_in plan at w piece s after given b (Some running)) running piece unit its s.moment s.chances.left part
       (comes plan at w piece s after given b rest running said is on u piece_of back facts carried unclashed first turns.0 marks_known part ok) channel number is_answer stands asking i timestamp there) differ
 
-  came_from : (unit : Option ℕ) → w.unit ≡ unit → CameFrom unit s w piece → IsAtSide s.links w.link w.back (Member at) → TurnSide plan n s given b → OwnHolds plan n s given b →
+  came_from : (source : Source) → w.source ≡ source → CameFrom source s w piece → IsAtSide s.links w.link w.back (Member at) → TurnSide plan n s given b → OwnHolds plan n s given b →
       OwnHolds plan (n + 1) t more_given d
-  came_from None carried came at_side side known few unclashed apart marks_known differ =
+  came_from Outside carried came at_side side known few unclashed apart marks_known differ =
       let differ_before : Differ s.chances.drawn = differ_front s.chances.drawn (step_of m what s.moment s.chances.left).drawn differ in
       let link : IsDialledBy s.links at w.link = dialled_on plan at w piece s after given b (rests_on plan n s given b side.0 (omega (arith, few))) running said is on in
       absurd (came at link.controller link.at)
-  came_from (Some u) carried came at_side side known few unclashed apart marks_known differ = from_bag u came carried at_side side known few unclashed apart marks_known differ
+  came_from (InUnit u) carried came at_side side known few unclashed apart marks_known differ = from_bag u came (ap unit_in carried) at_side side known few unclashed apart marks_known differ
 
 -- ---- bytes come at a member
 
 module _ (plan : Plan) (n at : ℕ) (w : Coming) (piece : List ℕ) (s : State)
-    (given : Given) (b : Book) (at_side : IsAtSide s.links w.link w.back (Member at)) (came : CameFrom w.unit s w piece) (even : length b.sent ≡ length s.bag) (side : TurnSide plan n s given b)
+    (given : Given) (b : Book) (at_side : IsAtSide s.links w.link w.back (Member at)) (came : CameFrom w.source s w piece) (even : length b.sent ≡ length s.bag) (side : TurnSide plan n s given b)
     (known : OwnHolds plan n s given b) where
   abbrev bytes : Event
   bytes = event.Bytes w.link piece
@@ -287,7 +287,7 @@ module _ (plan : Plan) (n at : ℕ) (w : Coming) (piece : List ℕ) (s : State)
       (came_from plan n at w piece s after_all given b on.running on.said on.on there even
       (ap (λ (found : Option MemberState).
       (perform_all (Member at) (member_step found at bytes s.moment s.ends s.chances).actions (heard_by (member_step found at bytes s.moment s.ends s.chances) s).state).state.bag) there)
-      w.unit refl came at_side side known)
+      w.source refl came at_side side known)
 
   by_member : (found : Option MemberState) → slice_get s.ends.members at ≡ found → IsNoted (slice_get s.ends.members at)
   by_member None is =
