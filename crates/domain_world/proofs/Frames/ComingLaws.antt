@@ -44,6 +44,18 @@ abbrev pub CameFrom : Source → State → Coming → List ℕ → Type 0
 CameFrom Outside s w piece = IsFromOutside s.links w.link
 CameFrom (InUnit number) s w piece = IsPieceOf s number w piece
 
+-- they are a piece of a unit of the bag
+pub record CameInUnit (source : Source) (s : State) (w : Coming) (piece : List ℕ) : Type 0 where
+  pub number : ℕ
+  pub is : source ≡ InUnit number
+  pub piece_of : IsPieceOf s number w piece
+
+-- so is whatever comes on a link of a member and a controller
+pub came_in_unit : (source : Source) (s : State) (w : Coming) (piece : List ℕ) (member controller : ℕ) → CameFrom source s w piece →
+    slice_get s.links w.link ≡ Some (ToController member controller) → CameInUnit source s w piece
+came_in_unit (InUnit number) s w piece member controller came made = record { number = number; is = refl; piece_of = came }
+came_in_unit Outside s w piece member controller came made = absurd (came member controller made)
+
 -- ---- places of the items that pass
 
 pub record IsPlace {T : Type 0} (test : T → Bool) (items : List T) (start number : ℕ) : Type 0 where

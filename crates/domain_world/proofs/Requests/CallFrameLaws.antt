@@ -24,7 +24,7 @@ use Rattle.channel_turns.specs.declared.state.TurnTalk.{TurnTalk}
 use Rattle.end_links.specs.Links.{LinkState}
 use Rattle.step_notes.specs.ChannelNames.{standing_channel}
 use Rattle.step_notes.specs.MemberNotes.{is_turn_link}
-use Rattle.step_notes.specs.Records.{Book, InUnit, MessageTaken, OfMember, Outside, RequesterId, Sent, Source, blank}
+use Rattle.step_notes.specs.Records.{Book, MessageTaken, OfMember, RequesterId, Sent, Source, blank}
 use Rattle.step_notes.proofs.Members.CallKeptLaws.{fresh_asks}
 use Rattle.step_notes.proofs.Members.KeptLogonLaws.{IfDialled, KeptIn as LogonsKept}
 use Rattle.world_moves.specs.declared.links.EndId.{EndId}
@@ -51,7 +51,7 @@ use Rattle.domain_world.proofs.Accepting.Quiet.QuietRunLaws.{one_piece, has_byte
 use Rattle.domain_world.proofs.Accepting.Quiet.QuietStepLaws.{QuietAction, QuietFact}
 use Rattle.domain_world.proofs.Accepting.RunBeginLaws.{first_apart}
 use Rattle.domain_world.proofs.Frames.BagFrameLaws.{IsServer}
-use Rattle.domain_world.proofs.Frames.ComingLaws.{CameFrom}
+use Rattle.domain_world.proofs.Frames.ComingLaws.{CameFrom, CameInUnit, IsPieceOf, came_in_unit}
 use Rattle.domain_world.proofs.Frames.MarkPlaceLaws.{got_map}
 use Rattle.domain_world.proofs.Frames.StepFrameLaws.{AnyAction, ActionFact, BothFacts, BothFine, HoldsAfterRun, Keeps, NoFact, RunFact, join, run_keeps, with_side}
 use Rattle.domain_world.proofs.Requests.CallComesLaws.{IsWhole, KeptAfter, KeptIn, controller_comes, other_comes, whole_comes}
@@ -66,11 +66,12 @@ use Rattle.domain_world.proofs.Requests.ByRequesterLaws.{by_requester, by_reques
 -- ---- a unit that comes on the link of a turn is whole, and comes in one piece
 
 pub came_whole : (source : Source) (s : State) (w : Coming) (piece : List ℕ) (at : ℕ) → CameFrom source s w piece → IsDialledBy s.links at w.link → BagIsWhole s → IsWholeUnit piece
-came_whole Outside s w piece at came dialled whole = absurd (came at dialled.controller dialled.at)
-came_whole (InUnit number) s w piece at came dialled whole =
+came_whole source s w piece at from dialled whole =
+    let in_unit : CameInUnit source s w piece = came_in_unit source s w piece at dialled.controller from dialled.at in
+    let came : IsPieceOf s in_unit.number w piece = in_unit.piece_of in
     let both : Some came.route ≡ Some (ToController at dialled.controller) = sym came.made ∙ dialled.at in
     let route : came.route ≡ ToController at dialled.controller = (let x = both in cc) in
-    let is = whole number came.unit came.there (sym came.same_kind ∙ ap kind_of route) in
+    let is = whole in_unit.number came.unit came.there (sym came.same_kind ∙ ap kind_of route) in
     subst IsWholeUnit (one_piece came.unit.bytes piece is.1 came.part) is.0
 
 -- ---- whether bytes come on the link of a turn

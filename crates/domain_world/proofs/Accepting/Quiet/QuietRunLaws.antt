@@ -45,7 +45,7 @@ use Rattle.member_server.specs.declared.plan.MemberPlan.{MemberPlan}
 use Rattle.member_server.specs.declared.state.Running.{Running}
 use Rattle.member_server.specs.declared.state.Talk.{Talk}
 use Rattle.member_server.proofs.WholeLaws.{members_send_whole}
-use Rattle.step_notes.specs.Records.{Book, InUnit, Outside, Source}
+use Rattle.step_notes.specs.Records.{Book, Source}
 use Rattle.world_moves.specs.declared.bag.BagUnit.{BagUnit}
 use Rattle.world_moves.specs.declared.links.EndId.{EndId}
 use Rattle.world_moves.specs.declared.links.EndId.TheVariants.{Member, Client}
@@ -72,7 +72,7 @@ use Rattle.domain_world.proofs.Accepting.LetInStepLaws.{IsAcceptedBy, IsDialledB
 use Rattle.domain_world.proofs.Accepting.Quiet.QuietListenLaws.{ListensWell, OpensWell, WellUnlessStopped, entries_so}
 use Rattle.domain_world.proofs.Accepting.Quiet.QuietTurnLaws.{IfOn, IsOneUnit}
 use Rattle.domain_world.proofs.Challenges.MessageOnceLaws.{each_put}
-use Rattle.domain_world.proofs.Frames.ComingLaws.{CameFrom, IsStill, kept_settled}
+use Rattle.domain_world.proofs.Frames.ComingLaws.{CameFrom, CameInUnit, IsPieceOf, IsStill, came_in_unit, kept_settled}
 use Rattle.domain_world.proofs.Frames.MarkPlaceLaws.{got_beside, settled_length}
 use Rattle.domain_world.proofs.Frames.OpenMadeLaws.{IsAtSide}
 use Rattle.domain_world.proofs.Frames.StepFrameLaws.{HasHeard, Keeps, NoFact}
@@ -211,11 +211,12 @@ one_piece (byte ∷ bytes) piece few one =
 
 -- what comes on a link between a member and a controller is one whole unit
 pub comes_whole : (source : Source) (s : State) (w : Coming) (piece : List ℕ) → WholeBag s.bag → CameFrom source s w piece → IsOfMember s.links w.link → IsOneUnit piece
-comes_whole Outside s w piece whole came own = absurd (came own.0 own.1 own.2)
-comes_whole (InUnit number) s w piece whole came own =
+comes_whole source s w piece whole from own =
+    let in_unit : CameInUnit source s w piece = came_in_unit source s w piece own.0 own.1 from own.2 in
+    let came : IsPieceOf s in_unit.number w piece = in_unit.piece_of in
     let route : came.route ≡ ToController own.0 own.1 = some_is came.route (ToController own.0 own.1) (sym came.made ∙ own.2) in
     let is : came.unit.kind ≡ kind.ToController = sym came.same_kind ∙ ap kind_of route in
-    let send : IsWholeSend came.unit.bytes = (whole number came.unit came.there).0 is in
+    let send : IsWholeSend came.unit.bytes = (whole in_unit.number came.unit came.there).0 is in
     let same : came.unit.bytes ≡ piece = one_piece came.unit.bytes piece send.few came.part in
     subst IsOneUnit same (record { frames = send.frames; unit = send.unit; heard = send.heard })
 

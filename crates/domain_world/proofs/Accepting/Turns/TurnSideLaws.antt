@@ -32,7 +32,7 @@ use Rattle.step_notes.specs.CallLogons.{AsksUnlessStopped}
 use Rattle.step_notes.specs.ChannelNames.{standing_channel}
 use Rattle.step_notes.specs.Marking.{clashes}
 use Rattle.step_notes.specs.MemberNotes.{TurnNote, is_turn_link, link_units, message_note, taking_note, turn_note, turn_units, turn_units_by, turn_units_in, turn_units_on}
-use Rattle.step_notes.specs.Records.{Book, CallTaken, InUnit, MessageTaken, OfMember, OutcomeTold, Outside, Sent, Source, unit_in}
+use Rattle.step_notes.specs.Records.{Book, CallTaken, MessageTaken, OfMember, OutcomeTold, Sent, unit_in}
 use Rattle.step_notes.specs.Served.{units_if_taken}
 use Rattle.step_notes.proofs.Members.KeptLogonLaws.{IfDialled, KeptIn, each_so, kept_so, one_before}
 use Rattle.step_notes.proofs.Members.UnservedLaws.{LinksIn, in_so}
@@ -61,8 +61,7 @@ use Rattle.domain_world.proofs.Accepting.Turns.TurnQuietLaws.{IsSilent, free_put
 use Rattle.domain_world.proofs.Accepting.Turns.TurnWholeLaws.{ComesWhole, whole_facts}
 use Rattle.domain_world.proofs.Challenges.MessageApartLaws.{links_append, links_in, turns_links}
 use Rattle.domain_world.proofs.Challenges.MessageOnceLaws.{set_cases}
-use Rattle.domain_world.proofs.Frames.ComingLaws.{CameFrom, IsPieceOf, kept_same}
-use Rattle.domain_world.proofs.Frames.MemberPlanLaws.{controllers_alike}
+use Rattle.domain_world.proofs.Frames.ComingLaws.{CameFrom, CameInUnit, IsPieceOf, came_in_unit, kept_same}
 use Rattle.domain_world.proofs.Frames.OpenMadeLaws.{IsAtSide, side_of}
 use Rattle.domain_world.proofs.Frames.TurnFrameLaws.{notes_keep, turns_answers, turns_sent, turns_told}
 use Rattle.domain_world.proofs.Requests.WholeOutLaws.{noted as noted_by}
@@ -386,11 +385,12 @@ module _ (plan : Plan) (k : ℕ) (w : Coming) (piece : List ℕ) (s after : Stat
       turn_comes : TurnFacts plan (heard run).state (book_after run) (book_after run).messages (book_after run).answers (told_yet (given ++ given_by (Member k) (heard run).actions) (book_after run))
       turn_comes = elim (part_cases part_of) [ inl ok ↦ taken ok.0 ok.1 | inr err ↦ refused err.0 err.1 ]
 
-    from_bag : (source : Source) → w.source ≡ source → CameFrom source s w piece → IsAtSide s.links w.link w.back (Member k) → TurnFacts plan s b b.messages b.answers (told_yet given b) → (book_after run).clash ≡ false →
+    from_bag : CameFrom w.source s w piece → IsAtSide s.links w.link w.back (Member k) → TurnFacts plan s b b.messages b.answers (told_yet given b) → (book_after run).clash ≡ false →
         AreApart (links_in (messages_in run)) → AreAlikeButSecrets plan.members s.member_plans → MarksAreKnown (heard run).state (book_after run) →
         TurnFacts plan (heard run).state (book_after run) (book_after run).messages (book_after run).answers (told_yet (given ++ given_by (Member k) (heard run).actions) (book_after run))
-    from_bag Outside is came at facts unclashed apart plans marks = absurd (came k dialled_on.controller dialled_on.at)
-    from_bag (InUnit u) is came at facts unclashed apart plans marks = turn_comes u came (is_back at) facts (ap unit_in is) unclashed apart plans marks
+    from_bag came at facts unclashed apart plans marks =
+        let in_unit : CameInUnit w.source s w piece = came_in_unit w.source s w piece k dialled_on.controller came dialled_on.at in
+        turn_comes in_unit.number in_unit.piece_of (is_back at) facts (ap unit_in in_unit.is) unclashed apart plans marks
 
   running_comes : TurnSide plan s b → (r : Option Running) → slice_get s.ends.members k ≡ Some (member r) → CameFrom w.source s w piece → IsAtSide s.links w.link w.back (Member k) → AreAlikeButSecrets plan.members s.member_plans →
       (book_after r).clash ≡ false → AreApart (links_in (messages_in r)) → MarksAreKnown (heard r).state (book_after r) → TurnFacts plan s b b.messages b.answers (told_yet given b) →
@@ -398,7 +398,7 @@ module _ (plan : Plan) (k : ℕ) (w : Coming) (piece : List ℕ) (s after : Stat
   running_comes side None there came at plans unclashed apart marks facts = other_comes None tt (first_facts None (told_yet given b) there (side.accepts k (member None) there) facts)
   running_comes side (Some running) there came at plans unclashed apart marks facts = elim (turn_cases running.dialling w.link) [
     | inl other ↦ other_comes (Some running) other (first_facts (Some running) (told_yet given b) there (side.accepts k (member (Some running)) there) facts)
-    | inr on ↦ from_bag side running on.0 there on.1 w.source refl came at facts unclashed apart plans marks
+    | inr on ↦ from_bag side running on.0 there on.1 came at facts unclashed apart plans marks
   ]
 
   -- of a member that is there

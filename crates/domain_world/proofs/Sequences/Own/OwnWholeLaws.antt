@@ -19,7 +19,7 @@ use Rattle.channel_turns.specs.declared.state.TurnTalk.{TurnTalk}
 use Rattle.member_server.proofs.AskedLaws.{asks_what_waits}
 use Rattle.end_links.specs.Links.{LinkState}
 use Rattle.step_notes.specs.MemberNotes.{TurnNote, taking_note}
-use Rattle.step_notes.specs.Records.{Book, ChannelTurn, InUnit, Outside, Sent, Source, unit_in}
+use Rattle.step_notes.specs.Records.{Book, ChannelTurn, Sent, unit_in}
 use Rattle.world_moves.specs.declared.links.EndId.TheVariants.{Member}
 use Rattle.world_moves.specs.declared.plan.Plan.{Plan}
 use Rattle.world_moves.specs.declared.state.State.{State}
@@ -35,7 +35,7 @@ use Rattle.domain_world.proofs.Accepting.Turns.TurnRunLaws.{TurnSide, rests_on}
 use Rattle.domain_world.proofs.Accepting.Turns.TurnSideLaws.{TurnSide as RestSide, comes, dialled_on, ends_same, first_book, hears as heard_whole, is_back, messages_in, new_in, numbers, sent_stays, turns_clash, units_of, whole}
 use Rattle.domain_world.proofs.Challenges.MessageApartLaws.{links_append, links_in, turns_links}
 use Rattle.domain_world.proofs.Challenges.MessageOnceLaws.{set_cases}
-use Rattle.domain_world.proofs.Frames.ComingLaws.{CameFrom, IsPieceOf, kept_same}
+use Rattle.domain_world.proofs.Frames.ComingLaws.{CameFrom, CameInUnit, IsPieceOf, came_in_unit, kept_same}
 use Rattle.domain_world.proofs.Frames.OpenMadeLaws.{IsAtSide}
 use Rattle.domain_world.proofs.Requests.CallComesLaws.{IsWhole, marks, request_placed, served, turn, units_whole}
 use Rattle.domain_world.proofs.Requests.CallFrameLaws.{TurnOn, turn_case}
@@ -250,13 +250,13 @@ module _ (plan : Plan) (n at : ℕ) (w : Coming) (piece : List ℕ)
       taken_for plan at w.link u s t b d (messages_in plan at w piece s after given b (Some running)) running piece unit its s.moment s.chances.left part
       (comes plan at w piece s after given b rest running said is on u piece_of back facts carried unclashed first turns.0 marks_known part ok) channel number is_answer stands asking i timestamp there) differ
 
-  came_from : (source : Source) → w.source ≡ source → CameFrom source s w piece → IsAtSide s.links w.link w.back (Member at) → TurnSide plan n s given b → OwnHolds plan n s given b →
+  came_from : CameFrom w.source s w piece → IsAtSide s.links w.link w.back (Member at) → TurnSide plan n s given b → OwnHolds plan n s given b →
       OwnHolds plan (n + 1) t more_given d
-  came_from Outside carried came at_side side known few unclashed apart marks_known differ =
+  came_from came at_side side known few unclashed apart marks_known differ =
       let differ_before : Differ s.chances.drawn = differ_front s.chances.drawn (step_of m what s.moment s.chances.left).drawn differ in
       let link : IsDialledBy s.links at w.link = dialled_on plan at w piece s after given b (rests_on plan n s given b side.0 (omega (arith, few))) running said is on in
-      absurd (came at link.controller link.at)
-  came_from (InUnit u) carried came at_side side known few unclashed apart marks_known differ = from_bag u came (ap unit_in carried) at_side side known few unclashed apart marks_known differ
+      let in_unit : CameInUnit w.source s w piece = came_in_unit w.source s w piece at link.controller came link.at in
+      from_bag in_unit.number in_unit.piece_of (ap unit_in in_unit.is) at_side side known few unclashed apart marks_known differ
 
 -- ---- bytes come at a member
 
@@ -287,7 +287,7 @@ module _ (plan : Plan) (n at : ℕ) (w : Coming) (piece : List ℕ) (s : State)
       (came_from plan n at w piece s after_all given b on.running on.said on.on there even
       (ap (λ (found : Option MemberState).
       (perform_all (Member at) (member_step found at bytes s.moment s.ends s.chances).actions (heard_by (member_step found at bytes s.moment s.ends s.chances) s).state).state.bag) there)
-      w.source refl came at_side side known)
+      came at_side side known)
 
   by_member : (found : Option MemberState) → slice_get s.ends.members at ≡ found → IsNoted (slice_get s.ends.members at)
   by_member None is =
