@@ -20,7 +20,7 @@ use Rattle.step_notes.specs.Records.{InUnit, Judging, Sent, given_in}
 use Rattle.step_notes.specs.ReplySends.{IsReplyOfCall, verdict_passed}
 use Rattle.world_moves.specs.declared.bag.BagUnit.{BagUnit}
 use Rattle.domain_world.specs.Claims.Replies.{IsReplyOfOne, RepliesCarryTheirJudgement}
-use Rattle.domain_world.specs.Past.{sent_at}
+use Rattle.domain_world.specs.Past.{plain_form, sent_at}
 use Rattle.claim_examples.specs.ClaimExamples.{judged_as, next_call, next_logon, small_channel, small_computers, small_name, small_table}
 use Rattle.claim_examples.specs.ReplyExamples.{OfReplies, replied, replied_call, reply_mark, small_reply}
 use Rattle.channel_events.proofs.ListLaws.{got_nothing, some_is}
@@ -51,6 +51,7 @@ call_sent call limit is = fragments_sent (length (stub_of call.body)) call (stub
 
 -- what is claimed of a bag of one unit is claimed of it
 of_one : (bytes : List ℕ) (mark : Mark) (j : Judging) → IsReplyOfOne (j ∷ []) 0 bytes mark → RepliesCarryTheirJudgement (replied bytes mark j)
+unfolding plain_form
 of_one bytes mark j is zero unit sent there marked =
     let same : bytes ≡ unit.bytes = ap BagUnit.bytes (some_is _ unit there) in
     let also : mark ≡ sent.mark = ap Sent.mark (some_is _ sent marked) in
@@ -59,6 +60,7 @@ of_one bytes mark j is (suc number) unit sent there marked = absurd (got_nothing
 
 the_reply : (bytes : List ℕ) (channel : ChannelIdentity) (call request : ℕ) (j : Judging) → RepliesCarryTheirJudgement (replied bytes (ReplyTo channel call request) j) →
     (j.reply ≡ Some 0) × IsReplyOfCall channel call request j bytes
+unfolding plain_form
 the_reply bytes channel call request j claim = elim (claim 0 _ (sent_at 6 (ReplyTo channel call request)) refl refl) [ inl here ↦ here | inr never ↦ absurd never ]
 
 next_small : IsNextOn (Some (small_channel [])) (given_in next_call.asked)

@@ -22,6 +22,7 @@ pub mod NewUnitLaws
 pub mod NoBytesLaws
 pub mod OpenMadeLaws
 pub mod PlacedLaws
+pub mod PlainFormLaws
 pub mod RequesterLaws
 pub mod StepFrameLaws
 pub mod TurnFrameLaws

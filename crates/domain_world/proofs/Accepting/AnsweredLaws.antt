@@ -44,7 +44,7 @@ use Rattle.domain_world.specs.Claims.Counts.{EachCallRaisesOnce}
 use Rattle.domain_world.specs.Claims.Grants.{IsToBeGranted}
 use Rattle.domain_world.specs.Claims.OwnChallenges.{HasOwnChallenge}
 use Rattle.domain_world.specs.Claims.Replies.{IsReplyOfOne}
-use Rattle.domain_world.specs.Past.{Past}
+use Rattle.domain_world.specs.Past.{Past, plain_form}
 use Rattle.channel_events.proofs.ListLaws.{one_weaker, some_is}
 use Rattle.channel_events.proofs.SameLaws.{itself, one_channel, same_back, same_on}
 use Rattle.step_notes.proofs.Controllers.GrantVerdictLaws.{IsServedGrant, served_grant}
@@ -204,7 +204,7 @@ pub record IsJudgedAs (past : Past) (message : MessageTaken) (unit : ℕ) : Type
   pub j : Judging
   pub place : ℕ
   pub there : slice_get past.book.judged place ≡ Some j
-  pub of : IsReplyOfCall in_reply.channel in_reply.number in_reply.request j carrier.bytes
+  pub of : IsReplyOfCall in_reply.channel in_reply.number in_reply.request j (plain_form past.book.sent unit carrier)
   pub passed : has_passed j.how ≡ true
   pub taken : taken_answer message past.book.judged ≡ Some j
   pub with_controller : HasController (slice_get past.plan.members message.member) past.world.state.ends j.controller
@@ -292,11 +292,11 @@ module _ (past : Past) (known : IsProved past) (heard : AnswersAreHeard past) (c
       let is : IsAnsweredIn past message unit =
       all_at (λ (m : MessageTaken). (u : ℕ) → m.reply ≡ Some u → IsAnsweredIn past m u) past.book.messages place message (heard.answers clear.apart) there unit reply in
       let carrier = got_beside past.book.sent past.world.state.bag unit is.sent known.marked is.there in
-      let one : OneOf (λ (j : Judging). (j.reply ≡ Some unit) × IsReplyOfCall is.channel is.number is.request j carrier.0.bytes) all_judged =
-      subst (λ (m : _). IsReplyOfOne all_judged unit carrier.0.bytes m) is.mark (known.replies unit carrier.0 is.sent carrier.1 is.there) in
-      let at = placed (λ (j : Judging). (j.reply ≡ Some unit) × IsReplyOfCall is.channel is.number is.request j carrier.0.bytes) all_judged one in
+      let one : OneOf (λ (j : Judging). (j.reply ≡ Some unit) × IsReplyOfCall is.channel is.number is.request j (plain_form past.book.sent unit carrier.0)) all_judged =
+      subst (λ (m : _). IsReplyOfOne all_judged unit (plain_form past.book.sent unit carrier.0) m) is.mark (known.replies unit carrier.0 is.sent carrier.1 is.there) in
+      let at = placed (λ (j : Judging). (j.reply ≡ Some unit) × IsReplyOfCall is.channel is.number is.request j (plain_form past.book.sent unit carrier.0)) all_judged one in
       let j : Judging = at.item in
-      let of : IsReplyOfCall is.channel is.number is.request j carrier.0.bytes = at.is.1 in
+      let of : IsReplyOfCall is.channel is.number is.request j (plain_form past.book.sent unit carrier.0) = at.is.1 in
       let passed : has_passed j.how ≡ true = passed_of (has_passed j.how) j is.channel refl of.passed in
       let found = first_found (answers message) all_judged at.place j at.there (are_answers message j is.request unit passed is.call of.came reply at.is.0) in
       let other : IsAnswerOf message found.item = answers_are message found.item found.passes in
@@ -335,7 +335,7 @@ module _ (past : Past) (known : IsProved past) (heard : AnswersAreHeard past) (c
   told_as place message unit there reply judged_so =
       all_at (λ (m : MessageTaken). (u : ℕ) → m.reply ≡ Some u → (carrier : BagUnit) (sent : Sent) (channel : ChannelIdentity) (number request k : ℕ) (j : Judging) →
       slice_get past.world.state.bag u ≡ Some carrier → slice_get past.book.sent u ≡ Some sent → slice_get past.book.judged k ≡ Some j → sent.mark ≡ ReplyTo channel number request →
-      IsReplyOfCall channel number request j carrier.bytes → OneOf (IsToldAsRead channel m j) past.book.told) past.book.messages place message (heard.told clear.apart) there unit reply
+      IsReplyOfCall channel number request j (plain_form past.book.sent u carrier) → OneOf (IsToldAsRead channel m j) past.book.told) past.book.messages place message (heard.told clear.apart) there unit reply
       judged_so.carrier judged_so.in_reply.sent judged_so.in_reply.channel judged_so.in_reply.number judged_so.in_reply.request judged_so.place judged_so.j judged_so.carried judged_so.in_reply.there judged_so.there judged_so.in_reply.mark judged_so.of
 
   -- what is told where somebody is let in is what is read in the reply

@@ -24,7 +24,7 @@ use Rattle.domain_world.specs.Accepting.Answered.{AsksForIt, IsAnsweredIn, IsIts
 use Rattle.domain_world.specs.Accepting.Carried.{AnswersAreInTurn, AsksOf, CallsHaveNumbers, CarriedCallsAreHeard, IsCalledFor, IsJudgedAsCarried, IsPlain, IsReadAsAnswer, IsTakenAs, IsTakenInTurn, IsWholeAsMarked, IsWholeUnit, JudgedAsCarried, MarkedUnitsAreWhole, MessagesAreCalled, call_carried, call_judged, call_read}
 use Rattle.domain_world.specs.Claims.{HasController}
 use Rattle.domain_world.specs.Claims.Replies.{IsReplyOfOne, RepliesCarryTheirJudgement}
-use Rattle.domain_world.specs.Past.{Past}
+use Rattle.domain_world.specs.Past.{Past, plain_form}
 use Rattle.channel_events.proofs.ListLaws.{some_is}
 use Rattle.channel_events.proofs.SameLaws.{one_channel}
 use Rattle.domain_world.proofs.Accepting.ListPlaceLaws.{all_at, all_by_place, placed}
@@ -80,11 +80,11 @@ asked_is : (one other : JudgedCall) → Some (call_judged one) ≡ Some (call_ju
 asked_is (Network c) (Network d) is = ap (λ (call : LogonCall). Network call) (logon_is c d is)
 
 module _ (past : Past) where
-  carried_units : (n : ℕ) (one other : BagUnit) (whole : IsWholeUnit one.bytes) (also : IsWholeUnit other.bytes) → slice_get past.world.state.bag n ≡ Some one →
+  carried_units : (n : ℕ) (one other : BagUnit) (whole : IsWholeUnit (plain_form past.book.sent n one)) (also : IsWholeUnit (plain_form past.book.sent n other)) → slice_get past.world.state.bag n ≡ Some one →
       slice_get past.world.state.bag n ≡ Some other → whole.unit ≡ also.unit
   carried_units n one other whole also there too =
-      let same : one.bytes ≡ other.bytes = ap (λ (u : BagUnit). u.bytes) (one_carrier past n one other there too) in
-      one_whole other.bytes whole.frames also.frames whole.unit also.unit (subst (λ (bytes : List ℕ). IsHeard bytes whole.frames whole.unit) same whole.heard) also.heard
+      let same : plain_form past.book.sent n one ≡ plain_form past.book.sent n other = ap (plain_form past.book.sent n) (one_carrier past n one other there too) in
+      one_whole (plain_form past.book.sent n other) whole.frames also.frames whole.unit also.unit (subst (λ (bytes : List ℕ). IsHeard bytes whole.frames whole.unit) same whole.heard) also.heard
 
   same_call : (n : ℕ) (one other : Judging) → IsJudgedAsCarried past one n → IsJudgedAsCarried past other n → one.asked ≡ other.asked
   same_call n one other is also =
@@ -106,7 +106,7 @@ module _ (past : Past) where
 
   asked_as : (message : MessageTaken) (j : Judging) (n : ℕ) → IsCalledFor past message n → IsJudgedAsCarried past j n → AsksForIt message j
   asked_as message j n called is =
-      let whole : IsWholeUnit called.carrier.bytes = record { frames = called.frames; unit = _; heard = called.heard } in
+      let whole : IsWholeUnit (plain_form past.book.sent n called.carrier) = record { frames = called.frames; unit = _; heard = called.heard } in
       let units : whole.unit ≡ is.whole.unit = carried_units n called.carrier is.carrier whole is.whole called.there is.there in
       let same : Network called.logon ≡ j.asked =
       asked_is (Network called.logon) j.asked (sym (ap call_read called.again) ∙ ap (λ (u : RpcUnit). call_carried u.body) units ∙ is.carried) in
@@ -138,22 +138,22 @@ module _ (past : Past) where
   not_false false is = absurd (let x = is in cc)
 
   requested_by : (mark : Mark) (one : Sent) (channel : ChannelIdentity) (j : Judging) (request number : ℕ) (is : IsJudgedAsCarried past j request) → one.mark ≡ mark →
-      slice_get past.book.sent request ≡ Some one → is_channel (mark_channel mark) channel ≡ true → ((IsPlain mark → ⊥) → IsWholeAsMarked mark is.carrier.bytes) →
+      slice_get past.book.sent request ≡ Some one → is_channel (mark_channel mark) channel ≡ true → ((IsPlain mark → ⊥) → IsWholeAsMarked mark (plain_form past.book.sent request is.carrier)) →
       j.number ≡ number → IsRequested channel number request
   requested_by Plain one channel j request number is marked there on whole numbered = absurd (let x = on in cc)
   requested_by (Opening c k) one channel j request number is marked there on whole numbered =
       let its = whole (λ none. none) in
-      absurd (its.marked j.asked (ap (λ (u : RpcUnit). call_carried u.body) (one_unit is.carrier.bytes its.whole is.whole) ∙ is.carried))
+      absurd (its.marked j.asked (ap (λ (u : RpcUnit). call_carried u.body) (one_unit (plain_form past.book.sent request is.carrier) its.whole is.whole) ∙ is.carried))
   requested_by (Opened c k r) one channel j request number is marked there on whole numbered =
       let its = whole (λ none. none) in
-      absurd (its.marked.0 j.asked (ap (λ (u : RpcUnit). call_carried u.body) (one_unit is.carrier.bytes its.whole is.whole) ∙ is.carried))
+      absurd (its.marked.0 j.asked (ap (λ (u : RpcUnit). call_carried u.body) (one_unit (plain_form past.book.sent request is.carrier) its.whole is.whole) ∙ is.carried))
   requested_by (Calling c k t) one channel j request number is marked there on whole numbered =
       let its = whole (λ none. none) in
-      let same : k ≡ number = sym its.marked ∙ ap (λ (u : RpcUnit). u.call) (one_unit is.carrier.bytes its.whole is.whole) ∙ sym is.number ∙ numbered in
+      let same : k ≡ number = sym its.marked ∙ ap (λ (u : RpcUnit). u.call) (one_unit (plain_form past.book.sent request is.carrier) its.whole is.whole) ∙ sym is.number ∙ numbered in
       record { sent = one; there = there; named = c; timestamp = t; mark = marked ∙ ap (λ (m : ℕ). Calling c m t) same; same = one_channel c channel on }
   requested_by (ReplyTo c k r) one channel j request number is marked there on whole numbered =
       let its = whole (λ none. none) in
-      absurd (its.marked.0 j.asked (ap (λ (u : RpcUnit). call_carried u.body) (one_unit is.carrier.bytes its.whole is.whole) ∙ is.carried))
+      absurd (its.marked.0 j.asked (ap (λ (u : RpcUnit). call_carried u.body) (one_unit (plain_form past.book.sent request is.carrier) its.whole is.whole) ∙ is.carried))
 
   module _ (whole : MarkedUnitsAreWhole past) (way : MarksHaveTheirWay past) (judged : JudgedAsCarried past) (passes : PassesAreUnclashed past)
       (replies : RepliesCarryTheirJudgement past) (numbers : CallsHaveNumbers past) (clear : past.book.clash ≡ false) where
@@ -186,19 +186,19 @@ module _ (past : Past) where
 
     -- by the mark of the unit
     replies_by : (mark : Mark) (taken : CallTaken) (is : IsTakenInTurn past taken) → is.sent.mark ≡ mark → mark_channel mark ≡ Some is.named → IsItsWay is.carrier.back mark →
-        ((IsPlain mark → ⊥) → IsWholeAsMarked mark is.carrier.bytes) → IsReplyOfOne past.book.judged taken.reply is.carrier.bytes mark → RepliesTo taken
+        ((IsPlain mark → ⊥) → IsWholeAsMarked mark (plain_form past.book.sent taken.reply is.carrier)) → IsReplyOfOne past.book.judged taken.reply (plain_form past.book.sent taken.reply is.carrier) mark → RepliesTo taken
     replies_by Plain taken is marked made goes fit replied = absurd (let x = made in cc)
     replies_by (Opening c k) taken is marked made goes fit replied = absurd (let x = sym is.back ∙ goes in cc)
     replies_by (Opened c k r) taken is marked made goes fit replied =
         let its = fit (λ none. none) in
-        absurd (its.marked.1 (subst IsReadAsAnswer (one_unit is.carrier.bytes is.whole its.whole) is.answer))
+        absurd (its.marked.1 (subst IsReadAsAnswer (one_unit (plain_form past.book.sent taken.reply is.carrier) is.whole its.whole) is.answer))
     replies_by (Calling c k t) taken is marked made goes fit replied = absurd (let x = sym is.back ∙ goes in cc)
     replies_by (ReplyTo c k r) taken is marked made goes fit replied =
         let its = fit (λ none. none) in
-        let one = placed (λ (j : Judging). (j.reply ≡ Some taken.reply) × IsReplyOfCall c k r j is.carrier.bytes) past.book.judged replied in
-        let asked : IsRequested c k r = requested one.place c one.item r k is.carrier.bytes one.there one.is.1 in
+        let one = placed (λ (j : Judging). (j.reply ≡ Some taken.reply) × IsReplyOfCall c k r j (plain_form past.book.sent taken.reply is.carrier)) past.book.judged replied in
+        let asked : IsRequested c k r = requested one.place c one.item r k (plain_form past.book.sent taken.reply is.carrier) one.there one.is.1 in
         let named : c ≡ is.named = some_is c is.named made in
-        let same : k ≡ is.number = sym its.marked.1 ∙ ap (λ (unit : RpcUnit). unit.call) (one_unit is.carrier.bytes its.whole is.whole) ∙ is.has in
+        let same : k ≡ is.number = sym its.marked.1 ∙ ap (λ (unit : RpcUnit). unit.call) (one_unit (plain_form past.book.sent taken.reply is.carrier) its.whole is.whole) ∙ is.has in
         let client : asked.named.client ≡ is.channel.client = asked.same.client ∙ ap (λ (d : ChannelIdentity). d.client) named ∙ is.same.client in
         let found : r ≡ taken.call =
         numbers r taken.call is.number asked.timestamp is.timestamp asked.named is.channel asked.sent is.out asked.there is.asked

@@ -25,7 +25,7 @@ use Rattle.domain_world.specs.Accepting.Answered.{AnswersAreHeard, AsksForIt, Is
 use Rattle.domain_world.specs.Claims.{info_asked}
 use Rattle.domain_world.specs.Claims.Names.{HasNames, IsLetInByName, IsNamedBy, LetsInByName}
 use Rattle.domain_world.specs.Claims.Replies.{IsReplyOfOne}
-use Rattle.domain_world.specs.Past.{Past}
+use Rattle.domain_world.specs.Past.{Past, plain_form}
 use Rattle.step_notes.proofs.Controllers.GrantVerdictLaws.{IsServedGrant, served_grant}
 use Rattle.step_notes.proofs.Controllers.JudgedCallLaws.{of_network, status_done}
 use Rattle.domain_world.proofs.Accepting.AnsweredLaws.{are_answers, passed_of, status_zero}
@@ -51,11 +51,11 @@ module _ (past : Past) (known : IsProved past) (heard : AnswersAreHeard past) (c
       let answered : IsAnsweredIn past message by.unit =
       all_at (λ (m : MessageTaken). (u : ℕ) → m.reply ≡ Some u → IsAnsweredIn past m u) past.book.messages place message (heard.answers calm) there by.unit by.reply in
       let carrier = got_beside past.book.sent past.world.state.bag by.unit answered.sent known.marked answered.there in
-      let one : OneOf (λ (j : Judging). (j.reply ≡ Some by.unit) × IsReplyOfCall answered.channel answered.number answered.request j carrier.0.bytes) past.book.judged =
-      subst (λ (m : _). IsReplyOfOne past.book.judged by.unit carrier.0.bytes m) answered.mark (known.replies by.unit carrier.0 answered.sent carrier.1 answered.there) in
-      let at = placed (λ (j : Judging). (j.reply ≡ Some by.unit) × IsReplyOfCall answered.channel answered.number answered.request j carrier.0.bytes) past.book.judged one in
+      let one : OneOf (λ (j : Judging). (j.reply ≡ Some by.unit) × IsReplyOfCall answered.channel answered.number answered.request j (plain_form past.book.sent by.unit carrier.0)) past.book.judged =
+      subst (λ (m : _). IsReplyOfOne past.book.judged by.unit (plain_form past.book.sent by.unit carrier.0) m) answered.mark (known.replies by.unit carrier.0 answered.sent carrier.1 answered.there) in
+      let at = placed (λ (j : Judging). (j.reply ≡ Some by.unit) × IsReplyOfCall answered.channel answered.number answered.request j (plain_form past.book.sent by.unit carrier.0)) past.book.judged one in
       let j : Judging = at.item in
-      let of : IsReplyOfCall answered.channel answered.number answered.request j carrier.0.bytes = at.is.1 in
+      let of : IsReplyOfCall answered.channel answered.number answered.request j (plain_form past.book.sent by.unit carrier.0) = at.is.1 in
       let passed : has_passed j.how ≡ true = passed_of (has_passed j.how) j answered.channel refl of.passed in
       let asks : AsksForIt message j =
       all_at (λ (i : Judging). (u : ℕ) → message.call ≡ Some u → i.source ≡ InUnit u → AsksForIt message i) past.book.judged at.place j

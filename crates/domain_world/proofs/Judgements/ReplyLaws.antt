@@ -46,6 +46,7 @@ use Rattle.domain_world.proofs.Frames.BagFrameLaws.{IsOfUnit, MarksStay, UnitFac
 use Rattle.domain_world.proofs.Frames.FrameLaws.{Fact, StaysWritten}
 use Rattle.domain_world.proofs.Frames.NewUnitLaws.{IsNewUnit}
 use Rattle.domain_world.proofs.Frames.EndNoteLaws.{book_by, judged_so}
+use Rattle.domain_world.proofs.Frames.PlainFormLaws.{plain_is}
 
 -- ---- one of more calls
 
@@ -275,4 +276,5 @@ replies_carry plan moves number unit sent there marked =
     let judgings : List Judging = (past plan moves).book.judged in
     let of : IsOfUnit OfUnit judgings (past plan moves).world.state.bag number sent.mark =
     run_stays_marked (λ (b : Book). b.judged) NothingElse OfUnit nothing_else replies_stay plan moves tt number sent marked in
-    subst (λ (one : BagUnit). IsReplyOfOne judgings number one.bytes sent.mark) (some_is of.unit unit (sym of.there ∙ there)) of.holds
+    subst (λ (bytes : List ℕ). IsReplyOfOne judgings number bytes sent.mark) (sym (plain_is (past plan moves).book.sent number unit))
+    (subst (λ (one : BagUnit). IsReplyOfOne judgings number one.bytes sent.mark) (some_is of.unit unit (sym of.there ∙ there)) of.holds)

@@ -35,6 +35,7 @@ use Rattle.domain_world.proofs.Requests.CalledUnitLaws.{CallSide, CalledIn, IsAs
 use Rattle.domain_world.proofs.Requests.OwnMessageLaws.{EachKept, all_fresh, kept_written}
 use Rattle.domain_world.proofs.Frames.PlacedLaws.{HasBytes}
 use Rattle.domain_world.proofs.Frames.EndNoteLaws.{messages_in}
+use Rattle.domain_world.proofs.Frames.PlainFormLaws.{heard_plain}
 
 -- ---- the message of a link is one
 
@@ -91,7 +92,7 @@ messages_called Holds Fine keeps gives plan moves has holds =
       number = at.number;
       logon = at.logon;
       frames = at.frames;
-      heard = at.heard;
+      heard = heard_plain (past plan moves).book.sent n at.carrier at.frames _ at.heard;
       again = at.again;
       info = own at.logon at.asked;
       level = at.level;

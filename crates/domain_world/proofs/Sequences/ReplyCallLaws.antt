@@ -9,7 +9,7 @@ use Rattle.step_notes.specs.ReplySends.{IsReplyOfCall}
 use Rattle.domain_world.specs.Accepting.Sequences.{IsPassedIn, RepliesAnswerCalls}
 use Rattle.domain_world.specs.Accepting.Units.{UnitsAreHeard}
 use Rattle.domain_world.specs.Claims.Replies.{IsReplyOfOne}
-use Rattle.domain_world.specs.Past.{Past, past}
+use Rattle.domain_world.specs.Past.{Past, past, plain_form}
 use Rattle.domain_world.specs.Schedules.{OfSchedules}
 use Rattle.domain_world.proofs.Accepting.AnsweredLaws.{passed_of}
 use Rattle.domain_world.proofs.Accepting.CarriedLaws.{requested}
@@ -23,10 +23,10 @@ pub replies_answer : OfSchedules (λ plan moves. (past plan moves).book.clash �
 replies_answer plan moves schedule clear n unit one channel number request bag there mark =
     let p : Past = past plan moves in
     let all : UnitsAreHeard p = units_heard plan moves schedule in
-    let replied = subst (λ (m : Mark). IsReplyOfOne p.book.judged n unit.bytes m) mark (replies_carry plan moves n unit one bag there) in
-    let found = placed (λ (j : Judging). (j.reply ≡ Some n) × IsReplyOfCall channel number request j unit.bytes) p.book.judged replied in
+    let replied = subst (λ (m : Mark). IsReplyOfOne p.book.judged n (plain_form p.book.sent n unit) m) mark (replies_carry plan moves n unit one bag there) in
+    let found = placed (λ (j : Judging). (j.reply ≡ Some n) × IsReplyOfCall channel number request j (plain_form p.book.sent n unit)) p.book.judged replied in
     let asked = requested p all.whole (marks_have_their_way plan moves) all.judged (passes_unclashed plan moves) (replies_carry plan moves) all.numbers clear found.place channel found.item request number
-    unit.bytes found.there found.is.1 in
+    (plain_form p.book.sent n unit) found.there found.is.1 in
     record {
       sent = asked.sent;
       there = asked.there;
@@ -34,6 +34,6 @@ replies_answer plan moves schedule clear n unit one channel number request bag t
       timestamp = asked.timestamp;
       mark = asked.mark;
       same = asked.same;
-      passed = one_weaker (λ (j : Judging). (j.reply ≡ Some n) × IsReplyOfCall channel number request j unit.bytes) (λ (j : Judging). IsPassedIn request j × (j.reply ≡ Some n)) p.book.judged
+      passed = one_weaker (λ (j : Judging). (j.reply ≡ Some n) × IsReplyOfCall channel number request j (plain_form p.book.sent n unit)) (λ (j : Judging). IsPassedIn request j × (j.reply ≡ Some n)) p.book.judged
           (λ j of. ((passed_of (has_passed j.how) j channel refl of.1.passed, of.1.came), of.0)) replied;
     }

@@ -33,7 +33,7 @@ use Rattle.domain_world.specs.Accepting.Carried.{IsAsMarked, IsJudgedAsCarried, 
 use Rattle.domain_world.specs.Accepting.Sequences.{HavePassed, CallsAreStamped, CallsOfTurns, HasPassed, IsMadeOn, IsPassedIn, SequencesFollow, TakenCallsPass, TurnsAreCalled, stamps_of}
 use Rattle.domain_world.specs.Claims.{IsClear, moved_on, passed_on, same_unit, judged_timestamp}
 use Rattle.domain_world.specs.Claims.SharedSequences.{IsBeforeTurn, Keeps, SequencesAreOwn, SequencesAreShared, any_foreign, is_foreign, timestamps_on}
-use Rattle.domain_world.specs.Past.{Past, past}
+use Rattle.domain_world.specs.Past.{Past, past, plain_form}
 use Rattle.domain_world.proofs.Accepting.AnsweredLaws.{AreInUnit, IsMade, StandsFor, both_true, channel_there, in_unit, made_at, no_twice, passed_of, right_at, unit_same, came_in}
 use Rattle.domain_world.proofs.Accepting.AnsweredRunLaws.{is_proved}
 use Rattle.domain_world.proofs.Accepting.CarriedLaws.{one_unit, replies_to}
@@ -97,8 +97,8 @@ module _ (past : Past) (known : IsProved past) (heard : AnswersAreHeard past) (c
   no_call : (n : ℕ) (j : Judging) (sent : Sent) (mark : Mark) → IsJudgedAsCarried past j n → slice_get past.book.sent n ≡ Some sent → sent.mark ≡ mark → (IsPlain mark → ⊥) →
       ((unit : RpcUnit) → IsAsMarked mark unit → IsNotJudged unit) → ⊥
   no_call n j sent mark carried there is marked never =
-      let whole : IsWholeAsMarked sent.mark carried.carrier.bytes = units n carried.carrier sent carried.there there (λ plain. marked (subst IsPlain is plain)) in
-      let same : whole.whole.unit ≡ carried.whole.unit = one_unit carried.carrier.bytes whole.whole carried.whole in
+      let whole : IsWholeAsMarked sent.mark (plain_form past.book.sent n carried.carrier) = units n carried.carrier sent carried.there there (λ plain. marked (subst IsPlain is plain)) in
+      let same : whole.whole.unit ≡ carried.whole.unit = one_unit (plain_form past.book.sent n carried.carrier) whole.whole carried.whole in
       never whole.whole.unit (subst (λ (m : Mark). IsAsMarked m whole.whole.unit) is whole.marked) j.asked (ap (λ (u : RpcUnit). call_carried u.body) same ∙ carried.carried)
 
   by_mark : (mark : Mark) (n : ℕ) (j : Judging) (sent : Sent) (named : ChannelIdentity) → IsJudgedAsCarried past j n → slice_get past.book.sent n ≡ Some sent → sent.mark ≡ mark →
@@ -273,6 +273,6 @@ taken_pass plan moves heard clear n is =
     let p : Past = past plan moves in
     let replies = replies_carry plan moves in
     let its = replies_to p heard.whole (marks_have_their_way plan moves) heard.judged (passes_unclashed plan moves) replies heard.numbers clear is.taken is.turn in
-    let replied = subst (λ (m : Mark). IsReplyOfOne p.book.judged is.taken.reply is.turn.carrier.bytes m) its.mark (replies is.taken.reply is.turn.carrier its.sent is.turn.there its.there) in
-    one_weaker (λ (j : Judging). (j.reply ≡ Some is.taken.reply) × IsReplyOfCall its.channel its.number is.taken.call j is.turn.carrier.bytes) (IsPassedIn n) p.book.judged
+    let replied = subst (λ (m : Mark). IsReplyOfOne p.book.judged is.taken.reply (plain_form p.book.sent is.taken.reply is.turn.carrier) m) its.mark (replies is.taken.reply is.turn.carrier its.sent is.turn.there its.there) in
+    one_weaker (λ (j : Judging). (j.reply ≡ Some is.taken.reply) × IsReplyOfCall its.channel its.number is.taken.call j (plain_form p.book.sent is.taken.reply is.turn.carrier)) (IsPassedIn n) p.book.judged
     (λ j of. (passed_of (has_passed j.how) j its.channel refl of.1.passed, of.1.came ∙ ap InUnit is.call)) replied

@@ -26,6 +26,7 @@ use Rattle.domain_world.proofs.Accepting.Heard.MarkWholeLaws.{FitsMark, OfMark, 
 use Rattle.domain_world.proofs.Accepting.Quiet.QuietRunLaws.{has_bytes}
 use Rattle.domain_world.proofs.Frames.BagFrameLaws.{IsOfUnit}
 use Rattle.domain_world.proofs.Frames.PlacedLaws.{HasBytes, bytes_in}
+use Rattle.domain_world.proofs.Frames.PlainFormLaws.{plain_heard}
 
 read_is : (read : Result Call StubRefused) (c : LogonCall) → call_read read ≡ Some (call.Logon c) → read ≡ Ok (call.Logon c)
 read_is (Err why) c is = absurd (let x = is in cc)
@@ -58,6 +59,6 @@ calls_stamped plan moves is n unit one channel number timestamp asked there note
     subst (λ (m : Mark). FitsMark unit m) mark (subst (λ (u : BagUnit). FitsMark u one.mark) same had.holds) in
     let sent : IsCallSent number timestamp unit.bytes = (fits (λ plain. plain)).1 in
     let request : RpcUnit = request_of number 0 (opnum_of_call sent.what) (written_call sent.what) in
-    let is_request : whole.unit ≡ request = one_whole unit.bytes whole.frames sent.frames whole.unit request whole.heard sent.heard in
+    let is_request : whole.unit ≡ request = one_whole unit.bytes whole.frames sent.frames whole.unit request (plain_heard (past plan moves).book.sent n unit whole.frames whole.unit whole.heard) sent.heard in
     stamp_is sent.what timestamp asked sent.stamped (heard_stub unit.bytes sent.frames request (bytes_in bag has.bytes n unit there) sent.heard)
     (ap (λ (u : RpcUnit). call_carried u.body) (sym is_request) ∙ carried)

@@ -25,7 +25,7 @@ use Rattle.domain_world.specs.Claims.Grants.{GrantsWhoMayLogOn}
 use Rattle.domain_world.specs.Claims.MarkedUnits.{EachUnitIsMarked}
 use Rattle.domain_world.specs.Claims.OwnChallenges.{MessagesHaveOwnChallenges}
 use Rattle.domain_world.specs.Claims.Replies.{RepliesCarryTheirJudgement}
-use Rattle.domain_world.specs.Past.{Past}
+use Rattle.domain_world.specs.Past.{Past, plain_form}
 
 -- ---- which way units go
 
@@ -112,7 +112,7 @@ abbrev pub AnswersAreTold : Past → Type 0
 AnswersAreTold past =
     past.book.clash ≡ false → AllByRecursion (λ (message : MessageTaken). (unit : ℕ) → message.reply ≡ Some unit → (carrier : BagUnit) (sent : Sent)
     (channel : ChannelIdentity) (number request place : ℕ) (j : Judging) → slice_get past.world.state.bag unit ≡ Some carrier → slice_get past.book.sent unit ≡ Some sent →
-    slice_get past.book.judged place ≡ Some j → sent.mark ≡ ReplyTo channel number request → IsReplyOfCall channel number request j carrier.bytes →
+    slice_get past.book.judged place ≡ Some j → sent.mark ≡ ReplyTo channel number request → IsReplyOfCall channel number request j (plain_form past.book.sent unit carrier) →
     OneOf (IsToldAsRead channel message j) past.book.told) past.book.messages
 
 -- so is what is told where somebody is let in: the message came on that link, its answer was taken in a unit, and what
@@ -124,7 +124,7 @@ pub record IsLetInAsRead (past : Past) (told : OutcomeTold) (message : MessageTa
   pub reply : message.reply ≡ Some unit
   pub outcome : (carrier : BagUnit) (sent : Sent) (channel : ChannelIdentity) (number request place : ℕ) (j : Judging) →
       slice_get past.world.state.bag unit ≡ Some carrier → slice_get past.book.sent unit ≡ Some sent → slice_get past.book.judged place ≡ Some j →
-      sent.mark ≡ ReplyTo channel number request → IsReplyOfCall channel number request j carrier.bytes → IsOutcomeRead channel j message told.outcome
+      sent.mark ≡ ReplyTo channel number request → IsReplyOfCall channel number request j (plain_form past.book.sent unit carrier) → IsOutcomeRead channel j message told.outcome
 
 abbrev pub LetsInAsRead : Past → Type 0
 LetsInAsRead past =

@@ -26,7 +26,7 @@ use Rattle.world_moves.specs.declared.bag.BagUnit.{BagUnit}
 use Rattle.domain_world.specs.Accepting.Answered.{AnswersAreToCalls, CallsAskForMessages, MarksHaveTheirWay, PassesAreUnclashed, UnitsAreHeardAlike}
 use Rattle.domain_world.specs.Claims.{HasController, info_asked}
 use Rattle.domain_world.specs.Claims.Replies.{RepliesCarryTheirJudgement}
-use Rattle.domain_world.specs.Past.{Past}
+use Rattle.domain_world.specs.Past.{Past, plain_form}
 
 -- ---- what a whole unit carries
 
@@ -83,7 +83,7 @@ pub record IsWholeAsMarked (mark : Mark) (bytes : List ℕ) : Type 0 where
 abbrev pub MarkedUnitsAreWhole : Past → Type 0
 MarkedUnitsAreWhole past =
     (n : ℕ) (unit : BagUnit) (one : Sent) → slice_get past.world.state.bag n ≡ Some unit → slice_get past.book.sent n ≡ Some one →
-    (IsPlain one.mark → ⊥) → IsWholeAsMarked one.mark unit.bytes
+    (IsPlain one.mark → ⊥) → IsWholeAsMarked one.mark (plain_form past.book.sent n unit)
 
 -- ---- at a controller
 
@@ -91,7 +91,7 @@ MarkedUnitsAreWhole past =
 pub record IsJudgedAsCarried (past : Past) (j : Judging) (n : ℕ) : Type 0 where
   pub carrier : BagUnit
   pub there : slice_get past.world.state.bag n ≡ Some carrier
-  pub whole : IsWholeUnit carrier.bytes
+  pub whole : IsWholeUnit (plain_form past.book.sent n carrier)
   pub number : j.number ≡ whole.unit.call
   pub carried : call_carried whole.unit.body ≡ Some (call_judged j.asked)
 
@@ -107,7 +107,7 @@ pub record IsCalledFor (past : Past) (message : MessageTaken) (n : ℕ) : Type 0
   pub number : ℕ
   pub logon : LogonCall
   pub frames : List RpcUnit
-  pub heard : IsHeard carrier.bytes frames (request_of number 0 (opnum_of_call (call.Logon logon)) (written_call (call.Logon logon)))
+  pub heard : IsHeard (plain_form past.book.sent n carrier) frames (request_of number 0 (opnum_of_call (call.Logon logon)) (written_call (call.Logon logon)))
   pub again : call_of (opnum_of_call (call.Logon logon)) (written_call (call.Logon logon)) ≡ Ok (call.Logon logon)
   pub info : logon.info ≡ record (info_asked message) { logon_id = message.place }
   pub level : logon.validation ≡ 3
@@ -134,7 +134,7 @@ pub record IsTakenInTurn (past : Past) (taken : CallTaken) : Type 0 where
   pub carrier : BagUnit
   pub there : slice_get past.world.state.bag taken.reply ≡ Some carrier
   pub back : carrier.back ≡ true
-  pub whole : IsWholeUnit carrier.bytes
+  pub whole : IsWholeUnit (plain_form past.book.sent taken.reply carrier)
   pub has : whole.unit.call ≡ number
   pub answer : IsReadAsAnswer whole.unit
   pub sent : Sent

@@ -25,7 +25,7 @@ use Rattle.world_moves.specs.declared.bag.BagUnit.{BagUnit}
 use Rattle.world_moves.specs.Counting.{is_in}
 use Rattle.domain_world.specs.Accepting.Answered.{AnswersAreTold, LetsInAsRead}
 use Rattle.domain_world.specs.Accepting.Carried.{AnswersAreInTurn, AnswersAreTaken, IsWholeUnit, MessagesAreAnswered}
-use Rattle.domain_world.specs.Past.{Past}
+use Rattle.domain_world.specs.Past.{Past, plain_form}
 
 -- a unit that is the reply to a Logon call that was judged in the run, and that passed, is read as the reply that its
 -- controller made; a call that wasn't judged there could have names out of their ranges, which are written alike
@@ -33,8 +33,8 @@ abbrev pub RepliesAreReadBack : Past → Type 0
 RepliesAreReadBack past =
     (n : ℕ) (unit : BagUnit) (one : Sent) → slice_get past.world.state.bag n ≡ Some unit → slice_get past.book.sent n ≡ Some one →
     (channel : ChannelIdentity) (number request place : ℕ) (j : Judging) → slice_get past.book.judged place ≡ Some j → one.mark ≡ ReplyTo channel number request →
-    (is : IsReplyOfCall channel number request j unit.bytes) →
-    (whole : IsWholeUnit unit.bytes) →
+    (is : IsReplyOfCall channel number request j (plain_form past.book.sent n unit)) →
+    (whole : IsWholeUnit (plain_form past.book.sent n unit)) →
     IfNetwork (λ (c : LogonCall). reply_of 2 (stub_of whole.unit.body) ≡ Ok (reply_passed j c is.carries.next.channel is.carries.next.given)) j.asked
 
 -- The outcome is what the member read in that unit, on a channel that stood, by the logon of a message; and the unit
@@ -45,7 +45,7 @@ pub record IsReadIn (past : Past) (message : MessageTaken) (u : ℕ) (result : O
   pub key : key_of_channel stood ≡ channel_key channel
   pub carrier : BagUnit
   pub there : slice_get past.world.state.bag u ≡ Some carrier
-  pub whole : IsWholeUnit carrier.bytes
+  pub whole : IsWholeUnit (plain_form past.book.sent u carrier)
   pub read : LogonReply
   pub reads : reply_of 2 (stub_of whole.unit.body) ≡ Ok (reply.Logon read)
   pub later : SecureChannelState

@@ -15,7 +15,7 @@ use Rattle.domain_world.specs.Accepting.Carried.{IsTakenInTurn, IsWholeUnit, cal
 use Rattle.domain_world.specs.Accepting.Units.{UnitsAreHeard}
 use Rattle.domain_world.specs.Claims.{IsClear}
 use Rattle.domain_world.specs.Claims.SharedSequences.{SequencesAreShared, Stands, timestamps_on}
-use Rattle.domain_world.specs.Past.{Past, past}
+use Rattle.domain_world.specs.Past.{Past, past, plain_form}
 
 -- ---- timestamps
 
@@ -23,7 +23,7 @@ use Rattle.domain_world.specs.Past.{Past, past}
 abbrev pub CallsAreStamped : Past → Type 0
 CallsAreStamped past =
     (n : ℕ) (unit : BagUnit) (one : Sent) (channel : ChannelIdentity) (number timestamp : ℕ) (asked : JudgedCall) → slice_get past.world.state.bag n ≡ Some unit →
-    slice_get past.book.sent n ≡ Some one → one.mark ≡ Calling channel number timestamp → (whole : IsWholeUnit unit.bytes) →
+    slice_get past.book.sent n ≡ Some one → one.mark ≡ Calling channel number timestamp → (whole : IsWholeUnit (plain_form past.book.sent n unit)) →
     call_carried whole.unit.body ≡ Some (call_judged asked) → timestamp_in (given_in asked) ≡ timestamp
 
 -- ---- the calls of turns

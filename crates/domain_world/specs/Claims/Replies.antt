@@ -6,7 +6,7 @@ use Rattle.channel_events.specs.Marks.{Mark, OneOf, Plain, Opening, Opened, Call
 use Rattle.step_notes.specs.Records.{Judging, Sent}
 use Rattle.step_notes.specs.ReplySends.{IsReplyOfCall}
 use Rattle.world_moves.specs.declared.bag.BagUnit.{BagUnit}
-use Rattle.domain_world.specs.Past.{Past}
+use Rattle.domain_world.specs.Past.{Past, plain_form}
 
 -- ---- over a run
 
@@ -22,10 +22,10 @@ IsReplyOfOne judgings number bytes (ReplyTo channel call request) =
 
 -- Replies: each unit of the bag that is marked as a reply carries what its controller judged. One of the calls that
 -- were judged came in the unit that the mark names, passed on its channel, had its number and has its reply in this
--- unit; and the bytes of the unit are that reply.
+-- unit; and its plain form is that reply.
 abbrev pub RepliesCarryTheirJudgement : Past → Type 0
 RepliesCarryTheirJudgement past =
     (number : ℕ) (unit : BagUnit) (sent : Sent) →
     slice_get past.world.state.bag number ≡ Some unit →
     slice_get past.book.sent number ≡ Some sent →
-    IsReplyOfOne past.book.judged number unit.bytes sent.mark
+    IsReplyOfOne past.book.judged number (plain_form past.book.sent number unit) sent.mark

@@ -29,7 +29,7 @@ use Rattle.world_moves.specs.Links.{acceptor_of}
 use Rattle.world_moves.specs.Moving.{begun, with_link}
 use Rattle.domain_world.specs.Accepting.Carried.{IsJudgedAsCarried, JudgedAsCarried}
 use Rattle.domain_world.specs.Accepting.ReadBack.{RepliesAreReadBack}
-use Rattle.domain_world.specs.Past.{Coming, answers_of, at_controller, judged_of, note_at, note_controller, numbers_on, Past, past}
+use Rattle.domain_world.specs.Past.{Coming, Past, answers_of, at_controller, judged_of, note_at, note_controller, numbers_on, past, plain_form}
 use Rattle.channel_events.proofs.ListLaws.{got_nothing}
 use Rattle.domain_world.specs.Schedules.{OfSchedules}
 use Rattle.domain_world.proofs.Accepting.Heard.JudgedUnitLaws.{AllHeardSo, AnyAction, CarriedIf, HeardSo, IsCarriedCall, IsJudgedWell, IsWholeCarried, JudgedFact, JudgedStand, acts_stand, answer_holds, any_actions, any_heard, running_so, settled_stand, unit_so, whole_carried}
@@ -41,6 +41,7 @@ use Rattle.domain_world.proofs.Frames.OpenMadeLaws.{IsAtSide}
 use Rattle.domain_world.proofs.Frames.StepFrameLaws.{BothFacts, BothFine, HasHeard, HoldsAfterRun, Keeps, join, run_keeps}
 use Rattle.domain_world.proofs.Frames.EndNoteLaws.{book_by, judged_so}
 use Rattle.domain_world.proofs.Judgements.JudgedLaws.{HoldsIf, are_if_taken, judged_hold, onto_hold}
+use Rattle.domain_world.proofs.Frames.PlainFormLaws.{heard_plain}
 
 -- ---- the answers of a controller
 
@@ -148,7 +149,17 @@ carried_as past [] all = tt
 carried_as past (j ∷ js) all = (
   (λ n came.
       let its : IsCarriedCall past.world.state.bag j.number j.asked n = all.0.carried n came in
-      record { carrier = its.carrier; there = its.there; whole = its.whole; number = its.number_is; carried = its.carried }),
+      record {
+        carrier = its.carrier;
+        there = its.there;
+        whole = record {
+          frames = its.whole.frames;
+          unit = its.whole.unit;
+          heard = heard_plain past.book.sent n its.carrier its.whole.frames its.whole.unit its.whole.heard;
+        };
+        number = its.number_is;
+        carried = its.carried;
+      }),
   carried_as past js all.1,
 )
 
@@ -164,4 +175,4 @@ replies_back plan moves is n unit one there noted channel number request place j
     let well : IsJudgedWell (past plan moves).world.state.bag j =
     all_at (IsJudgedWell (past plan moves).world.state.bag) (past plan moves).book.judged place j (judged_stand plan moves is).judged judged in
     let call : IsCarriedCall (past plan moves).world.state.bag j.number j.asked request = well.carried request reply.came in
-    (replies_are_read.read j unit.bytes reply.carries whole.frames whole.unit well.range call.level whole.heard).read
+    (replies_are_read.read j (plain_form (past plan moves).book.sent n unit) reply.carries whole.frames whole.unit well.range call.level whole.heard).read

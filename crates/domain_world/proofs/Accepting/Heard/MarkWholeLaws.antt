@@ -76,6 +76,7 @@ use Rattle.domain_world.proofs.Judgements.ReplyLaws.{replies_carry}
 use Rattle.domain_world.proofs.Frames.TurnFrameLaws.{turns_sent}
 use Rattle.domain_world.proofs.Frames.PlacedLaws.{bytes_in, HasBytes}
 use Rattle.domain_world.proofs.Frames.EndNoteLaws.{acted_by}
+use Rattle.domain_world.proofs.Frames.PlainFormLaws.{heard_plain, plain_is}
 
 -- ---- what is to hold of each unit
 
@@ -303,7 +304,7 @@ marked_whole plan moves is n unit one there noted not =
     subst (λ (u : BagUnit). (u.kind ≡ kind.ToController) × CarriesMark one.mark u.bytes) same (had.holds not) in
     let send : IsWholeSend unit.bytes = (quiet.bag n unit there).0 fits.0 in
     record {
-      whole = record { frames = send.frames; unit = send.unit; heard = send.heard };
+      whole = record { frames = send.frames; unit = send.unit; heard = heard_plain (past plan moves).book.sent n unit send.frames send.unit send.heard };
       marked = as_marked bag (past plan moves).book.judged (judged_stand plan moves is) n unit.bytes send.frames send.unit (bytes_in bag has.bytes n unit there) send.heard one.mark fits.1
-          (replies_carry plan moves n unit one there noted);
+          (subst (λ (bytes : List ℕ). IsReplyOfOne (past plan moves).book.judged n bytes one.mark) (plain_is (past plan moves).book.sent n unit) (replies_carry plan moves n unit one there noted));
     }

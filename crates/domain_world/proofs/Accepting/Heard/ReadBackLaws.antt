@@ -37,7 +37,7 @@ use Rattle.world_moves.specs.declared.bag.BagUnit.{BagUnit}
 use Rattle.world_moves.specs.Counting.{is_in}
 use Rattle.domain_world.specs.Accepting.Answered.{IsLetInAsRead, IsOutcomeRead, IsToldAsRead, outcome_read, verdict_read}
 use Rattle.domain_world.specs.Accepting.ReadBack.{IsLetInInTurn, IsReadIn, IsToldInTurn, OutcomesAreReadBack, RepliesAreReadBack, TurnsAreTold, TurnsLetIn}
-use Rattle.domain_world.specs.Past.{Past}
+use Rattle.domain_world.specs.Past.{Past, plain_form}
 use Rattle.channel_events.proofs.ListLaws.{all_weaker, one_weaker, some_is}
 use Rattle.domain_world.proofs.Judgements.MovedLaws.{IsFound, passed_in}
 
@@ -98,7 +98,7 @@ reply_is found one other is also = cc
 module _ (past : Past) (back : RepliesAreReadBack past) where
   -- the unit as the member read it, and the judging that it answers
   read_of : (message : MessageTaken) (u : ℕ) (result : Outcome) (read : IsReadIn past message u result) (channel : ChannelIdentity) (number request place : ℕ) (j : Judging) →
-      slice_get past.book.judged place ≡ Some j → read.sent.mark ≡ ReplyTo channel number request → IsReplyOfCall channel number request j read.carrier.bytes → IsOutcomeRead channel j message result
+      slice_get past.book.judged place ≡ Some j → read.sent.mark ≡ ReplyTo channel number request → IsReplyOfCall channel number request j (plain_form past.book.sent u read.carrier) → IsOutcomeRead channel j message result
   read_of message u result read channel number request place j judged mark reply =
       let next : IsNextOn j.checks (given_in j.asked) = reply.carries.next in
       let found : IsFound j.controller (computer_named j.asked) j.checks channel = passed_in j channel reply.passed in
@@ -120,22 +120,22 @@ module _ (past : Past) (back : RepliesAreReadBack past) where
   -- whichever unit and mark are meant, they are those
   outcome_is : (message : MessageTaken) (u : ℕ) (result : Outcome) → IsReadIn past message u result → (carrier : BagUnit) (sent : Sent) (channel : ChannelIdentity) (number request place : ℕ)
       (j : Judging) → slice_get past.world.state.bag u ≡ Some carrier → slice_get past.book.sent u ≡ Some sent → slice_get past.book.judged place ≡ Some j → sent.mark ≡ ReplyTo channel number request →
-      IsReplyOfCall channel number request j carrier.bytes → IsOutcomeRead channel j message result
+      IsReplyOfCall channel number request j (plain_form past.book.sent u carrier) → IsOutcomeRead channel j message result
   outcome_is message u result read carrier sent channel number request place j there noted judged mark reply =
       let one : carrier ≡ read.carrier = some_is carrier read.carrier (sym there ∙ read.there) in
       let same : sent ≡ read.sent = some_is sent read.sent (sym noted ∙ read.noted) in
       read_of message u result read channel number request place j judged (sym (ap (λ (s : Sent). s.mark) same) ∙ mark)
-      (subst (λ (c : BagUnit). IsReplyOfCall channel number request j c.bytes) one reply)
+      (subst (λ (c : BagUnit). IsReplyOfCall channel number request j (plain_form past.book.sent u c)) one reply)
 
   told_as_read : TurnsAreTold past → past.book.clash ≡ false →
       AllByRecursion (λ (message : MessageTaken). (unit : ℕ) → message.reply ≡ Some unit → (carrier : BagUnit) (sent : Sent)
       (channel : ChannelIdentity) (number request place : ℕ) (j : Judging) → slice_get past.world.state.bag unit ≡ Some carrier → slice_get past.book.sent unit ≡ Some sent →
-      slice_get past.book.judged place ≡ Some j → sent.mark ≡ ReplyTo channel number request → IsReplyOfCall channel number request j carrier.bytes → OneOf (IsToldAsRead channel message j) past.book.told) past.book.messages
+      slice_get past.book.judged place ≡ Some j → sent.mark ≡ ReplyTo channel number request → IsReplyOfCall channel number request j (plain_form past.book.sent unit carrier) → OneOf (IsToldAsRead channel message j) past.book.told) past.book.messages
   told_as_read turns clear =
       all_weaker (λ (message : MessageTaken). (u : ℕ) → message.reply ≡ Some u → OneOf (λ (told : OutcomeTold). IsToldInTurn past message u told) past.book.told)
       (λ (message : MessageTaken). (unit : ℕ) → message.reply ≡ Some unit → (carrier : BagUnit) (sent : Sent)
       (channel : ChannelIdentity) (number request place : ℕ) (j : Judging) → slice_get past.world.state.bag unit ≡ Some carrier → slice_get past.book.sent unit ≡ Some sent →
-      slice_get past.book.judged place ≡ Some j → sent.mark ≡ ReplyTo channel number request → IsReplyOfCall channel number request j carrier.bytes → OneOf (IsToldAsRead channel message j) past.book.told)
+      slice_get past.book.judged place ≡ Some j → sent.mark ≡ ReplyTo channel number request → IsReplyOfCall channel number request j (plain_form past.book.sent unit carrier) → OneOf (IsToldAsRead channel message j) past.book.told)
       past.book.messages
       (λ message each unit taken carrier sent channel number request place j there noted judged mark reply.
       one_weaker (λ (told : OutcomeTold). IsToldInTurn past message unit told) (IsToldAsRead channel message j) past.book.told

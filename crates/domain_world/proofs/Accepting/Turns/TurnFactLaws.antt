@@ -29,6 +29,7 @@ use Rattle.domain_world.specs.Past.{Past}
 use Rattle.domain_world.proofs.Challenges.MessageApartLaws.{links_in}
 use Rattle.domain_world.proofs.Frames.ComingLaws.{IsStill, StillHas}
 use Rattle.domain_world.proofs.Frames.AllLaws.{all_join}
+use Rattle.domain_world.proofs.Frames.PlainFormLaws.{plain_stays}
 
 -- ---- messages on different links
 
@@ -181,7 +182,7 @@ module _ (plan : Plan) (v w : World) (b d : Book) (grows : GrowsTo v.state w.sta
         whole = record {
           frames = is.whole.frames;
           unit = is.whole.unit;
-          heard = subst (λ (bytes : List ℕ). IsHeard bytes is.whole.frames is.whole.unit) (sym now.bytes) is.whole.heard;
+          heard = subst (λ (bytes : List ℕ). IsHeard bytes is.whole.frames is.whole.unit) (sym (plain_stays b.sent d.sent taken.reply is.carrier now.now now.bytes)) is.whole.heard;
         };
         has = is.has;
         answer = is.answer;
@@ -204,7 +205,7 @@ module _ (plan : Plan) (v w : World) (b d : Book) (grows : GrowsTo v.state w.sta
         whole = record {
           frames = is.whole.frames;
           unit = is.whole.unit;
-          heard = subst (λ (bytes : List ℕ). IsHeard bytes is.whole.frames is.whole.unit) (sym now.bytes) is.whole.heard;
+          heard = subst (λ (bytes : List ℕ). IsHeard bytes is.whole.frames is.whole.unit) (sym (plain_stays b.sent d.sent u is.carrier now.now now.bytes)) is.whole.heard;
         };
         read = is.read;
         reads = is.reads;

@@ -67,6 +67,7 @@ use Rattle.domain_world.proofs.Accepting.Turns.TurnQuietLaws.{granted_known, sam
 use Rattle.domain_world.proofs.Challenges.MessageApartLaws.{links_in}
 use Rattle.domain_world.proofs.Frames.ComingLaws.{kept_same}
 use Rattle.domain_world.proofs.Requests.WholeOutLaws.{noted as noted_by}
+use Rattle.domain_world.proofs.Frames.PlainFormLaws.{heard_plain}
 
 -- ---- a grant is that of the unit
 
@@ -228,7 +229,7 @@ module _ (plan : Plan) (k number u : ℕ) (s t : State) (b d : Book) (messages :
       whole = record {
         frames = comes.hears.frames;
         unit = unit;
-        heard = subst (λ (bs : List ℕ). IsHeard bs comes.hears.frames unit) comes.carries.same comes.hears.heard;
+        heard = heard_plain d.sent u comes.carries.carrier comes.hears.frames unit (subst (λ (bs : List ℕ). IsHeard bs comes.hears.frames unit) comes.carries.same comes.hears.heard);
       };
       has = its.number;
       answer = record { read = its.read; given = its.given; reads = its.reads; returned = its.returned };
@@ -361,7 +362,7 @@ module _ (plan : Plan) (k number u : ℕ) (s t : State) (b d : Book) (messages :
           whole = record {
             frames = comes.hears.frames;
             unit = unit;
-            heard = subst (λ (bs : List ℕ). IsHeard bs comes.hears.frames unit) comes.carries.same comes.hears.heard;
+            heard = heard_plain d.sent u comes.carries.carrier comes.hears.frames unit (subst (λ (bs : List ℕ). IsHeard bs comes.hears.frames unit) comes.carries.same comes.hears.heard);
           };
           read = own.read;
           reads = own.reads;
