@@ -22,8 +22,8 @@ pub record Sent : Type 0 where
 
 -- ---- where bytes came from
 
--- Where bytes came from that an end hears: in a unit of the bag, by its number, or from outside, from a client or a
--- stranger. A kind of bytes that are neither has a name of its own here.
+-- Where bytes came from that an end hears: in a unit of the bag, by its number, or from outside, where they are handed
+-- in on a link.
 pub data Source : Type 0 where
   InUnit : (number : ℕ) → Source
   Outside : Source

@@ -62,6 +62,7 @@ use Rattle.domain_world.proofs.Accepting.Turns.TurnWholeLaws.{ComesWhole, whole_
 use Rattle.domain_world.proofs.Challenges.MessageApartLaws.{links_append, links_in, turns_links}
 use Rattle.domain_world.proofs.Challenges.MessageOnceLaws.{set_cases}
 use Rattle.domain_world.proofs.Frames.ComingLaws.{CameFrom, CameInUnit, IsPieceOf, came_in_unit, kept_same}
+use Rattle.domain_world.proofs.Frames.MemberPlanLaws.{controllers_alike}
 use Rattle.domain_world.proofs.Frames.OpenMadeLaws.{IsAtSide, side_of}
 use Rattle.domain_world.proofs.Frames.TurnFrameLaws.{notes_keep, turns_answers, turns_sent, turns_told}
 use Rattle.domain_world.proofs.Requests.WholeOutLaws.{noted as noted_by}
