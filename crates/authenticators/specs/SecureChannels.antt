@@ -1,6 +1,7 @@
 -- A secure channel at one of its ends (MS-NRPC 3.1.1, 3.1.4.1 to 3.1.4.5): what was negotiated, and how far the
--- sequence of authenticators is. Both ends keep this; `Channels` has the channel between them, with its ends' names and
--- without what moves. A secret and a session key have 16 bytes; a challenge, a seed and a credential have 8.
+-- sequence of authenticators is. Both ends keep this; `Channels` has the channel between them, with its ends' names,
+-- without its type and what moves. A secret and a session key have 16 bytes; a challenge, a seed and a credential have
+-- 8.
 use Rattle.std.specs.Prelude.{ℕ, Bool, true, false, List, Option, Some, None, bytes_eq}
 use Rattle.wire_base.specs.declared.authenticator.Authenticator.{Authenticator}
 use Rattle.channel_keys.specs.Credentials.{cred_of}

@@ -79,7 +79,8 @@ fn start(
 /// dials now; its call has the timestamp of that moment, in units of 100 ns since 1601. A challenge is drawn where the
 /// channel needs one: one at most, whatever the result.
 ///
-/// `Spent` exactly where it needs one and none is left, `Memory` where no memory was found.
+/// `Spent` exactly where a turn can start, the channel needs a challenge and none is left; `Memory` where no memory was
+/// found.
 #[tactic(auto, using(crate::proofs::DrawLaws::drawing))]
 pub fn next_turn<Q: Chances>(
     alloc: Global,

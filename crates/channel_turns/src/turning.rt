@@ -272,7 +272,8 @@ fn after_piece(
 /// the place of what was dialled before, if anything was: an end whose channels share one link of turns calls it where
 /// none of them has a turn out. A challenge is drawn where the channel needs one: one at most, whatever the result.
 ///
-/// `Spent` exactly where it needs one and none is left, `Memory` where no memory was found.
+/// `Spent` exactly where a turn can start, the channel needs a challenge and none is left; `Memory` where no memory was
+/// found.
 #[tactic(auto, using(crate::proofs::DialLaws::dialling))]
 pub fn next_dial<Q: Chances>(
     alloc: Global,

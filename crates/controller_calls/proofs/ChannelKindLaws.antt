@@ -22,7 +22,6 @@ use Rattle.controller_calls.specs.Logons.{answer_logon, judge_channel, judge_ret
 use Rattle.controller_calls.specs.Opening.{account_for, channel_for, deny_channel, judge_account, judge_offer, judge_pair, open_channel, put_pair_if}
 use Rattle.controller_calls.specs.declared.line.Line.{Line}
 use Rattle.controller_calls.specs.declared.state.ChallengePair.{ChallengePair}
-use Rattle.controller_calls.specs.declared.state.Computers.{Computers}
 use Rattle.controller_calls.specs.declared.state.Work.{Work}
 
 -- ---- an opening

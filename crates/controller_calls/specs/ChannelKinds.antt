@@ -1,5 +1,5 @@
--- The type of a channel that a controller keeps (MS-NRPC 2.2.1.3.13): it is that of the call that opened it
--- (3.5.4.4.3), and stays.
+-- The type of a channel that a controller keeps (MS-NRPC 2.2.1.3.13). A call that opens one leaves it of the type that
+-- the call names (3.5.4.4.3), and whatever comes, each channel that is kept has a type.
 use Rattle.std.specs.Prelude.{ℕ, ◌≡◌, ◌≢◌, ◌⊎◌, true, List, Option, Some}
 use Rattle.std.specs.List.{AllByRecursion}
 use Rattle.wire_base.specs.Maps.{lookup}
@@ -37,12 +37,12 @@ pub record IsAccepted (line : Line) (c : AuthCall) (taken later : Work) : Type 0
 abbrev pub HasKind : SecureChannelState → Type 0
 HasKind channel = (kind : ℕ) × (channel.kind ≡ Some kind)
 
--- each channel that is kept has its type
+-- each channel that is kept has a type
 abbrev pub HaveKinds : Computers → Type 0
 HaveKinds computers = AllByRecursion (λ (entry : List ℕ × SecureChannelState). HasKind entry.1) computers.channels
 
--- A call that opens a channel is refused, or leaves it of the type that it names. Where each channel has its type
--- before a call, each has it afterwards.
+-- A call that opens a channel is refused, or leaves it of the type that it names. Where each channel has a type before
+-- a call, each has one afterwards.
 pub record ChannelsHaveKinds : Type 0 where
   pub opening : (table : AccountTable) (line : Line) (c : AuthCall) (work : Work) →
       IsDenied line c (take_pair c.computer work) (answer_authenticate table line c work)

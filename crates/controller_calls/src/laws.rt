@@ -18,7 +18,7 @@ pub fn what_passes_is_done()
 {}
 
 /// The channel that an accepted NetrServerAuthenticate2 leaves is of the type that the call names. Whatever call comes,
-/// each channel that is kept has its type afterwards where each had it before.
+/// each channel that is kept has a type afterwards where each had one before.
 #[tactic(auto, using(crate::proofs::ChannelKindLaws::channels_have_kinds))]
 pub fn kept_channels_have_kinds()
     ensures { ChannelsHaveKinds }

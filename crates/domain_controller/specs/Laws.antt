@@ -171,12 +171,12 @@ pub record KeepsOthers : Type 0 where
 
 -- ---- of which types channels are
 
--- each channel that is kept has its type, while the controller runs
+-- each channel that is kept has a type, while the controller runs
 abbrev pub HaveKindsAtWork : Option Running → Type 0
 HaveKindsAtWork None = Unit {0}
 HaveKindsAtWork (Some running) = HaveKinds running.computers
 
--- A controller keeps no channel without its type: at first it keeps none, and a step leaves it so.
+-- A controller keeps no channel without a type: at first it keeps none, and a step leaves it so.
 pub record KeptHaveKinds : Type 0 where
   pub first : (table : AccountTable) (name : List ℕ) → HaveKindsAtWork (first_state table name).running
   pub stays : (s : State) (what : Event) (now : ℕ) (left : List (List ℕ)) → HaveKindsAtWork s.running →

@@ -37,8 +37,8 @@ pub fn other_channels_stay()
     ensures { KeepsOthers }
 {}
 
-/// Each channel that a controller keeps has its type, that of the call that opened it: at first it keeps none, and each
-/// step leaves it so.
+/// Each channel that a controller keeps has a type: at first it keeps none, and each step leaves it so. What an
+/// accepted opening leaves has the type of its call (`kept_channels_have_kinds` of `controller_calls`).
 #[tactic(auto, using(crate::proofs::ChannelKindLaws::kept_have_kinds))]
 pub fn kept_channels_have_kinds()
     ensures { KeptHaveKinds }

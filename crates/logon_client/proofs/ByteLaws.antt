@@ -280,6 +280,7 @@ step_fits s what now left range comes = running_fits s.running s what now left c
 
 pub clients_send_bytes : ClientsSendBytes
 clients_send_bytes = record {
+  first = λ plan can. record { task = can; standing = tt };
   sends = λ s what now left range comes. (step_fits s what now left range comes).sends;
   keeps = λ s what now left range comes. (step_fits s what now left range comes).range;
 }

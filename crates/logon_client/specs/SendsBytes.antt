@@ -9,9 +9,10 @@ use Rattle.outside.specs.declared.event.Event.{Event}
 use Rattle.outside.specs.declared.event.Event.TheVariants as event
 use Rattle.end_links.specs.Whole.{IsByteSend}
 use Rattle.end_loop.specs.Runs.{actions_of}
-use Rattle.logon_client.specs.Machine.{step_of}
+use Rattle.logon_client.specs.Machine.{fresh_client, step_of}
 use Rattle.logon_client.specs.Plans.{CanLogOn}
 use Rattle.logon_client.specs.State.{State}
+use Rattle.logon_client.specs.declared.plan.ClientPlan.{ClientPlan}
 use Rattle.logon_client.specs.declared.state.ClientLink.{ClientLink}
 use Rattle.logon_client.specs.declared.state.ClientLink.TheVariants.{Idle, Dialling, On}
 use Rattle.logon_client.specs.declared.state.Running.{Running}
@@ -61,6 +62,8 @@ IsByteIfSent (action.Judged how) = Unit {0}
 -- ---- the law
 
 pub record ClientsSendBytes : Type 0 where
+  -- it is so at first
+  pub first : (plan : ClientPlan) → CanLogOn plan → InRangeUnlessStopped (fresh_client plan).running
   pub sends : (s : State) (what : Event) (now : ℕ) (left : List (List ℕ)) → InRangeUnlessStopped s.running → InRangeEvent what left →
       AllByRecursion IsByteIfSent (actions_of (step_of s what now left))
   -- a step leaves the ranges so
