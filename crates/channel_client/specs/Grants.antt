@@ -40,7 +40,7 @@ HasBytes (BindAck send receive group results) = Unit {0}
 HasBytes (BindNak reason) = Unit {0}
 HasBytes Auth3 = Unit {0}
 
--- for every state and every unit
+-- for every state, and for every unit whose stub is bytes where it is a response
 pub record GrantsAreWritable : Type 0 where
   pub writes : (s : Requester) (unit : RpcUnit) → HasBytes unit.body → IfTaken (take_of s unit).taken CanWriteSamInfo
   pub range : (s : Requester) (unit : RpcUnit) → HasBytes unit.body → IfTaken (take_of s unit).taken InRangeSamInfo

@@ -36,7 +36,8 @@ pub fn requesters_send_whole()
     ensures { RequestersSendWhole }
 {}
 
-/// What a verdict grants that is taken can be handed on: it can be written into a stub again, and has its ranges.
+/// What a verdict grants that is taken can be handed on, where the stub of the response is bytes: it can be written
+/// into a stub again, and has its ranges.
 #[tactic(auto, using(crate::proofs::GrantLaws::grants_are_writable))]
 pub fn grants_can_be_written()
     ensures { GrantsAreWritable }

@@ -2,9 +2,9 @@
 
 ghost use Rattle.channel_turns.specs.Laws.{NextTurnsKnown, TurnsEndOnce, TurnsSendWhole, TurnsStepTheChannel};
 
-/// What a piece on the link of a turn comes to is that of the words for any end's units, and no challenge is drawn. The
-/// turn ends once, or its link stays open: it is out exactly while the link stays open. One that is lost is out no
-/// more.
+/// What a piece on the link of a turn comes to is that of the words for any end's units, and no challenge is drawn.
+/// Where the turn hadn't ended before, it ends once, or its link stays open. One that was out is out exactly while the
+/// link stays open, and one that is lost is out no more.
 #[tactic(auto, using(crate::proofs::TurnLaws::turns_end))]
 pub fn turns_end_once()
     ensures { TurnsEndOnce }
@@ -18,8 +18,8 @@ pub fn turns_step_their_channel()
     ensures { TurnsStepTheChannel }
 {}
 
-/// On the link of a turn requests go out and nothing else, each the bytes of one whole unit, in one fragment or more,
-/// with room in one piece of a link, where what the channel has is in its ranges; it stays so.
+/// A piece on the link of a turn makes sends on that link and nothing else, each the bytes of one whole unit, in one
+/// fragment or more, with room in one piece of a link, where what the channel has is in its ranges; it stays so.
 #[tactic(auto, using(crate::proofs::WholeLaws::turns_send_whole))]
 pub fn what_is_sent_in_turns_is_whole()
     ensures { TurnsSendWhole }

@@ -18,7 +18,8 @@ pub fn each_send_answers_a_unit()
 {}
 
 /// Each send is the bytes of one whole unit, in one fragment or more, and has at most 65,536, whatever comes, where the
-/// controller's table and name and the limits of its links have their ranges. Each unit leaves them so.
+/// controller's table and name and the limits of its links have their ranges, the moment has 64 bits, and challenges
+/// have 8 bytes. Each unit leaves them so.
 #[tactic(auto, using(crate::proofs::WholeLaws::sends_are_whole))]
 pub fn what_is_sent_is_whole()
     ensures { SendsAreWhole }

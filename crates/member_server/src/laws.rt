@@ -69,9 +69,10 @@ pub fn channel_steps_are_known()
     ensures { ChannelStepsKnown }
 {}
 
-/// What is sent goes out on a link that the member accepted, or on the link of the turn; and there it is the bytes of
-/// one whole unit, in one fragment or more, and has at most 65,536, where what the member has and what comes are in
-/// their ranges. A step leaves the ranges so, and they are so at first, where the computer's name is a name.
+/// What is sent goes out on a link that the member accepted, or on the link of the turn, where what the member has and
+/// what comes are in their ranges. On the turn's link it is the bytes of one whole unit, in one fragment or more, and
+/// has at most 65,536; on the others it is bytes, at most 589,824. A step leaves the ranges so, and they are so at
+/// first, where the computer's name is a name.
 #[tactic(auto, using(crate::proofs::WholeLaws::members_send_whole))]
 pub fn what_turns_send_is_whole()
     ensures { MembersSendWhole }
