@@ -6,6 +6,7 @@ pub mod Heard
 pub mod LetInLaws
 pub mod LetInStepLaws
 pub mod ListPlaceLaws
+pub mod MarkRunLaws
 pub mod Messages
 pub mod NameLaws
 pub mod Quiet

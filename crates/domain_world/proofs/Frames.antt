@@ -14,6 +14,7 @@ pub mod FrameLaws
 pub mod FrontLaws
 pub mod GivenLaws
 pub mod LeftLaws
+pub mod MarkNumberLaws
 pub mod MarkPlaceLaws
 pub mod MemberFrameLaws
 pub mod MemberPlanLaws

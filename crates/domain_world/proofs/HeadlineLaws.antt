@@ -7,6 +7,7 @@ use Rattle.domain_world.specs.Headline.{Proved}
 use Rattle.domain_world.specs.Past.{past}
 use Rattle.domain_world.proofs.Accepting.AnsweredRunLaws.{short_responses}
 use Rattle.domain_world.proofs.Accepting.LetInLaws.{lets_in_who_asked}
+use Rattle.domain_world.proofs.Accepting.MarkRunLaws.{calls_marked, replies_marked}
 use Rattle.domain_world.proofs.Accepting.Messages.ClientKeptLaws.{clients_written}
 use Rattle.domain_world.proofs.Accepting.Messages.ClientMadeLaws.{messages_of_clients}
 use Rattle.domain_world.proofs.Accepting.Messages.MessageMadeLaws.{messages_made}
@@ -75,5 +76,7 @@ all_proved plan moves = record {
   called = λ schedule clear. turns_are_called plan moves schedule clear;
   marked = each_marked plan moves;
   ways = marks_have_their_way plan moves;
+  call_marks = calls_marked plan moves;
+  reply_marks = replies_marked plan moves;
   complete = each_succeeds plan moves;
 }

@@ -5,6 +5,7 @@ pub mod JudgedLaws
 pub mod MovedLaws
 pub mod ReplayLaws
 pub mod ReplyLaws
+pub mod ReplyMarkLaws
 pub mod SeedLaws
 pub mod SeedStepLaws
 pub mod TableLaws

@@ -3,6 +3,7 @@ pub mod ByRequesterLaws
 pub mod CallComesLaws
 pub mod CallFrameLaws
 pub mod CallHoldsLaws
+pub mod CallMarkLaws
 pub mod CallMessageLaws
 pub mod CallStepLaws
 pub mod CallWholeLaws

@@ -219,7 +219,7 @@ controller_front c link piece now left w =
           (λ actions is. units_have_marks.controller c link piece now left w actions is);
     }
 
-controller_way : (back : Bool) (route : Route) (at : ℕ) → side_of back route ≡ Some (Controller at) → is_accepted_by (Controller at) route ≡ true
+pub controller_way : (back : Bool) (route : Route) (at : ℕ) → side_of back route ≡ Some (Controller at) → is_accepted_by (Controller at) route ≡ true
 controller_way false route at is =
     let same : acceptor_of route ≡ Controller at = cc in
     ap (λ (end : EndId). same_end end (Controller at)) same ∙ (Decides-eqb at at).1 refl

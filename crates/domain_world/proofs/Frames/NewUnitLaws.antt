@@ -57,6 +57,27 @@ same_units : (bag units others after : List BagUnit) → after ≡ bag ++ units 
 same_units bag units others after one other =
     sym (drop_at bag units (length bag) refl) ∙ ap (λ (all : List BagUnit). drop (length bag) all) (sym one ∙ other) ∙ drop_at bag others (length bag) refl
 
+-- more units may go into the bag after those of the first actions
+pub record MoreAfter (route : Route) (end : EndId) (link : ℕ) (actions : List Action) (marks : List Mark) (s : State) (f : IsFront link marks actions) : Type 0 where
+  pub units : List BagUnit
+  pub is : (perform_all end actions s).state.bag ≡ s.bag ++ (front_units route end link f.front ++ units)
+
+pub front_bag : (route : Route) (end : EndId) (link : ℕ) (actions : List Action) (marks : List Mark) (s : State) (f : IsFront link marks actions) → slice_get s.links link ≡ Some route →
+    is_own (kind_of route) ≡ true → MoreAfter route end link actions marks s f
+front_bag route end link actions marks s f made own =
+    let t : State = (perform_all end f.front s).state in
+    let first : List BagUnit = front_units route end link f.front in
+    let later : IsMore t.links t.bag (perform_all end f.rest t).state.links (perform_all end f.rest t).state.bag =
+    actions_stay (MoreOf t.links t.bag) (goes_on t.links t.bag) end f.rest t (no_more t.links t.bag) in
+    record {
+      units = later.units;
+      is = ap (λ (all : List Action). (perform_all end all s).state.bag) f.is
+          ∙ ap (λ (u : State). u.bag) (all_append end f.front f.rest s)
+          ∙ later.is
+          ∙ ap (λ (bag : List BagUnit). bag ++ later.units) (front_goes route end link f.front s made own f.here)
+          ∙ append_assoc s.bag first later.units;
+    }
+
 new_by : (own : Bool) (route : Route) (end : EndId) (link : ℕ) (back : Bool) (actions : List Action) (marks : List Mark) (s : State) (units : List BagUnit) (place : ℕ) (unit : BagUnit) (mark : Mark) →
     is_own (kind_of route) ≡ own → slice_get s.links link ≡ Some route → is_accepted_by end route ≡ back → IsFront link marks actions →
     (perform_all end actions s).state.bag ≡ s.bag ++ units → AllByRecursion (IsOnLink s.links) units →
@@ -65,22 +86,14 @@ new_by : (own : Bool) (route : Route) (end : EndId) (link : ℕ) (back : Bool) (
 new_by false route end link back actions marks s units place unit mark between made way f is on there marked =
     inl (strangers_plain s.links route link back units marks made between on place mark marked)
 new_by true route end link back actions marks s units place unit mark between made way f is on there marked =
-    let t : State = (perform_all end f.front s).state in
     let first : List BagUnit = front_units route end link f.front in
-    let later : IsMore t.links t.bag (perform_all end f.rest t).state.links (perform_all end f.rest t).state.bag =
-    actions_stay (MoreOf t.links t.bag) (goes_on t.links t.bag) end f.rest t (no_more t.links t.bag) in
-    let bag : (perform_all end actions s).state.bag ≡ s.bag ++ (first ++ later.units) =
-    ap (λ (all : List Action). (perform_all end all s).state.bag) f.is
-    ∙ ap (λ (u : State). u.bag) (all_append end f.front f.rest s)
-    ∙ later.is
-    ∙ ap (λ (bag : List BagUnit). bag ++ later.units) (front_goes route end link f.front s made between f.here)
-    ∙ append_assoc s.bag first later.units in
-    let same : units ≡ first ++ later.units = same_units s.bag units (first ++ later.units) (perform_all end actions s).state.bag is bag in
-    elim (front_marked route end link back f.front later.units marks (length s.bag) place unit mark way f.here f.size
+    let more : MoreAfter route end link actions marks s f = front_bag route end link actions marks s f made between in
+    let same : units ≡ first ++ more.units = same_units s.bag units (first ++ more.units) (perform_all end actions s).state.bag is more.is in
+    elim (front_marked route end link back f.front more.units marks (length s.bag) place unit mark way f.here f.size
     (ap (λ (all : List BagUnit). slice_get all place) (sym same) ∙ there)
     (ap (λ (all : List BagUnit). slice_get (marks_of link back all marks) place) (sym same) ∙ marked)) [
       | inl plain ↦ inl plain
-      | inr new ↦ inr (marked_new link back actions marks s.bag (perform_all end actions s).state.bag (first ++ later.units) f place unit mark bag new)
+      | inr new ↦ inr (marked_new link back actions marks s.bag (perform_all end actions s).state.bag (first ++ more.units) f place unit mark more.is new)
     ]
 
 -- of the units that go into the bag where an end does these actions, each is made for no channel, or is one that the

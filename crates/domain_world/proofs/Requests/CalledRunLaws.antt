@@ -39,7 +39,7 @@ use Rattle.domain_world.proofs.Frames.PlainFormLaws.{heard_plain}
 
 -- ---- the message of a link is one
 
-all_zip : {T : Type 0} (A B C : T → Type 0) (items : List T) → ((item : T) → A item → B item → C item) → AllByRecursion A items → AllByRecursion B items → AllByRecursion C items
+pub all_zip : {T : Type 0} (A B C : T → Type 0) (items : List T) → ((item : T) → A item → B item → C item) → AllByRecursion A items → AllByRecursion B items → AllByRecursion C items
 all_zip A B C [] so one other = tt
 all_zip A B C (item ∷ items) so one other = (so item one.0 other.0, all_zip A B C items so one.1 other.1)
 
@@ -108,7 +108,7 @@ if_dialled Own (dialling.On number said) on = on.own
 quiet_running : (s : State) (k : ℕ) (m : MemberState) (running : Running) → QuietState s → slice_get s.ends.members k ≡ Some m → m.running ≡ Some running → RunningIsQuiet s.links k running
 quiet_running s k m running quiet there runs = subst (λ (r : Option Running). MemberIsQuiet s.links k r) runs (quiet.members k m there)
 
-quiet_side : (s : State) → QuietState s → CallSide s
+pub quiet_side : (s : State) → QuietState s → CallSide s
 quiet_side s quiet = record {
   ranges = λ k m running there runs. (quiet_running s k m running quiet there runs).range.channel;
   dialled = λ k m running there runs. if_dialled (λ (number : ℕ). IsDialledBy s.links k number) running.dialling (quiet_running s k m running quiet there runs).turn;

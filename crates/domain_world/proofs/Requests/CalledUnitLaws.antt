@@ -125,7 +125,7 @@ module _ (Good : ℕ → ℕ → Type 0) where
   some_answered None unit messages good = good
   some_answered (Some on) unit messages good = all_answered on unit messages good
 
-  turns_good : (controller : ℕ) (units : List (ServedUnit AtTurn TurnTalk)) (unit : Option ℕ) (numbers : List ℕ) (b : Book) → GoodTurns controller units numbers → AllGood b.messages →
+  pub turns_good : (controller : ℕ) (units : List (ServedUnit AtTurn TurnTalk)) (unit : Option ℕ) (numbers : List ℕ) (b : Book) → GoodTurns controller units numbers → AllGood b.messages →
       AllGood (note_turns controller units unit numbers b).messages
   turns_good controller [] unit numbers b turns good = good
   turns_good controller (served ∷ units) unit numbers b turns good =
@@ -156,10 +156,10 @@ module _ (Good : ℕ → ℕ → Type 0) where
   by_good false unit w = tt
   by_good true unit w = after_good (talk_after unit.part) (work_after unit.part) w unit.bytes
 
-  notes_good : (w : LinkAt) (units : List (ServedUnit AtLink Talk)) → AllGood (flat_map (message_note w) units)
+  pub notes_good : (w : LinkAt) (units : List (ServedUnit AtLink Talk)) → AllGood (flat_map (message_note w) units)
   notes_good w units = all_flat (IsGood Good) (message_note w) (λ unit. by_good (is_challenged unit.talk.phase) unit w) units
 
-good_so : (Good More : ℕ → ℕ → Type 0) → ((link n : ℕ) → Good link n → More link n) → (messages : List MessageTaken) → AllGood Good messages → AllGood More messages
+pub good_so : (Good More : ℕ → ℕ → Type 0) → ((link n : ℕ) → Good link n → More link n) → (messages : List MessageTaken) → AllGood Good messages → AllGood More messages
 good_so Good More so messages good = all_weaker (IsGood Good) (IsGood More) messages (λ message is n there. so message.link n (is n there)) good
 
 -- ---- the unit that carries the call of the message of a link
@@ -300,17 +300,17 @@ module _ (Own : ℕ → Type 0) where
   or_in (Some running) link piece left own = or_on running.dialling link piece running left (own running refl)
 
 -- the turn is ready for its units
-ready_on : (messages : List MessageTaken) (link : ℕ) (how : Dialling) (running : Running) → AsksForKept (is_dialled how) running.logons → InRangeRequester running.logons.channel →
-    OfEach (HasMessage messages) running.logons.asked → ReadyOn (HasMessage messages) link how running
-ready_on messages link dialling.Nothing running asks range each = tt
-ready_on messages link (dialling.Waits turn frames) running asks range each = tt
-ready_on messages link (dialling.On other said) running asks range each = record { on = refl; asks = asks; range = range; each = each }
+pub ready_on : (Fits : ℕ → Logon → Type 0) (link : ℕ) (how : Dialling) (running : Running) → AsksForKept (is_dialled how) running.logons → InRangeRequester running.logons.channel →
+    OfEach Fits running.logons.asked → ReadyOn Fits link how running
+ready_on Fits link dialling.Nothing running asks range each = tt
+ready_on Fits link (dialling.Waits turn frames) running asks range each = tt
+ready_on Fits link (dialling.On other said) running asks range each = record { on = refl; asks = asks; range = range; each = each }
 
 ready_in : (messages more : List MessageTaken) (link : ℕ) (r : Option Running) → ((place : ℕ) (logon : Logon) → HasMessage messages place logon → HasMessage more place logon) →
     ((running : Running) → r ≡ Some running → InRangeRequester running.logons.channel) → KeptOf messages r → ReadyIn (HasMessage more) link r
 ready_in messages more link None so ranges kept = tt
 ready_in messages more link (Some running) so ranges kept =
-    ready_on more link running.dialling running kept.0 (ranges running refl) (each_so (HasMessage messages) (HasMessage more) so running.logons.asked kept.1.0)
+    ready_on (HasMessage more) link running.dialling running kept.0 (ranges running refl) (each_so (HasMessage messages) (HasMessage more) so running.logons.asked kept.1.0)
 
 asked_call : (link : ℕ) (logon : LogonCall) (number : Option ℕ) (message : MessageTaken) → IsAskedOn link logon message → IsAskedOn link logon (with_call number message)
 asked_call link logon number message is = record { on = is.on; info = is.info }

@@ -323,7 +323,7 @@ whole_holds links units more messages controller w running said bytes frames uni
 abbrev pub AreAccepted : List Route → List MessageTaken → Type 0
 AreAccepted links messages = AllByRecursion (λ (message : MessageTaken). IsAcceptedBy links message.member message.link) messages
 
-one_acceptor : (links : List Route) (one other link : ℕ) → IsAcceptedBy links one link → IsAcceptedBy links other link → one ≡ other
+pub one_acceptor : (links : List Route) (one other link : ℕ) → IsAcceptedBy links one link → IsAcceptedBy links other link → one ≡ other
 one_acceptor links one other link first second =
     let both : Some first.route ≡ Some second.route = sym first.at ∙ second.at in
     let route : first.route ≡ second.route = (let x = both in cc) in
