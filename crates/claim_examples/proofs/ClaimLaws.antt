@@ -320,10 +320,10 @@ of_all = record {
     once = λ clear nt hash. ((λ apart one other. apart refl, tt), tt);
     names = (
       λ is. inl (record {
-            link = refl;
-            member = refl;
-            named = inl (record { answer = refl; granted = refl; account = small_account; found = found_small; names = (refl, refl) });
-          }),
+        link = refl;
+        member = refl;
+        named = inl (record { answer = refl; granted = refl; account = small_account; found = found_small; names = (refl, refl) });
+      }),
       tt,
     );
   };

@@ -1,7 +1,7 @@
 -- Runs written down by hand in which somebody is let in: some meet the claims on who is, and others don't.
 -- It serves `letting_in_tells_apart`.
 use Rattle.std.proofs.Common.{◌≡◌, ◌≢◌, ◌<◌, ℕ, true, false, List, [], ◌∷◌, length, inl, inr, Option, Some, None, refl, sym, ap, ◌∙◌, subst, arith}
-use Rattle.std.specs.Prelude.{codes, replicate, slice_index}
+use Rattle.std.specs.Prelude.{codes, replicate}
 use Rattle.wire_base.specs.Names.{same_name}
 use Rattle.wire_base.specs.Names as names
 use Rattle.wire_base.specs.Units.{units_of}
@@ -65,6 +65,10 @@ found_spelled : Found (spelled_account ∷ []) ≡ Some spelled_account
 unfolding place_in same_name names.upper_of units_of
 found_spelled = refl
 
+found_none : Found [] ≡ None
+unfolding place_in
+found_none = refl
+
 -- who is let in by a name is let in as the one account is spelled
 spelled_so : (account : Account) (told : OutcomeTold) (domain user key : List ℕ) → Found (account ∷ []) ≡ Some account → told.outcome ≡ outcome.In domain user key →
     OneOf (IsLetInByName (by_accounts (account ∷ []) ∷ []) told) (message ∷ []) → (domain ≡ codes "CORP") × (user ≡ account.name)
@@ -80,7 +84,8 @@ spelled_so account told domain user key found is one = elim one [
 ]
 
 first_of : List ℕ → ℕ
-first_of text = slice_index text 0
+first_of [] = 0
+first_of (code ∷ text) = code
 
 differ : (one other : List ℕ) → first_of one ≢ first_of other → one ≡ other → ⊥
 differ one other apart same = apart (ap first_of same)
@@ -93,17 +98,17 @@ of_names = record {
   meets = (λ is. inl (record { link = refl; member = refl; named = inl (named_small (told_of_link 3) (refl, refl)) }), tt);
   meets_spelled = (
     λ is. inl (record {
-          link = refl;
-          member = refl;
-          named = inl (record { answer = refl; granted = refl; account = spelled_account; found = found_spelled; names = (refl, refl) });
-        }),
+      link = refl;
+      member = refl;
+      named = inl (record { answer = refl; granted = refl; account = spelled_account; found = found_spelled; names = (refl, refl) });
+    }),
     tt,
   );
-  fails_user = λ claim. differ (codes "bob") (codes "ann") (λ same. absurd (omega (arith, same))) (spelled_so small_account _ (codes "CORP") (codes "bob") (1 ∷ []) found_small refl (claim.0 refl)).1;
-  fails_domain = λ claim. differ (codes "LAB") (codes "CORP") (λ same. absurd (omega (arith, same))) (spelled_so small_account _ (codes "LAB") (codes "ann") (1 ∷ []) found_small refl (claim.0 refl)).0;
-  fails_spelled = λ claim. differ (codes "ann") (codes "Ann") (λ same. absurd (omega (arith, same))) (spelled_so spelled_account _ (codes "CORP") (codes "ann") (1 ∷ []) found_spelled refl (claim.0 refl)).1;
+  fails_user = λ claim. differ (codes "bob") (codes "ann") (λ same. absurd (let never : 98 ≡ 97 = same in cc)) (spelled_so small_account _ (codes "CORP") (codes "bob") (1 ∷ []) found_small refl (claim.0 refl)).1;
+  fails_domain = λ claim. differ (codes "LAB") (codes "CORP") (λ same. absurd (let never : 76 ≡ 67 = same in cc)) (spelled_so small_account _ (codes "LAB") (codes "ann") (1 ∷ []) found_small refl (claim.0 refl)).0;
+  fails_spelled = λ claim. differ (codes "ann") (codes "Ann") (λ same. absurd (let never : 97 ≡ 65 = same in cc)) (spelled_so spelled_account _ (codes "CORP") (codes "ann") (1 ∷ []) found_spelled refl (claim.0 refl)).1;
   fails_unknown = λ claim. elim (claim.0 refl) [
-    | inl one ↦ elim one.named [ inl named ↦ absurd (let never : None ≡ Some named.account = named.found in cc) | inr none ↦ none ]
+    | inl one ↦ elim one.named [ inl named ↦ absurd (let never : None ≡ Some named.account = sym found_none ∙ named.found in cc) | inr none ↦ none ]
     | inr none ↦ none
   ];
   fails_refused = λ claim. elim (claim.0 refl) [

@@ -10,6 +10,7 @@ use Rattle.ntlm_flags.specs.Flags.{negotiate_unicode}
 use Rattle.ntlm_responses.specs.Responses.{challenge_for_of, hashed_challenge_of, is_ess_pair, response_v1_of}
 use Rattle.ntlm_responses.proofs.ResponseLaws.{challenge_for_of-ess, length-base_key_of, length-response_ess_of, length-response_v1_of, response_v1_of-one_to_one}
 use Rattle.account_table.specs.LookUps.{place_in}
+use Rattle.outside.specs.declared.action.Outcome.TheVariants as outcome
 use Rattle.channel_events.specs.Marks.{OneOf}
 use Rattle.step_notes.specs.Judged.{stored_hash}
 use Rattle.step_notes.specs.Records.{ChallengeSent, Judging, MessageTaken, OutcomeTold}
@@ -253,6 +254,13 @@ never_in past told nt hash (first ∷ messages) out one = elim one [
   | inr later ↦ never_in past told nt hash messages out later
 ]
 
+-- one is let in, and the other refused
+one_refused : Past
+one_refused = small_run (record two_logons { told = told_of_link 3 ∷ record (told_of_link 4) { outcome = outcome.Out 5 } ∷ [] })
+
+none_refused : (nt hash : List ℕ) → OneOf (IsLetInShortly one_refused (record (told_of_link 4) { outcome = outcome.Out 5 }) nt hash) one_refused.book.messages → ⊥
+none_refused nt hash = never_in one_refused (record (told_of_link 4) { outcome = outcome.Out 5 }) nt hash one_refused.book.messages refl
+
 pub of_short_responses : OfShortResponses
 of_short_responses = record {
   accepted = record {
@@ -295,8 +303,8 @@ of_short_responses = record {
   fails_once = λ claim. (claim (response_v1_of small_hash small_challenge) small_hash).0.1.0 (λ same. absurd (let never : 3 ≡ 4 = same in cc))
       (inl (short_of (small_run two_logons) (told_of_link 3) 3 refl refl refl)) (inr (inl (short_of (small_run two_logons) (told_of_link 4) 4 refl refl refl)));
   refused = λ nt hash. (
-    (λ apart one other. apart refl, (λ apart one other. never_in _ _ nt hash _ refl other, tt)),
-    ((λ apart one other. never_in _ _ nt hash _ refl one, (λ apart one other. apart refl, tt)), tt),
+    (λ apart one other. apart refl, (λ apart one other. none_refused nt hash other, tt)),
+    ((λ apart one other. none_refused nt hash one, (λ apart one other. apart refl, tt)), tt),
   );
 }
 

@@ -10,6 +10,7 @@ use Rattle.account_table.specs.LookUps.{place_in}
 use Rattle.sam_logon.specs.MayLogOn.{MayLogOn}
 use Rattle.outside.specs.declared.action.Judged.TheVariants as judged
 use Rattle.logon_client.specs.Plans.{CanLogOn}
+use Rattle.logon_client.specs.declared.plan.ClientPlan.{ClientPlan}
 use Rattle.logon_client.specs.declared.plan.AuthKind.{AuthKind}
 use Rattle.logon_client.specs.declared.plan.AuthKind.TheVariants.{V2}
 use Rattle.member_server.specs.declared.plan.MemberPlan.{MemberPlan}

@@ -1,6 +1,6 @@
 -- Runs that were written down by hand on which `LetsInWhoAsked` holds of somebody who is let in, and near misses (this
 -- project's own choice).
-use Rattle.std.specs.Prelude.{ℕ, ◌+◌, List, [], ◌∷◌, replicate, None, codes}
+use Rattle.std.specs.Prelude.{ℕ, ◌+◌, List, [], ◌∷◌, replicate, Some, None, codes}
 use Rattle.ntlm_flags.specs.Flags.{negotiate_key_exch, negotiate_unicode}
 use Rattle.outside.specs.declared.action.Judged.TheVariants as judged
 use Rattle.outside.specs.declared.action.Outcome.TheVariants as outcome
