@@ -39,8 +39,8 @@ pub fn what_waits_comes()
     ensures { WaitingComes }
 {}
 
-/// There are as many ends after each move as before it, with the same plans, so an address is the
-/// same end's in each state of a run.
+/// There are as many ends after each move as before it, with the same plans but for members' secrets, so an address is
+/// the same end's in each state of a run.
 #[tactic(auto, using(crate::proofs::Seen::StayingLaws::ends_stay))]
 pub fn ends_stay()
     ensures { EndsStay }
