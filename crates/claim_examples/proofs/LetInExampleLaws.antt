@@ -83,7 +83,7 @@ spelled_so account told domain user key found is one = elim one [
   | inr none ↦ absurd none
 ]
 
-first_of : List ℕ → ℕ
+abbrev first_of : List ℕ → ℕ
 first_of [] = 0
 first_of (code ∷ text) = code
 

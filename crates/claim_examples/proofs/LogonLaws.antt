@@ -255,7 +255,7 @@ never_in past told nt hash (first ∷ messages) out one = elim one [
 ]
 
 -- one is let in, and the other refused
-one_refused : Past
+abbrev one_refused : Past
 one_refused = small_run (record two_logons { told = told_of_link 3 ∷ record (told_of_link 4) { outcome = outcome.Out 5 } ∷ [] })
 
 none_refused : (nt hash : List ℕ) → OneOf (IsLetInShortly one_refused (record (told_of_link 4) { outcome = outcome.Out 5 }) nt hash) one_refused.book.messages → ⊥
