@@ -144,8 +144,8 @@ pub fn marked_units_are_whole()
     ensures { OfSchedules (λ plan moves. MarkedUnitsAreWhole (past plan moves)) }
 {}
 
-/// In every schedule each answer was taken in the turn of its call, that of a message among them; its outcome is told,
-/// and who is let in is so by an answer that was taken.
+/// In every schedule without a clash each answer was taken in the turn of its call, that of a message among them; its
+/// outcome is told, and who is let in is so by an answer that was taken.
 #[tactic(auto, using(crate::proofs::Accepting::Turns::TurnRunLaws::turns_run))]
 pub fn answers_are_taken_in_turn()
     ensures { OfSchedules (λ plan moves. TurnsAreHeard (past plan moves)) }

@@ -92,8 +92,8 @@ pub record MessageTaken : Type 0 where
   pub place : ℕ
   -- the unit of the bag that carries the Logon call of that place, once there is one
   pub call : Option ℕ
-  -- the unit of the bag that the member took as the answer in the turn of that place, once it took one: that of the
-  -- entry of `answers` for that call
+  -- the unit of the bag that the member took as the answer in the turn of that place, once it took one; without a clash
+  -- it is that of the entry of `answers` for that call
   pub reply : Option ℕ
 
 -- An outcome that a member told.

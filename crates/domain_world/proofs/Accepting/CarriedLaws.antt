@@ -21,7 +21,7 @@ use Rattle.step_notes.specs.Records.{CallTaken, InUnit, JudgedCall, Judging, Mes
 use Rattle.step_notes.specs.ReplySends.{IsReplyOfCall}
 use Rattle.world_moves.specs.declared.bag.BagUnit.{BagUnit}
 use Rattle.domain_world.specs.Accepting.Answered.{AsksForIt, IsAnsweredIn, IsItsWay, MarksHaveTheirWay, PassesAreUnclashed}
-use Rattle.domain_world.specs.Accepting.Carried.{AnswersAreInTurn, AsksOf, CallsHaveNumbers, CarriedCallsAreHeard, IsCalledFor, IsJudgedAsCarried, IsPlain, IsReadAsAnswer, IsTakenAs, IsTakenInTurn, IsWholeAsMarked, IsWholeUnit, JudgedAsCarried, MarkedUnitsAreWhole, MessagesAreCalled, call_carried, call_judged, call_read}
+use Rattle.domain_world.specs.Accepting.Carried.{AnswersAreInTurn, AsksOf, CallsHaveNumbers, CarriedCallsAreHeard, IsCalledFor, IsJudgedAsCarried, IsPlain, IsReadAsAnswer, IsAnsweredInTurn, IsTakenInTurn, IsWholeAsMarked, IsWholeUnit, JudgedAsCarried, MarkedUnitsAreWhole, MessagesAreCalled, call_carried, call_judged, call_read}
 use Rattle.domain_world.specs.Claims.{HasController}
 use Rattle.domain_world.specs.Claims.Replies.{IsReplyOfOne, RepliesCarryTheirJudgement}
 use Rattle.domain_world.specs.Past.{Past, plain_form}
@@ -217,7 +217,7 @@ module _ (past : Past) where
         replies_by is.sent.mark taken is refl is.made (way taken.reply is.carrier is.sent is.there is.noted) (λ isn't. whole taken.reply is.carrier is.sent is.there is.noted isn't)
         (replies taken.reply is.carrier is.sent is.there is.noted)
 
-    answered : (message : MessageTaken) (u : ℕ) → IsTakenAs past message u → IsAnsweredIn past message u
+    answered : (message : MessageTaken) (u : ℕ) → IsAnsweredInTurn past message u → IsAnsweredIn past message u
     answered message u its =
         let its_reply : RepliesTo its.taken = replies_to its.taken its.turn in
         record {
@@ -235,7 +235,7 @@ module _ (past : Past) where
     all_answered turns =
         all_by_place (λ (message : MessageTaken). (unit : ℕ) → message.reply ≡ Some unit → IsAnsweredIn past message unit) past.book.messages
         (λ k message at unit reply. answered message unit
-        (all_at (λ (m : MessageTaken). (u : ℕ) → m.reply ≡ Some u → IsTakenAs past m u) past.book.messages k message (turns clear) at unit reply))
+        (all_at (λ (m : MessageTaken). (u : ℕ) → m.reply ≡ Some u → IsAnsweredInTurn past m u) past.book.messages k message (turns clear) at unit reply))
 
 pub carried_heard : CarriedCallsAreHeard
 carried_heard = record {

@@ -160,14 +160,14 @@ MessagesAreAnswered past =
     OneOf (IsAnswerFor message unit) past.book.answers) past.book.messages
 
 -- so the answer of the message was taken in the turn of its call
-pub record IsTakenAs (past : Past) (message : MessageTaken) (unit : ℕ) : Type 0 where
+pub record IsAnsweredInTurn (past : Past) (message : MessageTaken) (unit : ℕ) : Type 0 where
   pub taken : CallTaken
   pub is : IsAnswerFor message unit taken
   pub turn : IsTakenInTurn past taken
 
 abbrev pub AnswersAreInTurn : Past → Type 0
 AnswersAreInTurn past =
-    past.book.clash ≡ false → AllByRecursion (λ (message : MessageTaken). (unit : ℕ) → message.reply ≡ Some unit → IsTakenAs past message unit)
+    past.book.clash ≡ false → AllByRecursion (λ (message : MessageTaken). (unit : ℕ) → message.reply ≡ Some unit → IsAnsweredInTurn past message unit)
     past.book.messages
 
 -- the calls that were made with one client's challenge have different numbers (`Requests`)

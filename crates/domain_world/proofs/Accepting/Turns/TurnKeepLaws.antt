@@ -27,7 +27,7 @@ use Rattle.world_moves.specs.Links.{acceptor_of}
 use Rattle.world_moves.specs.MemberPlans.{AreAlikeButSecrets}
 use Rattle.world_moves.specs.Moving.{answered_link, begun, renewed, settle, tick, with_link, without_first}
 use Rattle.world_moves.specs.World.{World, first_world}
-use Rattle.domain_world.specs.Accepting.Carried.{IsAnswerFor, IsTakenAs, IsTakenInTurn}
+use Rattle.domain_world.specs.Accepting.Carried.{IsAnswerFor, IsAnsweredInTurn, IsTakenInTurn}
 use Rattle.domain_world.specs.Accepting.ReadBack.{IsLetInInTurn, IsToldInTurn, TurnsAreHeard}
 use Rattle.domain_world.specs.Past.{Coming, Past, answers_of, any_clash, note_at, note_client, note_controller, note_given, past, told_in}
 use Rattle.domain_world.proofs.Accepting.Turns.TurnFactLaws.{Any, AreApart, GrowsTo, HasFree, IsAnswered, IsKnown, KeepFree, MarksAreKnown, SameEnds, TurnFacts, apart_from, let_in_stays, marks_before, past_at, taken_stays, told_stays, world_in}
@@ -212,7 +212,7 @@ turns_of n plan moves holds =
           all_weaker (IsAnswered plan s b b.answers b.told) (λ (message : MessageTaken). (u : ℕ) → message.reply ≡ Some u → OneOf (IsAnswerFor message u) b.answers) b.messages
           (λ message answered u reply. (answered u reply).0) (facts unclashed).answered;
       turns = λ unclashed.
-          all_weaker (IsAnswered plan s b b.answers b.told) (λ (message : MessageTaken). (u : ℕ) → message.reply ≡ Some u → IsTakenAs p message u) b.messages
+          all_weaker (IsAnswered plan s b b.answers b.told) (λ (message : MessageTaken). (u : ℕ) → message.reply ≡ Some u → IsAnsweredInTurn p message u) b.messages
           (λ message answered u reply.
           let found = one_found (IsAnswerFor message u) (IsTakenInTurn p) b.answers (taken unclashed) (answered u reply).0 in
           record { taken = found.0; is = found.1; turn = found.2 }) (facts unclashed).answered;
