@@ -104,9 +104,9 @@ of_names = record {
     }),
     tt,
   );
-  fails_user = λ claim. differ (codes "bob") (codes "ann") (λ same. absurd (let never : 98 ≡ 97 = same in cc)) (spelled_so small_account _ (codes "CORP") (codes "bob") (1 ∷ []) found_small refl (claim.0 refl)).1;
-  fails_domain = λ claim. differ (codes "LAB") (codes "CORP") (λ same. absurd (let never : 76 ≡ 67 = same in cc)) (spelled_so small_account _ (codes "LAB") (codes "ann") (1 ∷ []) found_small refl (claim.0 refl)).0;
-  fails_spelled = λ claim. differ (codes "ann") (codes "Ann") (λ same. absurd (let never : 97 ≡ 65 = same in cc)) (spelled_so spelled_account _ (codes "CORP") (codes "ann") (1 ∷ []) found_spelled refl (claim.0 refl)).1;
+  fails_user = λ claim. differ (codes "bob") (codes "ann") (λ same. absurd (let never : 98 ≡ 97 = same in omega arith)) (spelled_so small_account _ (codes "CORP") (codes "bob") (1 ∷ []) found_small refl (claim.0 refl)).1;
+  fails_domain = λ claim. differ (codes "LAB") (codes "CORP") (λ same. absurd (let never : 76 ≡ 67 = same in omega arith)) (spelled_so small_account _ (codes "LAB") (codes "ann") (1 ∷ []) found_small refl (claim.0 refl)).0;
+  fails_spelled = λ claim. differ (codes "ann") (codes "Ann") (λ same. absurd (let never : 97 ≡ 65 = same in omega arith)) (spelled_so spelled_account _ (codes "CORP") (codes "ann") (1 ∷ []) found_spelled refl (claim.0 refl)).1;
   fails_unknown = λ claim. elim (claim.0 refl) [
     | inl one ↦ elim one.named [ inl named ↦ absurd (let never : None ≡ Some named.account = sym found_none ∙ named.found in cc) | inr none ↦ none ]
     | inr none ↦ none
