@@ -6,7 +6,6 @@ ghost use Rattle.domain_controller.specs.Step.{first_state};
 ghost use Rattle.member_server.specs.Machine.{is_stopped as member_is_stopped};
 ghost use Rattle.end_links.specs.Bounds.{AreShortSends};
 ghost use Rattle.world_moves.specs.Bounds.{draws_at};
-ghost use Rattle.world_moves.specs.declared.links.EndId.TheVariants.{Controller, Member, Client};
 ghost use Rattle.world_moves.specs.Ends.{end_at, acceptors_in, count_of, end_done, end_step, controller_step, member_step, client_step, renew_controller, with_member, with_client};
 ghost use Rattle.world_moves.specs.Outcomes.{OutcomesFall, OutcomesStay, has_its_outcome, is_told};
 ghost use Rattle.world_moves.specs.Running.{AreRunning};
@@ -157,7 +156,7 @@ impl Ends {
         requires { AreRunning self.old.controllers self.old.members self.old.clients }
         ensures answer { IfOk result (λ actions.
             controller_step (slice_get self.old.controllers at) at event.now now self.old
-            chances.old ≡ end_done (Controller at) self.new chances.new actions) }
+            chances.old ≡ end_done (EndId.Controller at) self.new chances.new actions) }
         ensures spent { result ≡ Err StepRefused.Spent → chances.new.left ≡ [] }
         ensures few { length chances.old.left ≤ length chances.new.left + draws_at event.now }
         ensures short { IfOk result (λ actions. AreShortSends actions) }
@@ -189,7 +188,7 @@ impl Ends {
         requires { AreRunning self.old.controllers self.old.members self.old.clients }
         ensures answer { IfOk result (λ actions.
             member_step (slice_get self.old.members at) at event.now now self.old
-            chances.old ≡ end_done (Member at) self.new chances.new actions) }
+            chances.old ≡ end_done (EndId.Member at) self.new chances.new actions) }
         ensures spent { result ≡ Err StepRefused.Spent → chances.new.left ≡ [] }
         ensures few { length chances.old.left ≤ length chances.new.left + draws_at event.now }
         ensures short { IfOk result (λ actions. AreShortSends actions) }
@@ -221,7 +220,7 @@ impl Ends {
         requires { AreRunning self.old.controllers self.old.members self.old.clients }
         ensures answer { IfOk result (λ actions.
             client_step (slice_get self.old.clients at) at event.now now self.old
-            chances.old ≡ end_done (Client at) self.new chances.new actions) }
+            chances.old ≡ end_done (EndId.Client at) self.new chances.new actions) }
         ensures spent { result ≡ Err StepRefused.Spent → chances.new.left ≡ [] }
         ensures few { length chances.old.left ≤ length chances.new.left + draws_at event.now }
         ensures short { IfOk result (λ actions. AreShortSends actions) }
