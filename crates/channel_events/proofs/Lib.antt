@@ -3,7 +3,3 @@ pub mod ListLaws
 pub mod RequestLaws
 pub mod RequestStepLaws
 pub mod SameLaws
-pub mod SoundExampleLaws
-pub mod SoundLaws
-pub mod SoundParts
-pub mod SoundSteps

@@ -1,5 +1,5 @@
 -- Lists: one of the items, all of them, each two of them, and places; and how far timestamps move a seed.
--- It serves `calls_stay_apart`, `channels_stay_sound`, `requesters_keep_calls_apart`.
+-- It serves `calls_stay_apart`, `requesters_keep_calls_apart`.
 use Rattle.std.proofs.Common.{◌≡◌, ◌⊎◌, ℕ, zero, suc, ◌+◌, Bool, true, false, List, [], ◌∷◌, ◌++◌, length, inl, inr, Some, None, slice_get, refl, ap, arith}
 use Rattle.std.specs.Prelude.{AllPairs}
 use Rattle.std.specs.List.{AllByRecursion}

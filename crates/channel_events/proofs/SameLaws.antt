@@ -1,5 +1,5 @@
 -- Channels that are one, and the test of it.
--- It serves `channels_stay_sound`, and laws of the crates above.
+-- It serves laws of the crates above.
 use Rattle.std.proofs.Common.{◌≡◌, Bool, true, false, refl, sym, ◌∙◌}
 use Rattle.std.proofs.lemmas.Bool.Decides.{Decides-like, same_from_decides}
 use Rattle.authenticators.specs.Channels.{ChannelIdentity, SameChannel, same_channel}

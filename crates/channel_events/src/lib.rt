@@ -4,4 +4,4 @@
 
 mod laws;
 
-pub use laws::{calls_stay_apart, channels_stay_sound, requesters_keep_calls_apart};
+pub use laws::{calls_stay_apart, requesters_keep_calls_apart};

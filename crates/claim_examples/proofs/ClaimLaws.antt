@@ -31,7 +31,7 @@ use Rattle.step_notes.proofs.Controllers.JudgedStepLaws.{next_unbarred, right_pa
 use Rattle.claim_examples.proofs.CompletenessLaws.{of_completeness, of_success}
 use Rattle.claim_examples.proofs.LetInExampleLaws.{found_small}
 use Rattle.claim_examples.proofs.LogonLaws.{granted_small, of_accepting_all, of_accepting_only, of_challenges, of_keys, of_short_responses, only_draw}
-use Rattle.claim_examples.proofs.SequenceLaws.{kept_small, of_in_step, of_sequences, of_soundness, one_apart, one_stamp, shares_by}
+use Rattle.claim_examples.proofs.SequenceLaws.{kept_small, of_sequences, one_apart, one_stamp, shares_by}
 
 -- ---- parts of short lists
 
@@ -343,8 +343,6 @@ claims_tell_apart = record {
   replays = of_replays;
   short_responses = of_short_responses;
   sequences = of_sequences;
-  in_step = of_in_step;
-  soundness = of_soundness;
   challenges = of_challenges;
   accepting_only = of_accepting_only;
   accepting_all = of_accepting_all;

@@ -1,6 +1,6 @@
 -- Runs that were written down by hand, of the two ends of a channel, that meet a claim, and some that don't.
 -- It serves `claims_tell_apart`, `grants_tell_apart`, `own_challenges_tell_apart`, `replies_tell_apart`.
-use Rattle.std.proofs.Common.{◌≡◌, ◌≢◌, ℕ, zero, suc, true, false, List, [], ◌∷◌, ◌++◌, length, inl, inr, Option, Some, None, refl, sym, ap, ◌∙◌, subst, arith, slice_get}
+use Rattle.std.proofs.Common.{◌≡◌, ℕ, zero, suc, true, false, List, [], ◌∷◌, ◌++◌, length, inl, inr, Option, Some, None, refl, sym, ap, ◌∙◌, subst, arith, slice_get}
 use Rattle.std.specs.Prelude.{◌%◌, ◌^◌, AllPairs, codes, ◌⊎◌}
 use Rattle.wire_base.specs.Maps.{lookup}
 use Rattle.wire_base.specs.Names.{same_name}
@@ -9,22 +9,18 @@ use Rattle.authenticators.specs.Sequences.{moved_by}
 use Rattle.authenticators.proofs.SeedLaws.{IsBlock-add_to, add_to-same}
 use Rattle.channel_keys.proofs.CredLaws.{IsBlock-cred_of}
 use Rattle.authenticators.specs.SecureChannels.{channel_of, SecureChannelState}
-use Rattle.channel_client.specs.Effects.{View}
 use Rattle.channel_client.specs.declared.state.Standing.{Standing}
 use Rattle.channel_client.specs.declared.state.Pending.{Pending}
 use Rattle.member_server.specs.State.{State as MemberState}
 use Rattle.member_server.specs.declared.state.Running.{Running as MemberRunning}
 use Rattle.domain_controller.specs.State.{State as ControllerState}
 use Rattle.domain_controller.specs.declared.state.Running.{Running as ControllerRunning}
-use Rattle.channel_events.specs.Marks.{Calling, Mark, Opened, Opening, ReplyTo}
-use Rattle.channel_events.specs.Requests.{Holds}
 use Rattle.channel_events.specs.Seeds.{channel_seed}
-use Rattle.channel_events.specs.Sound.{Accepted, Sound, passed_units}
 use Rattle.step_notes.specs.Records.{Book, InUnit, OfMember, Outside, blank}
 use Rattle.domain_world.specs.Claims.SharedSequences.{IsBeforeTurn, Keeps, SequencesAreShared, Stands, any_foreign, timestamps_on}
 use Rattle.domain_world.specs.Past.{controller_of}
-use Rattle.claim_examples.specs.ClaimExamples.{OfInStep, OfSequences, OfSoundness, keeping_controller, keeping_running, one_call, one_turn, small_channel, open_member, open_running, passed_from, run_open, seed_after_one, seed_after_two, small_computers, small_name, small_seed, small_turn, small_view, small_views, turn_out, two_turns, whole_history, whole_view, world_open}
-use Rattle.channel_events.proofs.ListLaws.{got_nothing, moved_none}
+use Rattle.claim_examples.specs.ClaimExamples.{OfSequences, keeping_controller, keeping_running, one_turn, small_channel, open_member, open_running, passed_from, run_open, seed_after_one, seed_after_two, small_computers, small_name, small_seed, small_turn, turn_out, two_turns, world_open}
+use Rattle.channel_events.proofs.ListLaws.{moved_none}
 use Rattle.channel_events.proofs.SameLaws.{same_self}
 use Rattle.domain_world.proofs.Frames.RequesterLaws.{StandsAtMember, stands_at}
 use Rattle.wire_base.specs.Names as names
@@ -181,135 +177,4 @@ of_sequences = record {
   ];
   foreign = shares_by (passed_from Outside) None small_seed (1 ∷ []) [] refl refl (λ none. absurd (let never : true ≡ false = sym foreign_small ∙ none in cc));
   fails_own = λ claim. elim (shared_small (passed_from (InUnit 7)) None small_seed (1 ∷ []) claim refl) [ inl is ↦ not_one_byte is | inr before ↦ no_turn _ _ before ];
-}
-
--- ---- channels, as they are seen from outside
-
--- which unit was made for what
-opening_whole : (unit number : ℕ) (c : ChannelIdentity) → slice_get whole_history.marks unit ≡ Some (Opening c number) → (unit ≡ 0) × (1 ≡ number) × (small_name ≡ c)
-opening_whole zero number c is = (refl, cc, cc)
-opening_whole (suc zero) number c is = absurd cc
-opening_whole (suc (suc zero)) number c is = absurd cc
-opening_whole (suc (suc (suc zero))) number c is = absurd cc
-opening_whole (suc (suc (suc (suc unit)))) number c is = absurd (got_nothing unit (Opening c number) is)
-
-opened_whole : (unit number request : ℕ) (c : ChannelIdentity) → slice_get whole_history.marks unit ≡ Some (Opened c number request) → (1 ≡ number) × (0 ≡ request) × (small_name ≡ c)
-opened_whole zero number request c is = absurd cc
-opened_whole (suc zero) number request c is = (cc, cc, cc)
-opened_whole (suc (suc zero)) number request c is = absurd cc
-opened_whole (suc (suc (suc zero))) number request c is = absurd cc
-opened_whole (suc (suc (suc (suc unit)))) number request c is = absurd (got_nothing unit (Opened c number request) is)
-
-calling_whole : (unit number timestamp : ℕ) (c : ChannelIdentity) → slice_get whole_history.marks unit ≡ Some (Calling c number timestamp) → (unit ≡ 2) × (2 ≡ number) × (small_name ≡ c)
-calling_whole zero number timestamp c is = absurd cc
-calling_whole (suc zero) number timestamp c is = absurd cc
-calling_whole (suc (suc zero)) number timestamp c is = (refl, cc, cc)
-calling_whole (suc (suc (suc zero))) number timestamp c is = absurd cc
-calling_whole (suc (suc (suc (suc unit)))) number timestamp c is = absurd (got_nothing unit (Calling c number timestamp) is)
-
-reply_whole : (unit number request : ℕ) (c : ChannelIdentity) → slice_get whole_history.marks unit ≡ Some (ReplyTo c number request) → (2 ≡ number) × (2 ≡ request) × (small_name ≡ c)
-reply_whole zero number request c is = absurd cc
-reply_whole (suc zero) number request c is = absurd cc
-reply_whole (suc (suc zero)) number request c is = absurd cc
-reply_whole (suc (suc (suc zero))) number request c is = (cc, cc, cc)
-reply_whole (suc (suc (suc (suc unit)))) number request c is = absurd (got_nothing unit (ReplyTo c number request) is)
-
--- who holds what
-view_whole : (i : ℕ) (v : View) → whole_history.views i ≡ Some v → (i ≡ 0) × (whole_view ≡ v)
-view_whole zero v at = (refl, cc)
-view_whole (suc i) v at = absurd cc
-
-stands_whole : (v : View) (c : ChannelIdentity) → whole_view ≡ v → v.stands ≡ Some c → small_name ≡ c
-stands_whole v c is stands = let one : Some small_name ≡ Some c = ap View.stands is ∙ stands in cc
-
-opens_whole : (v : View) (challenge : List ℕ) → whole_view ≡ v → v.opening ≡ Some challenge → ⊥
-opens_whole v challenge is opening = absurd (let none : None ≡ Some challenge = ap View.opening is ∙ opening in cc)
-
-holds_whole : (v : View) (challenge : List ℕ) → whole_view ≡ v → Holds v challenge → [] ≡ challenge
-holds_whole v challenge is holds = elim holds.how [
-  | inl opening ↦ absurd (opens_whole v challenge is opening)
-  | inr stands ↦ ap ChannelIdentity.client (stands_whole v stands.0 is stands.1) ∙ stands.2
-]
-
-whole_sound : Sound whole_history
-whole_sound = record {
-  draws = one_apart (λ one other. one ≢ other) [];
-  requests = record {
-    made_before = λ unit number timestamp c is. inl (ap ChannelIdentity.client (calling_whole unit number timestamp c is).2);
-    held_before = λ i v challenge at holds. inl (holds_whole v challenge (view_whole i v at).1 holds);
-    apart = λ i j u v challenge at also holds too. (view_whole i u at).0 ∙ sym (view_whole j v also).0;
-    opening = λ i v unit number timestamp c at opens is. opens_whole v c.client (view_whole i v at).1 opens;
-    numbers = λ i v unit number timestamp c at stands is. omega (arith, (calling_whole unit number timestamp c is).1, ap View.call (view_whole i v at).1);
-    distinct = λ unit other number timestamp later c d is also same. (calling_whole unit number timestamp c is).0 ∙ sym (calling_whole other number later d also).0;
-    calls = λ i v at. omega (arith, ap View.call (view_whole i v at).1);
-  };
-  opened_before = λ unit number c is. inl (ap ChannelIdentity.client (opening_whole unit number c is).2);
-  unopened = λ i v unit number c at opens out is. opens_whole v c.client (view_whole i v at).1 opens;
-  opening_numbers = λ i v unit number c at holds is. omega (arith, (opening_whole unit number c is).1, ap View.call (view_whole i v at).1);
-  opening_distinct = λ unit other number more c d is also same. (opening_whole unit number c is).0 ∙ sym (opening_whole other more d also).0;
-  openings = λ unit number request c is.
-      let it = opened_whole unit number request c is in (
-        subst (λ (r : ℕ). slice_get whole_history.marks r ≡ Some (Opening c number)) it.1 (ap (λ (n : ℕ). Some (Opening small_name n)) it.0 ∙ ap (λ (one : ChannelIdentity). Some (Opening one number)) it.2),
-        inl (ap Some it.1),
-      );
-  replies = λ unit number request c is.
-      let it = reply_whole unit number request c is in (
-        (0, subst (λ (r : ℕ). slice_get whole_history.marks r ≡ Some (Calling c number 0)) it.1 (ap (λ (n : ℕ). Some (Calling small_name n 0)) it.0 ∙ ap (λ (one : ChannelIdentity). Some (Calling one number 0)) it.2)),
-        inl (ap Some it.1),
-      );
-  stands = λ i v c at stands. inl (subst (λ (one : ChannelIdentity). SameChannel small_name one) (stands_whole v c (view_whole i v at).1 stands) same_small);
-  once = one_apart (λ (one other : Accepted). SameChannel one.channel other.channel → ⊥) (record { unit = Some 0; channel = small_name });
-  on_accepted = (inl same_small, tt);
-  openers = (λ unit is. (1, (let zero_is : 0 ≡ unit = cc in subst (λ (u : ℕ). slice_get whole_history.marks u ≡ Some (Opening small_name 1)) zero_is refl)), tt);
-  timestamps = (λ unit is. (2, (let two : 2 ≡ unit = cc in subst (λ (u : ℕ). slice_get whole_history.marks u ≡ Some (Calling small_name 2 0)) two refl)), tt);
-  waiting_before = λ controller computer server at. absurd (let none : None ≡ Some server = at in cc);
-  accepted_before = (inl refl, tt);
-  waiting_apart = λ controller more computer other server at also. absurd (let none : None ≡ Some server = at in cc);
-  waiting_unused = λ controller computer server at one. absurd (let none : None ≡ Some server = at in cc);
-  kept = λ controller computer k at. absurd (let none : None ≡ Some k = at in cc);
-  kept_seeds = λ controller computer k at. absurd (let none : None ≡ Some k = at in cc);
-  turns = λ i v number c at stands asks. absurd (let none : None ≡ Some number = ap View.asking (view_whole i v at).1 ∙ asks in cc);
-  ends = λ i v c at stands unit ended.
-      let is : small_name ≡ c = stands_whole v c (view_whole i v at).1 stands in
-      elim ended [
-        | inl two ↦ (
-          (2, 0, subst (λ (u : ℕ). slice_get whole_history.marks u ≡ Some (Calling c 2 0)) two (ap (λ (one : ChannelIdentity). Some (Calling one 2 0)) is)),
-          inl (ap Some two),
-        )
-        | inr none ↦ absurd none
-      ];
-  seeds = λ i v c at stands.
-      sym (ap View.seed (view_whole i v at).1) ∙ ap (λ (one : ChannelIdentity). Some (channel_seed one (0 ∷ []))) (stands_whole v c (view_whole i v at).1 stands);
-}
-
-pub of_soundness : OfSoundness
-of_soundness = record {
-  meets = whole_sound;
-  fails = λ c sound. absurd (let same : 0 ≡ 1 = sound.requests.distinct 0 1 5 0 0 c c refl refl refl in omega arith);
-  fails_ended = λ sound. absurd (let call = (sound.ends 0 whole_view small_name refl refl 1 (inl refl)).0.2 in cc);
-}
-
-the_view : (i : ℕ) (v : View) (c : ChannelIdentity) → small_views i ≡ Some v → v.stands ≡ Some c → small_name ≡ c
-the_view zero v c at stands =
-    let view : small_view ≡ v = cc in
-    let one : Some small_name ≡ Some c = ap View.stands view ∙ stands in
-    cc
-the_view (suc i) v c at stands = absurd cc
-
-units_small : passed_units small_name (one_call (0 ∷ [])).passed ≡ 0 ∷ []
-unfolding same_name names.upper_of
-units_small = refl
-
-each_small : (unit : ℕ) (mark : Mark) → slice_get (one_call (0 ∷ [])).marks unit ≡ Some mark → 0 ≡ unit
-each_small zero mark is = refl
-each_small (suc unit) mark is = absurd cc
-
-pub of_in_step : OfInStep
-of_in_step = record {
-  meets = record {
-    passed = λ i v c at stands own. inl (ap (λ (one : ChannelIdentity). passed_units one (one_call (0 ∷ [])).passed) (sym (the_view i v c at stands)) ∙ units_small);
-    each = λ i v unit number timestamp c at stands is. inl (each_small unit (Calling c number timestamp) is);
-    turns = λ i v c at stands. inl refl;
-  };
-  fails = λ claim. claim.each 0 small_view 0 2 0 small_name refl refl refl;
 }

@@ -6,7 +6,7 @@
 -- key that travels as zeros; a challenge hashed for extended session security that is another one; and a logon that
 -- comes to its end (of `EachSucceeds`). Logons one at a time that succeed, and near misses of them, are cases of
 -- `end_cases` (`cases/domain_world.py`).
-use Rattle.std.specs.Prelude.{ℕ, zero, suc, ◌≡◌, ◌≢◌, ◌+◌, ◌-◌, ◌^◌, true, false, List, [], ◌∷◌, ◌++◌, replicate, Option, Some, None, codes}
+use Rattle.std.specs.Prelude.{ℕ, ◌≡◌, ◌≢◌, ◌+◌, ◌-◌, ◌^◌, true, false, List, [], ◌∷◌, ◌++◌, replicate, Option, Some, None, codes}
 use Rattle.wire_base.specs.declared.authenticator.Authenticator.{Authenticator}
 use Rattle.ntlm_flags.specs.Flags.{negotiate_extended_sessionsecurity, negotiate_unicode}
 use Rattle.authenticators.specs.Channels.{ChannelIdentity}
@@ -24,7 +24,6 @@ use Rattle.end_links.specs.Serving.{ServedUnit}
 use Rattle.logon_client.specs.declared.plan.AuthKind.TheVariants as auth
 use Rattle.logon_client.specs.declared.plan.ClientPlan.{ClientPlan}
 use Rattle.logon_stubs.specs.declared.calls.LogonCall.{LogonCall}
-use Rattle.channel_client.specs.Effects.{View}
 use Rattle.channel_client.specs.Machine.{fresh_requester}
 use Rattle.channel_client.specs.declared.state.Pending.{Pending}
 use Rattle.channel_client.specs.declared.state.Question.TheVariants as question
@@ -41,9 +40,8 @@ use Rattle.channel_turns.specs.declared.state.Dialling.TheVariants as dialling
 use Rattle.member_server.specs.declared.state.Running.{Running as MemberRunning}
 use Rattle.member_server.specs.declared.state.Logon.{Logon}
 use Rattle.channel_turns.specs.declared.state.TurnTalk.{TurnTalk}
-use Rattle.channel_events.specs.Marks.{Calling, Mark, Opened, Opening, Plain, ReplyTo}
+use Rattle.channel_events.specs.Marks.{Calling, Mark, Plain, ReplyTo}
 use Rattle.channel_events.specs.Seeds.{channel_seed}
-use Rattle.channel_events.specs.Sound.{AreInStep, History, Sound}
 use Rattle.step_notes.specs.ControllerNotes.{passing}
 use Rattle.step_notes.specs.Marking.{clashes}
 use Rattle.step_notes.specs.MemberNotes.{no_note}
@@ -459,82 +457,6 @@ pub record OfSequences : Type 0 where
   pub fails_two_behind : SequencesAreShared (run_open two_turns (Some turn_out) seed_after_two small_seed) → ⊥
   pub foreign : SequencesAreShared (run_open (passed_from Outside) None small_seed (1 ∷ []))
   pub fails_own : SequencesAreShared (run_open (passed_from (InUnit 7)) None small_seed (1 ∷ [])) → ⊥
-
--- ---- channels, as they are seen from outside
-
-abbrev pub no_history : History ℕ
-no_history = record {
-  views = λ i. None;
-  opening_out = λ i. false;
-  marks = [];
-  asked = λ i. 0;
-  ended = λ i. [];
-  made = λ i. [];
-  turned = λ i. [];
-  waits = λ controller computer. None;
-  keeps = λ controller computer. None;
-  accepted = [];
-  passed = [];
-  drawn = [];
-  moves = 0;
-}
-
-abbrev pub small_view : View
-small_view = record { stands = Some small_name; seed = Some small_seed; opening = None; asking = None; call = 3 }
-
--- there is one requester, 0
-abbrev pub small_views : ℕ → Option View
-small_views zero = Some small_view
-small_views (suc i) = None
-
-abbrev pub whole_view : View
-whole_view = record small_view { seed = Some seed_after_one }
-
-abbrev pub whole_views : ℕ → Option View
-whole_views zero = Some whole_view
-whole_views (suc i) = None
-
--- unit 0 is a call on its channel, which passed, and these are the calls that it made
-abbrev pub one_call : List ℕ → History ℕ
-one_call made = record no_history {
-  views = small_views;
-  marks = Calling small_name 2 0 ∷ [];
-  made = λ i. made;
-  turned = λ i. 0 ∷ [];
-  accepted = record { unit = None; channel = small_name } ∷ [];
-  passed = record { unit = Some 0; channel = small_name; timestamp = 0 } ∷ [];
-}
-
--- ends in step: not where the call that passed is none that the requester made
-pub record OfInStep : Type 0 where
-  pub meets : AreInStep (one_call (0 ∷ []))
-  pub fails : AreInStep (one_call []) → ⊥
-
--- the channel was opened by unit 0, which unit 1 accepted, and unit 2 is a call on it, which passed and which unit 3
--- answers
-abbrev pub whole_history : History ℕ
-whole_history = record {
-  views = whole_views;
-  opening_out = λ i. false;
-  marks = Opening small_name 1 ∷ Opened small_name 1 0 ∷ Calling small_name 2 0 ∷ ReplyTo small_name 2 2 ∷ [];
-  asked = λ i. 2;
-  ended = λ i. 2 ∷ [];
-  made = λ i. 2 ∷ [];
-  turned = λ i. 0 ∷ [];
-  waits = λ controller computer. None;
-  keeps = λ controller computer. None;
-  accepted = record { unit = Some 0; channel = small_name } ∷ [];
-  passed = record { unit = Some 2; channel = small_name; timestamp = 0 } ∷ [];
-  drawn = [] ∷ [];
-  moves = 8;
-}
-
--- the facts about channels: of that history, and not where two calls on one channel have one number, nor where an
--- answer was taken that no reply is
-pub record OfSoundness : Type 0 where
-  pub meets : Sound whole_history
-  pub fails : (c : ChannelIdentity) → Sound (record no_history { marks = Calling c 5 0 ∷ Calling c 5 0 ∷ [] }) → ⊥
-  pub fails_ended : Sound (record whole_history { ended = λ i. 1 ∷ [] }) → ⊥
 
 -- ---- logons
 

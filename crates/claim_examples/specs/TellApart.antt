@@ -2,7 +2,7 @@
 use Rattle.std.specs.Prelude.{[]}
 use Rattle.world_moves.specs.declared.plan.Plan.{Plan}
 use Rattle.domain_world.specs.Headline.{IsClaimed}
-use Rattle.claim_examples.specs.ClaimExamples.{OfAcceptingAll, OfAcceptingOnly, OfAll, OfChallenges, OfClashes, OfCredentials, OfInStep, OfKeys, OfReplays, OfSequences, OfShortResponses, OfSoundness, OfTakenAnswers, OfWraps}
+use Rattle.claim_examples.specs.ClaimExamples.{OfAcceptingAll, OfAcceptingOnly, OfAll, OfChallenges, OfClashes, OfCredentials, OfKeys, OfReplays, OfSequences, OfShortResponses, OfTakenAnswers, OfWraps}
 use Rattle.claim_examples.specs.CompletenessExamples.{OfCompleteness, OfSuccess}
 
 -- all of them
@@ -13,8 +13,6 @@ pub record ClaimsTellApart : Type 0 where
   pub replays : OfReplays
   pub short_responses : OfShortResponses
   pub sequences : OfSequences
-  pub in_step : OfInStep
-  pub soundness : OfSoundness
   pub challenges : OfChallenges
   pub accepting_only : OfAcceptingOnly
   pub accepting_all : OfAcceptingAll

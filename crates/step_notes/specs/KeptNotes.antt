@@ -1,6 +1,5 @@
--- What a controller keeps of computers, as `SoundEvents` sees it but for the seeds, and how each call changes it
--- (MS-NRPC 3.5.4.4.1, 3.5.4.4.3, 3.5.4.5.3). So what is asked there of a server's challenge that waits, of an opening
--- that is accepted and of what is forgotten can be had from the controller's own step.
+-- What a controller keeps of computers but for the seeds, and how each call changes it (MS-NRPC 3.5.4.4.1, 3.5.4.4.3,
+-- 3.5.4.5.3): which server's challenge waits, which channel is kept, and what is forgotten.
 use Rattle.std.specs.Prelude.{ℕ, ◌≡◌, ◌⊎◌, Bool, true, false, List, Option, Some, None}
 use Rattle.wire_base.specs.Maps.{IsMap, lookup}
 use Rattle.wire_base.specs.Names.{SameName, same_name}
@@ -33,13 +32,13 @@ keeps_in controller computers name = identity_by controller name (lookup same_na
 
 -- ---- what a call changes
 
--- no challenge waits, and no channel is kept, that wasn't before (`ControllerForgets`)
+-- no challenge waits, and no channel is kept, that wasn't before
 pub record KeepsNoMore (controller : ℕ) (before after : Computers) : Type 0 where
   pub waits : (name challenge : List ℕ) → waits_in after name ≡ Some challenge → waits_in before name ≡ Some challenge
   pub keeps : (name : List ℕ) (c : ChannelIdentity) → keeps_in controller after name ≡ Some c → keeps_in controller before name ≡ Some c
 
 -- that challenge waits for that computer, in place of an older one, and none else that didn't before, and no channel is
--- kept more (`ServerWaits`)
+-- kept more
 pub record WaitsAnew (controller : ℕ) (computer server : List ℕ) (before after : Computers) : Type 0 where
   pub now : waits_in after computer ≡ Some server
   pub waits : (name challenge : List ℕ) → waits_in after name ≡ Some challenge →
@@ -52,7 +51,7 @@ WaitsIfKnown false controller computer server before after = after ≡ before
 WaitsIfKnown true controller computer server before after = WaitsAnew controller computer server before after
 
 -- the channel's challenge waited for that computer and waits no more, and the channel is kept, and none else that
--- wasn't before (`OpeningAccepted`)
+-- wasn't before
 pub record Accepts (controller : ℕ) (computer : List ℕ) (channel : ChannelIdentity) (before after : Computers) : Type 0 where
   pub controller_is : channel.controller ≡ controller
   pub computer_is : channel.computer ≡ computer

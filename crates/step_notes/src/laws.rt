@@ -66,12 +66,12 @@ pub fn steps_are_noted_by_effect()
     ensures { StepsAreNoted }
 {}
 
-/// What a controller keeps of computers changes by its calls as the events of channels ask: a NetrServerReqChallenge
-/// lets the server's challenge that was drawn wait where the accounts know the computer, else it changes nothing
-/// (MS-NRPC 3.5.4.4.1), a NetrServerAuthenticate2 takes it out, and keeps the channel that is written down of it, or
-/// none more (3.5.4.4.3), and a NetrLogonSamLogon keeps nothing more (3.5.4.5.3).
+/// What a controller keeps of computers changes by its calls: a NetrServerReqChallenge lets the server's challenge that
+/// was drawn wait where the accounts know the computer, else it changes nothing (MS-NRPC 3.5.4.4.1), a
+/// NetrServerAuthenticate2 takes it out, and keeps the channel that is written down of it, or none more (3.5.4.4.3),
+/// and a NetrLogonSamLogon keeps nothing more (3.5.4.5.3).
 #[tactic(auto, using(crate::proofs::Controllers::KeptNoteLaws::calls_are_kept))]
-pub fn calls_keep_by_events()
+pub fn calls_change_what_is_kept()
     ensures { CallsAreKept }
 {}
 

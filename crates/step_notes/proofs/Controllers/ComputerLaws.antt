@@ -1,5 +1,5 @@
 -- The computers that a controller keeps, by name, through one call.
--- It serves `calls_keep_by_events`.
+-- It serves `calls_change_what_is_kept`.
 use Rattle.std.proofs.Common.{◌≡◌, Bool, true, false, refl, sym, ℕ, List, [], ◌∷◌, Option, Some, None, if◌then◌else◌, ap, ◌∙◌}
 use Rattle.wire_base.specs.Maps.{has_key, lookup, take_out}
 use Rattle.wire_base.specs.Names.{same_name}

@@ -1,5 +1,5 @@
--- How each call changes what a controller keeps of computers, as the events of channels see it.
--- It serves `calls_keep_by_events`.
+-- How each call changes what a controller keeps of computers.
+-- It serves `calls_change_what_is_kept`.
 use Rattle.std.proofs.Common.{◌≡◌, ◌⊎◌, ℕ, Bool, true, false, List, inl, inr, Option, Some, None, refl, sym, ap, subst, ◌∙◌}
 use Rattle.std.specs.Prelude.{bytes_eq}
 use Rattle.std.proofs.lemmas.Bool.{cases_Bool}
