@@ -3,6 +3,8 @@ pub mod AloneLaws
 pub mod GrantLaws
 pub mod JudgedLaws
 pub mod MovedLaws
+pub mod OpeningLaws
+pub mod OpeningRunLaws
 pub mod ReplayLaws
 pub mod ReplyLaws
 pub mod ReplyMarkLaws

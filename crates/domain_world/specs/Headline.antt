@@ -15,6 +15,7 @@ use Rattle.domain_world.specs.Claims.Grants.{GrantsWhoMayLogOn}
 use Rattle.domain_world.specs.Claims.LetIn.{LetsInWhoAsked}
 use Rattle.domain_world.specs.Claims.MarkedUnits.{CallsAreMarked, EachUnitIsMarked, RepliesAreMarked}
 use Rattle.domain_world.specs.Claims.Names.{LetsInByName}
+use Rattle.domain_world.specs.Claims.Openings.{OpeningsAreInOrder}
 use Rattle.domain_world.specs.Claims.OwnChallenges.{MessagesHaveOwnChallenges}
 use Rattle.domain_world.specs.Claims.Replies.{RepliesCarryTheirJudgement}
 use Rattle.domain_world.specs.Claims.SharedSequences.{OneTurnIsOut, SequencesAreOwn, SequencesAreShared}
@@ -33,6 +34,8 @@ pub record Proved (plan : Plan) (moves : List Move) : Type 0 where
   pub messages : MessagesHaveOwnChallenges (past plan moves)
   pub responses : ShortResponsesServeOnce (past plan moves)
   pub apart : MessagesAreApart (past plan moves)
+  -- which channels controllers accept, and keep
+  pub openings : OpeningsAreInOrder (past plan moves)
   -- what controllers judge, grant and answer
   pub credentials : PassesTheNextCredential (past plan moves)
   pub alone : TellsOfCallsAlone (past plan moves)

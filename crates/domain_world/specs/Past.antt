@@ -19,7 +19,7 @@ use Rattle.step_notes.specs.ClientNotes.{made_note, units_of_client}
 use Rattle.step_notes.specs.ControllerNotes.{Answered, Where, answer_on, units_of_controller}
 use Rattle.step_notes.specs.Marking.{answered_marks, clashes, turn_marks}
 use Rattle.step_notes.specs.MemberNotes.{LinkAt, TurnNote, challenge_note, link_of_place, link_units, message_note, taken_link, turn_in, turn_note, turn_units}
-use Rattle.step_notes.specs.Records.{Book, CallTaken, ChannelTurn, InUnit, JudgementTold, Judging, MessageTaken, OfMember, OutcomeTold, Outside, RequesterId, Sent, Source, blank, unit_in}
+use Rattle.step_notes.specs.Records.{Book, CallTaken, ChannelAccepted, ChannelTurn, InUnit, JudgementTold, Judging, MessageTaken, OfMember, OutcomeTold, Outside, RequesterId, Sent, Source, blank, unit_in}
 use Rattle.world_moves.specs.declared.bag.BagUnit.{BagUnit}
 use Rattle.world_moves.specs.declared.links.EndId.{EndId}
 use Rattle.world_moves.specs.declared.links.EndId.TheVariants.{Controller, Member, Client}
@@ -94,6 +94,16 @@ judged_of [] numbers = []
 judged_of (one ∷ answers) numbers =
     with_reply one.judging (first_of numbers) ++ judged_of answers (later_of one.sends numbers)
 
+-- the channels that were accepted, in order, each with the reply
+abbrev pub replied_with : Option ChannelAccepted → Option ℕ → List ChannelAccepted
+replied_with None number = []
+replied_with (Some one) number = record one { reply = number } ∷ []
+
+abbrev pub accepted_of : List Answered → List ℕ → List ChannelAccepted
+accepted_of [] numbers = []
+accepted_of (one ∷ answers) numbers =
+    replied_with one.accepted (first_of numbers) ++ accepted_of answers (later_of one.sends numbers)
+
 abbrev pub any_clash : List Answered → Option ℕ → List Sent → Bool
 any_clash [] unit sent = false
 any_clash (one ∷ answers) unit sent = clashes one.checked unit sent || any_clash answers unit sent
@@ -105,7 +115,10 @@ onto (item ∷ items) older = onto items (item ∷ older)
 
 abbrev pub with_answers : List Answered → Option ℕ → List ℕ → Book → Book
 with_answers answers unit numbers b =
-    with_clash (any_clash answers unit b.sent) (record b { judged = onto (judged_of answers numbers) b.judged })
+    with_clash (any_clash answers unit b.sent) (record b {
+      judged = onto (judged_of answers numbers) b.judged;
+      accepted = onto (accepted_of answers numbers) b.accepted;
+    })
 
 -- ---- at a member
 

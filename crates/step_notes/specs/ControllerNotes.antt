@@ -33,7 +33,7 @@ use Rattle.controller_calls.specs.declared.state.ChallengePair.{ChallengePair}
 use Rattle.domain_controller.specs.declared.state.Running.{Running}
 use Rattle.domain_controller.specs.declared.state.Talk.{Talk}
 use Rattle.channel_events.specs.Marks.{Mark, Plain, Opened, ReplyTo}
-use Rattle.step_notes.specs.Records.{JudgedCall, Judging, Network, Source, computer_named, unit_in}
+use Rattle.step_notes.specs.Records.{ChannelAccepted, JudgedCall, Judging, Network, Source, computer_named, unit_in}
 use Rattle.step_notes.specs.Served.{units_if_taken, work_after}
 
 -- ---- the units
@@ -95,18 +95,19 @@ opened_by controller c d =
 -- ---- a unit that is answered
 
 -- what a unit comes to: whether something is sent on its link, and what that was made for; the channel on which a
--- credential passed; and the Logon call that was judged
+-- credential passed; the Logon call that was judged; and the channel that was accepted
 pub record Answered : Type 0 where
   pub sends : Bool
   pub mark : Mark
   pub checked : Option ChannelIdentity
   pub judging : Option Judging
+  pub accepted : Option ChannelAccepted
 
 abbrev pub silent : Answered
-silent = record { sends = false; mark = Plain; checked = None; judging = None }
+silent = record { sends = false; mark = Plain; checked = None; judging = None; accepted = None }
 
 abbrev pub plain : Answered
-plain = record { sends = true; mark = Plain; checked = None; judging = None }
+plain = record { sends = true; mark = Plain; checked = None; judging = None; accepted = None }
 
 -- the first judgement among actions
 abbrev pub judged_in : List Action → Option Judged
@@ -130,13 +131,13 @@ reply_mark (Some unit) channel number = ReplyTo channel number unit
 
 -- a NetrLogonSamLogon that passed, by its channel
 abbrev pub passing : Option ChannelIdentity → Judging → Answered
-passing None j = record { sends = true; mark = Plain; checked = None; judging = Some j }
+passing None j = record { sends = true; mark = Plain; checked = None; judging = Some j; accepted = None }
 passing (Some channel) j =
-    record { sends = true; mark = reply_mark (unit_in j.source) channel j.number; checked = Some channel; judging = Some j }
+    record { sends = true; mark = reply_mark (unit_in j.source) channel j.number; checked = Some channel; judging = Some j; accepted = None }
 
 -- the argument: whether it passed
 abbrev pub judging_by : Bool → Judging → Answered
-judging_by false j = record { sends = true; mark = Plain; checked = None; judging = Some j }
+judging_by false j = record { sends = true; mark = Plain; checked = None; judging = Some j; accepted = None }
 judging_by true j = passing (channel_in j.controller (computer_named j.asked) j.checks) j
 
 -- at which controller, from where, and after how many moves
@@ -152,11 +153,21 @@ abbrev pub opened_mark : Option ℕ → ChannelIdentity → ℕ → Mark
 opened_mark None channel number = Plain
 opened_mark (Some unit) channel number = Opened channel number unit
 
+-- the channel that such a call opens, by its number
+abbrev pub accepting : Where → ℕ → ChannelIdentity → ChannelAccepted
+accepting w number channel = record { at = w.at; source = w.source; number = number; channel = channel; reply = None }
+
 -- such a call, by the channel that it opens, and its number
 abbrev pub opening : Option ChannelIdentity → Where → ℕ → Answered
 opening None w number = plain
 opening (Some channel) w number =
-    record { sends = true; mark = opened_mark (unit_in w.source) channel number; checked = Some channel; judging = None }
+    record {
+      sends = true;
+      mark = opened_mark (unit_in w.source) channel number;
+      checked = Some channel;
+      judging = None;
+      accepted = Some (accepting w number channel);
+    }
 
 abbrev pub judging_of : Where → Line → JudgedCall → Desk → Option Desk → Judging
 judging_of w line asked before after = record {

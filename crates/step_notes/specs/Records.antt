@@ -68,6 +68,18 @@ pub record JudgementTold : Type 0 where
   pub controller : ℕ
   pub how : Judged
 
+-- A channel that a controller accepted: a NetrServerAuthenticate2 opened it (MS-NRPC 3.5.4.4.3).
+pub record ChannelAccepted : Type 0 where
+  -- the moves made before it
+  pub at : ℕ
+  -- where the call's bytes came from, and its number
+  pub source : Source
+  pub number : ℕ
+  -- the channel that it opened, which names the controller
+  pub channel : ChannelIdentity
+  -- the unit of the bag that carries the reply, where it went to an end of this world
+  pub reply : Option ℕ
+
 -- ---- at a member
 
 -- A CHALLENGE that a member sent on an accepted link (MS-NLMP 3.2.5.1.1).
@@ -144,9 +156,10 @@ pub record MessageMade : Type 0 where
 pub record Book : Type 0 where
   -- one for each unit of the bag
   pub sent : List Sent
-  -- the calls that were judged, and what controllers told of any, the newest first
+  -- the calls that were judged, what controllers told of any, and the channels that they accepted, the newest first
   pub judged : List Judging
   pub judgements : List JudgementTold
+  pub accepted : List ChannelAccepted
   -- the others in their order
   pub challenges : List ChallengeSent
   -- the link of each AUTHENTICATE that a member took, also of one for which no place was free
@@ -165,6 +178,7 @@ blank = record {
   sent = [];
   judged = [];
   judgements = [];
+  accepted = [];
   challenges = [];
   taken = [];
   messages = [];

@@ -27,7 +27,6 @@ use Rattle.end_links.specs.Binding.{bind_of}
 use Rattle.end_links.specs.Links.{LinkState}
 use Rattle.end_links.specs.Serving.{IsFragmentOf, ServedPart, Server, ServedUnit, served_units, units_on, units_then}
 use Rattle.logon_stubs.specs.Interface.{netlogon_syntax}
-use Rattle.channel_events.specs.Marks.{Plain}
 use Rattle.domain_controller.specs.Hearing.{bound_talk, first_talk, hear, hear_joined, hear_opnum, hear_read, hear_stub}
 use Rattle.domain_controller.specs.Machine.{Desk, by_call, by_heard, controller_server}
 use Rattle.domain_controller.specs.Step.{first_desk, step_of}
@@ -36,7 +35,7 @@ use Rattle.domain_controller.specs.declared.hearing.Heard.TheVariants as heard
 use Rattle.controller_calls.specs.declared.line.Line.{Line}
 use Rattle.controller_calls.specs.declared.state.Computers.{Computers}
 use Rattle.domain_controller.specs.declared.state.Talk.{Talk}
-use Rattle.step_notes.specs.ControllerNotes.{Answered, Where, answer_on, call_answer, heard_answer, plain, units_at, units_of_controller}
+use Rattle.step_notes.specs.ControllerNotes.{Answered, Where, answer_on, call_answer, heard_answer, plain, silent, units_at, units_of_controller}
 use Rattle.step_notes.specs.Marking.{answered_marks, clashes}
 use Rattle.step_notes.specs.Records.{Sent}
 use Rattle.step_notes.specs.Served.{units_if_taken, work_after}
@@ -57,7 +56,7 @@ pub record ComeTo (answers : List Answered) (one : Answered) : Type 0 where
 alone : (one : Answered) → ComeTo (one ∷ []) one
 alone one = record { clash = λ unit sent. refl; judged = λ numbers. refl; marks = refl }
 
-behind_silent : (answers : List Answered) (one first : Answered) → first ≡ record { sends = false; mark = Plain; checked = None; judging = None } → ComeTo answers one → ComeTo (first ∷ answers) one
+behind_silent : (answers : List Answered) (one first : Answered) → first ≡ silent → ComeTo answers one → ComeTo (first ∷ answers) one
 behind_silent answers one first is to =
     subst (λ (f : Answered). ComeTo (f ∷ answers) one) (sym is) (record { clash = to.clash; judged = to.judged; marks = to.marks })
 

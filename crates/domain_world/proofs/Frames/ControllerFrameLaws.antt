@@ -1,6 +1,7 @@
 -- What holds through the moves of a world of its controllers, of what was drawn and is left, and of a part of the book
 -- that controllers' bytes change alone: whatever holds through each step of a controller, and as others draw. It is an
--- instance of `FrameLaws`. It serves `Proved.grants`, `Proved.tables` and `Proved.replays`.
+-- instance of `FrameLaws`. It serves `Proved.grants`, `Proved.openings`, `Proved.tables` and
+-- `Proved.replays`.
 use Rattle.std.proofs.Common.{◌≡◌, ℕ, List, length, Some, slice_get, slice_set, sym, subst}
 use Rattle.outside.specs.Drawing.{Drawing}
 use Rattle.outside.specs.declared.event.Event.{Event}

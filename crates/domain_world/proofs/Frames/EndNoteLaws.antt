@@ -10,7 +10,7 @@ use Rattle.logon_client.specs.Machine.{step_of as client_step_of}
 use Rattle.member_server.specs.State.{State as MemberState}
 use Rattle.member_server.specs.Machine.{step_of as member_step_of}
 use Rattle.step_notes.specs.MemberNotes.{turn_units}
-use Rattle.step_notes.specs.Records.{Book, Judging, MessageMade, MessageTaken, unit_in}
+use Rattle.step_notes.specs.Records.{Book, ChannelAccepted, Judging, MessageMade, MessageTaken, unit_in}
 use Rattle.world_moves.specs.declared.links.EndId.{EndId}
 use Rattle.world_moves.specs.declared.links.EndId.TheVariants.{Controller, Member, Client}
 use Rattle.world_moves.specs.declared.state.State.{State}
@@ -18,7 +18,7 @@ use Rattle.world_moves.specs.Ends.{EndStep, client_done, client_step, controller
 use Rattle.world_moves.specs.Acting.{done, heard_by, hear_and_act}
 use Rattle.domain_world.specs.Past.{Coming, controller_of, note_at, note_client, note_controller, note_member, note_messages, numbers_on}
 use Rattle.world_moves.proofs.EndKindLaws.{is_client, is_controller, is_member}
-use Rattle.domain_world.proofs.Frames.TurnFrameLaws.{turns_judged, turns_made, turns_told, units_turns}
+use Rattle.domain_world.proofs.Frames.TurnFrameLaws.{turns_accepted, turns_judged, turns_made, turns_told, units_turns}
 
 -- ---- where an end isn't there, nothing is done and nothing written down
 
@@ -137,6 +137,17 @@ pub judged_so : OfControllers judgings_of
 judged_so = record {
   members = λ m at w piece s after b.
       turns_judged (controller_of at s) (turn_units m w.link piece s.moment s.chances.left) (unit_in w.source) (numbers_on w.link false s.bag after.bag) (note_messages at m w piece s b);
+  clients = λ c at w piece s b. refl;
+}
+
+-- and so is what was accepted
+abbrev pub acceptings_of : Book → List ChannelAccepted
+acceptings_of b = b.accepted
+
+pub accepted_so : OfControllers acceptings_of
+accepted_so = record {
+  members = λ m at w piece s after b.
+      turns_accepted (controller_of at s) (turn_units m w.link piece s.moment s.chances.left) (unit_in w.source) (numbers_on w.link false s.bag after.bag) (note_messages at m w piece s b);
   clients = λ c at w piece s b. refl;
 }
 

@@ -41,6 +41,9 @@ module _ (controller : ℕ) (units : List (ServedUnit AtTurn TurnTalk)) (unit : 
   pub turns_judged : (note_turns controller units unit numbers b).judged ≡ b.judged
   turns_judged = notes_leave (λ (book : Book). book.judged) (λ note served at number old. refl) controller units unit numbers b
 
+  pub turns_accepted : (note_turns controller units unit numbers b).accepted ≡ b.accepted
+  turns_accepted = notes_leave (λ (book : Book). book.accepted) (λ note served at number old. refl) controller units unit numbers b
+
   pub turns_judgements : (note_turns controller units unit numbers b).judgements ≡ b.judgements
   turns_judgements = notes_leave (λ (book : Book). book.judgements) (λ note served at number old. refl) controller units unit numbers b
 

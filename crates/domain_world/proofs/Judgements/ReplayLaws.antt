@@ -74,7 +74,7 @@ none_heard : (left : List (List ℕ)) → AreUnheard [] left
 none_heard [] = tt
 none_heard (one ∷ left) = (λ channel is. refl, none_heard left)
 
-apart_from : (left : List (List ℕ)) → AllPairs (λ one other. one ≢ other) left → AreApart left
+pub apart_from : (left : List (List ℕ)) → AllPairs (λ one other. one ≢ other) left → AreApart left
 apart_from [] differ = tt
 apart_from (challenge ∷ left) differ = (
   recursion_from_All (λ (one : List ℕ). one ≢ challenge) left (λ place d within same. differ 0 (suc place) d (omega arith) (omega (arith, within)) (sym same)),

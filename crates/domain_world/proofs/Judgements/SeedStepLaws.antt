@@ -43,11 +43,11 @@ all_behind : {T : Type 0} (P : T → Type 0) (front rest : List T) → AllByRecu
 all_behind P [] rest all = all
 all_behind P (item ∷ front) rest all = all_behind P front rest all.1
 
-apart_behind : (front rest : List (List ℕ)) → AreApart (front ++ rest) → AreApart rest
+pub apart_behind : (front rest : List (List ℕ)) → AreApart (front ++ rest) → AreApart rest
 apart_behind [] rest apart = apart
 apart_behind (challenge ∷ front) rest apart = apart_behind front rest apart.1
 
-spent_rest : (rest left : List (List ℕ)) → IsRest rest left → (challenge : List ℕ) → IsSpent challenge left → IsSpent challenge rest
+pub spent_rest : (rest left : List (List ℕ)) → IsRest rest left → (challenge : List ℕ) → IsSpent challenge left → IsSpent challenge rest
 spent_rest rest left is challenge spent =
     all_behind (λ (one : List ℕ). one ≢ challenge) is.front rest (subst (λ (l : List (List ℕ)). IsSpent challenge l) (sym is.is) spent)
 
@@ -163,7 +163,7 @@ onto_reply None number later judgings = refl
 onto_reply (Some j) number later judgings = refl
 
 -- the numbers that are left for what is sent behind these
-abbrev numbers_left : List Answered → List ℕ → List ℕ
+abbrev pub numbers_left : List Answered → List ℕ → List ℕ
 numbers_left [] numbers = numbers
 numbers_left (one ∷ answers) numbers = numbers_left answers (later_of one.sends numbers)
 

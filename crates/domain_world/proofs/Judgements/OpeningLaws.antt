@@ -1,0 +1,360 @@
+-- The channels that a controller accepts at a unit, what it keeps of computers then, and which challenges of servers
+-- wait. It serves `Proved.openings`.
+use Rattle.std.proofs.Common.{◌≡◌, ◌≢◌, ◌⊎◌, ℕ, ◌==◌, ◌&&◌, Bool, true, false, List, [], ◌∷◌, Option, Some, None, Ok, Err, AllPairs, refl, sym, ap, ap₂, subst, ◌∙◌, inl, inr}
+use Rattle.std.specs.List.{AllByRecursion}
+use Rattle.std.proofs.lemmas.Bool.{cases_Bool, eq-eqb, ne_eqb}
+use Rattle.wire_base.specs.declared.authenticator.Authenticator.{Authenticator}
+use Rattle.wire_base.specs.Maps.{IsMap, lookup}
+use Rattle.wire_base.specs.Names.{SameName, same_name}
+use Rattle.wire_base.proofs.MapLaws.{IsMap-put, IsMap-take_out}
+use Rattle.wire_base.proofs.NameLaws.{IsSameness-same_name, same_name-Decides}
+use Rattle.ntlm_flags.specs.Flags.{has_flag}
+use Rattle.channel_keys.specs.Flags.{rc4_flag}
+use Rattle.authenticators.specs.Channels.{ChannelIdentity, SameChannel}
+use Rattle.authenticators.specs.SecureChannels.{SecureChannelState, channel_by, channel_of, key_of_channel, passes_on, return_by}
+use Rattle.outside.specs.Drawing.{IsRest}
+use Rattle.outside.proofs.DrawLaws.{IsRest-later, IsRest-refl, IsRest-trans}
+use Rattle.logon_stubs.specs.declared.calls.AuthCall.{AuthCall}
+use Rattle.logon_stubs.specs.declared.calls.ChallengeCall.{ChallengeCall}
+use Rattle.logon_stubs.specs.declared.calls.Call.TheVariants as call
+use Rattle.logon_stubs.specs.declared.info.NetworkInfo.{NetworkInfo}
+use Rattle.account_table.specs.LookUps.{knows_in}
+use Rattle.account_table.specs.declared.account.Account.{Account}
+use Rattle.end_links.specs.Serving.{ServedPart}
+use Rattle.domain_controller.specs.Machine.{Desk, account_for, answer_authenticate, answer_challenge, answer_logon, by_heard, channel_for, desk, draw_challenge, judge_account, judge_channel, judge_offer, judge_pair, open_channel, put_channel, put_pair_if, take_channel, take_pair}
+use Rattle.domain_controller.specs.declared.hearing.Heard.{Heard}
+use Rattle.domain_controller.specs.declared.hearing.Heard.TheVariants as heard
+use Rattle.domain_controller.specs.declared.state.Talk.{Talk}
+use Rattle.controller_calls.specs.declared.line.Line.{Line}
+use Rattle.controller_calls.specs.declared.state.ChallengePair.{ChallengePair}
+use Rattle.controller_calls.specs.declared.state.Computers.{Computers}
+use Rattle.controller_calls.specs.declared.state.Work.{Work}
+use Rattle.step_notes.specs.ControllerNotes.{Where, accepting, channel_in, has_passed, heard_answer, identity_by, judging_by, judging_of, opened_by, opening, passing}
+use Rattle.step_notes.specs.KeptNotes.{Accepts, IsKeptBy, KeepsNoMore, WaitsAnew, WaitsIfKnown, keeps_in, waits_in}
+use Rattle.step_notes.specs.Records.{ChannelAccepted, Judging, Network, computer_named}
+use Rattle.step_notes.specs.Served.{work_after}
+use Rattle.domain_world.specs.Claims.Openings.{IsLastAccepted, IsUnused, is_opened_for, last_accepted, newer_if}
+use Rattle.channel_events.proofs.ListLaws.{all_weaker, no_some, not_both, pairs_first, some_is}
+use Rattle.step_notes.proofs.Controllers.ComputerLaws.{lookup_named, return_computers}
+use Rattle.step_notes.proofs.Controllers.KeptNoteLaws.{calls_are_kept}
+use Rattle.domain_world.proofs.Judgements.SeedLaws.{AreApart, IsSpent}
+use Rattle.domain_world.proofs.Judgements.SeedStepLaws.{apart_behind, spent_rest}
+
+-- ---- what is known
+
+-- Of what a controller keeps of computers: a challenge that waits is none of those that are left, opened no channel,
+-- and waits for one computer; the channel that is kept is the one that was accepted last.
+pub record AreOpened (accepted : List ChannelAccepted) (left : List (List ℕ)) (controller : ℕ) (computers : Computers) : Type 0 where
+  pub map : IsMap same_name computers.pending
+  pub waiting : (name server : List ℕ) → waits_in computers name ≡ Some server → IsSpent server left × IsUnused server accepted
+  pub keeps : (name : List ℕ) (c : ChannelIdentity) → keeps_in controller computers name ≡ Some c → IsLastAccepted controller name c accepted
+  pub one : (name other server : List ℕ) → waits_in computers name ≡ Some server → waits_in computers other ≡ Some server → SameName name other
+
+-- of the openings that were accepted and the challenges that are left
+pub record AreOrdered (accepted : List ChannelAccepted) (left : List (List ℕ)) : Type 0 where
+  pub apart : AreApart left
+  pub spent : AllByRecursion (λ (one : ChannelAccepted). IsSpent one.channel.server left) accepted
+  pub once : AllPairs (λ (one other : ChannelAccepted). one.channel.server ≢ other.channel.server) accepted
+
+pub ordered_rest : (accepted : List ChannelAccepted) (rest left : List (List ℕ)) → IsRest rest left → AreOrdered accepted left → AreOrdered accepted rest
+ordered_rest accepted rest left is order = record {
+  apart = apart_behind is.front rest (subst (λ (l : List (List ℕ)). AreApart l) (sym is.is) order.apart);
+  spent = all_weaker (λ (one : ChannelAccepted). IsSpent one.channel.server left) (λ (one : ChannelAccepted). IsSpent one.channel.server rest) accepted
+      (λ one spent. spent_rest rest left is one.channel.server spent) order.spent;
+  once = order.once;
+}
+
+-- ---- a part of a step of a controller
+
+-- What is known after it, where before it the challenges waited so: of its own computers; whatever waits then waited
+-- before or was left; a challenge that neither was left nor waited here opened nothing more; and which one another
+-- controller accepted last stays.
+pub record Goes (accepted now : List ChannelAccepted) (left rest : List (List ℕ)) (controller : ℕ) (waited : List ℕ → Option (List ℕ)) (computers : Computers) : Type 0 where
+  pub order : AreOrdered now rest
+  pub kept : AreOpened now rest controller computers
+  pub fewer : IsRest rest left
+  pub came : (name server : List ℕ) → waits_in computers name ≡ Some server → (waited name ≡ Some server) ⊎ (IsSpent server left → ⊥)
+  pub fresh : (server : List ℕ) → IsSpent server left → ((name : List ℕ) → waited name ≡ Some server → ⊥) → IsUnused server accepted → IsUnused server now
+  pub others : (at : ℕ) (name : List ℕ) → at ≢ controller → last_accepted at name now ≡ last_accepted at name accepted
+
+abbrev pub PartGoes : List ChannelAccepted → List ChannelAccepted → List (List ℕ) → ℕ → (List ℕ → Option (List ℕ)) → ServedPart Desk Talk → Type 0
+PartGoes accepted now left controller waited (Err why) = Unit {0}
+PartGoes accepted now left controller waited (Ok part) = Goes accepted now left part.left controller waited part.value.0.work.computers
+
+pub stays : (accepted : List ChannelAccepted) (left : List (List ℕ)) (controller : ℕ) (computers : Computers) → AreOrdered accepted left → AreOpened accepted left controller computers →
+    Goes accepted accepted left left controller (λ name. waits_in computers name) computers
+stays accepted left controller computers order kept = record {
+  order = order;
+  kept = kept;
+  fewer = IsRest-refl left;
+  came = λ name server at. inl at;
+  fresh = λ server spent none unused. unused;
+  others = λ at name differs. refl;
+}
+
+pub goes_on : (accepted middle now : List ChannelAccepted) (left rest : List (List ℕ)) (controller : ℕ) (waited : List ℕ → Option (List ℕ)) (computers : Computers) (part : ServedPart Desk Talk) →
+    Goes accepted middle left rest controller waited computers → PartGoes middle now rest controller (λ name. waits_in computers name) part → PartGoes accepted now left controller waited part
+goes_on accepted middle now left rest controller waited computers (Err why) first second = tt
+goes_on accepted middle now left rest controller waited computers (Ok part) first second = record {
+  order = second.order;
+  kept = second.kept;
+  fewer = IsRest-trans part.left rest left second.fewer first.fewer;
+  came = λ name server at. elim (second.came name server at) [
+    | inl was ↦ first.came name server was
+    | inr drawn ↦ inr (λ spent. drawn (spent_rest rest left first.fewer server spent))
+  ];
+  fresh = λ server spent none unused.
+      second.fresh server (spent_rest rest left first.fewer server spent)
+      (λ name at. elim (first.came name server at) [ inl was ↦ none name was | inr drawn ↦ drawn spent ]) (first.fresh server spent none unused);
+  others = λ at name differs. second.others at name differs ∙ first.others at name differs;
+}
+
+-- ---- a call
+
+-- nothing is kept that wasn't
+no_more_goes : (accepted : List ChannelAccepted) (left : List (List ℕ)) (controller : ℕ) (before after : Computers) → KeepsNoMore controller before after → IsMap same_name after.pending →
+    AreOrdered accepted left → AreOpened accepted left controller before → Goes accepted accepted left left controller (λ name. waits_in before name) after
+no_more_goes accepted left controller before after same map order kept = record {
+  order = order;
+  kept = record {
+    map = map;
+    waiting = λ name server at. kept.waiting name server (same.waits name server at);
+    keeps = λ name c at. kept.keeps name c (same.keeps name c at);
+    one = λ name other server at also. kept.one name other server (same.waits name server at) (same.waits other server also);
+  };
+  fewer = IsRest-refl left;
+  came = λ name server at. inl (same.waits name server at);
+  fresh = λ server spent none unused. unused;
+  others = λ at name differs. refl;
+}
+
+-- fewer are left
+drawn_order : (accepted : List ChannelAccepted) (server : List ℕ) (left : List (List ℕ)) → AreOrdered accepted (server ∷ left) → AreOrdered accepted left
+drawn_order accepted server left order = ordered_rest accepted left (server ∷ left) (IsRest-later server left left (IsRest-refl left)) order
+
+module _ (accepted : List ChannelAccepted) (left : List (List ℕ)) (controller : ℕ) (computer server : List ℕ) (before after : Computers) (order : AreOrdered accepted (server ∷ left))
+    (kept : AreOpened accepted (server ∷ left) controller before) where
+  -- the challenge that was drawn opened nothing
+  new_unused : IsUnused server accepted
+  new_unused =
+      all_weaker (λ (one : ChannelAccepted). IsSpent one.channel.server (server ∷ left)) (λ (one : ChannelAccepted). one.channel.server ≢ server) accepted (λ one spent same. spent.0 (sym same)) order.spent
+
+  waits_new : WaitsAnew controller computer server before after → IsMap same_name after.pending → Goes accepted accepted (server ∷ left) left controller (λ name. waits_in before name) after
+  waits_new is map = record {
+    order = drawn_order accepted server left order;
+    kept = record {
+      map = map;
+      waiting = λ name other at. elim (is.waits name other at) [
+        | inl here ↦ subst (λ (s : List ℕ). IsSpent s left × IsUnused s accepted) (sym here.1) (order.apart.0, new_unused)
+        | inr was ↦ let its = kept.waiting name other was in (its.0.1, its.1)
+      ];
+      keeps = λ name c at. kept.keeps name c (is.keeps name c at);
+      one = λ name other s at also. elim (is.waits name s at) [
+        | inl here ↦ elim (is.waits other s also) [
+          | inl too ↦ here.0 ∙ sym too.0
+          | inr was ↦ absurd ((kept.waiting other s was).0.0 (sym here.1))
+        ]
+        | inr was ↦ elim (is.waits other s also) [
+          | inl too ↦ absurd ((kept.waiting name s was).0.0 (sym too.1))
+          | inr both ↦ kept.one name other s was both
+        ]
+      ];
+    };
+    fewer = IsRest-later server left left (IsRest-refl left);
+    came = λ name s at. elim (is.waits name s at) [ inl here ↦ inr (λ spent. spent.0 (sym here.1)) | inr was ↦ inl was ];
+    fresh = λ s spent none unused. unused;
+    others = λ at name differs. refl;
+  }
+
+  waits_nothing : after ≡ before → Goes accepted accepted (server ∷ left) left controller (λ name. waits_in before name) after
+  waits_nothing same =
+      subst (λ (x : Computers). Goes accepted accepted (server ∷ left) left controller (λ name. waits_in before name) x) (sym same) (record {
+        order = drawn_order accepted server left order;
+        kept = record {
+          map = kept.map;
+          waiting = λ name s at. let its = kept.waiting name s at in (its.0.1, its.1);
+          keeps = kept.keeps;
+          one = kept.one;
+        };
+        fewer = IsRest-later server left left (IsRest-refl left);
+        came = λ name s at. inl at;
+        fresh = λ s spent none unused. unused;
+        others = λ at name differs. refl;
+      })
+
+  challenge_goes : (known : Bool) → WaitsIfKnown known controller computer server before after → IsMap same_name after.pending →
+      Goes accepted accepted (server ∷ left) left controller (λ name. waits_in before name) after
+  challenge_goes false is map = waits_nothing is
+  challenge_goes true is map = waits_new is map
+
+-- ---- an opening
+
+-- one name in either case finds one channel
+named_alike : (controller : ℕ) (computer name : List ℕ) (found : Option SecureChannelState) (channel c : ChannelIdentity) → SameName computer name → identity_by controller computer found ≡ Some channel →
+    identity_by controller name found ≡ Some c → SameChannel channel c
+named_alike controller computer name None channel c alike is also = absurd (no_some channel is)
+named_alike controller computer name (Some state) channel c alike is also =
+    subst (λ (x : ChannelIdentity). SameChannel x c) (some_is (channel_of controller computer state) channel is)
+    (subst (λ (x : ChannelIdentity). SameChannel (channel_of controller computer state) x) (some_is (channel_of controller name state) c also)
+    (record { controller = refl; computer = alike; secret = refl; client = refl; server = refl; flags = refl }))
+
+name_kept : (controller : ℕ) (name : List ℕ) (found : Option SecureChannelState) (c : ChannelIdentity) → identity_by controller name found ≡ Some c → c.computer ≡ name
+name_kept controller name None c is = absurd (no_some c is)
+name_kept controller name (Some state) c is = ap ChannelIdentity.computer (sym (some_is (channel_of controller name state) c is))
+
+module _ (accepted : List ChannelAccepted) (left : List (List ℕ)) (controller : ℕ) (computer : List ℕ) (one : ChannelAccepted) (before after : Computers) (is : Accepts controller computer one.channel before after)
+    (map : IsMap same_name after.pending) (order : AreOrdered accepted left) (kept : AreOpened accepted left controller before) where
+  -- whether it is for that computer
+  by_test : (at : ℕ) (name : List ℕ) → is_opened_for at name one ≡ ((controller == at) && same_name name computer)
+  by_test at name = ap₂ (λ (k : ℕ) (n : List ℕ). (k == at) && same_name name n) is.controller_is is.computer_is
+
+  opened_here : (name : List ℕ) → same_name name computer ≡ true → is_opened_for controller name one ≡ true
+  opened_here name same = by_test controller name ∙ ap (λ (b : Bool). b && same_name name computer) (eq-eqb controller controller refl) ∙ same
+
+  opened_for_another : (name : List ℕ) → same_name name computer ≡ false → is_opened_for controller name one ≡ false
+  opened_for_another name differs = by_test controller name ∙ ap (λ (b : Bool). b && same_name name computer) (eq-eqb controller controller refl) ∙ differs
+
+  opened_elsewhere : (at : ℕ) (name : List ℕ) → at ≢ controller → is_opened_for at name one ≡ false
+  opened_elsewhere at name differs = by_test at name ∙ ap (λ (b : Bool). b && same_name name computer) (ne_eqb controller at (λ same. differs (sym same)))
+
+  unnamed : (name : List ℕ) → same_name name computer ≡ false → SameName computer name → ⊥
+  unnamed name differs alike = not_both (same_name name computer) ((same_name-Decides name computer).1 (sym alike)) differs
+
+  is_last : (name : List ℕ) (c : ChannelIdentity) → keeps_in controller after name ≡ Some c → IsLastAccepted controller name c (one ∷ accepted)
+  is_last name c at = elim (cases_Bool (same_name name computer)) [
+    | inl same ↦ record {
+      one = one;
+      last = ap (λ (b : Bool). newer_if b one (last_accepted controller name accepted)) (opened_here name same);
+      same = named_alike controller computer name (lookup same_name computer after.channels) one.channel c (sym ((same_name-Decides name computer).0 same)) is.now
+          (ap (identity_by controller name) (lookup_named name computer after.channels same) ∙ at);
+    }
+    | inr differs ↦ elim (is.kept name c at) [
+      | inl alike ↦ absurd (unnamed name differs (subst (λ (n : List ℕ). SameName n name) is.computer_is
+          (subst (λ (n : List ℕ). SameName one.channel.computer n) (name_kept controller name (lookup same_name name after.channels) c at) alike.computer)))
+      | inr was ↦
+          let its : IsLastAccepted controller name c accepted = kept.keeps name c was in
+          record {
+            one = its.one;
+            last = ap (λ (b : Bool). newer_if b one (last_accepted controller name accepted)) (opened_for_another name differs) ∙ its.last;
+            same = its.same;
+          }
+    ]
+  ]
+
+  -- what opened the channel waited for the computer
+  waited : IsSpent one.channel.server left × IsUnused one.channel.server accepted
+  waited = kept.waiting computer one.channel.server is.waited
+
+  accepts_goes : Goes accepted (one ∷ accepted) left left controller (λ name. waits_in before name) after
+  accepts_goes = record {
+    order = record {
+      apart = order.apart;
+      spent = (waited.0, order.spent);
+      once = pairs_first (λ (a b : ChannelAccepted). a.channel.server ≢ b.channel.server) one accepted
+          (all_weaker (λ (other : ChannelAccepted). other.channel.server ≢ one.channel.server) (λ (other : ChannelAccepted). one.channel.server ≢ other.channel.server) accepted
+          (λ other differs same. differs (sym same)) waited.1) order.once;
+    };
+    kept = record {
+      map = map;
+      waiting = λ name server at.
+          let was = is.served name server at in
+          let its = kept.waiting name server was.0 in
+          (its.0, ((λ same. was.1 (kept.one name computer server was.0 (is.waited ∙ ap Some same))), its.1));
+      keeps = is_last;
+      one = λ name other server at also. kept.one name other server (is.served name server at).0 (is.served other server also).0;
+    };
+    fewer = IsRest-refl left;
+    came = λ name server at. inl (is.served name server at).0;
+    fresh = λ server spent none unused. ((λ same. none computer (is.waited ∙ ap Some same)), unused);
+    others = λ at name differs. ap (λ (b : Bool). newer_if b one (last_accepted at name accepted)) (opened_elsewhere at name differs);
+  }
+
+-- ---- what waits has one entry a computer
+
+put_map : (known : Bool) (computer : List ℕ) (pair : ChallengePair) (work : Work) → IsMap same_name work.computers.pending → IsMap same_name (put_pair_if known computer pair work).computers.pending
+put_map false computer pair work map = map
+put_map true computer pair work map = IsMap-put same_name computer pair work.computers.pending IsSameness-same_name map
+
+open_map : (right : Bool) (channel : SecureChannelState) (line : Line) (c : AuthCall) (work : Work) → IsMap same_name work.computers.pending → IsMap same_name (open_channel right channel line c work).computers.pending
+open_map false channel line c work map = map
+open_map true channel line c work map = map
+
+pair_map : (pair : Option ChallengePair) (account : Account) (line : Line) (c : AuthCall) (work : Work) → IsMap same_name work.computers.pending → IsMap same_name (judge_pair pair account line c work).computers.pending
+pair_map None account line c work map = map
+pair_map (Some pair) account line c work map = open_map _ (channel_for account pair c) line c work map
+
+offer_map : (offered : Bool) (pair : Option ChallengePair) (account : Account) (line : Line) (c : AuthCall) (work : Work) → IsMap same_name work.computers.pending →
+    IsMap same_name (judge_offer offered pair account line c work).computers.pending
+offer_map false pair account line c work map = map
+offer_map true pair account line c work map = pair_map pair account line c work map
+
+account_map : (account : Option Account) (pair : Option ChallengePair) (line : Line) (c : AuthCall) (work : Work) → IsMap same_name work.computers.pending →
+    IsMap same_name (judge_account account pair line c work).computers.pending
+account_map None pair line c work map = map
+account_map (Some account) pair line c work map = offer_map (has_flag c.flags rc4_flag) pair account line c work map
+
+found_map : (found : Option SecureChannelState) (computer : List ℕ) (given : Authenticator) (name : List ℕ) (now : ℕ) (line : Line) (info : NetworkInfo) (validation : ℕ) (d : Desk) →
+    IsMap same_name d.work.computers.pending → IsMap same_name (judge_channel found computer given name now line info validation (desk d.table (take_channel computer d.work))).work.computers.pending
+found_map None computer given name now line info validation d map = map
+found_map (Some channel) computer given name now line info validation d map =
+    let passes : Bool = passes_on channel given in
+    let back : Desk = desk d.table (put_channel computer (channel_by passes channel given) (take_channel computer d.work)) in
+    subst (λ (x : Computers). IsMap same_name x.pending) (sym (return_computers (return_by passes channel given) (key_of_channel channel) name now line info validation back)) map
+
+logon_map : (computer : Option (List ℕ)) (given : Option Authenticator) (name : List ℕ) (now : ℕ) (line : Line) (info : NetworkInfo) (validation : ℕ) (d : Desk) →
+    IsMap same_name d.work.computers.pending → IsMap same_name (answer_logon computer given name now line info validation d).work.computers.pending
+logon_map None given name now line info validation d map = map
+logon_map (Some computer) None name now line info validation d map = map
+logon_map (Some computer) (Some given) name now line info validation d map = found_map (lookup same_name computer d.work.computers.channels) computer given name now line info validation d map
+
+-- ---- a unit
+
+-- with the channel that was accepted, if one was
+abbrev pub with_accepted : Option ChannelAccepted → Option ℕ → List ChannelAccepted → List ChannelAccepted
+with_accepted None number accepted = accepted
+with_accepted (Some one) number accepted = record one { reply = number } ∷ accepted
+
+passing_none : (channel : Option ChannelIdentity) (j : Judging) → (passing channel j).accepted ≡ None
+passing_none None j = refl
+passing_none (Some channel) j = refl
+
+judging_none : (passed : Bool) (j : Judging) → (judging_by passed j).accepted ≡ None
+judging_none false j = refl
+judging_none true j = passing_none (channel_in j.controller (computer_named j.asked) j.checks) j
+
+module _ (accepted : List ChannelAccepted) (w : Where) (d : Desk) where
+  opening_goes : (found : Option ChannelIdentity) (number : ℕ) (computer : List ℕ) (reply : Option ℕ) (left : List (List ℕ)) (after : Computers) → IsKeptBy w.controller computer found d.work.computers after →
+      IsMap same_name after.pending → AreOrdered accepted left → AreOpened accepted left w.controller d.work.computers →
+      Goes accepted (with_accepted (opening found w number).accepted reply accepted) left left w.controller (λ name. waits_in d.work.computers name) after
+  opening_goes None number computer reply left after is map order kept = no_more_goes accepted left w.controller d.work.computers after is.0 map order kept
+  opening_goes (Some channel) number computer reply left after is map order kept =
+      accepts_goes accepted left w.controller computer (record (accepting w number channel) { reply = reply }) d.work.computers after is map order kept
+
+  drawn_goes : (left : List (List ℕ)) (line : Line) (c : ChallengeCall) (talk : Talk) → AreOrdered accepted left → AreOpened accepted left w.controller d.work.computers →
+      PartGoes accepted accepted left w.controller (λ name. waits_in d.work.computers name) (draw_challenge left line c talk d)
+  drawn_goes [] line c talk order kept = tt
+  drawn_goes (server ∷ left) line c talk order kept =
+      let pair : ChallengePair = record { client = c.challenge; server = server } in
+      challenge_goes accepted left w.controller c.computer server d.work.computers (answer_challenge d.table line c server d.work).computers order kept (knows_in d.table.accounts c.computer)
+      (calls_are_kept.challenge w.controller d.table line c server d.work) (put_map (knows_in d.table.accounts c.computer) c.computer pair d.work kept.map)
+
+  pub heard_goes : (what : Heard) (link : ℕ) (number : Option ℕ) (left : List (List ℕ)) → AreOrdered accepted left → AreOpened accepted left w.controller d.work.computers →
+      PartGoes accepted (with_accepted (heard_answer what w d (work_after (by_heard what link w.name w.moment d left))).accepted number accepted) left w.controller
+      (λ name. waits_in d.work.computers name) (by_heard what link w.name w.moment d left)
+  heard_goes (heard.Close cause) link number left order kept = stays accepted left w.controller d.work.computers order kept
+  heard_goes (heard.Answer bytes talk) link number left order kept = stays accepted left w.controller d.work.computers order kept
+  heard_goes (heard.Waits talk) link number left order kept = stays accepted left w.controller d.work.computers order kept
+  heard_goes (heard.Asked line (call.Challenge c) talk) link number left order kept = drawn_goes left line c talk order kept
+  heard_goes (heard.Asked line (call.Authenticate c) talk) link number left order kept =
+      opening_goes (opened_by w.controller c d) line.call c.computer number left (answer_authenticate d.table line c d.work).computers
+      (calls_are_kept.authenticate w.controller d.table line c d.work kept.map)
+      (account_map (account_for d.table c) (lookup same_name c.computer d.work.computers.pending) line c (take_pair c.computer d.work)
+      (IsMap-take_out same_name c.computer d.work.computers.pending kept.map)) order kept
+  heard_goes (heard.Asked line (call.Logoff c) talk) link number left order kept = stays accepted left w.controller d.work.computers order kept
+  heard_goes (heard.Asked line (call.Logon c) talk) link number left order kept =
+      let after : Desk = answer_logon c.computer c.authenticator w.name w.moment line c.info c.validation d in
+      let j : Judging = judging_of w line (Network c) d (Some after) in
+      subst (λ (o : Option ChannelAccepted). PartGoes accepted (with_accepted o number accepted) left w.controller (λ name. waits_in d.work.computers name)
+      (by_heard (heard.Asked line (call.Logon c) talk) link w.name w.moment d left)) (sym (judging_none (has_passed j.how) j))
+      (no_more_goes accepted left w.controller d.work.computers after.work.computers (calls_are_kept.logon w.controller c.computer c.authenticator w.name w.moment line c.info c.validation d)
+      (logon_map c.computer c.authenticator w.name w.moment line c.info c.validation d kept.map) order kept)
