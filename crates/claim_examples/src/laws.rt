@@ -7,6 +7,7 @@ ghost use Rattle.claim_examples.specs.ClearSuccess.{AnnCanSucceed};
 ghost use Rattle.claim_examples.specs.GrantExamples.{GrantsTellApart};
 ghost use Rattle.claim_examples.specs.LetInExamples.{OfLettingIn, OfNames};
 ghost use Rattle.claim_examples.specs.NearMisses.{NearMissesTellApart};
+ghost use Rattle.claim_examples.specs.OpeningExamples.{OfOpenings};
 ghost use Rattle.claim_examples.specs.OwnChallengeExamples.{OfOwnChallenges};
 ghost use Rattle.claim_examples.specs.ReplyExamples.{OfReplies};
 ghost use Rattle.claim_examples.specs.SequenceMisses.{SequencesTellApart};
@@ -38,6 +39,13 @@ pub fn replies_tell_apart()
 #[tactic(auto, using(crate::proofs::GrantExampleLaws::grants_tell_apart))]
 pub fn grants_tell_apart()
     ensures { GrantsTellApart }
+{}
+
+/// What is claimed of openings is met by a run in which a controller keeps a channel that it accepted, and not by
+/// others with one part changed.
+#[tactic(auto, using(crate::proofs::OpeningExampleLaws::of_openings))]
+pub fn openings_tell_apart()
+    ensures { OfOpenings }
 {}
 
 /// What `Proved.messages` says isn't true of everything that could be written down of a run: a small run meets it, and

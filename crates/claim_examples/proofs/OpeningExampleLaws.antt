@@ -1,0 +1,117 @@
+-- Openings that were written down by hand: which meet the claim on openings, and which don't.
+-- It serves `openings_tell_apart`.
+use Rattle.std.proofs.Common.{◌≡◌, ℕ, zero, suc, Bool, true, false, List, [], ◌∷◌, Some, None, if◌then◌else◌, refl, sym, ap, subst, ◌∙◌, arith, slice_get}
+use Rattle.std.specs.Prelude.{◌≢◌, codes}
+use Rattle.wire_base.specs.Names as names
+use Rattle.wire_base.specs.Names.{same_name}
+use Rattle.wire_base.proofs.NameLaws.{same_name-Decides}
+use Rattle.authenticators.specs.Channels.{ChannelIdentity, SameChannel}
+use Rattle.authenticators.specs.SecureChannels.{channel_of}
+use Rattle.domain_controller.specs.State.{State as ControllerState}
+use Rattle.domain_controller.specs.declared.state.Running.{Running}
+use Rattle.step_notes.specs.ControllerNotes.{identity_by}
+use Rattle.step_notes.specs.KeptNotes.{keeps_in, waits_in}
+use Rattle.step_notes.specs.Records.{ChannelAccepted}
+use Rattle.domain_world.specs.Claims.Openings.{IsLastAccepted, KeepsAt, WaitsAt, last_accepted, newer_if}
+use Rattle.channel_events.proofs.ListLaws.{got_nothing, no_some, not_both, some_is}
+use Rattle.claim_examples.specs.ClaimExamples.{keeping_controller, keeping_running, small_channel, small_name, small_seed}
+use Rattle.claim_examples.specs.OpeningExamples.{OfOpenings, accepted_elsewhere, other_accepted, small_accepted, waiting_for, world_waiting}
+use Rattle.claim_examples.proofs.SequenceLaws.{kept_small, one_apart}
+
+abbrev the_controllers : List ControllerState
+the_controllers = keeping_controller small_seed ∷ []
+
+-- ---- what is kept
+
+keeps_small : KeepsAt the_controllers 0 (codes "FILE1") small_name
+keeps_small = record {
+  state = keeping_controller small_seed;
+  running = keeping_running small_seed;
+  at = refl;
+  runs = refl;
+  keeps = ap (identity_by 0 (codes "FILE1")) (kept_small small_seed);
+}
+
+-- the first controller runs with what it keeps
+runs_here : (state : ControllerState) (running : Running) → slice_get the_controllers 0 ≡ Some state → state.running ≡ Some running → keeping_running small_seed ≡ running
+runs_here state running at runs =
+    let one : keeping_controller small_seed ≡ state = some_is (keeping_controller small_seed) state at in
+    some_is (keeping_running small_seed) running (ap ControllerState.running one ∙ runs)
+
+-- the argument: whether the name is that computer's
+last_by : (hit : Bool) (computer : List ℕ) (channel : ChannelIdentity) → same_name computer (codes "FILE1") ≡ hit →
+    identity_by 0 computer (if hit then Some (small_channel small_seed) else None) ≡ Some channel → IsLastAccepted 0 computer channel (small_accepted ∷ [])
+last_by true computer channel is keeps = record {
+  one = small_accepted;
+  last = ap (λ (b : Bool). newer_if b small_accepted None) is;
+  same = subst (λ (c : ChannelIdentity). SameChannel small_name c) (some_is (channel_of 0 computer (small_channel small_seed)) channel keeps)
+      (record { controller = refl; computer = sym ((same_name-Decides computer (codes "FILE1")).0 is); secret = refl; client = refl; server = refl; flags = refl });
+}
+last_by false computer channel is keeps = absurd (no_some channel keeps)
+
+last_small : (controller : ℕ) (computer : List ℕ) (channel : ChannelIdentity) → KeepsAt the_controllers controller computer channel → IsLastAccepted controller computer channel (small_accepted ∷ [])
+last_small zero computer channel at =
+    last_by (same_name computer (codes "FILE1")) computer channel refl
+    (ap (λ (r : Running). keeps_in 0 r.computers computer) (runs_here at.state at.running at.at at.runs) ∙ at.keeps)
+last_small (suc k) computer channel at = absurd (got_nothing k at.state at.at)
+
+none_waits : (controller : ℕ) (computer server : List ℕ) → WaitsAt the_controllers controller computer server → ⊥
+none_waits zero computer server at =
+    no_some server (ap (λ (r : Running). waits_in r.computers computer) (runs_here at.state at.running at.at at.runs) ∙ at.waits)
+none_waits (suc k) computer server at = absurd (got_nothing k at.state at.at)
+
+-- ---- what was accepted last
+
+last_elsewhere : last_accepted 0 (codes "FILE1") (accepted_elsewhere ∷ []) ≡ None
+unfolding same_name names.upper_of
+last_elsewhere = refl
+
+last_later : last_accepted 0 (codes "FILE1") (other_accepted ∷ small_accepted ∷ []) ≡ Some other_accepted
+unfolding same_name names.upper_of
+last_later = refl
+
+-- ---- what waits
+
+first_waits : (names : List (List ℕ)) → waits_in (waiting_for [] (codes "FILE1" ∷ names)) (codes "FILE1") ≡ Some []
+unfolding same_name names.upper_of
+first_waits names = refl
+
+second_waits : waits_in (waiting_for [] (codes "FILE1" ∷ codes "FILE2" ∷ [])) (codes "FILE2") ≡ Some []
+unfolding same_name names.upper_of
+second_waits = refl
+
+names_differ : same_name (codes "FILE1") (codes "FILE2") ≡ false
+unfolding same_name names.upper_of
+names_differ = refl
+
+waits_at : (of : List (List ℕ)) (computer : List ℕ) → waits_in (waiting_for [] of) computer ≡ Some [] → WaitsAt (world_waiting [] of).state.ends.controllers 0 computer []
+waits_at of computer waits = record {
+  state = record (keeping_controller small_seed) { running = Some (record { computers = waiting_for [] of; links = [] }) };
+  running = record { computers = waiting_for [] of; links = [] };
+  at = refl;
+  runs = refl;
+  waits = waits;
+}
+
+pub of_openings : OfOpenings
+of_openings = record {
+  meets = record {
+    once = one_apart (λ (one other : ChannelAccepted). one.channel.server ≢ other.channel.server) small_accepted;
+    last = last_small;
+    unused = λ controller computer server at. absurd (none_waits controller computer server at);
+    one = λ controller other computer more server at also. absurd (none_waits controller computer server at);
+  };
+  fails_none = λ claim. let its = claim.last 0 (codes "FILE1") small_name keeps_small in no_some its.one its.last;
+  fails_elsewhere = λ claim. let its = claim.last 0 (codes "FILE1") small_name keeps_small in no_some its.one (sym last_elsewhere ∙ its.last);
+  fails_later = λ claim.
+      let its = claim.last 0 (codes "FILE1") small_name keeps_small in
+      let is : other_accepted ≡ its.one = some_is other_accepted its.one (sym last_later ∙ its.last) in
+      let server : other_accepted.channel.server ≡ small_name.server = ap (λ (one : ChannelAccepted). one.channel.server) is ∙ its.same.server in
+      absurd cc;
+  fails_twice = λ claim. claim.once 0 1 small_accepted (omega arith) (omega arith) refl;
+  fails_used = λ claim. (claim.unused 0 (codes "FILE1") [] (waits_at (codes "FILE1" ∷ []) (codes "FILE1") (first_waits []))).0 refl;
+  fails_two = λ claim.
+      let its = claim.one 0 0 (codes "FILE1") (codes "FILE2") [] (waits_at (codes "FILE1" ∷ codes "FILE2" ∷ []) (codes "FILE1") (first_waits (codes "FILE2" ∷ [])))
+      (waits_at (codes "FILE1" ∷ codes "FILE2" ∷ []) (codes "FILE2") second_waits) in
+      not_both (same_name (codes "FILE1") (codes "FILE2")) ((same_name-Decides (codes "FILE1") (codes "FILE2")).1 its.1) names_differ;
+}
