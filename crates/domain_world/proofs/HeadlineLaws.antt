@@ -24,6 +24,7 @@ use Rattle.domain_world.proofs.Frames.BagFrameLaws.{each_marked}
 use Rattle.domain_world.proofs.Frames.DrawnRunLaws.{draws_are_blocks, draws_differ}
 use Rattle.domain_world.proofs.Judgements.AloneLaws.{tells_of_calls}
 use Rattle.domain_world.proofs.Judgements.GrantLaws.{grants_who_may}
+use Rattle.domain_world.proofs.Judgements.OpeningReplyLaws.{replies_answer_openings}
 use Rattle.domain_world.proofs.Judgements.OpeningRunLaws.{openings_in_order}
 use Rattle.domain_world.proofs.Judgements.ReplayLaws.{replays_by_sum}
 use Rattle.domain_world.proofs.Judgements.ReplyLaws.{replies_carry}
@@ -46,6 +47,7 @@ all_proved plan moves = record {
   responses = short_responses plan moves (draws_differ plan moves) (draws_are_blocks plan moves);
   apart = messages_apart plan moves;
   openings = openings_in_order plan moves;
+  opened = replies_answer_openings plan moves;
   credentials = passes_the_next plan moves;
   alone = tells_of_calls plan moves;
   replays = replays_by_sum plan moves;

@@ -4,7 +4,9 @@ pub mod GrantLaws
 pub mod JudgedLaws
 pub mod MovedLaws
 pub mod OpeningLaws
+pub mod OpeningReplyLaws
 pub mod OpeningRunLaws
+pub mod OpeningUnclashedLaws
 pub mod ReplayLaws
 pub mod ReplyLaws
 pub mod ReplyMarkLaws

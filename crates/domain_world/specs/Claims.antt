@@ -15,6 +15,7 @@ pub mod LetIn
 pub mod MarkedUnits
 pub mod NamedLinks
 pub mod Names
+pub mod OpeningReplies
 pub mod Openings
 pub mod OwnChallenges
 pub mod Replies

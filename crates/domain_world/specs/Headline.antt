@@ -15,6 +15,7 @@ use Rattle.domain_world.specs.Claims.Grants.{GrantsWhoMayLogOn}
 use Rattle.domain_world.specs.Claims.LetIn.{LetsInWhoAsked}
 use Rattle.domain_world.specs.Claims.MarkedUnits.{CallsAreMarked, EachUnitIsMarked, RepliesAreMarked}
 use Rattle.domain_world.specs.Claims.Names.{LetsInByName}
+use Rattle.domain_world.specs.Claims.OpeningReplies.{RepliesAnswerOpenings}
 use Rattle.domain_world.specs.Claims.Openings.{OpeningsAreInOrder}
 use Rattle.domain_world.specs.Claims.OwnChallenges.{MessagesHaveOwnChallenges}
 use Rattle.domain_world.specs.Claims.Replies.{RepliesCarryTheirJudgement}
@@ -26,16 +27,17 @@ use Rattle.domain_world.specs.Past.{past}
 -- What holds of the run of every list of moves from any plan: `claims_hold_of_runs`, and the clause of `drive`. What
 -- members accept, how often a count is raised, what the ends of a channel share, and which calls turns made, is of
 -- schedules that are clear: in them no credential passed on a unit made for another channel or for none, and no seed
--- came round. Of the others `unclashed` asks that no credential clashed. `names` and `answered` ask for a schedule
--- besides, and `as_made`, `call_marks` and `reply_marks` for a schedule alone.
+-- came round. Of the others `unclashed`, and a part of `opened`, ask that no credential clashed. `names` and
+-- `answered` ask for a schedule besides, and `as_made`, `call_marks` and `reply_marks` for a schedule alone.
 pub record Proved (plan : Plan) (moves : List Move) : Type 0 where
   -- challenges, and the messages that are made for them
   pub challenges : ChallengesServeOnce (past plan moves)
   pub messages : MessagesHaveOwnChallenges (past plan moves)
   pub responses : ShortResponsesServeOnce (past plan moves)
   pub apart : MessagesAreApart (past plan moves)
-  -- which channels controllers accept, and keep
+  -- which channels controllers accept and keep, and by which replies
   pub openings : OpeningsAreInOrder (past plan moves)
+  pub opened : RepliesAnswerOpenings (past plan moves)
   -- what controllers judge, grant and answer
   pub credentials : PassesTheNextCredential (past plan moves)
   pub alone : TellsOfCallsAlone (past plan moves)

@@ -1,5 +1,5 @@
 -- In every run each unit of the bag that is marked as a reply carries what its controller judged.
--- It serves `Proved.replies`.
+-- It serves `Proved.replies`, and `Proved.opened`.
 use Rattle.std.proofs.Common.{◌≡◌, ℕ, zero, suc, ◌+◌, Bool, true, false, List, [], ◌∷◌, ◌++◌, length, map, inl, inr, Option, Some, None, Result, Ok, Err, refl, sym, ◌∙◌, subst, slice_get}
 use Rattle.std.specs.List.{AllByRecursion}
 use Rattle.authenticators.specs.Channels.{ChannelIdentity}
@@ -50,15 +50,15 @@ use Rattle.domain_world.proofs.Frames.PlainFormLaws.{plain_is}
 
 -- ---- one of more calls
 
-one_behind : {T : Type 0} (P : T → Type 0) (front items : List T) → OneOf P items → OneOf P (front ++ items)
+pub one_behind : {T : Type 0} (P : T → Type 0) (front items : List T) → OneOf P items → OneOf P (front ++ items)
 one_behind P [] items one = one
 one_behind P (item ∷ front) items one = inr (one_behind P front items one)
 
-one_older : {T : Type 0} (P : T → Type 0) (items older : List T) → OneOf P older → OneOf P (onto items older)
+pub one_older : {T : Type 0} (P : T → Type 0) (items older : List T) → OneOf P older → OneOf P (onto items older)
 one_older P [] older one = one
 one_older P (item ∷ items) older one = one_older P items (item ∷ older) (inr one)
 
-one_newer : {T : Type 0} (P : T → Type 0) (items older : List T) → OneOf P items → OneOf P (onto items older)
+pub one_newer : {T : Type 0} (P : T → Type 0) (items older : List T) → OneOf P items → OneOf P (onto items older)
 one_newer P [] older one = absurd one
 one_newer P (item ∷ items) older one = elim one [
   | inl here ↦ one_older P items (item ∷ older) (inl here)

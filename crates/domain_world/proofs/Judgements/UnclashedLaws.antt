@@ -1,5 +1,5 @@
 -- In every run without a clash each credential that passed for a call passed on the channel for which the unit was made
--- that carried the call. It serves `Proved.unclashed`.
+-- that carried the call. It serves `Proved.unclashed`, and `Proved.opened`.
 use Rattle.std.proofs.Common.{◌≡◌, ℕ, Bool, true, false, ◌||◌, not, List, [], ◌∷◌, ◌++◌, map, Option, Some, None, slice_get, refl, ap, ap₂, ◌∙◌}
 use Rattle.std.specs.List.{AllByRecursion}
 use Rattle.authenticators.specs.Channels.{ChannelIdentity}
@@ -50,7 +50,7 @@ more_by None channel unit sent more is none = absurd (let x = none in cc)
 more_by (Some one) channel unit sent more is none =
     ap (λ (f : Option Sent). not (is_channel (sent_channel f) channel)) (got_append sent more unit one is) ∙ none
 
-clashes_more : (channel : Option ChannelIdentity) (unit : Option ℕ) (sent more : List Sent) → clashes channel unit sent ≡ false → clashes channel unit (sent ++ more) ≡ false
+pub clashes_more : (channel : Option ChannelIdentity) (unit : Option ℕ) (sent more : List Sent) → clashes channel unit sent ≡ false → clashes channel unit (sent ++ more) ≡ false
 clashes_more None unit sent more none = refl
 clashes_more (Some channel) None sent more none = refl
 clashes_more (Some channel) (Some unit) sent more none = more_by (slice_get sent unit) channel unit sent more refl none
@@ -59,7 +59,7 @@ sent_more : (b : Book) (more : List Sent) → AreUnclashed b → AreUnclashed (r
 sent_more b more all apart =
     all_weaker (Fits b.sent) (Fits (b.sent ++ more)) b.judged (λ j fits. clashes_more (passed_channel j) (unit_in j.source) b.sent more fits) (all apart)
 
-or_false : (one other : Bool) → (one || other) ≡ false → (one ≡ false) × (other ≡ false)
+pub or_false : (one other : Bool) → (one || other) ≡ false → (one ≡ false) × (other ≡ false)
 or_false false false is = (refl, refl)
 or_false false true is = absurd (let x = is in cc)
 or_false true other is = absurd (let x = is in cc)
