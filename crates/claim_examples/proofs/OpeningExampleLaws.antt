@@ -1,7 +1,7 @@
 -- Openings that were written down by hand: which meet the claim on openings, and which don't.
 -- It serves `openings_tell_apart`.
-use Rattle.std.proofs.Common.{◌≡◌, ℕ, zero, suc, Bool, true, false, List, [], ◌∷◌, Some, None, if◌then◌else◌, refl, sym, ap, subst, ◌∙◌, arith, slice_get}
-use Rattle.std.specs.Prelude.{◌≢◌, codes}
+use Rattle.std.proofs.Common.{◌≡◌, ℕ, zero, suc, Bool, true, false, List, [], ◌∷◌, Some, None, if◌then◌else◌, inl, inr, refl, sym, ap, subst, ◌∙◌, arith, slice_get}
+use Rattle.std.specs.Prelude.{◌≢◌, codes, not}
 use Rattle.wire_base.specs.Names as names
 use Rattle.wire_base.specs.Names.{same_name}
 use Rattle.wire_base.proofs.NameLaws.{same_name-Decides}
@@ -11,11 +11,15 @@ use Rattle.domain_controller.specs.State.{State as ControllerState}
 use Rattle.domain_controller.specs.declared.state.Running.{Running}
 use Rattle.step_notes.specs.ControllerNotes.{identity_by}
 use Rattle.step_notes.specs.KeptNotes.{keeps_in, waits_in}
-use Rattle.step_notes.specs.Records.{ChannelAccepted}
+use Rattle.channel_events.specs.Marks.{Mark, Opened, Opening, Plain}
+use Rattle.step_notes.specs.Records.{ChannelAccepted, InUnit, Outside, Sent}
+use Rattle.domain_world.specs.Claims.OpeningReplies.{IsMarkedAsOpened, IsReplyOfOpening, OpeningsAreMarked}
 use Rattle.domain_world.specs.Claims.Openings.{IsLastAccepted, KeepsAt, WaitsAt, last_accepted, newer_if}
 use Rattle.channel_events.proofs.ListLaws.{got_nothing, no_some, not_both, some_is}
+use Rattle.channel_events.proofs.SameLaws.{itself}
 use Rattle.claim_examples.specs.ClaimExamples.{keeping_controller, keeping_running, small_channel, small_name, small_seed}
-use Rattle.claim_examples.specs.OpeningExamples.{OfOpenings, accepted_elsewhere, other_accepted, small_accepted, waiting_for, world_waiting}
+use Rattle.domain_world.specs.Past.{sent_at}
+use Rattle.claim_examples.specs.OpeningExamples.{OfOpenedReplies, OfOpenings, accepted_elsewhere, answered_opening, marked_as, other_accepted, small_accepted, waiting_for, world_waiting}
 use Rattle.claim_examples.proofs.SequenceLaws.{kept_small, one_apart}
 
 abbrev the_controllers : List ControllerState
@@ -114,4 +118,60 @@ of_openings = record {
       let its = claim.one 0 0 (codes "FILE1") (codes "FILE2") [] (waits_at (codes "FILE1" ∷ codes "FILE2" ∷ []) (codes "FILE1") (first_waits (codes "FILE2" ∷ [])))
       (waits_at (codes "FILE1" ∷ codes "FILE2" ∷ []) (codes "FILE2") second_waits) in
       not_both (same_name (codes "FILE1") (codes "FILE2")) ((same_name-Decides (codes "FILE1") (codes "FILE2")).1 its.1) names_differ;
+}
+
+-- ---- the reply to an opening
+
+-- what the claim says of unit 1
+marked_so : (mark : Mark) (one : ChannelAccepted) → one.reply ≡ Some 1 → one.source ≡ InUnit 0 → OpeningsAreMarked (marked_as mark one) → mark ≡ Opened one.channel one.number 0
+marked_so mark one reply came claim =
+    let its : IsMarkedAsOpened (marked_as mark one) one 0 = claim.0 0 came in
+    let here : 1 ≡ its.reply = some_is 1 its.reply (sym reply ∙ its.is) in
+    let there : slice_get (marked_as mark one).book.sent 1 ≡ Some its.sent =
+    subst (λ (k : ℕ). slice_get (marked_as mark one).book.sent k ≡ Some its.sent) (sym here) its.there in
+    ap Sent.mark (some_is (sent_at 4 mark) its.sent there) ∙ its.mark
+
+first_free : (sent : Sent) → slice_get (marked_as (Opened small_name 2 0) answered_opening).book.sent 0 ≡ Some sent → IsReplyOfOpening (answered_opening ∷ []) 0 sent.mark
+first_free sent at = subst (λ (one : Sent). IsReplyOfOpening (answered_opening ∷ []) 0 one.mark) (some_is (sent_at 3 (Opening small_name 2)) sent at) tt
+
+second_answers : (sent : Sent) → slice_get (marked_as (Opened small_name 2 0) answered_opening).book.sent 1 ≡ Some sent → IsReplyOfOpening (answered_opening ∷ []) 1 sent.mark
+second_answers sent at =
+    subst (λ (one : Sent). IsReplyOfOpening (answered_opening ∷ []) 1 one.mark) (some_is (sent_at 4 (Opened small_name 2 0)) sent at)
+    (inl (record { opened = refl; call = refl; came = refl; answer = refl }))
+
+replies_small : (number : ℕ) (sent : Sent) → slice_get (marked_as (Opened small_name 2 0) answered_opening).book.sent number ≡ Some sent → IsReplyOfOpening (answered_opening ∷ []) number sent.mark
+replies_small zero sent at = first_free sent at
+replies_small (suc zero) sent at = second_answers sent at
+replies_small (suc (suc k)) sent at = absurd (got_nothing k sent at)
+
+the_unit : (n : ℕ) → InUnit 0 ≡ InUnit n → 0 ≡ n
+the_unit n is = cc
+
+one_number : (number other request : ℕ) → Opened small_name number request ≡ Opened small_name other request → number ≡ other
+one_number number other request is = cc
+
+one_unit : (number request other : ℕ) → Opened small_name number request ≡ Opened small_name number other → request ≡ other
+one_unit number request other is = cc
+
+pub of_opened_replies : OfOpenedReplies
+of_opened_replies = record {
+  meets = record { replies = replies_small; unclashed = λ none. (ap not (itself small_name), tt) };
+  meets_marks = (
+    (λ n came. record { reply = 1; is = refl; sent = sent_at 4 (Opened small_name 2 0); there = refl; mark = ap (λ (k : ℕ). Opened small_name 2 k) (the_unit n came) }),
+    tt,
+  );
+  outside = ((λ n came. absurd (let never : Outside ≡ InUnit n = came in cc)), tt);
+  fails_plain = λ claim. absurd (let is : Plain ≡ Opened small_name 2 0 = marked_so Plain answered_opening refl refl claim in cc);
+  fails_number = λ claim. absurd (omega (arith, one_number 3 2 0 (marked_so (Opened small_name 3 0) answered_opening refl refl claim)));
+  fails_request = λ claim. absurd (omega (arith, one_unit 2 7 0 (marked_so (Opened small_name 2 7) answered_opening refl refl claim)));
+  fails_unanswered = λ claim. let its = claim.0 0 refl in no_some its.reply its.is;
+  fails_other_number = λ claim. elim (claim.replies 1 (sent_at 4 (Opened small_name 3 0)) refl) [
+    | inl its ↦ absurd (omega (arith, its.call))
+    | inr none ↦ none
+  ];
+  fails_other_unit = λ claim. elim (claim.replies 1 (sent_at 4 (Opened small_name 2 0)) refl) [
+    | inl its ↦ absurd (omega (arith, some_is 0 1 its.answer))
+    | inr none ↦ none
+  ];
+  fails_clash = λ claim. absurd (let is : true ≡ false = (claim.unclashed refl).0 in cc);
 }

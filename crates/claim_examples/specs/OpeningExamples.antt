@@ -2,11 +2,13 @@
 -- challenge waits there (this project's own choice).
 use Rattle.std.specs.Prelude.{ℕ, List, [], ◌∷◌, Some, None, codes, replicate}
 use Rattle.controller_calls.specs.declared.state.Computers.{Computers}
-use Rattle.step_notes.specs.Records.{ChannelAccepted, Outside, blank}
+use Rattle.channel_events.specs.Marks.{Mark, Opened, Opening, Plain}
+use Rattle.step_notes.specs.Records.{ChannelAccepted, InUnit, Outside, blank}
 use Rattle.world_moves.specs.World.{World}
+use Rattle.domain_world.specs.Claims.OpeningReplies.{OpeningsAreMarked, RepliesAnswerOpenings}
 use Rattle.domain_world.specs.Claims.Openings.{OpeningsAreInOrder}
-use Rattle.domain_world.specs.Past.{Past}
-use Rattle.claim_examples.specs.ClaimExamples.{keeping_controller, run_in, run_open, small_name, small_seed, world_open}
+use Rattle.domain_world.specs.Past.{Past, sent_at}
+use Rattle.claim_examples.specs.ClaimExamples.{keeping_controller, run_in, run_open, small_name, small_run, small_seed, world_open}
 
 -- the channel that is kept, as it was accepted; another one of its computer, and one of another computer
 abbrev pub small_accepted : ChannelAccepted
@@ -54,3 +56,30 @@ pub record OfOpenings : Type 0 where
   pub fails_twice : OpeningsAreInOrder (kept_after (small_accepted ∷ small_accepted ∷ [])) → ⊥
   pub fails_used : OpeningsAreInOrder (waits_after [] (codes "FILE1" ∷ []) (small_accepted ∷ [])) → ⊥
   pub fails_two : OpeningsAreInOrder (waits_after [] (codes "FILE1" ∷ codes "FILE2" ∷ []) []) → ⊥
+
+-- ---- its reply
+
+-- its call came in unit 0, and unit 1 carries the reply
+abbrev pub answered_opening : ChannelAccepted
+answered_opening = record small_accepted { source = InUnit 0; reply = Some 1 }
+
+-- this was accepted, and unit 1 has this mark
+abbrev pub marked_as : Mark → ChannelAccepted → Past
+marked_as mark one =
+    small_run (record blank { sent = sent_at 3 (Opening small_name 2) ∷ sent_at 4 mark ∷ []; accepted = one ∷ [] })
+
+-- The reply to an opening is marked so: not where its mark is none, or has another number or unit, nor where no unit
+-- carries it. Nothing is asked of an opening that came from outside. A unit with such a mark is that reply: not where
+-- the mark has another number, nor where another unit carries the reply. Without a clash the call came in a unit that
+-- was made for the channel.
+pub record OfOpenedReplies : Type 0 where
+  pub meets : RepliesAnswerOpenings (marked_as (Opened small_name 2 0) answered_opening)
+  pub meets_marks : OpeningsAreMarked (marked_as (Opened small_name 2 0) answered_opening)
+  pub outside : OpeningsAreMarked (marked_as Plain small_accepted)
+  pub fails_plain : OpeningsAreMarked (marked_as Plain answered_opening) → ⊥
+  pub fails_number : OpeningsAreMarked (marked_as (Opened small_name 3 0) answered_opening) → ⊥
+  pub fails_request : OpeningsAreMarked (marked_as (Opened small_name 2 7) answered_opening) → ⊥
+  pub fails_unanswered : OpeningsAreMarked (marked_as (Opened small_name 2 0) (record answered_opening { reply = None })) → ⊥
+  pub fails_other_number : RepliesAnswerOpenings (marked_as (Opened small_name 3 0) answered_opening) → ⊥
+  pub fails_other_unit : RepliesAnswerOpenings (marked_as (Opened small_name 2 0) (record answered_opening { reply = Some 0 })) → ⊥
+  pub fails_clash : RepliesAnswerOpenings (marked_as Plain (record answered_opening { source = InUnit 1 })) → ⊥

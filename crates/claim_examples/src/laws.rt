@@ -7,7 +7,7 @@ ghost use Rattle.claim_examples.specs.ClearSuccess.{AnnCanSucceed};
 ghost use Rattle.claim_examples.specs.GrantExamples.{GrantsTellApart};
 ghost use Rattle.claim_examples.specs.LetInExamples.{OfLettingIn, OfNames};
 ghost use Rattle.claim_examples.specs.NearMisses.{NearMissesTellApart};
-ghost use Rattle.claim_examples.specs.OpeningExamples.{OfOpenings};
+ghost use Rattle.claim_examples.specs.OpeningExamples.{OfOpenedReplies, OfOpenings};
 ghost use Rattle.claim_examples.specs.OwnChallengeExamples.{OfOwnChallenges};
 ghost use Rattle.claim_examples.specs.ReplyExamples.{OfReplies};
 ghost use Rattle.claim_examples.specs.SequenceMisses.{SequencesTellApart};
@@ -42,10 +42,11 @@ pub fn grants_tell_apart()
 {}
 
 /// What is claimed of openings is met by a run in which a controller keeps a channel that it accepted, and not by
-/// others with one part changed.
-#[tactic(auto, using(crate::proofs::OpeningExampleLaws::of_openings))]
+/// others with one part changed. So is what is claimed of their replies, by a run in which one is in the bag.
+#[tactic(auto, using(crate::proofs::OpeningExampleLaws::of_openings, crate::proofs::OpeningExampleLaws::of_opened_replies))]
 pub fn openings_tell_apart()
-    ensures { OfOpenings }
+    ensures order { OfOpenings }
+    ensures replies { OfOpenedReplies }
 {}
 
 /// What `Proved.messages` says isn't true of everything that could be written down of a run: a small run meets it, and

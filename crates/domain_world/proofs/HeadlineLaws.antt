@@ -7,7 +7,7 @@ use Rattle.domain_world.specs.Headline.{Proved}
 use Rattle.domain_world.specs.Past.{past}
 use Rattle.domain_world.proofs.Accepting.AnsweredRunLaws.{short_responses}
 use Rattle.domain_world.proofs.Accepting.LetInLaws.{lets_in_who_asked}
-use Rattle.domain_world.proofs.Accepting.MarkRunLaws.{calls_marked, replies_marked}
+use Rattle.domain_world.proofs.Accepting.MarkRunLaws.{calls_marked, openings_marked, replies_marked}
 use Rattle.domain_world.proofs.Accepting.Messages.ClientKeptLaws.{clients_written}
 use Rattle.domain_world.proofs.Accepting.Messages.ClientMadeLaws.{messages_of_clients}
 use Rattle.domain_world.proofs.Accepting.Messages.MessageMadeLaws.{messages_made}
@@ -82,5 +82,6 @@ all_proved plan moves = record {
   ways = marks_have_their_way plan moves;
   call_marks = calls_marked plan moves;
   reply_marks = replies_marked plan moves;
+  opened_marks = openings_marked plan moves;
   complete = each_succeeds plan moves;
 }

@@ -4,6 +4,7 @@ pub mod GrantLaws
 pub mod JudgedLaws
 pub mod MovedLaws
 pub mod OpeningLaws
+pub mod OpeningMarkLaws
 pub mod OpeningReplyLaws
 pub mod OpeningRunLaws
 pub mod OpeningUnclashedLaws

@@ -15,7 +15,7 @@ use Rattle.domain_world.specs.Claims.Grants.{GrantsWhoMayLogOn}
 use Rattle.domain_world.specs.Claims.LetIn.{LetsInWhoAsked}
 use Rattle.domain_world.specs.Claims.MarkedUnits.{CallsAreMarked, EachUnitIsMarked, RepliesAreMarked}
 use Rattle.domain_world.specs.Claims.Names.{LetsInByName}
-use Rattle.domain_world.specs.Claims.OpeningReplies.{RepliesAnswerOpenings}
+use Rattle.domain_world.specs.Claims.OpeningReplies.{OpeningsAreMarked, RepliesAnswerOpenings}
 use Rattle.domain_world.specs.Claims.Openings.{OpeningsAreInOrder}
 use Rattle.domain_world.specs.Claims.OwnChallenges.{MessagesHaveOwnChallenges}
 use Rattle.domain_world.specs.Claims.Replies.{RepliesCarryTheirJudgement}
@@ -28,7 +28,8 @@ use Rattle.domain_world.specs.Past.{past}
 -- members accept, how often a count is raised, what the ends of a channel share, and which calls turns made, is of
 -- schedules that are clear: in them no credential passed on a unit made for another channel or for none, and no seed
 -- came round. Of the others `unclashed`, and a part of `opened`, ask that no credential clashed. `names` and
--- `answered` ask for a schedule besides, and `as_made`, `call_marks` and `reply_marks` for a schedule alone.
+-- `answered` ask for a schedule besides, and `as_made`, `call_marks`, `reply_marks` and `opened_marks` for a schedule
+-- alone.
 pub record Proved (plan : Plan) (moves : List Move) : Type 0 where
   -- challenges, and the messages that are made for them
   pub challenges : ChallengesServeOnce (past plan moves)
@@ -77,9 +78,11 @@ pub record Proved (plan : Plan) (moves : List Move) : Type 0 where
   -- the units of the bag, and which way they go
   pub marked : EachUnitIsMarked (past plan moves)
   pub ways : MarksHaveTheirWay (past plan moves)
-  -- the call of each message is marked as one, and the reply to a call that passed as that
+  -- the call of each message is marked as one, and the reply to a call that passed, or to an opening that was accepted,
+  -- as that
   pub call_marks : IsSchedule plan moves → CallsAreMarked (past plan moves)
   pub reply_marks : IsSchedule plan moves → RepliesAreMarked (past plan moves)
+  pub opened_marks : IsSchedule plan moves → OpeningsAreMarked (past plan moves)
   -- logons that come one at a time succeed
   pub complete : EachSucceeds (past plan moves) moves
 

@@ -1,7 +1,7 @@
 -- In every schedule the unit of a message's call is marked as a call on a channel with the controller of that member's
--- plan, and a call that passed, and came in a unit of the bag, has its reply marked as the reply to it. Through all
--- moves it rests on what is known of calls, and on what is under way. It serves `Proved.call_marks` and
--- `Proved.reply_marks`.
+-- plan, and a call that passed, or an opening that was accepted, and came in a unit of the bag, has its reply marked as
+-- the reply to it. Through all moves it rests on what is known of calls, and on what is under way. It serves
+-- `Proved.call_marks`, `Proved.reply_marks` and `Proved.opened_marks`.
 use Rattle.std.proofs.Common.{◌≡◌, ℕ, ◌+◌, ◌≤◌, true, false, List, [], ◌∷◌, ◌++◌, drop, length, map, Option, Some, None, refl, sym, ap, subst, ◌∙◌, slice_get, arith}
 use Rattle.std.specs.Prelude.{flat_map}
 use Rattle.std.specs.List.{AllByRecursion}
@@ -17,14 +17,14 @@ use Rattle.member_server.specs.Turns.{AtTurn}
 use Rattle.member_server.specs.declared.state.Logon.{Logon}
 use Rattle.member_server.specs.declared.state.Running.{Running}
 use Rattle.channel_turns.specs.declared.state.TurnTalk.{TurnTalk}
-use Rattle.channel_events.specs.Marks.{Mark, ReplyTo}
+use Rattle.channel_events.specs.Marks.{Mark, Opened, ReplyTo}
 use Rattle.channel_events.proofs.ListLaws.{all_weaker, got_append, one_found, some_is}
 use Rattle.step_notes.specs.CallLogons.{AsksUnlessStopped}
 use Rattle.step_notes.specs.ControllerNotes.{Answered, has_passed, units_of_controller}
 use Rattle.step_notes.specs.Judged.{IsJudgedRight}
 use Rattle.step_notes.specs.Marking.{answered_marks, turn_marks}
 use Rattle.step_notes.specs.MemberNotes.{link_units, message_note, turn_note, turn_units}
-use Rattle.step_notes.specs.Records.{Book, InUnit, Judging, MessageTaken, Sent, Source, blank, unit_in}
+use Rattle.step_notes.specs.Records.{Book, ChannelAccepted, InUnit, Judging, MessageTaken, Sent, Source, blank, unit_in}
 use Rattle.step_notes.proofs.Members.KeptLogonLaws.{KeptIn, each_so}
 use Rattle.world_moves.specs.declared.links.EndId.{EndId}
 use Rattle.world_moves.specs.declared.links.EndId.TheVariants.{Client, Controller, Member}
@@ -39,8 +39,9 @@ use Rattle.world_moves.specs.Moving.{begun, renewed, with_link}
 use Rattle.world_moves.specs.World.{first_world}
 use Rattle.domain_world.specs.Claims.{IsLinkOf}
 use Rattle.domain_world.specs.Claims.MarkedUnits.{CallsAreMarked, IsMarkedAsCall, IsMarkedAsReply, RepliesAreMarked}
+use Rattle.domain_world.specs.Claims.OpeningReplies.{IsMarkedAsOpened, OpeningsAreMarked}
 use Rattle.domain_world.specs.Claims.OwnChallenges.{HasOwnChallenge}
-use Rattle.domain_world.specs.Past.{Coming, Past, answers_of, at_controller, at_member, controller_of, controller_of_plan, judged_of, marks_of, note_at, note_client, note_controller, note_given, note_member, note_messages, numbers_on, past, sent_at}
+use Rattle.domain_world.specs.Past.{Coming, Past, accepted_of, answers_of, at_controller, at_member, controller_of, controller_of_plan, judged_of, marks_of, note_at, note_client, note_controller, note_given, note_member, note_messages, numbers_on, past, sent_at}
 use Rattle.domain_world.specs.Schedules.{OfSchedules}
 use Rattle.domain_world.proofs.Accepting.AnsweredLaws.{StandsFor, channel_there}
 use Rattle.domain_world.proofs.Accepting.Heard.JudgedRunLaws.{judged_first, judged_keeps}
@@ -56,7 +57,7 @@ use Rattle.domain_world.proofs.Frames.AllLaws.{all_join}
 use Rattle.domain_world.proofs.Frames.BagFrameLaws.{IsServer}
 use Rattle.domain_world.proofs.Frames.ComingLaws.{CameFrom, IsPieceOf}
 use Rattle.domain_world.proofs.Frames.DrawnRunLaws.{draws_differ, given_all}
-use Rattle.domain_world.proofs.Frames.EndNoteLaws.{acted_by, judged_so}
+use Rattle.domain_world.proofs.Frames.EndNoteLaws.{accepted_so, acted_by, judged_so}
 use Rattle.domain_world.proofs.Frames.FrontLaws.{controller_front, controller_way}
 use Rattle.domain_world.proofs.Frames.MarkNumberLaws.{AtNumbers, IsGiven, IsMarkedAs, given_marked, marks_numbered, numbers_enough, numbers_so}
 use Rattle.domain_world.proofs.Frames.MemberPlanLaws.{controllers_alike}
@@ -64,6 +65,7 @@ use Rattle.domain_world.proofs.Frames.OpenMadeLaws.{IsAtSide}
 use Rattle.domain_world.proofs.Frames.StepFrameLaws.{AnyAction, BothFacts, BothFine, HasHeard, HoldsAfterRun, Keeps, RunFact, WhileFew, all_any, join, run_keeps, while_few, with_side}
 use Rattle.domain_world.proofs.Frames.TurnFrameLaws.{turns_sent}
 use Rattle.domain_world.proofs.Judgements.JudgedLaws.{judged_rightly, onto_hold}
+use Rattle.domain_world.proofs.Judgements.OpeningMarkLaws.{HasAnswer, accepts_so, all_answered, answer_so, onto_all}
 use Rattle.domain_world.proofs.Judgements.ReplyMarkLaws.{HasReply, answers_replied, answers_so, reply_so}
 use Rattle.domain_world.proofs.Requests.CallFrameLaws.{first_calls}
 use Rattle.domain_world.proofs.Requests.CallHoldsLaws.{CallsHold, controller_same}
@@ -92,6 +94,7 @@ record IsCallOn (plan : Plan) (links : List Route) (sent : List Sent) (link n : 
 record MarksStand (plan : Plan) (links : List Route) (b : Book) : Type 0 where
   calls : AllGood (IsCallOn plan links b.sent) b.messages
   replies : AllByRecursion (HasReply (IsMarkedAs b.sent)) b.judged
+  opened : AllByRecursion (HasAnswer (IsMarkedAs b.sent)) b.accepted
 
 -- what it rests on: what is under way is whole, units went between ends of the world, and what is known of calls
 record MarkSide (n : ℕ) (s : State) (b : Book) : Type 0 where
@@ -140,13 +143,18 @@ replies_still : (sent more : List Sent) (judged : List Judging) → GrowTo sent 
 replies_still sent more judged grow all =
     all_weaker (HasReply (IsMarkedAs sent)) (HasReply (IsMarkedAs more)) judged (λ j has. reply_so (IsMarkedAs sent) (IsMarkedAs more) (λ n mark it. marked_still sent more grow n mark it) j has) all
 
--- where no message and no call is written down
+opened_still : (sent more : List Sent) (accepted : List ChannelAccepted) → GrowTo sent more → AllByRecursion (HasAnswer (IsMarkedAs sent)) accepted → AllByRecursion (HasAnswer (IsMarkedAs more)) accepted
+opened_still sent more accepted grow all =
+    all_weaker (HasAnswer (IsMarkedAs sent)) (HasAnswer (IsMarkedAs more)) accepted (λ one has. answer_so (IsMarkedAs sent) (IsMarkedAs more) (λ n mark it. marked_still sent more grow n mark it) one has) all
+
+-- where no message, no call and no opening is written down
 stand_on : (plan : Plan) (links after : List Route) (b d : Book) → ((k link : ℕ) → IsAcceptedBy links k link → IsAcceptedBy after k link) → GrowTo b.sent d.sent →
-    d.messages ≡ b.messages → d.judged ≡ b.judged → MarksStand plan links b → MarksStand plan after d
-stand_on plan links after b d onward grow messages judged stand = record {
+    d.messages ≡ b.messages → d.judged ≡ b.judged → d.accepted ≡ b.accepted → MarksStand plan links b → MarksStand plan after d
+stand_on plan links after b d onward grow messages judged accepted stand = record {
   calls = subst (λ (all : List MessageTaken). AllGood (IsCallOn plan after d.sent) all) (sym messages)
       (good_so (IsCallOn plan links b.sent) (IsCallOn plan after d.sent) (λ link n it. call_still plan links after b.sent d.sent onward grow link n it) b.messages stand.calls);
   replies = subst (λ (all : List Judging). AllByRecursion (HasReply (IsMarkedAs d.sent)) all) (sym judged) (replies_still b.sent d.sent b.judged grow stand.replies);
+  opened = subst (λ (all : List ChannelAccepted). AllByRecursion (HasAnswer (IsMarkedAs d.sent)) all) (sym accepted) (opened_still b.sent d.sent b.accepted grow stand.opened);
 }
 
 accepted_more : (links : List Route) (route : Route) (k link : ℕ) → IsAcceptedBy links k link → IsAcceptedBy (links ++ route ∷ []) k link
@@ -183,6 +191,9 @@ module _ (plan : Plan) (c : ControllerState) (at : ℕ) (w : Coming) (piece : Li
         replies = onto_hold (HasReply (IsMarkedAs sent)) (judged_of answers numbers) b.judged
             (answers_replied (IsMarkedAs sent) w.source answers numbers (answers_so (at_controller at c w s) w.link (units_of_controller c w.link piece s.moment s.chances.left)) numbered enough)
             (replies_still b.sent sent b.judged grow stand.replies);
+        opened = onto_all (HasAnswer (IsMarkedAs sent)) (accepted_of answers numbers) b.accepted
+            (all_answered (IsMarkedAs sent) w.source answers numbers (accepts_so (at_controller at c w s) w.link (units_of_controller c w.link piece s.moment s.chances.left)) numbered enough)
+            (opened_still b.sent sent b.accepted grow stand.opened);
       }
 
 -- ---- bytes come at a member
@@ -244,6 +255,9 @@ module _ (plan : Plan) (m : MemberState) (at : ℕ) (w : Coming) (piece : List �
         calls = subst (λ (all : List Sent). AllGood (IsCallOn plan s.links all) now.messages) (sym sends) calls;
         replies = subst (λ (all : List Sent). AllByRecursion (HasReply (IsMarkedAs all)) now.judged) (sym sends)
             (subst (λ (judged : List Judging). AllByRecursion (HasReply (IsMarkedAs sent)) judged) (sym (judged_so.members m at w piece s after b)) (replies_still b.sent sent b.judged grow stand.replies));
+        opened = subst (λ (all : List Sent). AllByRecursion (HasAnswer (IsMarkedAs all)) now.accepted) (sym sends)
+            (subst (λ (accepted : List ChannelAccepted). AllByRecursion (HasAnswer (IsMarkedAs sent)) accepted) (sym (accepted_so.members m at w piece s after b))
+            (opened_still b.sent sent b.accepted grow stand.opened));
       }
 
 -- ---- through all moves
@@ -260,7 +274,7 @@ module _ (plan : Plan) where
       controller_stands plan c at w piece s b (done (Controller at) (desk_heard plan c at w piece s b)).state refl at_side came side.own (marked refl) stand)
       (λ at m there at_side marked.
       member_stands plan m at w piece s (done (Member at) (heard_by (member_step (Some m) at (event.Bytes w.link piece) s.moment s.ends s.chances) s)).state b n side there plans same (marked refl) stand)
-      (λ at c there at_side marked. stand_on plan s.links s.links b (note_client (Some c) at w piece s b) (λ k on accepted. accepted) (λ k one is. is) refl refl stand) end here even
+      (λ at c there at_side marked. stand_on plan s.links s.links b (note_client (Some c) at w piece s b) (λ k on accepted. accepted) (λ k one is. is) refl refl refl stand) end here even
 
   quietly : (n : ℕ) (end : EndId) (what : Event) (s : State) (given : Given) (b : Book) → MarksHold plan n s given b → HasHeard (MarksHold plan) AnyAction (n + 1) end (hear end what s) given b
   quietly n end what s given b holds = record {
@@ -287,7 +301,7 @@ module _ (plan : Plan) where
         quietly n (acceptor_of route) (event.Opened (length s.links)) (with_link route s) given b (
           holds.0,
           holds.1,
-          stand_on plan s.links (s.links ++ route ∷ []) b b (λ k link it. accepted_more s.links route k link it) (λ k one is. is) refl refl holds.2,
+          stand_on plan s.links (s.links ++ route ∷ []) b b (λ k link it. accepted_more s.links route k link it) (λ k one is. is) refl refl refl holds.2,
         );
     begins = λ n client own s given b is side holds. client_begins n client own s given b holds;
     comes = λ n end w piece s given b here came bytes marked side holds. record {
@@ -309,7 +323,7 @@ module _ (plan : Plan) where
     over = λ n at s given b side holds. (
       holds.0,
       holds.1,
-      stand_on plan s.links s.links b (note_given at given s b) (λ k link it. it) (λ k one is. got_append b.sent _ k one is) refl refl holds.2,
+      stand_on plan s.links s.links b (note_given at given s b) (λ k link it. it) (λ k one is. got_append b.sent _ k one is) refl refl refl holds.2,
     );
   }
 
@@ -320,7 +334,7 @@ marks_rest plan n s given b known few =
     record { quiet = known.0.0.0; own = known.1.kinds; calls = known.0.0.1 few (drawn_differ plan s known.0.1) }
 
 marks_first : (plan : Plan) → MarksHold plan 0 (first_world plan).state [] blank
-marks_first plan = (refl, same_ends (first_world plan).state.ends, record { calls = tt; replies = tt })
+marks_first plan = (refl, same_ends (first_world plan).state.ends, record { calls = tt; replies = tt; opened = tt })
 
 -- what is known, with what holds of marks while few steps were taken
 abbrev MarkFacts : Plan → RunFact
@@ -376,3 +390,13 @@ replies_marked plan moves schedule =
     let marked : IsMarkedAs p.book.sent it.0 (ReplyTo stands.channel j.number n) = it.2 in
     record { reply = it.0; is = it.1; sent = marked.one; there = marked.there; channel = stands.channel; passed = stands.passed; mark = marked.is })
     (marks_hold plan moves schedule).2.replies (judged_rightly plan moves)
+
+-- and so is the reply to each opening that was accepted, and came in a unit of the bag
+pub openings_marked : OfSchedules (λ plan moves. OpeningsAreMarked (past plan moves))
+openings_marked plan moves schedule =
+    let p : Past = past plan moves in
+    all_weaker (HasAnswer (IsMarkedAs p.book.sent)) (λ (one : ChannelAccepted). (n : ℕ) → one.source ≡ InUnit n → IsMarkedAsOpened p one n) p.book.accepted
+    (λ one has n came.
+    let it = has n came in
+    let marked : IsMarkedAs p.book.sent it.0 (Opened one.channel one.number n) = it.2 in
+    record { reply = it.0; is = it.1; sent = marked.one; there = marked.there; mark = marked.is }) (marks_hold plan moves schedule).2.opened

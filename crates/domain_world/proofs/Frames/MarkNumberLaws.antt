@@ -1,6 +1,6 @@
 -- Which number the unit of a mark has: the units that go into the bag on a link get the marks in order, and where an
--- end sends once for each mark before it closes a link, no mark is left over. It serves `Proved.call_marks` and
--- `Proved.reply_marks`.
+-- end sends once for each mark before it closes a link, no mark is left over. It serves `Proved.call_marks`,
+-- `Proved.reply_marks` and `Proved.opened_marks`.
 use Rattle.std.proofs.Common.{◌≡◌, ℕ, zero, suc, ◌+◌, ◌≤◌, Bool, true, false, List, [], ◌∷◌, ◌++◌, drop, length, map, Some, slice_get, refl, sym, ap, subst, ◌∙◌, arith, if◌then◌else◌}
 use Rattle.std.specs.List.{AllByRecursion}
 use Rattle.std.proofs.lemmas.List.{drop_at}

@@ -36,3 +36,16 @@ OpeningsAreUnclashed past =
 pub record RepliesAnswerOpenings (past : Past) : Type 0 where
   pub replies : (number : ℕ) (sent : Sent) → slice_get past.book.sent number ≡ Some sent → IsReplyOfOpening past.book.accepted number sent.mark
   pub unclashed : OpeningsAreUnclashed past
+
+-- The opening has its reply in the bag, which is marked as that: on its channel, by its number, and by the unit in
+-- which its call came.
+pub record IsMarkedAsOpened (past : Past) (one : ChannelAccepted) (n : ℕ) : Type 0 where
+  pub reply : ℕ
+  pub is : one.reply ≡ Some reply
+  pub sent : Sent
+  pub there : slice_get past.book.sent reply ≡ Some sent
+  pub mark : sent.mark ≡ Opened one.channel one.number n
+
+-- so it is of each opening that was accepted and came in a unit of the bag
+abbrev pub OpeningsAreMarked : Past → Type 0
+OpeningsAreMarked past = AllByRecursion (λ (one : ChannelAccepted). (n : ℕ) → one.source ≡ InUnit n → IsMarkedAsOpened past one n) past.book.accepted
