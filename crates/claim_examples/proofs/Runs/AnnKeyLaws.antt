@@ -74,7 +74,7 @@ same_world = refl
 
 -- ---- one of several that passes a test
 
-any_of : {T : Type 0} → (T → Bool) → List T → Bool
+abbrev any_of : {T : Type 0} → (T → Bool) → List T → Bool
 any_of test [] = false
 any_of test (first ∷ items) = test first || any_of test items
 
@@ -88,28 +88,28 @@ one_of test P so (first ∷ items) is = one_by P (test first) (any_of test items
 
 -- ---- the test of a key
 
-has_key : Outcome → List ℕ → Bool
+abbrev has_key : Outcome → List ℕ → Bool
 has_key (outcome.In domain user key) other = bytes_eq key other
 has_key (outcome.Out status) other = false
 has_key (outcome.NoController cause) other = false
 
-arrives : Judging → MessageTaken → Bool
+abbrev arrives : Judging → MessageTaken → Bool
 arrives j message = not (bytes_eq (base_key_asked j (info_asked message)) (key_bytes (passed_channel j)))
 
-made_for : Judging → MessageTaken → ChallengeSent → MessageMade → Bool
+abbrev made_for : Judging → MessageTaken → ChallengeSent → MessageMade → Bool
 made_for j message sent made =
     (sent.link == message.link) && (bytes_eq made.challenge sent.bytes && (bytes_eq made.bytes message.bytes && bytes_eq made.plan.hash (stored_hash j (info_asked message))))
 
 -- by the answer that the member took
-by_answer : Option Judging → MessageTaken → ChallengeSent → MessageMade → Bool
+abbrev by_answer : Option Judging → MessageTaken → ChallengeSent → MessageMade → Bool
 by_answer None message sent made = false
 by_answer (Some j) message sent made = arrives j message && made_for j message sent made
 
-is_keyed : List Judging → OutcomeTold → MessageTaken → ChallengeSent → MessageMade → Bool
+abbrev is_keyed : List Judging → OutcomeTold → MessageTaken → ChallengeSent → MessageMade → Bool
 is_keyed judgings told message sent made =
     is_in told.outcome && ((message.link == told.link) && (has_key told.outcome made.key && by_answer (taken_answer message judgings) message sent made))
 
-some_keyed : Book → Bool
+abbrev some_keyed : Book → Bool
 some_keyed b = any_of (λ told. any_of (λ message. any_of (λ sent. any_of (λ made. is_keyed b.judged told message sent made) b.made) b.challenges) b.messages) b.told
 
 -- ---- what it decides
@@ -127,9 +127,10 @@ key_so (outcome.Out status) key is = tt
 key_so (outcome.NoController cause) key is = tt
 
 arrives_so : (j : Judging) (message : MessageTaken) → arrives j message ≡ true → TravelsAsZeros j (info_asked message) → ⊥
-arrives_so j message is zeros =
+unfolding base_key_of
+arrives_so j message is travels =
     not_true (bytes_eq (base_key_asked j (info_asked message)) (key_bytes (passed_channel j))) is
-    ((bytes_eq-Decides (base_key_asked j (info_asked message)) (key_bytes (passed_channel j))).1 zeros)
+    ((bytes_eq-Decides (base_key_asked j (info_asked message)) (key_bytes (passed_channel j))).1 travels)
 
 made_so : (j : Judging) (message : MessageTaken) (sent : ChallengeSent) (made : MessageMade) → made_for j message sent made ≡ true → IsMadeFor message sent j made
 made_so j message sent made is =

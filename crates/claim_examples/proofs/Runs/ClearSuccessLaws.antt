@@ -170,7 +170,7 @@ ann_may = record {
   taken_response = inl refl;
 }
 
-ann_can_so : CanSucceed ann_plan ann_moves 0
+abbrev ann_can_so : CanSucceed ann_plan ann_moves 0
 ann_can_so = record {
   task = ann_task;
   is_task = refl;
