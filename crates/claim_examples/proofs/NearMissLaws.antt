@@ -52,12 +52,13 @@ use Rattle.world_moves.specs.declared.links.Route.TheVariants.{ToController, ToM
 use Rattle.world_moves.specs.Forms.{HasMoveForm, IsByte}
 use Rattle.world_moves.specs.World.{IsMove}
 use Rattle.domain_world.specs.Accepting.Answered.{IsItsWay, MarksHaveTheirWay, PassesAreUnclashed}
+use Rattle.domain_world.specs.Claims.MarkedUnits.{CallsAreMarked, IsMarkedAsCall, IsMarkedAsReply, RepliesAreMarked}
 use Rattle.domain_world.specs.Claims.{IsAccepted, IsClear, IsGrantedBy, IsItsControllersAnswer, IsPlainlyAccepted, passed_on, judged_timestamp}
 use Rattle.domain_world.specs.Claims.Counts.{RaisesCount}
 use Rattle.domain_world.specs.Past.{Past, sent_at}
 use Rattle.claim_examples.specs.ClaimExamples.{challenge_on, client_plan, elsewhere, extended_flags, judged_as, judging, last_timestamp, made_keeping, message, message_of_link, on_channel, one_logon, open_running, small_account, small_challenge, small_hash, small_logon, small_member, small_name, small_plan, small_run, small_table, small_world}
 use Rattle.claim_examples.specs.GrantExamples.{wrong_call}
-use Rattle.claim_examples.specs.NearMisses.{NearMissesTellApart, OfAcceptingAll, OfAcceptingOnly, OfAsking, OfClearRuns, OfCounts, OfKeeping, OfKeys, OfLeavingOut, OfMaking, OfSchedules, OfShortResponses, OfTables, OfTelling, OfUnits, OfWritingDown, at_two_members, barred_again, bob, each_move, extended_taken, foreign, half_timestamp, in_client, judged_by, judged_two, keeping, kept_client, kept_link, kept_running, kept_terms, locking_table, long_taken, noting, passed_for, sent_one, small_bound, taking, ten_keeping, untold, waiting_on, wrong_among}
+use Rattle.claim_examples.specs.NearMisses.{NearMissesTellApart, OfAcceptingAll, OfAcceptingOnly, OfAsking, OfClearRuns, OfCounts, OfKeeping, OfKeys, OfLeavingOut, OfMaking, OfMarks, OfSchedules, OfShortResponses, OfTables, OfTelling, OfUnits, OfWritingDown, at_two_members, barred_again, bob, called_as, each_move, extended_taken, foreign, half_timestamp, in_client, judged_by, judged_two, keeping, kept_client, kept_link, kept_running, kept_terms, locking_table, long_taken, noting, passed_for, sent_one, small_bound, taking, ten_keeping, untold, waiting_on, wrong_among}
 use Rattle.claim_examples.proofs.ClaimLaws.{its_controller, moved_by_one, of_wraps, the_two}
 use Rattle.claim_examples.proofs.CompletenessLaws.{lost_schedule}
 use Rattle.claim_examples.proofs.LogonLaws.{extended_pair, free_small, granted_small, only_draw, plain_small, stored_small, this_step}
@@ -307,6 +308,65 @@ of_units = record {
   passes = passes_alike;
   clashed = λ none. absurd (let never : true ≡ false = none in cc);
   fails_passes = not_alike;
+}
+
+-- the mark of the call, and that of the reply
+the_call : (mark reply : Mark) → CallsAreMarked (called_as mark reply) → (channel : ChannelIdentity) × (number : ℕ) × (timestamp : ℕ) × (mark ≡ Calling channel number timestamp) × (channel.controller ≡ 0)
+the_call mark reply claim =
+    let it : IsMarkedAsCall (called_as mark reply) 0 7 = claim.0 7 refl in
+    (it.channel, it.number, it.timestamp, ap Sent.mark (some_is (sent_at 5 mark) it.sent it.there) ∙ it.mark, it.controller)
+
+the_answer : (mark : Mark) → RepliesAreMarked (called_as Plain mark) → mark ≡ ReplyTo small_name 3 7
+the_answer mark claim =
+    let it : IsMarkedAsReply (called_as Plain mark) (on_channel 0) 7 = claim.0 7 refl refl in
+    let at : 8 ≡ it.reply = some_is 8 it.reply it.is in
+    let there : Some (sent_at 6 mark) ≡ Some it.sent = ap (λ (n : ℕ). slice_get (called_as Plain mark).book.sent n) at ∙ it.there in
+    ap Sent.mark (some_is (sent_at 6 mark) it.sent there) ∙ it.mark ∙ ap (λ (c : ChannelIdentity). ReplyTo c 3 7) (sym (some_is small_name it.channel it.passed))
+
+of_marks : OfMarks
+of_marks = record {
+  call = (
+    λ n is. subst (λ (k : ℕ). IsMarkedAsCall (called_as (Calling small_name 3 0) Plain) 0 k) (some_is 7 n is) (record {
+      sent = sent_at 5 (Calling small_name 3 0);
+      there = refl;
+      channel = small_name;
+      number = 3;
+      timestamp = 0;
+      mark = refl;
+      controller = refl;
+    }),
+    tt,
+  );
+  fails_plain = λ claim. let it = the_call Plain Plain claim in absurd (let never : Plain ≡ Calling it.0 it.1 it.2 = it.3 in cc);
+  fails_opening = λ claim. let it = the_call (Opening small_name 3) Plain claim in absurd (let never : Opening small_name 3 ≡ Calling it.0 it.1 it.2 = it.3 in cc);
+  fails_controller = λ claim.
+      let other : ChannelIdentity = record small_name { controller = 1 } in
+      let it = the_call (Calling other 3 0) Plain claim in
+      let same : Calling other 3 0 ≡ Calling it.0 it.1 it.2 = it.3 in
+      let channel : other ≡ it.0 = cc in
+      absurd (let never : 1 ≡ 0 = ap (λ (c : ChannelIdentity). c.controller) channel ∙ it.4 in cc);
+  reply = (
+    λ n is how. subst (λ (k : ℕ). IsMarkedAsReply (called_as Plain (ReplyTo small_name 3 7)) (on_channel 0) k) (let same : 7 ≡ n = cc in same) (record {
+      reply = 8;
+      is = refl;
+      sent = sent_at 6 (ReplyTo small_name 3 7);
+      there = refl;
+      channel = small_name;
+      passed = refl;
+      mark = refl;
+    }),
+    tt,
+  );
+  fails_plain_reply = λ claim. absurd (let never : Plain ≡ ReplyTo small_name 3 7 = the_answer Plain claim in cc);
+  fails_channel = λ claim.
+      let other : ChannelIdentity = record small_name { controller = 1 } in
+      let same : ReplyTo other 3 7 ≡ ReplyTo small_name 3 7 = the_answer (ReplyTo other 3 7) claim in
+      let channel : other ≡ small_name = cc in
+      absurd (let never : 1 ≡ 0 = ap (λ (c : ChannelIdentity). c.controller) channel in cc);
+  fails_number = λ claim. absurd (let never : ReplyTo small_name 4 7 ≡ ReplyTo small_name 3 7 = the_answer (ReplyTo small_name 4 7) claim in cc);
+  fails_unit = λ claim. absurd (let never : ReplyTo small_name 3 6 ≡ ReplyTo small_name 3 7 = the_answer (ReplyTo small_name 3 6) claim in cc);
+  fails_none = λ claim. let it = claim.0 7 refl refl in no_some it.reply it.is;
+  outside = ((λ n is. absurd (let never = is in cc)), tt);
 }
 
 -- ---- what members ask
@@ -598,6 +658,7 @@ near_misses = record {
   keys = of_keys;
   counts = of_counts;
   units = of_units;
+  marks = of_marks;
   asking = of_asking;
   written = of_written;
   leaving = of_leaving;

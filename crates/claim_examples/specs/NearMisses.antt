@@ -47,7 +47,7 @@ use Rattle.domain_world.specs.Accepting.Answered.{MarksHaveTheirWay, MessagesAre
 use Rattle.domain_world.specs.Claims.{AcceptsAllGranted, AcceptsOnlyGranted, IsClear, KeysAgree, ShortResponsesServeOnce, TellsOfCallsAlone, taken_answer_on}
 use Rattle.domain_world.specs.Claims.Counts.{EachCallRaisesOnce, RaisesCount}
 use Rattle.domain_world.specs.Claims.LeftOut.{Answers, DrawsFor, Takes, TakesOn}
-use Rattle.domain_world.specs.Claims.MarkedUnits.{EachUnitIsMarked}
+use Rattle.domain_world.specs.Claims.MarkedUnits.{CallsAreMarked, EachUnitIsMarked, RepliesAreMarked}
 use Rattle.domain_world.specs.Claims.Tables.{TablesFollowVerdicts}
 use Rattle.domain_world.specs.Claims.WrittenDown.{ClientsAreWrittenDown, MembersAreWrittenDown, MessagesAreOfTheirClients}
 use Rattle.domain_world.specs.Accepting.Runs.{seen_in}
@@ -213,6 +213,28 @@ pub record OfUnits : Type 0 where
   pub passes : PassesAreUnclashed (passed_for (Calling small_name 3 0) false)
   pub clashed : PassesAreUnclashed (passed_for Plain true)
   pub fails_passes : PassesAreUnclashed (passed_for Plain false) → ⊥
+
+-- the call of the message went out in unit 7, and its reply in unit 8, which were made for these
+abbrev pub called_as : Mark → Mark → Past
+called_as call reply =
+    small_run (record one_logon { sent = replicate 7 (sent_at 0 Plain) ++ sent_at 5 call ∷ sent_at 6 reply ∷ []; judged = on_channel 0 ∷ [] })
+
+-- A message's call is marked as a call with the member's controller: not where its unit is marked as nothing, as an
+-- opening, or as a call with another one. The reply to a call that passed is marked as the reply to it: not where its
+-- unit is marked as nothing, as that of another channel, call or unit, or where it has no unit. Of a call from outside
+-- nothing is asked.
+pub record OfMarks : Type 0 where
+  pub call : CallsAreMarked (called_as (Calling small_name 3 0) Plain)
+  pub fails_plain : CallsAreMarked (called_as Plain Plain) → ⊥
+  pub fails_opening : CallsAreMarked (called_as (Opening small_name 3) Plain) → ⊥
+  pub fails_controller : CallsAreMarked (called_as (Calling (record small_name { controller = 1 }) 3 0) Plain) → ⊥
+  pub reply : RepliesAreMarked (called_as Plain (ReplyTo small_name 3 7))
+  pub fails_plain_reply : RepliesAreMarked (called_as Plain Plain) → ⊥
+  pub fails_channel : RepliesAreMarked (called_as Plain (ReplyTo (record small_name { controller = 1 }) 3 7)) → ⊥
+  pub fails_number : RepliesAreMarked (called_as Plain (ReplyTo small_name 4 7)) → ⊥
+  pub fails_unit : RepliesAreMarked (called_as Plain (ReplyTo small_name 3 6)) → ⊥
+  pub fails_none : RepliesAreMarked (small_run (record one_logon { judged = record (on_channel 0) { reply = None } ∷ [] })) → ⊥
+  pub outside : RepliesAreMarked (small_run (record one_logon { judged = record (on_channel 0) { source = Outside; reply = None } ∷ [] }))
 
 -- ---- what members ask
 
@@ -443,6 +465,7 @@ pub record NearMissesTellApart : Type 0 where
   pub keys : OfKeys
   pub counts : OfCounts
   pub units : OfUnits
+  pub marks : OfMarks
   pub asking : OfAsking
   pub written : OfWritingDown
   pub leaving : OfLeavingOut
