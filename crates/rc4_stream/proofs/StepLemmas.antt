@@ -1,7 +1,9 @@
 -- From the words of specs/Steps to those of specs/Rc4, and one step of each loop.
 use Rattle.std.proofs.Common.{◌≡◌, ℕ, zero, suc, ◌+◌, ◌-◌, ◌%◌, ◌<◌, ◌≤◌, List, [], ◌∷◌, ◌++◌, length, get_or, set, take, drop, swap, bit_xor, refl, ap, sym, ◌∙◌, add-one, add-zero, lit<, arith}
-use Rattle.std.proofs.lemmas.List.{drop_more, drop_all, take_more_set, drop-set-lt, append_assoc, append-nil, take_all}
+use Rattle.std.proofs.lemmas.List.{drop_more, drop_all, take_more_set, drop-set-lt, append_assoc, append-nil, take_all, length-take-le, length-drop, drop-drop, take-append-drop}
 use Rattle.std.proofs.lemmas.List.Edits.{swap_is, swapped_from_swap, Swapped}
+use Rattle.std.proofs.lemmas.Slice.{take-put_mid, drop-put_mid}
+use borrow.Rule.Slice.PartMut.{mid_of, put_mid}
 use Rattle.std.proofs.Math.Nat.{add-mod, mod-mod, mod-lt}
 use Rattle.rc4_stream.specs.Rc4.{Shuffle, shuffle, shuffled, State, next_state, byte_of, state_after, key_byte, applied}
 use Rattle.rc4_stream.proofs.Rc4Laws.{length-shuffled}
@@ -92,3 +94,47 @@ advanced_step s n i h = ap (λ k. advanced k s) (let e : suc (n - (i + 1)) ≡ n
 pub advanced_none : (s : State) (n i : ℕ) → n ≤ i → advanced (n - i) s ≡ s
 unfolding advanced
 advanced_none s n i h = ap (λ k. advanced k s) (let e : n - i ≡ 0 = omega arith in e)
+
+-- ---- pieces
+
+combined_from-append : (s : State) (xs ys : List ℕ) → combined_from s (xs ++ ys) ≡ combined_from s xs ++ combined_from (advanced (length xs) s) ys
+unfolding combined_from advanced
+combined_from-append s [] ys = refl
+combined_from-append s (x ∷ xs) ys = ap (λ zs. bit_xor x (byte_of (next_state s)) ∷ zs) (combined_from-append (next_state s) xs ys)
+
+advanced-more : (s : State) (m n : ℕ) → advanced n (advanced m s) ≡ advanced (m + n) s
+unfolding advanced
+advanced-more s zero n = ap (λ k. advanced k s) (let e : n ≡ zero + n = omega arith in e)
+advanced-more s (suc m) n =
+    advanced-more (next_state s) m n ∙ ap (λ k. advanced k s) (let e : suc (m + n) ≡ suc m + n = omega arith in e)
+
+length-combined_from : (s : State) (xs : List ℕ) → length (combined_from s xs) ≡ length xs
+unfolding combined_from
+length-combined_from s [] = refl
+length-combined_from s (x ∷ xs) = ap suc (length-combined_from (next_state s) xs)
+
+-- after the piece of k bytes from place a on is combined, from the state s on: what is done and what is left
+pub combined_piece : (s t : State) (a k e : ℕ) (xs ys : List ℕ) → e ≡ a + k → e ≤ length xs → ys ≡ combined_from s (mid_of a k xs) → t ≡ advanced (length (mid_of a k xs)) s → take e (put_mid a k xs ys) ++ combined_from t (drop e (put_mid a k xs ys)) ≡ take a xs ++ combined_from s (drop a xs)
+combined_piece s t a k e xs ys end inside made moved =
+    let mid : List ℕ = mid_of a k xs in
+    let size : length mid ≡ k = length-take-le k (drop a xs) (omega (arith, length-drop a xs)) in
+    let long : length ys ≡ k = ap length made ∙ length-combined_from s mid ∙ size in
+    let front : take e (put_mid a k xs ys) ≡ take a xs ++ ys = take-put_mid a k xs ys e (omega arith) (omega arith) in
+    let back : drop e (put_mid a k xs ys) ≡ drop e xs = drop-put_mid a k xs ys e (omega arith) (omega arith) long in
+    let behind : drop e xs ≡ drop k (drop a xs) = ap (λ n. drop n xs) end ∙ sym (drop-drop k a xs) in
+    let split : combined_from s (drop a xs) ≡ combined_from s mid ++ combined_from (advanced (length mid) s) (drop k (drop a xs)) =
+    ap (combined_from s) (sym (take-append-drop k (drop a xs))) ∙ combined_from-append s mid (drop k (drop a xs)) in
+    ap (λ z. z ++ combined_from t (drop e (put_mid a k xs ys))) front
+    ∙ ap (λ z. (take a xs ++ ys) ++ combined_from t z) (back ∙ behind)
+    ∙ ap (λ z. (take a xs ++ z) ++ combined_from t (drop k (drop a xs))) made
+    ∙ ap (λ z. (take a xs ++ combined_from s mid) ++ combined_from z (drop k (drop a xs))) moved
+    ∙ append_assoc (take a xs) (combined_from s mid) (combined_from (advanced (length mid) s) (drop k (drop a xs)))
+    ∙ ap (λ z. take a xs ++ z) (sym split)
+
+-- the number of bytes that are left goes down by that of a piece
+pub advanced_piece : (s t : State) (a k e n : ℕ) (xs : List ℕ) → e ≡ a + k → e ≤ n → length xs ≡ n → t ≡ advanced (length (mid_of a k xs)) s → advanced (n - e) t ≡ advanced (n - a) s
+advanced_piece s t a k e n xs end inside len moved =
+    let size : length (mid_of a k xs) ≡ k = length-take-le k (drop a xs) (omega (arith, length-drop a xs)) in
+    ap (advanced (n - e)) (moved ∙ ap (λ m. advanced m s) size)
+    ∙ advanced-more s k (n - e)
+    ∙ ap (λ m. advanced m s) (let left : k + (n - e) ≡ n - a = omega arith in left)

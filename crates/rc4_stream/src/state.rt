@@ -3,7 +3,7 @@
 ghost use Rattle.std.specs.Prelude.{◌≡◌, ◌<◌, ◌≤◌, length};
 ghost use Rattle.std.specs.List.{range_with_len};
 ghost use Rattle.rc4_stream.specs.Rc4.{next_state, byte_of};
-ghost use Rattle.rc4_stream.specs.Steps.{state_at};
+ghost use Rattle.rc4_stream.specs.Steps.{state_at, combined_from, advanced};
 
 /// The table of 256 numbers and the places i and j.
 #[derive(Drop)]
@@ -26,7 +26,6 @@ fn ordered_table() -> [u8; 256]
 
 impl Cells {
     ghost use Rattle.rc4_stream.specs.CellStates.{state_of};
-    ghost use Rattle.rc4_stream.specs.Steps.{combined_from, advanced};
     ghost use Rattle.rc4_stream.specs.Rc4.{state_after};
 
     /// The state before the first byte of a key.
@@ -50,14 +49,30 @@ impl Cells {
         ensures bytes { bytes.new ≡ combined_from (state_of self.old) bytes.old }
         ensures state { state_of self.new ≡ advanced (length bytes.old) (state_of self.old) }
     {
-        // The places are local, so that they stay in registers beside the writes to the bytes.
+        // The places are local, so that they stay in registers beside the writes to the bytes. Eight bytes a turn: the
+        // compiler writes a piece of a length that it knows out without a loop.
         let mut i = self.i;
         let mut j = self.j;
-        for byte in bytes.iter_mut() {
-            *byte ^= next_byte(&mut self.table, &mut i, &mut j);
+        let mut at = 0;
+        while bytes.len() - at >= 8 {
+            combine_piece(&mut self.table, &mut i, &mut j, &mut bytes[at..at + 8]);
+            at += 8;
         }
+        combine_piece(&mut self.table, &mut i, &mut j, &mut bytes[at..]);
         self.i = i;
         self.j = j;
+    }
+}
+
+/// Combines a piece of the bytes with the next bytes of the key stream.
+#[inline(always)]
+fn combine_piece(table: &mut [u8; 256], i: &mut u8, j: &mut u8, bytes: &mut [u8])
+    ensures bytes { bytes.new ≡ combined_from (state_at table.old i.old j.old) bytes.old }
+    ensures state { state_at table.new i.new j.new
+        ≡ advanced (length bytes.old) (state_at table.old i.old j.old) }
+{
+    for byte in bytes.iter_mut() {
+        *byte ^= next_byte(table, i, j);
     }
 }
 
