@@ -21,6 +21,10 @@ use ndr_codec::{Writer, write_unique_text};
 use std::alloc::Global;
 use wire_base::{Authenticator, Blob, NoMemory, Units};
 
+/// The bytes for which room is taken before a stub is written. Those of a logon with short names, and of what is granted
+/// to a user in a few groups, are fewer; a longer stub takes more as it grows.
+const STUB_ROOM: usize = 512;
+
 #[tactic(auto, unfolding(crate::specs::Writing::put_challenge_call))]
 fn write_challenge_call(writer: &mut Writer, value: &ChallengeCall) -> Result<(), NoMemory>
     requires primary { IfThere FitsText value.now.primary }
@@ -220,7 +224,7 @@ pub fn write_call(alloc: Global, call: &Call) -> Result<Blob, NoMemory>
     ensures layout { IfOk result (λ stub. IsCall (opnum_of_call call.now) stub call.now) }
     ensures again { IfOk result (λ stub. call_of (opnum_of_call call.now) stub ≡ Ok call.now) }
 {
-    let mut writer = Writer::new(alloc);
+    let mut writer = Writer::with_room(alloc, STUB_ROOM)?;
     write_call_parameters(&mut writer, call)?;
     Ok(writer.finish())
 }
@@ -235,7 +239,7 @@ pub fn write_reply(alloc: Global, reply: &Reply) -> Result<Blob, NoMemory>
     ensures layout { IfOk result (λ stub. IsReply (opnum_of_reply reply.now) stub reply.now) }
     ensures again { IfOk result (λ stub. reply_of (opnum_of_reply reply.now) stub ≡ Ok reply.now) }
 {
-    let mut writer = Writer::new(alloc);
+    let mut writer = Writer::with_room(alloc, STUB_ROOM)?;
     write_reply_parameters(&mut writer, reply)?;
     Ok(writer.finish())
 }

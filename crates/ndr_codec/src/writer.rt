@@ -47,6 +47,18 @@ impl Writer {
         }
     }
 
+    /// A writer of an empty stub, with room for that many bytes: up to them it takes no memory for the stub itself any
+    /// more.
+    pub fn with_room(alloc: Global, room: usize) -> Result<Writer, NoMemory>
+        ensures { IfOk result (λ writer. writer ≡ nothing) }
+    {
+        Ok(Writer {
+            alloc,
+            bytes: Vec::with_capacity(alloc, room)?,
+            pointers: 0,
+        })
+    }
+
     /// Puts a byte.
     pub fn byte(&mut self, value: u8) -> Result<(), NoMemory>
         ensures exact { OnOk result (self.new ≡ put byte value self.old) }
@@ -146,7 +158,7 @@ impl Writer {
     {
         let bytes = bytes.bytes();
         are_bytes(bytes);
-        let mut item = array_front(self.alloc, bytes.len() as u32)?;
+        let mut item = array_front(self.alloc, bytes.len() as u32, bytes.len())?;
         item.extend_from_slice(bytes)?;
         append(&mut self.bytes, 4, &item)
     }
@@ -202,11 +214,13 @@ fn append(bytes: &mut Vec<u8>, alignment: usize, item: &[u8]) -> Result<(), NoMe
     Ok(())
 }
 
-/// The head of an array of that many items, the maximum and the actual count: a new list of bytes.
-fn array_front(alloc: Global, count: u32) -> Result<Vec<u8>, AllocError>
+/// The head of an array of that many items, the maximum and the actual count: a new list of bytes, with room for that
+/// many bytes behind it.
+fn array_front(alloc: Global, count: u32, room: usize) -> Result<Vec<u8>, AllocError>
+    requires { room < 2 ^ 34 }
     ensures { IfOk result (λ item. item.items ≡ array_head count 0 count) }
 {
-    let mut item = Vec::new(alloc);
+    let mut item = Vec::with_capacity(alloc, 12 + room)?;
     item.extend_from_slice(&count.to_le_bytes())?;
     item.extend_from_slice(&[0; 4])?;
     item.extend_from_slice(&count.to_le_bytes())?;
@@ -221,7 +235,7 @@ fn text_bytes(alloc: Global, units: &[u16]) -> Result<Vec<u8>, AllocError>
         item.items ≡ array_head count 0 count ++ utf16_of (units.now ++ 0 ∷ [])) }
     ensures units { AreUnits units.now }
 {
-    let mut item = array_front(alloc, units.len() as u32 + 1)?;
+    let mut item = array_front(alloc, units.len() as u32 + 1, 2 * units.len() + 2)?;
     push_units(&mut item, units)?;
     item.extend_from_slice(&[0, 0])?;
     Ok(item)
@@ -234,7 +248,7 @@ fn counted_bytes_of(alloc: Global, units: &[u16]) -> Result<Vec<u8>, AllocError>
         item.items ≡ array_head (length units.now) 0 (length units.now) ++ utf16_of units.now) }
     ensures units { AreUnits units.now }
 {
-    let mut item = array_front(alloc, units.len() as u32)?;
+    let mut item = array_front(alloc, units.len() as u32, 2 * units.len())?;
     push_units(&mut item, units)?;
     Ok(item)
 }
@@ -259,7 +273,7 @@ fn sid_item(alloc: Global, sid: &Sid) -> Result<Vec<u8>, AllocError>
 {
     let numbers = sid.numbers();
     let count = numbers.len() as u8;
-    let mut item = Vec::new(alloc);
+    let mut item = Vec::with_capacity(alloc, 12 + 4 * numbers.len())?;
     item.extend_from_slice(&u32::from(count).to_le_bytes())?;
     item.extend_from_slice(&[1, count])?;
     item.extend_from_slice(&sid.authority().to_be_bytes()[2..])?;
