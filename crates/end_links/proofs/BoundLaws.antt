@@ -1,7 +1,7 @@
 -- How many challenges serving draws, and how long sends are.
-use Rattle.std.proofs.Common.{◌≡◌, ℕ, suc, ◌+◌, ◌*◌, ◌/◌, ◌≤◌, List, [], ◌∷◌, ◌++◌, length, map, Option, Some, None, Result, Ok, Err, refl, sym, ap, subst, arith}
-use Rattle.std.proofs.lemmas.List.{length-append}
-use Rattle.std.specs.List.{flat_map}
+use Rattle.std.proofs.Common.{◌≡◌, ◌∙◌, ℕ, suc, ◌+◌, ◌*◌, ◌/◌, ◌≤◌, List, [], ◌∷◌, ◌++◌, length, map, Option, Some, None, Result, Ok, Err, refl, sym, ap, subst, arith}
+use Rattle.std.proofs.lemmas.List.{length-append, append-nil}
+use Rattle.std.specs.List.{flat_map, AllByRecursion}
 use Rattle.outside.specs.declared.action.Action.{Action}
 use Rattle.outside.specs.declared.action.StepRefused.{StepRefused}
 use Rattle.outside.specs.declared.action.StepRefused.TheVariants.{Spent, Memory, Stopped}
@@ -11,11 +11,11 @@ use Rattle.rpc_units.specs.declared.refused.UnitRefused.{UnitRefused}
 use Rattle.rpc_units.specs.declared.unit.Trailer.{Trailer}
 use Rattle.rpc_units.specs.declared.unit.Unit.{Unit as RpcUnit}
 use Rattle.rpc_units.specs.Calls.{bytes_of_call}
-use Rattle.rpc_units.specs.Joining.{stub_of, cut_of, IsWholeCall}
+use Rattle.rpc_units.specs.Joining.{stub_of, stub_size, cut_of, IsWholeCall}
 use Rattle.rpc_units.specs.Stream.{cut_stream}
-use Rattle.rpc_units.specs.Writing.{value_len, written}
+use Rattle.rpc_units.specs.Writing.{value_len, written, HasValue, IsWritable}
 use Rattle.rpc_units.proofs.CutStreamLaws.{units_counted}
-use Rattle.rpc_units.proofs.CuttingLaws.{call_short}
+use Rattle.rpc_units.proofs.CuttingLaws.{call_short, cut_short, cut_whole, cut_writable}
 use Rattle.end_links.specs.Bounds.{IsShortSend, AreShortSends, ServerDrawsFew, StepsBounded, extra_on, extra_after}
 use Rattle.end_links.specs.Links.{LinkState}
 use Rattle.end_links.specs.Sending.{frames_of, joined_frames}
@@ -44,6 +44,23 @@ plain_short unit limit whole none least = call_short unit limit whole.stub least
 pub frames_short : (unit : RpcUnit) (limit : ℕ) → IsWholeCall unit → unit.trailer ≡ None → 1432 ≤ limit →
     8 * length (joined_frames (frames_of unit limit)) ≤ 9 * length (stub_of unit.body) + 408
 frames_short unit limit whole none least = rw (frames_joined unit limit) (plain_short unit limit whole none least)
+
+-- ---- a call without a trailer that one unit carries
+
+pub one_bytes : (unit : RpcUnit) (limit : ℕ) → IsWholeCall unit → length (stub_of unit.body) ≤ stub_size limit → bytes_of_call unit limit ≡ written unit
+one_bytes unit limit whole one = ap (flat_map written) (cut_whole unit limit whole one) ∙ append-nil (written unit)
+
+pub one_writable : (unit : RpcUnit) (limit : ℕ) → IsWholeCall unit → unit.trailer ≡ None → 1432 ≤ limit → length (stub_of unit.body) ≤ stub_size limit → IsWritable unit
+one_writable unit limit whole none least one =
+    (subst (AllByRecursion IsWritable) (cut_whole unit limit whole one)
+    (cut_writable unit limit whole.stub (subst HasValue (sym none) tt) (omega arith))).0
+
+pub one_short : (unit : RpcUnit) (limit : ℕ) → IsWholeCall unit → unit.trailer ≡ None → 1432 ≤ limit → limit ≤ 5840 → length (stub_of unit.body) ≤ stub_size limit → length (written unit) ≤ 5840
+one_short unit limit whole none least most one =
+    let each = subst (AllByRecursion (λ u. length (written u) + 16 ≤ limit + value_len unit.trailer)) (cut_whole unit limit whole one)
+    (cut_short unit limit whole.stub (omega arith)) in
+    let plain : value_len unit.trailer ≡ 0 = ap value_len none in
+    omega (arith, each.0, plain)
 
 -- ---- challenges
 

@@ -3,11 +3,11 @@
 ghost use Rattle.std.specs.Prelude.{◌≡◌, ◌≤◌, ◌<◌, ◌+◌, ◌*◌, ◌^◌, ◌++◌, IfOk, OnOk, length, None, map};
 ghost use Rattle.std.specs.List.{flat_map, AllByRecursion};
 ghost use Rattle.rpc_units.specs.Calls.{bytes_of_call};
-ghost use Rattle.rpc_units.specs.Joining.{cut_of, stub_of, IsWholeCall};
+ghost use Rattle.rpc_units.specs.Joining.{cut_of, stub_of, stub_size, IsWholeCall};
 ghost use Rattle.rpc_units.specs.Writing.{written, IsWritable, IsShortBody};
 ghost use Rattle.end_links.specs.Sending.{frames_of, joined_frames, request_of, response_of, fault_of};
 
-use rpc_units::{Body, Unit, UnitWriteRefused, cut_call, write_unit};
+use rpc_units::{Body, Unit, UnitWriteRefused, cut_call, stub_of, write_unit};
 use std::alloc::Global;
 use wire_base::{Blob, Frames, NoMemory};
 
@@ -46,12 +46,28 @@ fn cut_bytes(alloc: Global, unit: &Unit, limit: u16) -> Result<Blob, NoMemory>
     requires most { limit ≤ 5840 }
     ensures { IfOk result (λ bytes. bytes ≡ bytes_of_call unit.now limit) }
 {
+    if stub_of(&unit.body).len() <= usize::from((limit - 48) / 8 * 8) {
+        return one_bytes(alloc, unit, limit);
+    }
     let units = cut_call(alloc, unit, limit)?;
     let mut bytes = Vec::new(alloc);
     for unit in units.items() {
         push_unit(alloc, &mut bytes, unit)?;
     }
     Ok(Blob::from_vec(bytes))
+}
+
+/// The bytes of a call that one unit carries, without a copy of its stub in between.
+#[tactic(auto, using(crate::proofs::BoundLaws::one_writable))]
+fn one_bytes(alloc: Global, unit: &Unit, limit: u16) -> Result<Blob, NoMemory>
+    requires whole { IsWholeCall unit.now }
+    requires plain { unit.now.trailer ≡ None }
+    requires least { 1432 ≤ limit }
+    requires most { limit ≤ 5840 }
+    requires one { length (stub_of unit.now.body) ≤ stub_size limit }
+    ensures { IfOk result (λ bytes. bytes ≡ bytes_of_call unit.now limit) }
+{
+    unit_bytes(alloc, unit)
 }
 
 /// The frames of a call, likewise.

@@ -206,6 +206,26 @@ pub cut_short : (unit : RpcUnit) (limit : ℕ) → HasStub unit.body → 56 ≤ 
 cut_short unit limit h least =
     cut_each (λ u. length (written u) + 16 ≤ limit + value_len unit.trailer) unit limit least (λ first last stub short. fragment_short unit limit first last stub h (omega arith) short)
 
+-- ---- a call that one unit carries
+
+own_stub : (body : Body) → with_stub body (stub_of body) ≡ body
+own_stub (Request hint context opnum stub) = refl
+own_stub (Response hint context stub) = refl
+own_stub (Bind send receive group contexts) = refl
+own_stub (BindAck send receive group results) = refl
+own_stub (BindNak reason) = refl
+own_stub Auth3 = refl
+own_stub (Fault hint context status) = refl
+
+own_fragment : (unit : RpcUnit) → IsWholeCall unit → fragment unit true true (stub_of unit.body) ≡ unit
+own_fragment unit whole = λ i. record unit { first = sym whole.first i; last = sym whole.last i; body = own_stub unit.body i }
+
+pub cut_whole : (unit : RpcUnit) (limit : ℕ) → IsWholeCall unit → length (stub_of unit.body) ≤ stub_size limit → cut_of unit limit ≡ unit ∷ []
+unfolding cut_of
+cut_whole unit limit whole short =
+    fragments_end (length (stub_of unit.body)) unit (stub_size limit) true (stub_of unit.body) short
+    ∙ ap (λ (u : RpcUnit). u ∷ []) (own_fragment unit whole)
+
 -- ---- the fragments can be written
 
 writable_parts : (body : Body) (stub : List ℕ) (first last : Bool) → HasStub body → HasPieces (with_stub body stub) first last × HasCounts (with_stub body stub)
