@@ -1,13 +1,14 @@
 #!/usr/bin/env python3
 """How the servers do over TCP: logons a second and processor time a logon at a controller, over one link and over many
-at once, the time of nt_logon from its start to `in`, and how long a dial that hangs holds the other links of a member
-server.
+at once, beside those of a bare loop in C (bench/bare.c) in the same run; the time of nt_logon from its start to `in`;
+and how long a dial that hangs holds the other links of a member server.
 
 usage: links.py FOLDER [one]      FOLDER has the three programs; `one`: over one link alone, for programs that serve no
 more
 
 The requests are made before the time is taken, by the Python world of cases/. Processor time is what /proc tells of the
-server's process. Each wait has an end, and what was started is stopped."""
+server's process. Each wait has an end, and what was started is stopped. The bare loop reads a request of 392 bytes and
+writes a reply of 512, as a logon has them; without a C compiler its lines are left out."""
 
 import os
 import selectors
@@ -28,6 +29,7 @@ from sessions import desl
 SECRET, HASH, ASKED, CLIENT = b"\x41" * 16, b"\x11" * 16, bytes(range(8)), bytes.fromhex("1011121314151617")
 MANY, SILENT, ROUNDS = 64, 200, 5
 LIMIT = 30
+REQUEST, REPLY = 392, 512
 
 
 def free_port():
@@ -112,6 +114,28 @@ def processor(process):
         return int(told.read().split()[0]) / 1e9
 
 
+class Exchanges:
+    """A link to the bare loop, and the exchanges that are left on it."""
+
+    def __init__(self, port):
+        self.link = connect(port)
+
+    def prepare(self, count):
+        self.left, self.held = count, 0
+
+    def send(self, count):
+        count = min(count, self.left)
+        self.left -= count
+        if count:
+            self.link.sendall(bytes(REQUEST) * count)
+
+    def take(self):
+        """Takes what came, and tells how many replies were whole."""
+        self.held += len(self.link.recv(65536))
+        count, self.held = divmod(self.held, REPLY)
+        return count
+
+
 def run(server, members, depth, count):
     """Logons a second, and microseconds of the server's processor for each."""
     for member in members:
@@ -140,6 +164,16 @@ def best(server, members, depth, count):
     rounds = [run(server, members, depth, count) for _ in range(ROUNDS)]
     rates, times = sorted(rate for rate, _ in rounds), sorted(time for _, time in rounds)
     return f"{rates[-1]:8.0f} a second at best, median {rates[ROUNDS // 2]:8.0f}; processor {times[0]:.1f} us at best, median {times[ROUNDS // 2]:.1f}"
+
+
+def bare_loop(folder):
+    """A bare loop, which listens, and its port; nothing where there is no C compiler."""
+    source, program, port = os.path.join(os.path.dirname(os.path.abspath(__file__)), "bare.c"), os.path.join(folder, "bare"), free_port()
+    try:
+        subprocess.run(["cc", "-O2", "-o", program, source], check=True)
+    except (OSError, subprocess.CalledProcessError):
+        return None, port
+    return subprocess.Popen([program, str(port)]), port
 
 
 class Domain:
@@ -232,7 +266,14 @@ def main():
         try:
             server = domain.controller()
             first = Member(domain.port, 0)
+            bare, bare_port = bare_loop(folder)
+            if bare:
+                domain.started.append(bare)
+                loop = Exchanges(bare_port)
+                print("bare loop, one under way:        ", best(bare, [loop], 1, 10000))
             print("one link, one logon under way:   ", best(server, [first], 1, 10000))
+            if bare:
+                print("bare loop, 16 under way:         ", best(bare, [loop], 16, 30000))
             print("one link, 16 under way:          ", best(server, [first], 16, 30000))
             if not alone:
                 first.link.close()

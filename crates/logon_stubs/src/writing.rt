@@ -21,8 +21,8 @@ use ndr_codec::{Writer, write_unique_text};
 use std::alloc::Global;
 use wire_base::{Authenticator, Blob, NoMemory, Units};
 
-/// The bytes for which room is taken before a stub is written. Those of a logon with short names, and of what is granted
-/// to a user in a few groups, are fewer; a longer stub takes more as it grows.
+/// The bytes for which room is taken before a stub is written. A logon with short names has fewer, and so has what is
+/// granted to a user in a few groups; a longer stub takes more as it grows.
 const STUB_ROOM: usize = 512;
 
 #[tactic(auto, unfolding(crate::specs::Writing::put_challenge_call))]
