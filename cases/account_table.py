@@ -9,11 +9,14 @@ look-ups 16-bit units.
 
 `table.steps DOCUMENT STEP..` changes a table: `set_count,AT,COUNT`, `set_hash,AT,HASH`, `count,AT`, `hash,AT` (and
 whether it was set),
-`secrets`, `apply,TEXT`; and collects changes: `change,AT,COUNT`, `count_with,AT`, `commit`.
+`secrets`, `apply,TEXT`; and collects changes: `change,AT,COUNT`, `change_hash,AT,HASH`, `count_with,AT`,
+`state_with,AT` (the count, the hash, and whether it was set), `secrets_with`, `commit`.
 
 The document and its refusals are this project's own choice (docs/FORMATS.md, "Account table"); the answers were worked
 out from that table by hand.
 """
+
+import copy
 
 from documents import (
     ANN,
@@ -469,17 +472,37 @@ class Changing:
         return "Ok(())"
 
     def change(self, at, count):
-        self.changes.append((at, count))
+        self.changes.append(("count", at, count))
         return "done"
 
+    def change_hash(self, at, digits):
+        if self.has(at) and at < self.users:
+            return "not to be done"
+        self.changes.append(("hash", at, digits))
+        return "done"
+
+    def after(self):
+        """The table as the changes leave it: each is made behind those before it, and past the last account none."""
+        table = copy.deepcopy(self)
+        table.commit()
+        return table
+
     def count_with(self, at):
-        """The last change of the account holds."""
-        last = [self.counts[at]] if self.has(at) else None
-        return f"Some({(last + [count for place, count in self.changes if place == at])[-1]})" if last else "None"
+        return self.after().count(at)
+
+    def state_with(self, at):
+        table = self.after()
+        return f"{table.counts[at]} {array(table.hashes[at])} {truth(table.marks[at])}" if self.has(at) else "None"
+
+    def secrets_with(self):
+        return self.after().secrets()
 
     def commit(self):
-        for at, count in self.changes:
-            self.set_count(at, count)
+        for what, at, value in self.changes:
+            if what == "count":
+                self.set_count(at, value)
+            else:
+                self.set_hash(at, value)
         self.changes = []
         return "done"
 
@@ -510,6 +533,24 @@ def of_changes():
          ("change", 0, 4), ("count_with", 0), ("commit",), ("count", 0), ("count", 1), ("commit",), ("count", 0))
     # Hashes of computers and trusts alone.
     one, two = "0f" * 16, "e1" * 16
+    states = [("state_with", at) for at in range(6)]
+    case(*states, ("secrets_with",))
+    # Changes of hashes, among those of counts: the text has what the changes leave, and before they are made nothing
+    # else has.
+    case(("change_hash", 2, one), ("secrets_with",), ("secrets",), ("hash", 2), *states, ("change", 2, 3), ("change", 0, 5), *states,
+         ("change_hash", 2, two), ("secrets_with",), *states, ("count_with", 2), ("commit",), ("secrets",), ("hash", 2), ("count", 2), ("count", 0),
+         ("secrets_with",), *states)
+    case(("change_hash", 4, two), ("change_hash", 2, one), ("secrets_with",), ("change_hash", 4, one), ("secrets_with",), ("commit",), ("secrets",),
+         ("change_hash", 3, two), ("secrets_with",), ("secrets",), ("commit",), ("commit",), ("secrets",))
+    # Beside hashes that were set before, and the same hash again.
+    case(("set_hash", 3, one), ("change_hash", 3, two), ("secrets_with",), ("secrets",), ("change_hash", 2, FILE1["hash"]), ("secrets_with",),
+         ("commit",), ("secrets",), ("hash", 2), ("apply", f"FILE1$ {one}\n"), ("change_hash", 4, two), ("secrets_with",), ("state_with", 2))
+    # A text that is applied meanwhile, and a hash that is set meanwhile, stand before the changes.
+    case(("change_hash", 2, one), ("apply", f"FILE1$ {two}\nNORTH$ {two}\n"), ("secrets",), ("secrets_with",), ("set_hash", 2, "33" * 16),
+         ("state_with", 2), ("commit",), ("secrets",))
+    # Past the last account they change nothing; of users none is made here.
+    case(("change_hash", 5, one), ("change_hash", 4294967295, one), ("secrets_with",), *states, ("commit",), ("secrets",), ("change_hash", 0, one),
+         ("change_hash", 1, one), ("secrets_with",), ("state_with", 0))
     case(*[("hash", at) for at in range(6)])
     case(("set_hash", 0, one), ("set_hash", 1, one), ("set_hash", 2, one), ("set_hash", 5, one), *[("hash", at) for at in range(5)], ("secrets",))
     case(("secrets",), ("set_hash", 4, two), ("set_hash", 2, one), ("secrets",), ("set_hash", 2, two), ("secrets",), ("count", 2))

@@ -1,14 +1,16 @@
 """Cases of controller_calls.
 
-`calls.run DOCUMENT NAME COMPUTERS STEP ..`: calls that a controller of this table and name answers one after the other,
-as in one event. `challenge/STUB/SERVER` is a call by its stub and the server challenge of its answer,
-`authenticate/STUB` and `logon/STUB` are one by its stub. `fault/STATUS` answers a call by a fault of that status (8 hex
-digits), and `tell/ACTION` tells an action of `controller.line`. `on/LINK/CALL/CONTEXT/LIMIT` sets where the calls
-behind it are answered (on link 1, call 2, context 0, in fragments of 5,840 bytes before), and `at/MOMENT` the moment,
-which is 0 before. The answer has the actions in order, as of `controller.run`, and the counts of bad passwords as the
-changes leave them, users first. For each of COMPUTERS (texts, joined by commas) follow the challenges that wait,
-`CLIENT/SERVER`, and the key of its channel, each `-` where there is none. `calls.fault CALL CONTEXT STATUS`: the bytes
-of a fault.
+`calls.run DOCUMENT NAME COMPUTERS STEP ..`: calls that a controller of this table and name answers one after the
+other, as in one event. `challenge/STUB/SERVER` is a call by its stub and the server challenge of its answer,
+`authenticate/STUB`, `logon/STUB`, `logoff/STUB` and `set/STUB` are one by its stub: a logon and a logoff at level 1
+or 2. `fault/STATUS` answers a call by a fault of that status (8 hex digits), and `tell/ACTION` tells an action of
+`controller.line`. `fill/COMPUTER/USER/COUNT` opens so many sessions, with logon ids from 0 on.
+`on/LINK/CALL/CONTEXT/LIMIT` sets where the calls behind it are answered (on link 1, call 2, context 0, in fragments
+of 5,840 bytes before), and `at/MOMENT` the moment, which is 0 before. The answer has the actions in order, as of
+`controller.run`, and the counts of bad passwords as the changes leave them, users first. For each of COMPUTERS
+(texts, joined by commas) follow the challenges that wait, `CLIENT/SERVER`, and the key of its channel, each `-` where
+there is none. `calls.left` with the same words: the text of the secrets that are set, as the changes leave them, how
+many sessions stand, and the last four of them. `calls.fault CALL CONTEXT STATUS`: the bytes of a fault.
 
 The actions are worked out by `domain_controller.py`, from the rules of docs/FORMATS.md ("The controller"), MS-NRPC
 3.1.4 and 3.5.4 and the layouts of C706 12.6. Calls of the recorded link between Samba's client and its controller are
@@ -16,14 +18,17 @@ among those that are answered.
 """
 
 from channel_client import plus
-from documents import ANN, BOB, EVE, FILE1, FILE2, HEAD, PDC2
-from domain_controller import ACCESS_DENIED, BAD_STUB, DOWNGRADE_DETECTED, DRAWS, INVALID_INFO_CLASS, LEVELS, NO_TRUST_SAM_ACCOUNT, NOW
-from domain_controller import OUT_OF_RANGE, PROTOCOL_ERROR, SUPPORTED, WRONG, ZEROS, Controller, fault_of, key_of, statuses, upper, utf16
-from forms import agree, line, live_calls, values
-from logon_stubs import AUTHENTICATE, CHALLENGE, LOGON, read, write
+from documents import ANN, BOB, EVE, FILE1, FILE2, HEAD, NORTH, PDC2
+from domain_controller import ACCESS_DENIED, BAD_STUB, DOWNGRADE_DETECTED, DRAWS, INSUFFICIENT_RESOURCES, INVALID_INFO_CLASS, LEVELS
+from domain_controller import NO_SUCH_LOGON_SESSION, NO_TRUST_SAM_ACCOUNT, NOW, ONE, OUT_OF_RANGE, PROTOCOL_ERROR, SESSIONS, SET, SHUT, SOUTH
+from domain_controller import SUPPORTED, TWO, WRONG, ZEROS, Controller, call_of, fault_of, key_of, statuses, upper, utf16
+from forms import agree, line, live_calls, struct, units_of, values
+from logon_stubs import AUTHENTICATE, CHALLENGE, LOGOFF, LOGON, write
 from rpc_units import LIMIT
 from rpc_units import write as write_unit
-from sam_logon import respond_v2
+from sam_logon import STATUS, respond_v2
+from secret_change import HIDDEN
+from set_stubs import hidden_by, shown_by
 from wire import steps
 
 # The least limit of a fragment that a bind agrees on.
@@ -37,6 +42,10 @@ class Desk(Controller):
         super().__init__(challenges=challenges, **how)
         self.computers, self.place, self.made = computers, (1, 2, 0, LIMIT), []
         self.words[2] = ",".join(utf16(computer).hex() for computer in computers)
+
+    def left_case(self):
+        last = [struct("Session", computer=units_of(computer.hex()), user=units_of(user.hex()), logon_id=number) for computer, user, number in self.sessions[-4:]]
+        return line("calls.left", *self.words), steps([self.secrets() or "-", str(len(self.sessions)), f"[{', '.join(last)}]"])
 
     def case(self):
         counts = ",".join(str(count) for count in self.counts + [0] * len(self.machines))
@@ -62,9 +71,10 @@ class Desk(Controller):
         stub = fields if isinstance(fields, bytes) else write("call", opnum, fields).stub
         name, answer = {
             CHALLENGE: ("challenge", self.challenge), AUTHENTICATE: ("authenticate", self.authenticate), LOGON: ("logon", self.logon),
+            LOGOFF: ("logoff", self.logoff), SET: ("set", self.set),
         }[opnum]
         self.words.append(f"{name}/{stub.hex()}" + (f"/{self.draws[0].hex()}" if opnum == CHALLENGE else ""))
-        fields = answer(read("call", opnum, stub)[0])
+        fields = answer(call_of(opnum, stub))
         self.made.append((opnum, fields))
         self.reply(*self.place, opnum, fields)
         return self
@@ -77,6 +87,21 @@ class Desk(Controller):
 
     def logs_on(self, user="ann", **fields):
         return self.call(LOGON, self.logon_call(user, **fields))
+
+    def sets(self, *secret, **fields):
+        return self.call(SET, self.set_call(*secret, **fields))
+
+    def logs_on_at(self, user="ann", **fields):
+        return self.call(LOGON, self.interactive_stub(LOGON, user, **fields))
+
+    def logs_off(self, user="ann", **fields):
+        return self.call(LOGOFF, self.interactive_stub(LOGOFF, user, **fields))
+
+    def fills(self, computer, user, count):
+        self.words.append(f"fill/{utf16(computer).hex()}/{utf16(user).hex()}/{count}")
+        free = max(SESSIONS - len(self.sessions), 0)
+        self.sessions += [(upper(utf16(computer)), upper(utf16(user)), number) for number in range(min(count, free))]
+        return self
 
     def fails(self, status):
         link, number, context, _ = self.place
@@ -240,6 +265,97 @@ def count_cases():
     return out
 
 
+# ---- NetrServerPasswordSet
+
+
+def network_logoff(end, **fields):
+    """The stub of a logoff at level 2."""
+    call = end.logon_call(**fields)
+    del call["validation"]
+    return write("call", LOGOFF, call).stub
+
+
+def set_cases():
+    out = []
+    # in one event: a change, logons and an opening behind it, by the new secret
+    end = Desk().channel_open().sets(ONE).logs_on(timestamp=1).channel_open(client="aa" * 8).sets(TWO, timestamp=2)
+    assert judged(end) == ["judged Passed(0)"] * 3 and end.replies(AUTHENTICATE)[-1]["status"] == 0
+    out += [end.case(), end.left_case()]
+    # no channel, another authenticator, and another account: each has its reply
+    for fields, how, status in (
+        ({"computer": "FILE2"}, "NoChannel", ACCESS_DENIED), ({"authenticator": (b"\x55" * 8, 1)}, "Barred", ACCESS_DENIED), ({}, "Passed(0)", 0),
+        ({"account": utf16("FILE2$")}, f"Passed({NO_TRUST_SAM_ACCOUNT})", NO_TRUST_SAM_ACCOUNT), ({"channel": 6}, f"Passed({NO_TRUST_SAM_ACCOUNT})", NO_TRUST_SAM_ACCOUNT),
+    ):
+        end = Desk(("FILE1", "FILE2")).channel_open().sets(ONE, **fields)
+        (returned, timestamp), told = end.replies(SET)[-1]
+        assert judged(end) == [f"judged {how}"] and (told, timestamp) == (status, 0) and (returned == ZEROS) == (status == ACCESS_DENIED)
+        out += [end.case(), end.left_case()]
+    # a Keep stands before what is told and sent
+    end = Desk().on(3, 9, 5, LEAST).channel_open().sets(ONE)
+    assert [action.split(" ")[0] for action in end.actions[-3:]] == ["keep", "judged", "send"]
+    out += [end.tells("keep", f"keep {b'text'.hex()}").sets(TWO, timestamp=1).case(), end.left_case()]
+    # trusts: what the call names is set, where it lists the computer and isn't disabled
+    for account in ("NORTH$", "SOUTH$", "SHUT$"):
+        end = Desk(("NDC1",), machines=(FILE1, NORTH, SOUTH, SHUT)).channel_open("NDC1", account=utf16("NORTH$"), channel=4)
+        out += [end.sets(ONE, computer="NDC1", account=utf16(account), channel=4).case(), end.left_case()]
+    # what is published of a secret that is hidden
+    for key, secret, hidden in HIDDEN:
+        agree(lambda: hidden_by(bytes.fromhex(key), bytes.fromhex(secret)).hex(), hidden, "a hidden secret")
+        agree(lambda: shown_by(bytes.fromhex(key), bytes.fromhex(hidden)).hex(), secret, "a hidden secret")
+    return out
+
+
+# ---- logons and logoffs at level 1
+
+
+def interactive_cases():
+    out = []
+    # a session opens at what is granted, and ends at its logoff
+    end = Desk().at(NOW).channel_open().logs_on_at().logs_on_at("BOB", timestamp=1, info={"logon_id": 2**64 - 1}).logs_on_at("eve", timestamp=2)
+    assert judged(end) == ["judged Passed(0)"] * 2 + [f"judged Passed({STATUS['no such user']})"] and len(end.sessions) == 2
+    out += [end.case(), end.left_case()]
+    end.logs_off("Ann", timestamp=3)
+    out += [end.left_case(), end.logs_off("ann", timestamp=4).case(), end.left_case()]
+    # a level that isn't served, a network logon, and a logoff at level 2 leave the sessions
+    end = Desk().at(NOW).channel_open().fills("FILE1", "ann", 2).logs_on_at(validation=4).logs_on(timestamp=1)
+    end.call(LOGOFF, network_logoff(end, timestamp=2, info={"logon_id": 0}))
+    assert judged(end) == [f"judged Passed({INVALID_INFO_CLASS})", "judged Passed(0)", f"judged Passed({INVALID_INFO_CLASS})"]
+    out += [end.case(), end.left_case()]
+    # no channel, and another authenticator, at each kind
+    for fields, how in (({"computer": "FILE2"}, "NoChannel"), ({"named": {"computer": None}}, "NoChannel"), ({"named": {"authenticator": None}}, "NoChannel"),
+                        ({"named": {"authenticator": (ZEROS, 1)}}, "Barred")):
+        end = Desk(("FILE1", "FILE2")).channel_open().fills("FILE2", "ann", 8).fills("FILE1", "ann", 8).logs_on_at(**fields).logs_off(**fields)
+        assert judged(end) == [f"judged {how}"] * 2 and end.replies(LOGOFF) == [{"returned": None, "status": ACCESS_DENIED}]
+        out += [end.case(), end.left_case()]
+    return out + full_cases()
+
+
+def full_cases():
+    """10,000 sessions stand at most: the next logon that would be granted is refused, and counts as granted."""
+    out = []
+    for count in (SESSIONS - 2, SESSIONS - 1, SESSIONS, SESSIONS + 1):
+        room = max(SESSIONS - count, 0)
+        end = Desk().at(NOW).channel_open().fills("WS1", "bob", count)
+        for timestamp in range(3):
+            end.logs_on_at(timestamp=timestamp)
+        assert judged(end) == ["judged Passed(0)"] * room + [f"judged Passed({INSUFFICIENT_RESOURCES})"] * (3 - room)
+        assert all((reply["info"] is None) == (reply["status"] != 0) for reply in end.replies(LOGON))
+        out += [end.case(), end.left_case()]
+    # the count of bad passwords is as behind the verdict, and other refusals come before
+    end = Desk().at(NOW).channel_open().fills("FILE1", "bob", SESSIONS).logs_on_at(info={"nt": bytes(16)}).logs_on_at(timestamp=1, info={"nt": bytes(16)})
+    out.append(end.case())
+    assert end.counts == [2, 0]
+    end.logs_on_at(timestamp=2)
+    assert judged(end) == [f"judged Passed({STATUS['wrong password']})"] * 2 + [f"judged Passed({INSUFFICIENT_RESOURCES})"] and end.counts == [0, 0]
+    out += [end.case(), end.left_case()]
+    # network logons need no session; a logoff makes room for one
+    end = Desk().at(NOW).channel_open().fills("FILE1", "ann", SESSIONS).logs_on().logs_off(timestamp=1, info={"logon_id": SESSIONS}).logs_on_at(timestamp=2)
+    end.logs_off("ANN", timestamp=3, info={"logon_id": 5000}).logs_on_at("bob", timestamp=4).logs_on_at("bob", timestamp=5).logs_off(timestamp=6, info={"logon_id": 9999})
+    wanted = (0, NO_SUCH_LOGON_SESSION, INSUFFICIENT_RESOURCES, 0, 0, INSUFFICIENT_RESOURCES, 0)
+    assert judged(end) == [f"judged Passed({status})" for status in wanted]
+    return out + [end.case(), end.left_case()]
+
+
 # ---- actions and faults
 
 
@@ -333,6 +449,6 @@ def sequence_cases():
 def cases():
     """Each line and its answer."""
     return (
-        challenge_cases() + authenticate_cases() + logon_cases() + sequence_cases() + action_cases() + fault_cases() + line_cases()
+        challenge_cases() + authenticate_cases() + logon_cases() + set_cases() + interactive_cases() + sequence_cases() + action_cases() + fault_cases() + line_cases()
         + published_cases() + recorded_cases()
     )

@@ -71,14 +71,24 @@ def round_keys(key):
     return keys
 
 
+def ciphered(keys, block):
+    """What the rounds with these keys make of eight bytes."""
+    bits = permuted(bits_of(block), INITIAL)
+    left, right = bits[:32], bits[32:]
+    for key_bits in keys:
+        left, right = right, [bit ^ other for bit, other in zip(left, round_function(right, key_bits))]
+    return number(permuted(right + left, FINAL)).to_bytes(8, "big")
+
+
 @cache
 def des(key, block):
     """DES of eight bytes under a key of eight bytes, of which the lowest bit of each has no effect."""
-    bits = permuted(bits_of(block), INITIAL)
-    left, right = bits[:32], bits[32:]
-    for key_bits in round_keys(key):
-        left, right = right, [bit ^ other for bit, other in zip(left, round_function(right, key_bits))]
-    return number(permuted(right + left, FINAL)).to_bytes(8, "big")
+    return ciphered(round_keys(key), block)
+
+
+def undes(key, block):
+    """The eight bytes that DES under the key makes these of: the keys of the rounds in reverse order (FIPS 46-3)."""
+    return ciphered(round_keys(key)[::-1], block)
 
 
 def spread(key):

@@ -20,12 +20,15 @@ first scenarios are, and so is the drill of 100,000 moves that number 7 makes, w
 which a credential clashes, or a seed comes round, are made too, and are told as such.
 """
 
+import copy
+
 import forms
 import logon_client
 import world_marks
 from channel_client import credential
 from documents import ANN, BOB, EVE, FILE1, FILE2
 from forms import line, struct, units, word_of
+from rpc_units import PLAIN_BIND
 from wire import le, steps
 
 PIECE = 65536
@@ -62,7 +65,11 @@ class ControllerEnd:
         self.renew()
 
     def renew(self):
+        """It begins anew, with its accounts as they stand: their counts, and the secrets that were set."""
+        old = getattr(self, "end", None)
         self.end = world_marks.Controller(**self.made)
+        if old:
+            self.end.counts, self.end.hashes = old.counts, old.hashes
 
     def actions(self):
         found = []
@@ -72,8 +79,11 @@ class ControllerEnd:
                 found.append(("send", int(rest[0]), bytes.fromhex(rest[1])))
             elif name == "close":
                 found.append(("close", int(rest[0])))
-            else:
+            elif name == "judged":
                 found.append(("judged", rest[0].partition("(")[0]))
+            else:
+                # what is kept stands in its accounts
+                assert name == "keep"
         return found
 
 
@@ -662,6 +672,77 @@ def strangers():
     return [first, busy, late.run(onward)]
 
 
+def handed(script, step):
+    """What the controller's peer sends by that step, as its model has it, is handed in on the stranger's link, which is
+    the last one."""
+    world = script.world
+    told = copy.deepcopy(world.controllers[0].end)
+    told.draws = copy.deepcopy(world.challenges)
+    before = len(told.words)
+    step(told)
+    data = [bytes.fromhex(word.split("/")[2]) for word in told.words[before:] if word.startswith("bytes/")]
+    link = [place for place, each in enumerate(world.links) if each["kind"] != "to controller"].index(len(world.links) - 1)
+    for piece in data:
+        script.make("hand", link, False, piece)
+
+
+def stranger_as_file1(script, *steps):
+    """A stranger binds, opens FILE1's channel by the secret that the controller has, and makes these calls on it."""
+    script.make("stranger", 0)
+    handed(script, lambda end: end.bytes(PLAIN_BIND, len(script.world.links) - 1))
+    for step in (lambda end, link: end.asks(link=link), lambda end, link: end.authenticates(link), *steps):
+        handed(script, lambda end, step=step: step(end, len(script.world.links) - 1))
+    return script
+
+
+def counts_are(script, **wanted):
+    """A scenario whose counts are worked out by hand."""
+    assert {name: script.world.counts[name] for name in wanted} == wanted, script.world.counts
+    return script
+
+
+SET_ONE = lambda end, link: end.sets("61" * 16, link=link, timestamp=1)
+SET_OLD = lambda end, link: end.sets("41" * 16, link=link, timestamp=2)
+ON = lambda end, link: end.logs_on_at(link=link, timestamp=3)
+OFF = lambda end, link: end.logs_off(link=link, timestamp=4)
+BARRED = lambda end, link: end.logs_off(link=link, named={"authenticator": (bytes(8), 4)})
+
+
+def strangers_set():
+    """A stranger that knows FILE1's secret changes it: the member, which keeps the old one, opens no channel more, also
+    once either is made anew; it does where the stranger sets the old one again. And a stranger's logons and logoffs at
+    level 1, which count as passed or barred."""
+    def again(script):
+        script.make("start", 0)
+        return script.run(onward)
+
+    denied = again(stranger_as_file1(Script(one_logon()), SET_ONE))
+    counts_are(denied, accepted=0, no_controller=1, passed=1, barred=0)
+    for end in (1, 0):
+        denied.make("restart", end)
+        again(denied)
+    counts_are(denied, accepted=0, no_controller=3, passed=1, barred=0)
+    # the controller that was made anew has the new secret: a stranger opens by it, and sets the old one
+    granted = again(stranger_as_file1(denied, SET_OLD))
+    counts_are(granted, accepted=1, no_controller=3, passed=3, barred=0)
+    # at level 1, and then ann at the member, which opens a channel of its own
+    between = stranger_as_file1(Script(one_logon()), ON, OFF, OFF, BARRED, ON)
+    counts_are(between, passed=4, barred=1, accepted=0)
+    again(between)
+    counts_are(between, passed=5, barred=1, accepted=1)
+    # on that channel a stranger is barred with another authenticator; it passes with the next one, and then the member
+    # is barred
+    late = again(Script(one_logon()))
+    late.make("stranger", 0)
+    handed(late, lambda end: end.bytes(PLAIN_BIND, len(late.world.links) - 1))
+    for step in (BARRED, ON, SET_ONE):
+        handed(late, lambda end, step=step: step(end, len(late.world.links) - 1))
+    counts_are(late, passed=3, barred=1, accepted=1)
+    again(late)
+    counts_are(late, passed=3, barred=2, accepted=1, no_controller=1)
+    return [denied, between, late]
+
+
 def ticks():
     """Moments at which ann may log on, and past 2^63."""
     expiring = ANN | {"expires": NOW + 10}
@@ -801,6 +882,6 @@ def cases():
     check_clearness()
     scripts = [counted(scenario, wanted) for scenario, wanted in WANTED] + logon_scripts()
     scripts += [twice_delivered(), misdelivered(), controller_restarts()]
-    scripts += one_at_a_time() + broken_scripts() + address_scripts() + strangers() + ticks() + idle_scripts()
+    scripts += one_at_a_time() + broken_scripts() + address_scripts() + strangers() + strangers_set() + ticks() + idle_scripts()
     drills = [drilled(number, count) for number, count in ((7, 2000), (1, 1), (1, 500), (2, 500), (3, 500), (2**64 - 1, 300))]
     return [case_of(script) for script in scripts] + drills + [made(number, count) for number, count in ((1, 1), (7, 200), (0, 50), (2**64 - 1, 50), (5, 0))]

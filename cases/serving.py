@@ -160,14 +160,21 @@ def of_challenges():
 
 
 def of_lines():
-    """A line is put for each logon call that is judged, before its reply is sent; where the sink fails nothing later is
-    done."""
+    """A line is put for each call on a channel that is judged, before its reply is sent; where the sink fails nothing
+    later is done. A secret that is set is written to no file."""
     none = lambda: Controller(challenges=DRAWS).bound().logs_on()
     logons = lambda: Controller(challenges=DRAWS).bound().channel_open().logs_on().logs_on("nobody", timestamp=1).logs_on(timestamp=5, info={"nt": b"\x11" * 24})
     barred = Controller(challenges=DRAWS).bound().channel_open()
     call = barred.logon_call()
     barred.call(LOGON_CALL, call).call(LOGON_CALL, call)
+    kinds = Controller(challenges=DRAWS).bound().sets().channel_open().sets().sets(timestamp=1, account=b"").logs_on_at(timestamp=2).logs_off(timestamp=3)
+    kinds.logs_off(timestamp=4).logs_off(named={"authenticator": (bytes(8), 1)})
+    assert [line_put(action) for answer in kinds.answers for action in answer.split(",") if line_put(action)] == [
+        "no channel\n", "passed 00000000\n", "passed c000018b\n", "passed 00000000\n", "passed 00000000\n", "passed c000005f\n", "barred\n"]
     return [
+        played(kinds),
+        stopped(kinds, 1),
+        stopped(kinds, 4),
         played(none()),
         stopped(none(), 0),
         played(logons()),

@@ -8,8 +8,9 @@ computer's name ends at a place that isn't a multiple of 4. Two bytes of padding
 which is a structure with a number of 32 bits in it.
 """
 
+from des import des, spread, undes
 from forms import array, err, line, ok, option, struct, units_of
-from ndr_codec import Reader, Refused
+from ndr_codec import Reader, Refused, Writer
 from wire import changed, compact, flipped, le
 
 REST = "010203040506070844332211404142434445464748494a4b4c4d4e4f"
@@ -28,30 +29,68 @@ PUBLISHED = [
 REPLIES = ["01020304050607080000000000000000", "0102030405060708000000008b0100c0"]
 
 
-def authenticator(reader):
-    """Its padding is refused where the structure begins."""
+def presented(reader):
+    """The credential and the timestamp. Padding is refused where the structure begins."""
     start = reader.start(4)
     if start > len(reader.stub):
         raise Refused("Ends", start)
     reader.place = start
-    credential, timestamp = reader.take(8), reader.long()
+    return reader.take(8), reader.long()
+
+
+def authenticator(reader):
+    credential, timestamp = presented(reader)
     return struct("Authenticator", credential=array(credential.hex()), timestamp=timestamp)
 
 
-def call(reader):
+def fields_of(reader):
     primary = reader.text() if reader.pointer() else None
     account, channel, computer = reader.text(), reader.short(), reader.text()
-    presented = authenticator(reader)
-    hidden = reader.take(16)
+    return {"primary": primary, "account": account, "channel": channel, "computer": computer, "authenticator": presented(reader), "hidden": reader.take(16)}
+
+
+def read_call(stub):
+    """The fields of a request."""
+    return fields_of(Reader(stub))
+
+
+def write_call(primary, account, channel, computer, authenticator, hidden):
+    """The one written form of a request."""
+    writer = Writer()
+    writer.unique_text(primary)
+    writer.text(account)
+    writer.short(channel)
+    writer.text(computer)
+    return writer.stub + bytes(-len(writer.stub) % 4) + authenticator[0] + le(authenticator[1], 4) + hidden
+
+
+def write_reply(returned, status):
+    """The one written form of a reply."""
+    return returned[0] + le(returned[1], 4) + le(status, 4)
+
+
+def hidden_by(key, secret):
+    """The secret as it travels under the channel's key (MS-SAMR 2.2.11.1.1)."""
+    return des(spread(key[:7]), secret[:8]) + des(spread(key[7:14]), secret[8:])
+
+
+def shown_by(key, hidden):
+    """The secret that travels so."""
+    return undes(spread(key[:7]), hidden[:8]) + undes(spread(key[7:14]), hidden[8:])
+
+
+def call(reader):
+    fields = fields_of(reader)
+    credential, timestamp = fields["authenticator"]
     shown = lambda data: units_of(data.hex())
     return struct(
         "SetCall",
-        primary=option(primary, shown),
-        account=shown(account),
-        channel=channel,
-        computer=shown(computer),
-        authenticator=presented,
-        hidden=array(hidden.hex()),
+        primary=option(fields["primary"], shown),
+        account=shown(fields["account"]),
+        channel=fields["channel"],
+        computer=shown(fields["computer"]),
+        authenticator=struct("Authenticator", credential=array(credential.hex()), timestamp=timestamp),
+        hidden=array(fields["hidden"].hex()),
     )
 
 

@@ -18,7 +18,7 @@ SENDS = {"mark": PLAIN, "checked": None}
 
 class Controller(domain_controller.Controller):
     """A controller that keeps what each unit came to of those that it answered: the kind of the reply's mark, the
-    channel on which a credential passed, the number of the call, and the timestamp of a NetrLogonSamLogon."""
+    channel on which a credential passed, the number of the call, and the timestamp of its authenticator."""
 
     def event(self, word, run=lambda: None):
         self.notes, self.checked = [], None
@@ -35,11 +35,11 @@ class Controller(domain_controller.Controller):
             self.check("Opened", call)
         return reply
 
-    def logon(self, call):
-        reply = super().logon(call)
-        if reply["returned"] is not None:
+    def passes(self, call):
+        passed = super().passes(call)
+        if passed is not None:
             self.check("ReplyTo", call, call["authenticator"][1])
-        return reply
+        return passed
 
     def send(self, link, data):
         super().send(link, data)

@@ -245,6 +245,46 @@ fn collect_change(
     done(alloc)
 }
 
+/// Whether the account at a place is a user's. None is past the last account.
+fn is_user_at(table: &Table, at: u32) -> bool {
+    match table.account(at) {
+        Some(account) => matches!(account.kind, Kind::User),
+        None => false,
+    }
+}
+
+/// Collects a change of a hash.
+fn collect_hash(alloc: Global, changing: &mut Changing, parts: &[&str]) -> anyhow::Result<String> {
+    let place = number(word(parts, 1))?;
+    let hash = sixteen(word(parts, 2))?;
+    if is_user_at(&changing.table, place) {
+        return not_to_be_done(alloc);
+    }
+    let change = TableChange {
+        place,
+        change: Change::Hash(hash),
+    };
+    changing.changes.push(change)?;
+    done(alloc)
+}
+
+/// The text of secrets, as the changes leave them.
+fn secrets_with(alloc: Global, changing: &Changing) -> anyhow::Result<String> {
+    let secrets = changing.table.secrets_with(alloc, &changing.changes)?;
+    text(alloc, secrets.bytes())
+}
+
+/// What the account at a place has, as the changes leave it: its count, its hash, and whether that was set.
+fn state_with(alloc: Global, changing: &Changing, at: &str) -> anyhow::Result<String> {
+    match changing.table.state_with(&changing.changes, number(at)?) {
+        Some(state) => Ok(format!(in alloc;
+            "{} {:?} {}",
+            state.bad_count, state.hash, state.changed
+        )?),
+        None => Ok("None".to_string(alloc)?),
+    }
+}
+
 /// Makes the changes.
 fn commit(alloc: Global, changing: &mut Changing) -> anyhow::Result<String> {
     changing.table.commit(&changing.changes);
@@ -253,7 +293,7 @@ fn commit(alloc: Global, changing: &mut Changing) -> anyhow::Result<String> {
 }
 
 /// What a step gives: `set_count,AT,COUNT`, `set_hash,AT,HASH`, `count,AT`, `hash,AT`, `secrets`, `apply,TEXT`; and of
-/// changes `change,AT,COUNT`, `count_with,AT`, `commit`.
+/// changes `change,AT,COUNT`, `change_hash,AT,HASH`, `count_with,AT`, `state_with,AT`, `secrets_with`, `commit`.
 fn change_step(alloc: Global, changing: &mut Changing, step: &str) -> anyhow::Result<String> {
     let parts: Vec<&str> = step.split(',').collect(alloc)?;
     match word(&parts, 0) {
@@ -264,6 +304,9 @@ fn change_step(alloc: Global, changing: &mut Changing, step: &str) -> anyhow::Re
         "secrets" => secrets(alloc, &changing.table),
         "apply" => apply(alloc, &mut changing.table, word(&parts, 1)),
         "change" => collect_change(alloc, &mut changing.changes, &parts),
+        "change_hash" => collect_hash(alloc, changing, &parts),
+        "state_with" => state_with(alloc, changing, word(&parts, 1)),
+        "secrets_with" => secrets_with(alloc, changing),
         "count_with" => debug_text(
             alloc,
             changing

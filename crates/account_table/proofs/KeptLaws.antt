@@ -17,7 +17,7 @@ use Rattle.account_table.specs.AccountTable.{AccountTable, has_distinct_names}
 use Rattle.account_table.specs.Changes.{at_place, with_count, with_new_hash, is_user, DifferInCounts}
 use Rattle.account_table.specs.IsTable.{IsMachine, IsTableText, IsUser}
 use Rattle.account_table.specs.LookUps.{place_in}
-use Rattle.account_table.specs.Secrets.{IsFresh, IsHash, IsSettingOf, Setting, apply_secrets, computer_in, is_end, is_line, is_newline, is_set, secret_line, secrets_of, setting_of, settings_after, settings_of, with_settings}
+use Rattle.account_table.specs.Secrets.{IsFresh, IsHash, IsSettingOf, Setting, apply_secrets, computer_in, is_end, is_line, is_newline, is_set, line_of, secrets_of, setting_of, settings_after, settings_of, with_settings}
 use Rattle.account_table.specs.declared.account.Account.{Account}
 use Rattle.account_table.proofs.IndexLaws.{same_name-sym}
 use Rattle.account_table.proofs.SecretLaws.{settings_more}
@@ -181,7 +181,7 @@ not_set place (setting ∷ done) before =
     rw (other, not_set place done before.1) refl
 
 line_first : (account : Account) (accounts : List Account) → account.changed ≡ true → secrets_of (account ∷ accounts) ≡ front_of account.name account.hash ++ 10 ∷ secrets_of accounts
-unfolding secret_line
+unfolding line_of
 line_first account accounts marked = rw marked (simp append_assoc)
 
 line_none : (account : Account) (accounts : List Account) → account.changed ≡ false → secrets_of (account ∷ accounts) ≡ secrets_of accounts
@@ -241,8 +241,8 @@ set_back (old ∷ olds) (new ∷ news) ((inr set), later) =
 
 -- ---- counts of bad passwords stand in no text
 
-uncounted : (accounts : List Account) → secrets_of (map (with_count 0) accounts) ≡ secrets_of accounts
-unfolding secret_line
+pub uncounted : (accounts : List Account) → secrets_of (map (with_count 0) accounts) ≡ secrets_of accounts
+unfolding line_of
 uncounted [] = refl
 uncounted (account ∷ accounts) =
     elim (cases_Bool account.changed) [

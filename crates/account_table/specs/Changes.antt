@@ -5,7 +5,8 @@ use Rattle.account_table.specs.declared.account.Account.{Account}
 use Rattle.account_table.specs.declared.account.Kind.{Kind}
 use Rattle.account_table.specs.declared.account.Kind.TheVariants.{User, Workstation, Backup, Trust}
 use Rattle.account_table.specs.declared.changes.Change.{Change}
-use Rattle.account_table.specs.declared.changes.Change.TheVariants.{Count}
+use Rattle.account_table.specs.declared.changes.AccountState.{AccountState}
+use Rattle.account_table.specs.declared.changes.Change.TheVariants.{Count, Hash}
 use Rattle.account_table.specs.declared.changes.TableChange.{TableChange}
 
 -- the accounts, with a change of the one at a place, counted from 0; past the end nothing changes
@@ -44,10 +45,31 @@ pub record DifferInCounts (old new : AccountTable) : Type 0 where
   pub accounts : map (with_count 0) new.accounts ≡ map (with_count 0) old.accounts
   pub trusts : new.trusts ≡ old.trusts
 
+-- ---- what changes of an account after it was read: its count of bad passwords, its hash, and whether the hash was set
+
+abbrev pub state_of : Account → AccountState
+state_of account = record { bad_count = account.bad_count; hash = account.hash; changed = account.changed }
+
+abbrev pub with_state : AccountState → Account → Account
+with_state state account = record account { bad_count = state.bad_count; hash = state.hash; changed = state.changed }
+
+-- the account without that
+abbrev pub settled : Account → Account
+settled account = with_state (record { bad_count = 0; hash = []; changed = false }) account
+
+-- the tables differ in counts of bad passwords, and in hashes that were set, alone
+pub record DifferInStates (old new : AccountTable) : Type 0 where
+  pub domain : new.domain ≡ old.domain
+  pub sid : new.sid ≡ old.sid
+  pub policy : new.policy ≡ old.policy
+  pub accounts : map settled new.accounts ≡ map settled old.accounts
+  pub trusts : new.trusts ≡ old.trusts
+
 -- ---- changes that are collected, and made later
 
 abbrev pub with_change_of : Change → ℕ → AccountTable → AccountTable
 with_change_of (Count count) place table = with_bad_count place count table
+with_change_of (Hash hash) place table = with_hash place hash table
 
 -- the table with a change of the account at its place
 abbrev pub with_change : TableChange → AccountTable → AccountTable
@@ -63,14 +85,21 @@ abbrev pub with_change_if : Option TableChange → AccountTable → AccountTable
 with_change_if None table = table
 with_change_if (Some change) table = with_change change table
 
-abbrev pub count_of_change : Change → ℕ → ℕ
-count_of_change (Count new) count = new
+abbrev pub state_by_change_of : Change → AccountState → AccountState
+state_by_change_of (Count count) state = record state { bad_count = count }
+state_by_change_of (Hash hash) state = record state { hash = hash; changed = true }
 
--- the count of bad passwords of the account at a place after a change, where it was that one before
-abbrev pub count_by_change : TableChange → ℕ → ℕ → ℕ
-count_by_change change place count = if change.place == place then count_of_change change.change count else count
+-- what the account at a place has after a change, where it had that before
+abbrev pub state_by_change : TableChange → ℕ → AccountState → AccountState
+state_by_change change place state = if change.place == place then state_by_change_of change.change state else state
 
 -- after all of them
-abbrev pub count_by : List TableChange → ℕ → ℕ → ℕ
-count_by [] place count = count
-count_by (change ∷ changes) place count = count_by changes place (count_by_change change place count)
+abbrev pub state_by : List TableChange → ℕ → AccountState → AccountState
+state_by [] place state = state
+state_by (change ∷ changes) place state = state_by changes place (state_by_change change place state)
+
+-- the accounts as the changes leave them, from a place on
+abbrev pub accounts_after : List TableChange → ℕ → List Account → List Account
+accounts_after changes place [] = []
+accounts_after changes place (account ∷ accounts) =
+    with_state (state_by changes place (state_of account)) account ∷ accounts_after changes (suc place) accounts

@@ -1,6 +1,6 @@
 -- The text of the secrets that were set in an account table (this project's own choice): a line for each account whose
 -- hash was set, its name, a space, the hash in 32 hex digits, and a newline.
-use Rattle.std.specs.Prelude.{ℕ, ◌≡◌, ◌-◌, ◌==◌, ◌&&◌, Bool, false, not, List, [], ◌∷◌, ◌++◌, length, take, drop, nat_le, slice_get, slice_index, Option, Some, None, Result, Ok, Err, if◌then◌else◌}
+use Rattle.std.specs.Prelude.{ℕ, ◌≡◌, ◌-◌, ◌==◌, ◌&&◌, Bool, true, false, not, List, [], ◌∷◌, ◌++◌, length, take, drop, nat_le, slice_get, slice_index, Option, Some, None, Result, Ok, Err, if◌then◌else◌}
 use Rattle.std.specs.Bool.{then_some}
 use Rattle.std.specs.List.{filter, flat_map, list_any, slice_split}
 use Rattle.std.specs.Option.{IsSomeAnd, option_and_then, option_map_or}
@@ -18,8 +18,16 @@ use Rattle.account_table.specs.declared.refused.ApplyRefused.TheVariants.{NotSec
 -- ---- the text of a table
 
 -- a secret's line: the account's name, a space, the hash in 32 hex digits, and a newline
-unfoldable pub secret_line : Account → List ℕ
-secret_line account = account.name ++ (32 ∷ (encode_lower account.hash ++ 10 ∷ []))
+unfoldable pub line_of : List ℕ → List ℕ → List ℕ
+line_of name hash = name ++ (32 ∷ (encode_lower hash ++ 10 ∷ []))
+
+-- the argument: whether there is a line
+abbrev pub line_if : Bool → List ℕ → List ℕ → List ℕ
+line_if false name hash = []
+line_if true name hash = line_of name hash
+
+abbrev pub secret_line : Account → List ℕ
+secret_line account = line_of account.name account.hash
 
 -- the lines of the changed accounts, in order
 abbrev pub secrets_of : List Account → List ℕ

@@ -1,18 +1,19 @@
 //! Accounts in their order, with an index by name.
 
-ghost use Rattle.std.specs.Prelude.{◌≡◌, [], ◌∷◌, ◌++◌, ◌+◌, ◌^◌, ◌<◌, ◌≤◌, None, length, is_some, option_copied, slice_get, All, IfOk, IfSome, IsTrue, OnOk, OnErr};
+ghost use Rattle.std.specs.Prelude.{◌≡◌, [], ◌∷◌, ◌++◌, ◌+◌, ◌^◌, ◌<◌, ◌≤◌, None, drop, length, is_some, option_copied, slice_get, All, IfOk, IfSome, IsTrue, OnOk, OnErr};
 ghost use Rattle.std.specs.List.{AllByRecursion, list_any};
 ghost use Rattle.wire_base.specs.Names.{upper_case};
 ghost use Rattle.account_table.specs.AccountTable.{has_distinct_names};
-ghost use Rattle.account_table.specs.Changes.{at_place, with_count, is_user, with_new_hash};
+ghost use Rattle.account_table.specs.Changes.{accounts_after, at_place, with_count, is_user, with_new_hash};
 ghost use Rattle.account_table.specs.Index.{has_few_sids};
 ghost use Rattle.account_table.specs.Limits.{account_limit, group_limit, name_limit};
 ghost use Rattle.account_table.specs.LookUps.{is_trust_for, lists_controller, machine_name, place_in};
 ghost use Rattle.account_table.specs.Ranges.{AreLongs, InRangeAccount};
-ghost use Rattle.account_table.specs.Secrets.{computer_in, secret_line, secrets_of, with_settings};
+ghost use Rattle.account_table.specs.Secrets.{computer_in, line_if, line_of, secrets_of, with_settings};
 ghost use Rattle.account_table.specs.TableForms.{HasAccountForm, HasFewNames};
 
 use crate::account::{Account, Kind};
+use crate::changes::{AccountState, TableChange, state_by, state_of};
 use crate::having::account_has_form;
 use arrayvec::ArrayVec;
 use indexmap::IndexMap;
@@ -201,10 +202,47 @@ impl Accounts {
         let mut text = Vec::new(alloc);
         for account in self.index.values() {
             if account.changed {
-                put_secret(alloc, &mut text, account)?;
+                put_secret(alloc, &mut text, account.name.bytes(), &account.hash)?;
             }
         }
         Ok(Blob::from_vec(text))
+    }
+
+    /// The lines of the accounts that the changes leave as changed ones, in order.
+    pub(crate) fn secrets_with(
+        &self,
+        alloc: Global,
+        changes: &[TableChange],
+    ) -> Result<Blob, NoMemory>
+        ensures { IfOk result (λ text. text ≡ secrets_of (accounts_after changes.now 0 self.now)) }
+    {
+        let mut text = Vec::new(alloc);
+        for place in 0..self.len() {
+            self.put_secret_with(alloc, &mut text, changes, place)?;
+        }
+        Ok(Blob::from_vec(text))
+    }
+
+    /// Puts the line of the account at a place behind the text, where the changes leave it as a changed one.
+    fn put_secret_with(
+        &self,
+        alloc: Global,
+        text: &mut Vec<u8>,
+        changes: &[TableChange],
+        place: usize,
+    ) -> Result<(), NoMemory>
+        requires { place < length self.now }
+        ensures { OnOk result (text.new.items ++ secrets_of
+            (accounts_after changes.now (place + 1) (drop (place + 1) self.now))
+            ≡ text.old.items ++ secrets_of
+            (accounts_after changes.now place (drop place self.now))) }
+    {
+        let Some(account) = self.get(place) else {
+            unreachable!();
+        };
+        let state = state_by(changes, place, state_of(account));
+        put_secret_if(alloc, text, account.name.bytes(), state)?;
+        Ok(())
     }
 
     /// Sets the count of bad passwords of the account at a place.
@@ -255,16 +293,37 @@ pub(crate) fn lists_controller(account: &Account, computer: &[u16]) -> bool
         .any(|controller| controller.same_units(computer))
 }
 
-/// Puts the line of an account behind the text: its name, a space, the hash in 32 hex digits, and a newline.
-#[tactic(auto, unfolding(crate::specs::Secrets::secret_line))]
-fn put_secret(alloc: Global, text: &mut Vec<u8>, account: &Account) -> Result<(), NoMemory>
-    ensures { OnOk result (text.new.items ≡ text.old.items ++ secret_line account.now) }
+/// Puts a line of secrets behind the text: the name of an account, a space, the hash in 32 hex digits, and a newline.
+#[tactic(auto, unfolding(crate::specs::Secrets::line_of))]
+fn put_secret(
+    alloc: Global,
+    text: &mut Vec<u8>,
+    name: &[u8],
+    hash: &[u8; 16],
+) -> Result<(), NoMemory>
+    ensures { OnOk result (text.new.items ≡ text.old.items ++ line_of name.now hash.now) }
 {
-    text.extend_from_slice(account.name.bytes())?;
+    text.extend_from_slice(name)?;
     text.push(b' ')?;
-    text.extend_from_slice(hex::encode(alloc, account.hash.as_slice())?.as_bytes())?;
+    text.extend_from_slice(hex::encode(alloc, hash.as_slice())?.as_bytes())?;
     text.push(b'\n')?;
     Ok(())
+}
+
+/// Puts the line of an account of that name, where its hash was set.
+fn put_secret_if(
+    alloc: Global,
+    text: &mut Vec<u8>,
+    name: &[u8],
+    state: AccountState,
+) -> Result<(), NoMemory>
+    ensures { OnOk result (text.new.items
+        ≡ text.old.items ++ line_if state.changed name.now state.hash) }
+{
+    if !state.changed {
+        return Ok(());
+    }
+    put_secret(alloc, text, name, &state.hash)
 }
 
 /// The account has its ranges. It is called so that this is known.

@@ -4,7 +4,7 @@
 ghost use Rattle.std.specs.Prelude.{ℕ, ◌≡◌, ◌++◌, IsTrue, false, List, [], Ok, option_map, slice_get};
 ghost use Rattle.std.specs.List.{AllByRecursion};
 ghost use Rattle.account_table.specs.AccountTable.{AccountTable, has_distinct_names};
-ghost use Rattle.account_table.specs.Changes.{with_count, with_bad_count, with_changes, count_by, DifferInCounts};
+ghost use Rattle.account_table.specs.Changes.{with_count, with_bad_count, with_changes, state_by, state_of, DifferInCounts, DifferInStates};
 ghost use Rattle.account_table.specs.declared.changes.TableChange.{TableChange as OneChange};
 ghost use Rattle.account_table.specs.Secrets.{IsFresh, IsSettingOf, Setting, apply_secrets, secrets_of, with_settings};
 ghost use Rattle.account_table.specs.IsTable.{IsTableText};
@@ -35,18 +35,25 @@ pub fn what_counts_leave()
 {}
 
 /// Changes are made one after the other: none change nothing, and those of two lists are made in their order. They
-/// leave all but the counts of bad passwords, and the account at a place has the count that they give it.
+/// leave all but the counts of bad passwords and the hashes that they set, and the account at a place has what they
+/// give it. Tables that differ so from one do so from one another.
 pub fn what_changes_leave()
     ensures none { (table : AccountTable) → with_changes [] table ≡ table }
     ensures joined { (before after : List OneChange) (table : AccountTable) →
         with_changes (before ++ after) table ≡ with_changes after (with_changes before table) }
     ensures differ { (changes : List OneChange) (table : AccountTable) →
-        DifferInCounts table (with_changes changes table) }
-    ensures counts { (changes : List OneChange) (table : AccountTable) (place : ℕ) →
-        option_map (λ account. account.bad_count)
-        (slice_get (with_changes changes table).accounts place)
-        ≡ option_map (λ account. count_by changes place account.bad_count)
+        DifferInStates table (with_changes changes table) }
+    ensures again { (old mid new : AccountTable) → DifferInStates old mid →
+        DifferInStates mid new → DifferInStates old new }
+    ensures counts { (old new : AccountTable) → DifferInCounts old new → DifferInStates old new }
+    ensures states { (changes : List OneChange) (table : AccountTable) (place : ℕ) →
+        option_map state_of (slice_get (with_changes changes table).accounts place)
+        ≡ option_map (λ account. state_by changes place (state_of account))
         (slice_get table.accounts place) }
+    ensures machines { (old new : AccountTable) → DifferInStates old new →
+        (name : List ℕ) (channel : ℕ) (computer : List ℕ) →
+        machine_in new.accounts name channel computer
+        ≡ machine_in old.accounts name channel computer }
 {}
 
 /// In a table that is read no hash was set. The text of secrets sets in such a table what was set in it since: whatever

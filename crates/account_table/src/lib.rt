@@ -17,7 +17,7 @@ mod table;
 mod values;
 
 pub use account::{Account, Kind, Policy, Sids, Trust, Trusts};
-pub use changes::{Change, TableChange, TableChanges};
+pub use changes::{AccountState, Change, TableChange, TableChanges};
 pub use having::{are_bytes, is_hash, names_have_forms};
 pub use key::{Key, Part, Word};
 pub use laws::{what_changes_leave, what_counts_leave, what_secrets_keep};

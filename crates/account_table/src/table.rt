@@ -5,7 +5,7 @@ ghost use Rattle.std.specs.List.{position};
 ghost use Rattle.wire_base.specs.Memory.{UpToMemory};
 ghost use Rattle.toml.specs.View.{table_view};
 ghost use Rattle.account_table.specs.AccountTable.{AccountTable, has_distinct_names};
-ghost use Rattle.account_table.specs.Changes.{is_user, with_bad_count, with_change, with_changes, with_hash};
+ghost use Rattle.account_table.specs.Changes.{is_user, state_of, with_bad_count, with_change, with_changes, with_hash};
 ghost use Rattle.account_table.specs.Secrets.{apply_secrets, secrets_of};
 ghost use Rattle.account_table.specs.Document.{table_of, table_in, too_many};
 ghost use Rattle.account_table.specs.Limits.{account_limit};
@@ -19,7 +19,7 @@ ghost use Rattle.account_table.specs.TableForms.{HasTableForm, table_by};
 
 use crate::account::{Account, Kind, Policy, Trust, Trusts};
 use crate::accounts::{ACCOUNT_LIMIT, Accounts, are_longs, lists_controller, machine_name};
-use crate::changes::{Change, TableChange, TableChanges, count_by};
+use crate::changes::{AccountState, Change, TableChange, TableChanges, state_by, state_of};
 use crate::forms::{needed_name, needed_sid, tables_or_none};
 use crate::having::trusts_have_forms;
 use crate::key::{Word, top_key};
@@ -149,14 +149,28 @@ impl Table {
         }
     }
 
-    /// The same after those changes. None exactly past the end. It takes no memory, and walks the changes.
+    /// What the account at a place has after those changes. None exactly past the end. It takes no memory, and walks
+    /// the changes.
     #[tactic(auto, using(crate::proofs::ChangeLaws::changing))]
+    pub fn state_with(&self, changes: &TableChanges, at: u32) -> Option<AccountState>
+        ensures { result ≡ option_map state_of
+            (slice_get (with_changes changes.now self.now).accounts at) }
+    {
+        match self.account(at) {
+            Some(account) => Some(state_by(changes.items(), at as usize, state_of(account))),
+            None => None,
+        }
+    }
+
+    /// The count of bad passwords of the account at a place after those changes. None exactly past the end. It takes no
+    /// memory, and walks the changes.
+    #[tactic(auto, using(crate::proofs::ChangeLaws::counting))]
     pub fn bad_count_with(&self, changes: &TableChanges, at: u32) -> Option<u16>
         ensures { result ≡ option_map (λ account. account.bad_count)
             (slice_get (with_changes changes.now self.now).accounts at) }
     {
-        match self.bad_count(at) {
-            Some(count) => Some(count_by(changes.items(), at, count)),
+        match self.state_with(changes, at) {
+            Some(state) => Some(state.bad_count),
             None => None,
         }
     }
@@ -177,6 +191,7 @@ impl Table {
     {
         match change.change {
             Change::Count(count) => self.make_count(change.place, count),
+            Change::Hash(hash) => self.make_hash(change.place, hash),
         }
     }
 
@@ -187,6 +202,16 @@ impl Table {
     {
         if (at as usize) < self.listed.len() {
             self.listed.set_bad_count(at as usize, count);
+        }
+    }
+
+    /// Sets the hash of the account at a place, where there is one.
+    #[tactic(auto, unfolding(crate::specs::Changes::with_hash), using(crate::proofs::ChangeLaws::making))]
+    fn make_hash(&mut self, at: u32, hash: [u8; 16])
+        ensures { self.new ≡ with_hash at hash self.old }
+    {
+        if (at as usize) < self.listed.len() {
+            self.listed.set_hash(at as usize, hash);
         }
     }
 
@@ -217,6 +242,15 @@ impl Table {
         ensures { IfOk result (λ text. text ≡ secrets_of self.now.accounts) }
     {
         self.listed.secrets(alloc)
+    }
+
+    /// The secrets that there will be once those changes were made. `NoMemory` where no memory was found.
+    pub fn secrets_with(&self, alloc: Global, changes: &TableChanges) -> Result<Blob, NoMemory>
+        ensures { IfOk result (λ text.
+            text ≡ secrets_of (with_changes changes.now self.now).accounts) }
+    {
+        let text = self.listed.secrets_with(alloc, changes.items())?;
+        Ok(text)
     }
 
     /// Sets the secrets of a text: for each line the hash of a computer's account, or of a trust's, which is then a

@@ -1,6 +1,6 @@
 -- Small runs that meet what is claimed of grants, and some that don't.
 -- It serves `grants_tell_apart`.
-use Rattle.std.proofs.Common.{◌≡◌, ◌≤◌, ◌<◌, ℕ, zero, suc, true, false, List, [], ◌∷◌, get_or, length, map, slice_get, inl, inr, Option, Some, None, Result, Ok, refl, sym, ap, ap₂, subst, ◌∙◌, arith}
+use Rattle.std.proofs.Common.{◌≡◌, ◌≤◌, ◌<◌, ℕ, zero, suc, true, false, List, [], ◌∷◌, get_or, length, map, replicate, slice_get, inl, inr, Option, Some, None, Result, Ok, refl, sym, ap, ap₂, subst, ◌∙◌, arith}
 use Rattle.std.specs.Prelude.{codes}
 use Rattle.wire_base.specs.Maps.{lookup}
 use Rattle.wire_base.specs.Names.{same_name}
@@ -36,8 +36,8 @@ use Rattle.outside.specs.declared.action.Judged.{Judged}
 use Rattle.outside.specs.declared.action.Judged.TheVariants as judged
 use Rattle.logon_stubs.specs.Status.{account_disabled, wrong_password}
 use Rattle.account_table.specs.AccountTable.{AccountTable}
-use Rattle.account_table.specs.Changes.{with_count}
-use Rattle.account_table.proofs.ChangeLaws.{differs-none}
+use Rattle.account_table.specs.Changes.{settled}
+use Rattle.account_table.proofs.ChangeLaws.{states-none}
 use Rattle.account_table.specs.LookUps.{account_in, place_in, route_in}
 use Rattle.sam_logon.specs.MayLogOn.{MayLogOn, ResponseVerifies}
 use Rattle.domain_controller.specs.Machine.{Desk, answer_logon, judge_info}
@@ -45,13 +45,14 @@ use Rattle.controller_calls.specs.declared.line.Line.{Line}
 use Rattle.step_notes.specs.ControllerNotes.{Where, judging_of}
 use Rattle.step_notes.specs.GrantSends.{IsSentAsGranted, actions_granting, reply_granted}
 use Rattle.step_notes.specs.Judged.{IsNextOn}
-use Rattle.step_notes.specs.Records.{Judging, Network, given_in}
+use Rattle.step_notes.specs.Records.{Judging, given_in}
+use Rattle.controller_calls.specs.declared.calls.JudgedCall.TheVariants.{Network}
 use Rattle.domain_world.specs.Claims.{info_asked}
 use Rattle.domain_world.specs.Claims.Counts.{RaisesCount}
-use Rattle.domain_world.specs.Claims.Grants.{IsToBeGranted}
+use Rattle.domain_world.specs.Claims.Grants.{IsToBeGranted, users_of}
 use Rattle.domain_world.specs.Claims.Tables.{left_by}
-use Rattle.claim_examples.specs.ClaimExamples.{judged_as, message, next_call, next_logon, small_account, small_channel, small_computers, small_table}
-use Rattle.claim_examples.specs.GrantExamples.{GrantsTellApart, OfCounts, OfGrants, OfSending, at_level, counted_table, disabled_table, empty_table, locked_call, reply_with_key, small_call, small_desk, small_line, wrong_call}
+use Rattle.claim_examples.specs.ClaimExamples.{judged_as, message, next_call, next_logon, small_account, small_channel, small_computers, small_hash, small_table}
+use Rattle.claim_examples.specs.GrantExamples.{GrantsTellApart, OfCounts, OfGrants, OfSending, at_level, counted_table, disabled_table, empty_table, hashed_table, locked_call, machine_table, reply_with_key, small_call, small_desk, small_line, wrong_call}
 use Rattle.channel_events.proofs.ListLaws.{got_nothing}
 use Rattle.step_notes.proofs.Controllers.GrantSendLaws.{grants_carry_their_key}
 use Rattle.step_notes.proofs.Controllers.GrantVerdictLaws.{not_zero}
@@ -94,6 +95,38 @@ not_enabled now may = absurd (let never : true ≡ false = may.there.account.ena
 met_small : (how : Judged) → IsToBeGranted (record (judged_as how next_call) { table = small_table }) next_logon
 met_small how = record { next = next_at []; level = inr refl; may = may_small 0; verifies = granted_small.verifies }
 
+-- with FILE1's account too
+may_machine : (now : ℕ) → MayLogOn (machine_table (replicate 16 8)) (info_asked message) now
+unfolding place_in same_name names.upper_of units_of
+may_machine now = record {
+  there = record {
+    domain = inl refl;
+    account = record {
+      user = refl;
+      unlocked = refl;
+      below_lockout = inl refl;
+      enabled = refl;
+      not_expired = inl refl;
+      workstation = inl refl;
+      no_change_due = refl;
+      password_not_expired = inl refl;
+    };
+  };
+  taken_response = inl refl;
+}
+
+verifies_machine : ResponseVerifies (machine_table (replicate 16 8)) (info_asked message)
+unfolding place_in same_name names.upper_of units_of
+verifies_machine = granted_small.verifies
+
+abbrev first_in : Option (List ℕ) → ℕ
+first_in None = 0
+first_in (Some hash) = get_or hash 0 0
+
+abbrev first_byte : List (Option (List ℕ)) → ℕ
+first_byte [] = 0
+first_byte (hash ∷ hashes) = first_in hash
+
 same_item : {T : Type 0} (one other : T) → Some one ≡ Some other → one ≡ other
 same_item one other is = cc
 
@@ -110,7 +143,7 @@ of_grants = record {
   meets = (
     record {
       granted = (λ is. met_small (judged.Passed 0), λ met. refl);
-      table = record { planned = small_table; is = refl; counts = differs-none small_table };
+      table = record { planned = small_table; is = refl; states = states-none small_table; users = refl };
       name = refl;
     },
     tt,
@@ -118,7 +151,7 @@ of_grants = record {
   counted = (
     record {
       granted = (λ is. record { next = next_at []; level = inr refl; may = may_counted 1 0; verifies = verifies_counted 1 }, λ met. refl);
-      table = record { planned = small_table; is = refl; counts = record { domain = refl; sid = refl; policy = refl; accounts = refl; trusts = refl } };
+      table = record { planned = small_table; is = refl; states = record { domain = refl; sid = refl; policy = refl; accounts = refl; trusts = refl }; users = refl };
       name = refl;
     },
     tt,
@@ -126,7 +159,7 @@ of_grants = record {
   at_two = (
     record {
       granted = (λ is. record { next = next_two; level = inl refl; may = may_small 0; verifies = granted_small.verifies }, λ met. refl);
-      table = record { planned = small_table; is = refl; counts = differs-none small_table };
+      table = record { planned = small_table; is = refl; states = states-none small_table; users = refl };
       name = refl;
     },
     tt,
@@ -134,7 +167,7 @@ of_grants = record {
   disabled = (
     record {
       granted = (λ is. absurd (not_zero account_disabled refl (same_status account_disabled 0 is)), λ met. absurd (not_enabled 0 met.may));
-      table = record { planned = disabled_table; is = refl; counts = differs-none disabled_table };
+      table = record { planned = disabled_table; is = refl; states = states-none disabled_table; users = refl };
       name = refl;
     },
     tt,
@@ -151,7 +184,23 @@ of_grants = record {
   fails_next = λ claim. let met = claim.0.granted.0 refl in no_channel met.next.channel met.next.stands;
   fails_table = λ claim.
       let of : empty_table ≡ claim.0.table.planned = same_item empty_table claim.0.table.planned claim.0.table.is in
-      absurd (let accounts = claim.0.table.counts.accounts ∙ ap (λ (t : AccountTable). map (with_count 0) t.accounts) (sym of) in cc);
+      absurd (let accounts = claim.0.table.states.accounts ∙ ap (λ (t : AccountTable). map settled t.accounts) (sym of) in cc);
+  set = (
+    record {
+      granted = (λ is. record { next = next_at []; level = inr refl; may = may_machine 0; verifies = verifies_machine }, λ met. refl);
+      table = record {
+        planned = machine_table small_hash;
+        is = refl;
+        states = record { domain = refl; sid = refl; policy = refl; accounts = refl; trusts = refl };
+        users = refl;
+      };
+      name = refl;
+    },
+    tt,
+  );
+  fails_set = λ claim.
+      let of : hashed_table (replicate 16 8) ≡ claim.0.table.planned = same_item (hashed_table (replicate 16 8)) claim.0.table.planned claim.0.table.is in
+      absurd (let never : 7 ≡ 8 = ap first_byte (claim.0.table.users ∙ ap (λ (t : AccountTable). users_of t.accounts) (sym of)) in omega (arith, never));
   fails_name = λ claim.
       absurd (let never : 80 ≡ 66 = ap (λ (name : List ℕ). get_or name 0 0) (same_item (codes "PDC") (codes "BDC") claim.0.name) in omega arith);
   fails_controller = λ claim. absurd (let none : None ≡ Some claim.0.table.planned = claim.0.table.is in cc);
@@ -166,8 +215,8 @@ granted_step w line after is =
     let done : Desk = answer_logon small_call.computer small_call.authenticator w.name w.moment line small_call.info small_call.validation small_desk in
     subst (λ (one : Desk). (judging_of w line (Network small_call) small_desk (Some one)).how ≡ Some (judged.Passed 0)) (sym is)
     (is_granted_so (judging_of w line (Network small_call) small_desk (Some done)) small_call refl
-    (λ channel stands. call_status w.name w.moment line small_call.info small_call.validation small_call.computer small_call.authenticator small_desk)
-    (calls_right w small_desk line small_call)
+    (call_status w line (Network small_call) small_desk)
+    (calls_right w small_desk line (Network small_call))
     (record {
       next = subst (λ (checks : Option SecureChannelState). IsNextOn checks small_call.authenticator) (sym (kept_small [])) (next_at []);
       level = inr refl;

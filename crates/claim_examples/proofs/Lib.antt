@@ -10,4 +10,5 @@ pub mod ReplyExampleLaws
 pub mod Runs
 pub mod SequenceLaws
 pub mod SequenceMissLaws
+pub mod SessionExampleLaws
 pub mod SuccessMissLaws

@@ -86,7 +86,7 @@ module _ (book : Book) (turn : Option Pending) (o : SecureChannelState) (name : 
       let at : Some (controller_on name c) ≡ Some kept.state = kept.at in
       let state : controller_on name c ≡ kept.state = cc in
       let runs : (controller_on name c).running ≡ Some kept.running = ap ControllerState.running state ∙ kept.runs in
-      let running : (record { computers = record { pending = []; channels = (name, c) ∷ [] }; links = [] }) ≡ kept.running = cc in
+      let running : (record { computers = record { pending = []; channels = (name, c) ∷ []; sessions = [] }; links = [] }) ≡ kept.running = cc in
       ap (λ (r : ControllerRunning). lookup same_name (codes "FILE1") r.computers.channels) running ∙ kept.kept
 
   -- the run shares its sequence where its one channel does
@@ -117,7 +117,7 @@ module _ (book : Book) (turn : Option Pending) (o : SecureChannelState) (name : 
   shared claim kept same none =
       (claim (OfMember 0)).other its_name o c
       (record { requester = (running_on turn o).logons.channel; at = refl; open_so = refl; is = refl; turn = turn; is_turn = refl })
-      (record { state = controller_on name c; running = record { computers = record { pending = []; channels = (name, c) ∷ [] }; links = [] }; at = refl; runs = refl; kept = kept })
+      (record { state = controller_on name c; running = record { computers = record { pending = []; channels = (name, c) ∷ []; sessions = [] }; links = [] }; at = refl; runs = refl; kept = kept })
       same none
 
 -- ---- the channel with two turns
@@ -225,7 +225,7 @@ of_sequence_misses = record {
   fails_controller = λ claim. elim
       ((claim (OfMember 0)).other second_name (small_channel small_seed) (small_channel (1 ∷ []))
       (record { requester = (open_running None small_seed).logons.channel; at = refl; open_so = refl; is = refl; turn = None; is_turn = refl })
-      (record { state = controller_on (codes "FILE1") (small_channel (1 ∷ [])); running = record { computers = record { pending = []; channels = (codes "FILE1", small_channel (1 ∷ [])) ∷ [] }; links = [] }; at = refl; runs = refl; kept = kept_small (1 ∷ []) })
+      (record { state = controller_on (codes "FILE1") (small_channel (1 ∷ [])); running = record { computers = record { pending = []; channels = (codes "FILE1", small_channel (1 ∷ [])) ∷ []; sessions = [] }; links = [] }; at = refl; runs = refl; kept = kept_small (1 ∷ []) })
       (record { controller = refl; computer = refl; secret = refl; client = refl; server = refl; flags = refl }) refl) [
         | inl is ↦ not_one_byte is
         | inr before ↦ absurd (let none : None ≡ Some before.pending = before.is_out in cc)

@@ -17,8 +17,9 @@ use Rattle.member_server.specs.declared.plan.MemberPlan.{MemberPlan}
 use Rattle.channel_events.proofs.ListLaws.{all_weaker, one_found}
 use Rattle.channel_events.specs.Marks.{OneOf}
 use Rattle.logon_stubs.specs.declared.calls.LogonCall.{LogonCall}
-use Rattle.step_notes.specs.Records.{IfNetwork, JudgedCall, Judging, Network}
-use Rattle.step_notes.proofs.Controllers.JudgedCallLaws.{of_network}
+use Rattle.step_notes.specs.Records.{IfNetwork, Judging}
+use Rattle.controller_calls.specs.declared.calls.JudgedCall.{JudgedCall}
+use Rattle.step_notes.proofs.Controllers.JudgedCallLaws.{network_so, of_network}
 use Rattle.world_moves.specs.declared.moves.Move.{Move}
 use Rattle.world_moves.specs.declared.moves.Move.TheVariants as move
 use Rattle.world_moves.specs.Forms.{HasMoveForm, IsClientPlan, IsSchedule}
@@ -212,7 +213,9 @@ of_moves = record {
 
 other_arrives : (task : ClientPlan) (computer : List ℕ) (controller : ℕ) (j : Judging) (asked : JudgedCall) → IfNetwork (λ (c : LogonCall). IsMadeForClient task computer controller j c → ⊥) asked →
     IfNetwork (λ (c : LogonCall). IsMadeForClient task computer controller j c → TravelsAsZeros j c.info → ⊥) asked
-other_arrives task computer controller j (Network c) never = λ own zeros. never own
+other_arrives task computer controller j asked never =
+    network_so (λ (c : LogonCall). IsMadeForClient task computer controller j c → ⊥) (λ (c : LogonCall). IsMadeForClient task computer controller j c → TravelsAsZeros j c.info → ⊥) asked
+    (λ c other own zeros. other own) never
 
 of_own_keys : OfOwnKeys
 of_own_keys = record {

@@ -45,7 +45,8 @@ use Rattle.channel_events.specs.Seeds.{channel_seed}
 use Rattle.step_notes.specs.ControllerNotes.{passing}
 use Rattle.step_notes.specs.Marking.{clashes}
 use Rattle.step_notes.specs.MemberNotes.{no_note}
-use Rattle.step_notes.specs.Records.{Book, ChallengeSent, ChannelTurn, InUnit, JudgementTold, Judging, MessageMade, MessageTaken, Network, OfMember, OutcomeTold, Outside, Source, blank}
+use Rattle.step_notes.specs.Records.{Book, ChallengeSent, ChannelTurn, InUnit, JudgementTold, Judging, MessageMade, MessageTaken, OfMember, OutcomeTold, Outside, Source, blank}
+use Rattle.controller_calls.specs.declared.calls.JudgedCall.TheVariants.{Network}
 use Rattle.world_moves.specs.declared.links.Route.{Route}
 use Rattle.world_moves.specs.declared.links.Route.TheVariants.{ToController, ToMember}
 use Rattle.world_moves.specs.declared.plan.Plan.{Plan}
@@ -182,6 +183,7 @@ judging = record {
   asked = Network (call_with (record { credential = []; timestamp = 0 }));
   checks = None;
   table = small_table;
+  sessions = [];
   moment = 0;
   how = Some (judged.Passed 0);
   reply = Some 8;
@@ -229,7 +231,7 @@ abbrev pub small_name : ChannelIdentity
 small_name = channel_of 0 (codes "FILE1") (small_channel [])
 
 abbrev pub small_computers : List ℕ → Computers
-small_computers seed = record { pending = []; channels = (codes "FILE1", small_channel seed) ∷ [] }
+small_computers seed = record { pending = []; channels = (codes "FILE1", small_channel seed) ∷ []; sessions = [] }
 
 -- a call on it that passed, with an authenticator of this timestamp
 abbrev pub on_channel : ℕ → Judging

@@ -12,12 +12,14 @@ use Rattle.logon_stubs.specs.declared.calls.Reply.{Reply}
 use Rattle.logon_stubs.specs.Ranges.{InRangeReply}
 use Rattle.logon_stubs.specs.Status.{account_disabled, wrong_password}
 use Rattle.account_table.specs.AccountTable.{AccountTable}
+use Rattle.account_table.specs.declared.account.Kind.TheVariants.{Workstation}
 use Rattle.sam_logon.specs.Granting.{granting_reply}
 use Rattle.domain_controller.specs.Machine.{Desk, answer_logon}
 use Rattle.controller_calls.specs.declared.line.Line.{Line}
 use Rattle.step_notes.specs.ControllerNotes.{Where, judging_of, new_actions}
 use Rattle.step_notes.specs.GrantSends.{IsSentAsGranted, actions_granting, info_granted}
-use Rattle.step_notes.specs.Records.{Judging, MessageTaken, Network, blank}
+use Rattle.step_notes.specs.Records.{Judging, MessageTaken, blank}
+use Rattle.controller_calls.specs.declared.calls.JudgedCall.TheVariants.{Network}
 use Rattle.domain_world.specs.Claims.{info_asked}
 use Rattle.domain_world.specs.Claims.Counts.{EachCallRaisesOnce, RaisesCount}
 use Rattle.domain_world.specs.Claims.Grants.{GrantsWhoMayLogOn}
@@ -45,6 +47,15 @@ counted_table count = record small_table { accounts = record small_account { bad
 abbrev pub empty_table : AccountTable
 empty_table = record small_table { accounts = [] }
 
+-- ann with that hash; and with her an account of FILE1 that has it
+abbrev pub hashed_table : List ℕ → AccountTable
+hashed_table hash = record small_table { accounts = record small_account { hash = hash } ∷ [] }
+
+abbrev pub machine_table : List ℕ → AccountTable
+machine_table hash = record small_table {
+  accounts = small_account ∷ record small_account { name = codes "FILE1$"; kind = Workstation; hash = hash } ∷ [];
+}
+
 -- the call asks for this message, or at that level, in place of its own
 abbrev pub asking_for : MessageTaken → Judging
 asking_for message = record next_call { asked = Network (record next_logon { info = info_asked message }) }
@@ -59,6 +70,8 @@ pub record OfGrants : Type 0 where
   pub disabled : GrantsWhoMayLogOn (judged_by disabled_table (judged_as (judged.Passed account_disabled) next_call))
   -- and by the accounts of the plan with another count of bad passwords than there
   pub counted : GrantsWhoMayLogOn (judged_from small_table (record next_call { table = counted_table 1 }))
+  -- or with another hash of FILE1's account, as a NetrServerPasswordSet may have set it
+  pub set : GrantsWhoMayLogOn (judged_from (machine_table small_hash) (record next_call { table = machine_table (replicate 16 8) }))
   pub at_two : GrantsWhoMayLogOn (judged_by small_table (at_level 2))
   -- not where it was refused, or barred, though all is so
   pub fails_refused : GrantsWhoMayLogOn (judged_by small_table (judged_as (judged.Passed wrong_password) next_call)) → ⊥
@@ -70,9 +83,10 @@ pub record OfGrants : Type 0 where
   pub fails_long : GrantsWhoMayLogOn (judged_by small_table (asking_for (with_response (replicate 25 0)))) → ⊥
   pub fails_level : GrantsWhoMayLogOn (judged_by small_table (at_level 4)) → ⊥
   pub fails_next : GrantsWhoMayLogOn (judged_by small_table judging) → ⊥
-  -- nor where it was judged by other accounts than those of the plan, under another name, or at a controller that the
-  -- plan doesn't have
+  -- nor where it was judged by other accounts than those of the plan or with another hash of ann's, under another name,
+  -- or at a controller that the plan doesn't have
   pub fails_table : GrantsWhoMayLogOn (judged_from empty_table next_call) → ⊥
+  pub fails_set : GrantsWhoMayLogOn (judged_from (hashed_table (replicate 16 8)) (record next_call { table = small_table })) → ⊥
   pub fails_name : GrantsWhoMayLogOn (judged_by small_table (record next_call { name = codes "BDC" })) → ⊥
   pub fails_controller : GrantsWhoMayLogOn (judged_by small_table (elsewhere next_call)) → ⊥
 

@@ -10,5 +10,6 @@ pub mod OpeningExamples
 pub mod OwnChallengeExamples
 pub mod ReplyExamples
 pub mod SequenceMisses
+pub mod SessionExamples
 pub mod SuccessMisses
 pub mod TellApart

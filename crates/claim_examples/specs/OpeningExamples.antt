@@ -26,7 +26,7 @@ kept_after accepted = run_open (record blank { accepted = accepted }) None small
 
 -- it keeps none, and this challenge of the server waits for these computers
 abbrev pub waiting_for : List ℕ → List (List ℕ) → Computers
-waiting_for server [] = record { pending = []; channels = [] }
+waiting_for server [] = record { pending = []; channels = []; sessions = [] }
 waiting_for server (name ∷ names) =
     let rest : Computers = waiting_for server names in
     record rest { pending = (name, record { client = []; server = server }) ∷ rest.pending }

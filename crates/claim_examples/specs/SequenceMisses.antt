@@ -73,7 +73,7 @@ abbrev pub controller_on : List ℕ → SecureChannelState → ControllerState
 controller_on name c = record {
   table = small_table;
   name = codes "PDC";
-  running = Some (record { computers = record { pending = []; channels = (name, c) ∷ [] }; links = [] });
+  running = Some (record { computers = record { pending = []; channels = (name, c) ∷ []; sessions = [] }; links = [] });
 }
 
 -- one member and one controller

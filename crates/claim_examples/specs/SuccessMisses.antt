@@ -14,7 +14,8 @@ use Rattle.logon_client.specs.declared.plan.AuthKind.TheVariants.{V2}
 use Rattle.logon_client.specs.declared.plan.ClientPlan.{ClientPlan}
 use Rattle.channel_events.specs.Marks.{OneOf}
 use Rattle.logon_stubs.specs.declared.calls.LogonCall.{LogonCall}
-use Rattle.step_notes.specs.Records.{IfNetwork, Judging, Network, OutcomeTold}
+use Rattle.step_notes.specs.Records.{IfNetwork, Judging, OutcomeTold}
+use Rattle.controller_calls.specs.declared.calls.JudgedCall.TheVariants.{Network}
 use Rattle.world_moves.specs.declared.links.Route.TheVariants.{ToMember}
 use Rattle.world_moves.specs.declared.moves.Move.{Move}
 use Rattle.world_moves.specs.declared.moves.Move.TheVariants as move

@@ -11,6 +11,7 @@ ghost use Rattle.claim_examples.specs.OpeningExamples.{OfOpenedReplies, OfOpenin
 ghost use Rattle.claim_examples.specs.OwnChallengeExamples.{OfOwnChallenges};
 ghost use Rattle.claim_examples.specs.ReplyExamples.{OfReplies};
 ghost use Rattle.claim_examples.specs.SequenceMisses.{SequencesTellApart};
+ghost use Rattle.claim_examples.specs.SessionExamples.{OfHashGrants, OfSessions};
 ghost use Rattle.claim_examples.specs.SuccessMisses.{SuccessTellsApart};
 
 /// No claim is true, or false, of everything that could be written down of a run: each is met by some small run and not
@@ -69,6 +70,15 @@ pub fn near_misses_tell_apart()
 #[tactic(auto, using(crate::proofs::SequenceMissLaws::sequences_apart))]
 pub fn sequences_tell_apart()
     ensures { SequencesTellApart }
+{}
+
+/// The claims on interactive logons and on sessions are met by small runs in which one is granted, and opens a
+/// session, and not by others: with 10,000 sessions, with a hash that differs in a byte, or where sessions are lost, or
+/// kept over a restart.
+#[tactic(auto, using(crate::proofs::SessionExampleLaws::of_hash_grants, crate::proofs::SessionExampleLaws::of_sessions))]
+pub fn sessions_tell_apart()
+    ensures grants { OfHashGrants }
+    ensures follow { OfSessions }
 {}
 
 /// Of runs that a world made itself: the first logon in a world, of whatever plan, where it is granted, is clear, and

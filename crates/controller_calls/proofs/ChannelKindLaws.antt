@@ -13,15 +13,20 @@ use Rattle.channel_keys.specs.Flags.{rc4_flag}
 use Rattle.authenticators.specs.SecureChannels.{SecureChannelState, channel_by, key_of_channel, passes_on, return_by}
 use Rattle.logon_stubs.specs.Status.{access_denied, downgrade_detected, no_trust_sam_account}
 use Rattle.logon_stubs.specs.declared.calls.AuthCall.{AuthCall}
-use Rattle.logon_stubs.specs.declared.info.NetworkInfo.{NetworkInfo}
 use Rattle.account_table.specs.LookUps.{knows_in}
 use Rattle.account_table.specs.declared.account.Account.{Account}
 use Rattle.controller_calls.specs.ChannelKinds.{ChannelsHaveKinds, HasKind, HaveKinds, IsAccepted, IsDenied}
 use Rattle.controller_calls.specs.Desk.{Desk, desk, put_channel, take_channel, take_pair}
-use Rattle.controller_calls.specs.Logons.{answer_logon, judge_channel, judge_return}
+use Rattle.controller_calls.specs.Asking.{answers_to, refuse_asked}
+use Rattle.controller_calls.specs.Calls.{asked_of, computer_named, given_in}
+use Rattle.controller_calls.specs.Judging.{answer_named, answer_on}
+use Rattle.controller_calls.specs.declared.calls.Asked.{Asked}
+use Rattle.controller_calls.proofs.DoneLaws.{KeepsPairs, refused_keeps, return_keeps}
+use Rattle.outside.specs.declared.action.Judged.TheVariants as judged
 use Rattle.controller_calls.specs.Opening.{account_for, channel_for, deny_channel, judge_account, judge_offer, judge_pair, open_channel, put_pair_if}
 use Rattle.controller_calls.specs.declared.line.Line.{Line}
 use Rattle.controller_calls.specs.declared.state.ChallengePair.{ChallengePair}
+use Rattle.controller_calls.specs.declared.state.Computers.{Computers}
 use Rattle.controller_calls.specs.declared.state.Work.{Work}
 
 -- ---- an opening
@@ -107,27 +112,28 @@ came_has line c taken later all (inl refused) = subst (λ (w : Work). HaveKinds 
 came_has line c taken later all (inr accepted) =
     subst (λ (w : Work). HaveKinds w.computers) (sym accepted.opens) (put_has c.computer accepted.channel taken.computers.channels (c.channel, accepted.kind) all)
 
-returned_has : (credential : Option (List ℕ)) (key name : List ℕ) (now : ℕ) (line : Line) (info : NetworkInfo) (validation : ℕ) (d : Desk) →
-    HaveKinds d.work.computers → HaveKinds (judge_return credential key name now line info validation d).work.computers
-returned_has None key name now line info validation d all = all
-returned_has (Some credential) key name now line info validation d all = all
+-- where the channels stay, each has its type
+same_has : (before later : Computers) → KeepsPairs before later → HaveKinds before → HaveKinds later
+same_has before later same all = subst (λ (entries : List (List ℕ × SecureChannelState)). Entries entries) (sym same.channels) all
 
-channel_has : (found : Option SecureChannelState) (computer : List ℕ) (given : Authenticator) (name : List ℕ) (now : ℕ) (line : Line) (info : NetworkInfo) (validation : ℕ) (d : Desk) →
+channel_has : (found : Option SecureChannelState) (computer : List ℕ) (given : Authenticator) (what : Asked) (name : List ℕ) (now : ℕ) (line : Line) (d : Desk) →
     ((channel : SecureChannelState) → found ≡ Some channel → HasKind channel) → HaveKinds d.work.computers →
-    HaveKinds (judge_channel found computer given name now line info validation d).work.computers
-channel_has None computer given name now line info validation d has all = all
-channel_has (Some channel) computer given name now line info validation d has all =
+    HaveKinds (answer_on found computer given (answers_to what name now line) d).work.computers
+channel_has None computer given what name now line d has all =
+    same_has d.work.computers (refuse_asked what judged.NoChannel line d.work).computers (refused_keeps what judged.NoChannel line d.work) all
+channel_has (Some channel) computer given what name now line d has all =
     let passes : Bool = passes_on channel given in
     let moved : SecureChannelState = channel_by passes channel given in
-    returned_has (return_by passes channel given) (key_of_channel channel) name now line info validation (desk d.table (put_channel computer moved d.work))
+    let back : Desk = desk d.table (put_channel computer moved d.work) in
+    same_has back.work.computers _ (return_keeps what (return_by passes channel given) computer channel name now line back)
     (put_has computer moved d.work.computers.channels (moved_has passes channel given (has channel refl)) all)
 
-logon_has : (computer : Option (List ℕ)) (given : Option Authenticator) (name : List ℕ) (now : ℕ) (line : Line) (info : NetworkInfo) (validation : ℕ) (d : Desk) →
-    HaveKinds d.work.computers → HaveKinds (answer_logon computer given name now line info validation d).work.computers
-logon_has None given name now line info validation d all = all
-logon_has (Some computer) None name now line info validation d all = all
-logon_has (Some computer) (Some given) name now line info validation d all =
-    channel_has (lookup same_name computer d.work.computers.channels) computer given name now line info validation (desk d.table (take_channel computer d.work))
+judged_has : (computer : Option (List ℕ)) (given : Option Authenticator) (what : Asked) (name : List ℕ) (now : ℕ) (line : Line) (d : Desk) →
+    HaveKinds d.work.computers → HaveKinds (answer_named computer given (answers_to what name now line) d).work.computers
+judged_has None given what name now line d all = same_has d.work.computers (refuse_asked what judged.NoChannel line d.work).computers (refused_keeps what judged.NoChannel line d.work) all
+judged_has (Some computer) None what name now line d all = same_has d.work.computers (refuse_asked what judged.NoChannel line d.work).computers (refused_keeps what judged.NoChannel line d.work) all
+judged_has (Some computer) (Some given) what name now line d all =
+    channel_has (lookup same_name computer d.work.computers.channels) computer given what name now line (desk d.table (take_channel computer d.work))
     (λ channel found. found_has computer channel d.work.computers.channels all found) (taken_has computer d.work.computers.channels all)
 
 pub channels_have_kinds : ChannelsHaveKinds
@@ -136,5 +142,5 @@ channels_have_kinds = record {
   challenge = λ table line c server work all. asked_has (knows_in table.accounts c.computer) c.computer (record { client = c.challenge; server = server }) work all;
   authenticate = λ table line c work all.
       came_has line c (take_pair c.computer work) _ all (at_account (account_for table c) (lookup same_name c.computer work.computers.pending) line c (take_pair c.computer work));
-  logon = λ computer given name now line info validation d all. logon_has computer given name now line info validation d all;
+  judged = λ c name now line d all. judged_has (computer_named c) (given_in c) (asked_of c) name now line d all;
 }

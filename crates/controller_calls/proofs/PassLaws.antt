@@ -1,29 +1,52 @@
 -- Which authenticator passes.
-use Rattle.std.proofs.Common.{◌≡◌, ◌↔◌, ℕ, Bool, true, false, List, [], ◌∷◌, ◌++◌, Option, Some, None, refl, sym, ap, ap₂, ◌∙◌, append_assoc}
+use Rattle.std.proofs.Common.{◌≡◌, ◌==◌, ◌↔◌, length, ℕ, Bool, true, false, List, [], ◌∷◌, ◌++◌, Option, Some, None, refl, sym, ap, ◌∙◌, append_assoc}
 use Rattle.std.proofs.lemmas.Slice.Eq.{bytes_eq-Decides}
 use Rattle.wire_base.specs.Maps.{lookup}
 use Rattle.wire_base.specs.Names.{same_name}
 use Rattle.wire_base.specs.declared.authenticator.Authenticator.{Authenticator}
+use Rattle.std.specs.List.{AllByRecursion}
+use Rattle.authenticators.specs.Sequences.{return_of}
 use Rattle.authenticators.specs.SecureChannels.{SecureChannelState, key_of_channel, passes_on, return_by, channel_by}
 use Rattle.outside.specs.declared.action.Action.{Action}
 use Rattle.outside.specs.declared.action.Judged.{Judged}
-use Rattle.logon_stubs.specs.declared.calls.LogonCall.{LogonCall}
-use Rattle.controller_calls.specs.Passing.{DoesWhatPasses, IsNext, PassesTheNext, do_passed, is_passed}
-use Rattle.controller_calls.specs.Calls.{Network, done_by}
+use Rattle.logon_stubs.specs.declared.info.NetworkInfo.{NetworkInfo}
+use Rattle.account_table.specs.LookUps.{machine_in}
+use Rattle.controller_calls.specs.Asking.{answers_to}
+use Rattle.controller_calls.specs.Calls.{asked_of, computer_named, given_in}
 use Rattle.controller_calls.specs.Desk.{Desk, desk, put_channel, take_channel}
-use Rattle.controller_calls.specs.Logons.{judge_return, judge_channel, answer_logon}
+use Rattle.account_table.specs.AccountTable.{AccountTable}
+use Rattle.logon_stubs.specs.declared.info.Verdict.{Verdict}
+use Rattle.logon_stubs.specs.declared.info.Verdict.TheVariants.{Granted, Status}
+use Rattle.interactive_logon.specs.declared.calls.InteractiveInfo.{InteractiveInfo}
+use Rattle.interactive_logon.specs.Sessions.{session_limit}
+use Rattle.controller_calls.specs.Interactive.{admitted, judge_interactive, pass_admitted}
+use Rattle.controller_calls.specs.Judging.{CallAnswers, answer_named, answer_on, answer_return}
+use Rattle.controller_calls.specs.Logons.{answer_logon, network_answers}
+use Rattle.controller_calls.specs.Passing.{IsKeep, IsNext, PassesTheNext, is_passed}
+use Rattle.controller_calls.specs.Setting.{set_at}
+use Rattle.controller_calls.specs.declared.calls.Asked.{Asked}
+use Rattle.controller_calls.specs.declared.calls.Asked.TheVariants as asked
 use Rattle.controller_calls.specs.declared.line.Line.{Line}
 use Rattle.controller_calls.specs.declared.state.Computers.{Computers}
+use Rattle.controller_calls.specs.declared.state.Work.{Work}
 use Rattle.outside.specs.declared.action.Action.TheVariants as action
 use Rattle.outside.specs.declared.action.Judged.TheVariants as judged
 
--- a call's one judgement and one answer, and when it passes
-abbrev pub JudgedOnce : Line → List Action → Desk → Type 0 → Type 0
-JudgedOnce line old after Next =
-    (how : Judged) × (answer : List ℕ) × (after.work.actions ≡ old ++ action.Judged how ∷ action.Send line.link answer ∷ []) × ((is_passed how ≡ true) ↔ Next)
+-- the call's one judgement and one answer, behind what is kept, and when it passes
+abbrev pub JudgedOnce : (List Action → Type 0) → Line → List Action → Desk → Type 0 → Type 0
+JudgedOnce Kept line old after Next =
+    (kept : List Action) × (how : Judged) × (answer : List ℕ) × Kept kept × (after.work.actions ≡ old ++ (kept ++ action.Judged how ∷ action.Send line.link answer ∷ [])) × ((is_passed how ≡ true) ↔ Next)
+
+-- how a call is answered, by one judgement and one answer
+record AnswersOnce (Kept : List Action → Type 0) (line : Line) (answers : CallAnswers) : Type 0 where
+  refused : (how : Judged) (work : Work) → (answer : List ℕ) × ((answers.refused how work).actions ≡ work.actions ++ action.Judged how ∷ action.Send line.link answer ∷ [])
+  passed : (computer : List ℕ) (channel : SecureChannelState) (credential : List ℕ) (d : Desk) →
+      (kept : List Action) × (status : ℕ) × (answer : List ℕ) × Kept kept
+      × ((answers.passed computer channel credential d).work.actions ≡ d.work.actions ++ (kept ++ action.Judged (judged.Passed status) ∷ action.Send line.link answer ∷ []))
+  none : Kept []
 
 -- one action behind another
-two : (old : List Action) (one other : Action) → (old ++ one ∷ []) ++ other ∷ [] ≡ old ++ one ∷ other ∷ []
+pub two : (old : List Action) (one other : Action) → (old ++ one ∷ []) ++ other ∷ [] ≡ old ++ one ∷ other ∷ []
 two old one other = append_assoc old (one ∷ []) (other ∷ [])
 
 never : (how : Judged) (Next : Type 0) → is_passed how ≡ false → (Next → ⊥) → (is_passed how ≡ true) ↔ Next
@@ -42,74 +65,110 @@ one_channel computer other channel another computers is stands also =
 pub not_both : (channel other : SecureChannelState) (given more : Authenticator) → channel ≡ other → given ≡ more → passes_on channel given ≡ false → passes_on other more ≡ true → ⊥
 not_both channel other given more same alike fails passes = absurd cc
 
-by_pass : (passes : Bool) (c : LogonCall) (computer : List ℕ) (given : Authenticator) (channel : SecureChannelState) (computers : Computers) (name : List ℕ) (now : ℕ) (line : Line) (d : Desk) →
-    c.computer ≡ Some computer → c.authenticator ≡ Some given → lookup same_name computer computers.channels ≡ Some channel → passes_on channel given ≡ passes →
-    JudgedOnce line d.work.actions (judge_return (return_by passes channel given) (key_of_channel channel) name now line c.info c.validation d) (IsNext computers c.computer c.authenticator)
-by_pass true c computer given channel computers name now line d named there stands passes = (
-  judged.Passed _,
-  _,
-  two d.work.actions _ _,
-  (λ is. record { computer = computer; given = given; channel = channel; named = named; there = there; stands = stands; passes = (bytes_eq-Decides _ _).0 passes }, λ next. refl),
-)
-by_pass false c computer given channel computers name now line d named there stands passes = (
-  judged.Barred,
-  _,
-  two d.work.actions _ _,
-  never judged.Barred _ refl (λ next. not_both channel next.channel given next.given (one_channel computer next.computer channel next.channel computers (sym named ∙ next.named) stands next.stands) (one_given given next.given (sym there ∙ next.there)) passes ((bytes_eq-Decides _ _).1 next.passes)),
-)
+pub three : (old : List Action) (one other third : Action) → ((old ++ one ∷ []) ++ other ∷ []) ++ third ∷ [] ≡ old ++ one ∷ other ∷ third ∷ []
+three old one other third = two (old ++ one ∷ []) other third ∙ append_assoc old (one ∷ []) (other ∷ third ∷ [])
 
-by_channel : (found : Option SecureChannelState) (c : LogonCall) (computer : List ℕ) (given : Authenticator) (computers : Computers) (name : List ℕ) (now : ℕ) (line : Line) (d : Desk) →
-    c.computer ≡ Some computer → c.authenticator ≡ Some given → lookup same_name computer computers.channels ≡ found →
-    JudgedOnce line d.work.actions (judge_channel found computer given name now line c.info c.validation d) (IsNext computers c.computer c.authenticator)
-by_channel None c computer given computers name now line d named there stands = (
-  judged.NoChannel,
-  _,
-  two d.work.actions _ _,
-  never judged.NoChannel _ refl (λ next. absurd cc),
-)
-by_channel (Some channel) c computer given computers name now line d named there stands =
-    by_pass (passes_on channel given) c computer given channel computers name now line
-    (desk d.table (put_channel computer (channel_by (passes_on channel given) channel given) d.work)) named there stands refl
+-- ---- each kind of call
 
-by_names : (computer : Option (List ℕ)) (given : Option Authenticator) (c : LogonCall) (name : List ℕ) (now : ℕ) (line : Line) (d : Desk) →
-    c.computer ≡ computer → c.authenticator ≡ given →
-    JudgedOnce line d.work.actions (answer_logon computer given name now line c.info c.validation d) (IsNext d.work.computers c.computer c.authenticator)
-by_names None given c name now line d named there = (
-  judged.NoChannel,
-  _,
-  two d.work.actions _ _,
-  never judged.NoChannel _ refl (λ next. absurd cc),
-)
-by_names (Some computer) None c name now line d named there = (
-  judged.NoChannel,
-  _,
-  two d.work.actions _ _,
-  never judged.NoChannel _ refl (λ next. absurd cc),
-)
-by_names (Some computer) (Some given) c name now line d named there =
-    by_channel (lookup same_name computer d.work.computers.channels) c computer given d.work.computers name now line (desk d.table (take_channel computer d.work)) named there refl
+network_once : (Kept : List Action → Type 0) → Kept [] → (name : List ℕ) (now : ℕ) (line : Line) (info : NetworkInfo) (validation : ℕ) → AnswersOnce Kept line (network_answers name now line info validation)
+network_once Kept none name now line info validation = record {
+  refused = λ how work. (_, two work.actions _ _);
+  passed = λ computer channel credential d. ([], _, _, none, two d.work.actions _ _);
+  none = none;
+}
+
+-- the actions behind a text, if one is kept
+abbrev pub Passes : Line → List Action → List Action → Type 0
+Passes line old new =
+    (kept : List Action) × (status : ℕ) × (answer : List ℕ) × AllByRecursion IsKeep kept × (new ≡ old ++ (kept ++ action.Judged (judged.Passed status) ∷ action.Send line.link answer ∷ []))
+
+set_once : (place : Option ℕ) (hash : List ℕ) (line : Line) (credential : List ℕ) (d : Desk) → Passes line d.work.actions (set_at place hash line credential d).work.actions
+set_once None hash line credential d = ([], _, _, tt, two d.work.actions _ _)
+set_once (Some place) hash line credential d = (action.Keep _ ∷ [], _, _, (tt, tt), three d.work.actions _ _ _)
+
+admitted_once : (verdict : Verdict) (table : AccountTable) (line : Line) (info : InteractiveInfo) (validation : ℕ) (computer key credential : List ℕ) (work : Work) →
+    Passes line work.actions (pass_admitted verdict table line info validation computer key credential work).work.actions
+admitted_once (Granted granted) table line info validation computer key credential work = ([], _, _, tt, two work.actions _ _)
+admitted_once (Status status) table line info validation computer key credential work = ([], _, _, tt, two work.actions _ _)
+
+asked_once : (what : Asked) (name : List ℕ) (now : ℕ) (line : Line) → AnswersOnce (λ kept. AllByRecursion IsKeep kept) line (answers_to what name now line)
+asked_once (asked.Network info validation) name now line = record {
+  refused = λ how work. (_, two work.actions _ _);
+  passed = λ computer channel credential d. ([], _, _, tt, two d.work.actions _ _);
+  none = tt;
+}
+asked_once (asked.Interactive info validation) name now line = record {
+  refused = λ how work. (_, two work.actions _ _);
+  passed = λ computer channel credential d.
+      admitted_once (admitted (length d.work.computers.sessions == session_limit) (judge_interactive d.table name now info validation (key_of_channel channel)).verdict) (judge_interactive d.table name now info validation (key_of_channel channel)).table line info validation computer (key_of_channel channel) credential d.work;
+  none = tt;
+}
+asked_once (asked.Logoff info) name now line = record {
+  refused = λ how work. (_, two work.actions _ _);
+  passed = λ computer channel credential d. ([], _, _, tt, two d.work.actions _ _);
+  none = tt;
+}
+asked_once asked.NetworkLogoff name now line = record {
+  refused = λ how work. (_, two work.actions _ _);
+  passed = λ computer channel credential d. ([], _, _, tt, two d.work.actions _ _);
+  none = tt;
+}
+asked_once (asked.Set account kind hidden) name now line = record {
+  refused = λ how work. (_, two work.actions _ _);
+  passed = λ computer channel credential d. set_once (machine_in d.table.accounts account kind computer) _ line credential d;
+  none = tt;
+}
+
+-- ---- all kinds alike
+
+module _ (Kept : List Action → Type 0) (line : Line) (answers : CallAnswers) (once : AnswersOnce Kept line answers) (name : Option (List ℕ)) (shown : Option Authenticator) where
+  refusal : (how : Judged) (Next : Type 0) (d : Desk) → is_passed how ≡ false → (Next → ⊥) → JudgedOnce Kept line d.work.actions (desk d.table (answers.refused how d.work)) Next
+  refusal how Next d not none =
+      let told = once.refused how d.work in ([], how, told.0, once.none, told.1, never how Next not none)
+
+  by_pass : (passes : Bool) (computer : List ℕ) (given : Authenticator) (channel : SecureChannelState) (computers : Computers) (d : Desk) →
+      name ≡ Some computer → shown ≡ Some given → lookup same_name computer computers.channels ≡ Some channel → passes_on channel given ≡ passes →
+      JudgedOnce Kept line d.work.actions (answer_return (return_by passes channel given) answers.refused (answers.passed computer channel) d) (IsNext computers name shown)
+  by_pass true computer given channel computers d named there stands passes =
+      let told = once.passed computer channel (return_of (key_of_channel channel) channel.seed given.timestamp) d in (
+        told.0,
+        judged.Passed told.1,
+        told.2,
+        told.3,
+        told.4,
+        (λ is. record { computer = computer; given = given; channel = channel; named = named; there = there; stands = stands; passes = (bytes_eq-Decides _ _).0 passes }, λ next. refl),
+      )
+  by_pass false computer given channel computers d named there stands passes =
+      refusal judged.Barred _ d refl (λ next. not_both channel next.channel given next.given (one_channel computer next.computer channel next.channel computers (sym named ∙ next.named) stands next.stands) (one_given given next.given (sym there ∙ next.there)) passes ((bytes_eq-Decides _ _).1 next.passes))
+
+  by_channel : (found : Option SecureChannelState) (computer : List ℕ) (given : Authenticator) (computers : Computers) (d : Desk) →
+      name ≡ Some computer → shown ≡ Some given → lookup same_name computer computers.channels ≡ found →
+      JudgedOnce Kept line d.work.actions (answer_on found computer given answers d) (IsNext computers name shown)
+  by_channel None computer given computers d named there stands = refusal judged.NoChannel _ d refl (λ next. absurd cc)
+  by_channel (Some channel) computer given computers d named there stands =
+      by_pass (passes_on channel given) computer given channel computers
+      (desk d.table (put_channel computer (channel_by (passes_on channel given) channel given) d.work)) named there stands refl
+
+  by_names : (computer : Option (List ℕ)) (given : Option Authenticator) (d : Desk) → name ≡ computer → shown ≡ given →
+      JudgedOnce Kept line d.work.actions (answer_named computer given answers d) (IsNext d.work.computers name shown)
+  by_names None given d named there = refusal judged.NoChannel _ d refl (λ next. absurd cc)
+  by_names (Some computer) None d named there = refusal judged.NoChannel _ d refl (λ next. absurd cc)
+  by_names (Some computer) (Some given) d named there =
+      by_channel (lookup same_name computer d.work.computers.channels) computer given d.work.computers (desk d.table (take_channel computer d.work)) named there refl
+
+-- nothing is kept
+bare : (line : Line) (old : List Action) (after : Desk) (Next : Type 0) → JudgedOnce (λ kept. kept ≡ []) line old after Next →
+    (how : Judged) × (answer : List ℕ) × (after.work.actions ≡ old ++ action.Judged how ∷ action.Send line.link answer ∷ []) × ((is_passed how ≡ true) ↔ Next)
+bare line old after Next once =
+    (once.1, once.2, once.4 ∙ ap (λ (kept : List Action). old ++ (kept ++ action.Judged once.1 ∷ action.Send line.link once.2 ∷ [])) once.3, once.5)
 
 pub passes_the_next : PassesTheNext
-passes_the_next = record { logon = λ c name now line d. by_names c.computer c.authenticator c name now line d refl refl }
-
--- ---- what it comes to then
-
-passed : (c : LogonCall) (name : List ℕ) (now : ℕ) (line : Line) (d : Desk) (computer : List ℕ) (given : Authenticator) (channel : SecureChannelState) →
-    (passes : Bool) → passes ≡ true →
-    judge_return (return_by passes channel given) (key_of_channel channel) name now line c.info c.validation
-    (desk d.table (put_channel computer (channel_by passes channel given) (take_channel computer d.work)))
-    ≡ do_passed (done_by (Network c) channel name d.table now) c line computer channel given d.work
-passed c name now line d computer given channel true is = refl
-passed c name now line d computer given channel false is = absurd (let x = is in cc)
-
-does_what : (c : LogonCall) (name : List ℕ) (now : ℕ) (line : Line) (d : Desk) (next : IsNext d.work.computers c.computer c.authenticator) →
-    answer_logon c.computer c.authenticator name now line c.info c.validation d
-    ≡ do_passed (done_by (Network c) next.channel name d.table now) c line next.computer next.channel next.given d.work
-does_what c name now line d next =
-    ap₂ (λ (computer : Option (List ℕ)) (given : Option Authenticator). answer_logon computer given name now line c.info c.validation d) next.named next.there
-    ∙ ap (λ (found : Option SecureChannelState).
-    judge_channel found next.computer next.given name now line c.info c.validation (desk d.table (take_channel next.computer d.work))) next.stands
-    ∙ passed c name now line d next.computer next.given next.channel (passes_on next.channel next.given) ((bytes_eq-Decides _ _).1 next.passes)
-
-pub does_what_passes : DoesWhatPasses
-does_what_passes = record { logon = does_what }
+passes_the_next = record {
+  logon = λ c name now line d.
+      bare line d.work.actions (answer_logon c.computer c.authenticator name now line c.info c.validation d) (IsNext d.work.computers c.computer c.authenticator)
+      (by_names (λ kept. kept ≡ []) line (network_answers name now line c.info c.validation) (network_once (λ kept. kept ≡ []) refl name now line c.info c.validation)
+      c.computer c.authenticator c.computer c.authenticator d refl refl);
+  judged = λ c name now line d.
+      by_names (λ kept. AllByRecursion IsKeep kept) line (answers_to (asked_of c) name now line) (asked_once (asked_of c) name now line)
+      (computer_named c) (given_in c) (computer_named c) (given_in c) d refl refl;
+}

@@ -1,18 +1,17 @@
 -- The type of a channel that a controller keeps (MS-NRPC 2.2.1.3.13). A call that opens one leaves it of the type that
 -- the call names (3.5.4.4.3), and whatever comes, each channel that is kept has a type.
-use Rattle.std.specs.Prelude.{ℕ, ◌≡◌, ◌≢◌, ◌⊎◌, true, List, Option, Some}
+use Rattle.std.specs.Prelude.{ℕ, ◌≡◌, ◌≢◌, ◌⊎◌, true, List, Some}
 use Rattle.std.specs.List.{AllByRecursion}
 use Rattle.wire_base.specs.Maps.{lookup}
 use Rattle.wire_base.specs.Names.{same_name}
-use Rattle.wire_base.specs.declared.authenticator.Authenticator.{Authenticator}
 use Rattle.authenticators.specs.SecureChannels.{SecureChannelState}
 use Rattle.logon_stubs.specs.declared.calls.AuthCall.{AuthCall}
 use Rattle.logon_stubs.specs.declared.calls.ChallengeCall.{ChallengeCall}
-use Rattle.logon_stubs.specs.declared.info.NetworkInfo.{NetworkInfo}
 use Rattle.account_table.specs.AccountTable.{AccountTable}
 use Rattle.controller_calls.specs.Desk.{Desk, take_pair}
-use Rattle.controller_calls.specs.Logons.{answer_logon}
+use Rattle.controller_calls.specs.Asking.{answer_judged}
 use Rattle.controller_calls.specs.Opening.{answer_authenticate, answer_challenge, deny_channel, open_channel}
+use Rattle.controller_calls.specs.declared.calls.JudgedCall.{JudgedCall}
 use Rattle.controller_calls.specs.declared.line.Line.{Line}
 use Rattle.controller_calls.specs.declared.state.Computers.{Computers}
 use Rattle.controller_calls.specs.declared.state.Work.{Work}
@@ -51,6 +50,5 @@ pub record ChannelsHaveKinds : Type 0 where
       HaveKinds work.computers → HaveKinds (answer_challenge table line c server work).computers
   pub authenticate : (table : AccountTable) (line : Line) (c : AuthCall) (work : Work) →
       HaveKinds work.computers → HaveKinds (answer_authenticate table line c work).computers
-  pub logon : (computer : Option (List ℕ)) (given : Option Authenticator) (name : List ℕ) (now : ℕ) (line : Line)
-      (info : NetworkInfo) (validation : ℕ) (d : Desk) →
-      HaveKinds d.work.computers → HaveKinds (answer_logon computer given name now line info validation d).work.computers
+  pub judged : (c : JudgedCall) (name : List ℕ) (now : ℕ) (line : Line) (d : Desk) →
+      HaveKinds d.work.computers → HaveKinds (answer_judged c name now line d).work.computers

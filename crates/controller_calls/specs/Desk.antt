@@ -8,11 +8,10 @@ use Rattle.outside.specs.declared.action.Action.{Action}
 use Rattle.outside.specs.declared.action.Action.TheVariants as action
 use Rattle.outside.specs.declared.action.StepRefused.{StepRefused}
 use Rattle.rpc_units.specs.Calls.{bytes_of_call}
-use Rattle.rpc_units.specs.Writing.{written}
 use Rattle.logon_stubs.specs.declared.calls.Reply.{Reply}
 use Rattle.logon_stubs.specs.Writing.{written_reply}
 use Rattle.account_table.specs.AccountTable.{AccountTable}
-use Rattle.end_links.specs.Sending.{fault_of, response_of}
+use Rattle.end_links.specs.Sending.{response_of}
 use Rattle.controller_calls.specs.declared.line.Line.{Line}
 use Rattle.controller_calls.specs.declared.state.ChallengePair.{ChallengePair}
 use Rattle.controller_calls.specs.declared.state.Work.{Work}
@@ -41,13 +40,12 @@ pub record IsLine (line : Line) : Type 0 where
 abbrev pub tell : Work → Action → Work
 tell work what = record work { actions = work.actions ++ what ∷ [] }
 
-abbrev pub send_fault : Work → Line → ℕ → Work
-send_fault work line status = tell work (action.Send line.link (written (fault_of line.call line.context status)))
-
 -- all frames of the reply are one send
+abbrev pub send_stub : Work → Line → List ℕ → Work
+send_stub work line stub = tell work (action.Send line.link (bytes_of_call (response_of line.call line.context stub) line.limit))
+
 abbrev pub send_reply : Work → Line → Reply → Work
-send_reply work line answer =
-    tell work (action.Send line.link (bytes_of_call (response_of line.call line.context (written_reply answer)) line.limit))
+send_reply work line answer = send_stub work line (written_reply answer)
 
 -- ---- what is kept of computers
 

@@ -1,6 +1,11 @@
+pub mod Asking
 pub mod Calls
 pub mod ChannelKinds
 pub mod Desk
+pub mod Doing
+pub mod Interactive
+pub mod Judging
 pub mod Logons
 pub mod Opening
 pub mod Passing
+pub mod Setting

@@ -1,11 +1,9 @@
 -- NetrLogonSamLogon at a controller (MS-NRPC 3.5.4.5.3; the order of checks is this project's own choice). A moment is
 -- in units of 100 ns since 1601; a credential has 8 bytes, a key 16.
 use Rattle.std.specs.Prelude.{ℕ, ◌≡◌, ◌⊎◌, ◌==◌, ◌||◌, Bool, true, false, List, Option, Some, None}
-use Rattle.wire_base.specs.Maps.{lookup}
-use Rattle.wire_base.specs.Names.{same_name}
 use Rattle.wire_base.specs.declared.authenticator.Authenticator.{Authenticator}
 use Rattle.channel_keys.specs.Hidden.{crypt_key}
-use Rattle.authenticators.specs.SecureChannels.{SecureChannelState, key_of_channel, passes_on, return_by, channel_by}
+use Rattle.authenticators.specs.SecureChannels.{SecureChannelState, key_of_channel}
 use Rattle.outside.specs.declared.action.Action.TheVariants as action
 use Rattle.outside.specs.declared.action.Judged.{Judged}
 use Rattle.outside.specs.declared.action.Judged.TheVariants as judged
@@ -18,7 +16,8 @@ use Rattle.logon_stubs.specs.Status.{access_denied, invalid_info_class}
 use Rattle.account_table.specs.AccountTable.{AccountTable}
 use Rattle.sam_logon.specs.Granting.{at_level}
 use Rattle.sam_logon.specs.Verdict.{Judgement, judgement_of}
-use Rattle.controller_calls.specs.Desk.{Desk, desk, put_channel, send_reply, take_channel, tell}
+use Rattle.controller_calls.specs.Desk.{Desk, desk, send_reply, tell}
+use Rattle.controller_calls.specs.Judging.{CallAnswers, answer_named, answer_on, answer_return}
 use Rattle.controller_calls.specs.declared.line.Line.{Line}
 use Rattle.controller_calls.specs.declared.state.Work.{Work}
 
@@ -76,24 +75,28 @@ judge_info table name now info validation = judge_level (serves_level validation
 abbrev pub with_judgement : Judgement → Line → ℕ → List ℕ → List ℕ → Work → Desk
 with_judgement j line validation key credential work = desk j.table (pass_logon j.verdict line validation key credential work)
 
--- by the credential that is returned, where the authenticator passes
-abbrev pub judge_return : Option (List ℕ) → List ℕ → List ℕ → ℕ → Line → NetworkInfo → ℕ → Desk → Desk
-judge_return None key name now line info validation d = desk d.table (refuse_logon judged.Barred line validation d.work)
-judge_return (Some credential) key name now line info validation d =
+-- where its authenticator passes, by the channel's key and the credential that is returned
+abbrev pub pass_network : List ℕ → ℕ → Line → NetworkInfo → ℕ → List ℕ → List ℕ → Desk → Desk
+pass_network name now line info validation key credential d =
     with_judgement (judge_info d.table name now info validation) line validation key credential d.work
 
--- on the computer's channel, whose seed moves on exactly where the authenticator passes
+abbrev pub network_answers : List ℕ → ℕ → Line → NetworkInfo → ℕ → CallAnswers
+network_answers name now line info validation = record {
+  refused = λ how work. refuse_logon how line validation work;
+  passed = λ computer channel credential d. pass_network name now line info validation (key_of_channel channel) credential d;
+}
+
+-- ---- the same by the parts of the call, as it is judged
+
+abbrev pub judge_return : Option (List ℕ) → List ℕ → List ℕ → ℕ → Line → NetworkInfo → ℕ → Desk → Desk
+judge_return credential key name now line info validation d =
+    answer_return credential (λ how work. refuse_logon how line validation work)
+    (λ returned later. pass_network name now line info validation key returned later) d
+
 abbrev pub judge_channel : Option SecureChannelState → List ℕ → Authenticator → List ℕ → ℕ → Line → NetworkInfo → ℕ → Desk → Desk
-judge_channel None computer given name now line info validation d =
-    desk d.table (refuse_logon judged.NoChannel line validation d.work)
-judge_channel (Some channel) computer given name now line info validation d =
-    judge_return (return_by (passes_on channel given) channel given) (key_of_channel channel) name now line info validation
-    (desk d.table (put_channel computer (channel_by (passes_on channel given) channel given) d.work))
+judge_channel found computer given name now line info validation d =
+    answer_on found computer given (network_answers name now line info validation) d
 
 abbrev pub answer_logon : Option (List ℕ) → Option Authenticator → List ℕ → ℕ → Line → NetworkInfo → ℕ → Desk → Desk
-answer_logon None given name now line info validation d = desk d.table (refuse_logon judged.NoChannel line validation d.work)
-answer_logon (Some computer) None name now line info validation d =
-    desk d.table (refuse_logon judged.NoChannel line validation d.work)
-answer_logon (Some computer) (Some given) name now line info validation d =
-    judge_channel (lookup same_name computer d.work.computers.channels) computer given name now line info validation
-    (desk d.table (take_channel computer d.work))
+answer_logon computer given name now line info validation d =
+    answer_named computer given (network_answers name now line info validation) d

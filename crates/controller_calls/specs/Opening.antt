@@ -44,9 +44,12 @@ deny_channel work line offered status =
     send_reply work line
     (reply.Authenticate (record { credential = replicate 8 0; flags = grant_flags offered; status = status }))
 
--- the channel that an accepted call opens, of the type that the call names
+-- the channel that an accepted call opens, by the hash of its account, of the type that the call names
+abbrev pub channel_with : List ℕ → ChallengePair → AuthCall → SecureChannelState
+channel_with hash pair c = with_kind c.channel (fresh_channel hash pair.client pair.server (grant_flags c.flags))
+
 abbrev pub channel_for : Account → ChallengePair → AuthCall → SecureChannelState
-channel_for account pair c = with_kind c.channel (fresh_channel account.hash pair.client pair.server (grant_flags c.flags))
+channel_for account pair c = channel_with account.hash pair c
 
 -- a channel opens where the client's credential is that of its challenge (MS-NRPC 3.1.4.4.2)
 abbrev pub open_channel : (is_its : Bool) → SecureChannelState → Line → AuthCall → Work → Work
@@ -62,14 +65,20 @@ abbrev pub judge_client : SecureChannelState → Line → AuthCall → Work → 
 judge_client channel line c work =
     open_channel (bytes_eq c.credential (cred_of (key_of_channel channel) channel.client)) channel line c work
 
-abbrev pub judge_pair : Option ChallengePair → Account → Line → AuthCall → Work → Work
-judge_pair None account line c work = deny_channel work line c.flags access_denied
-judge_pair (Some pair) account line c work = judge_client (channel_for account pair c) line c work
+abbrev pub judge_pair_with : Option ChallengePair → List ℕ → Line → AuthCall → Work → Work
+judge_pair_with None hash line c work = deny_channel work line c.flags access_denied
+judge_pair_with (Some pair) hash line c work = judge_client (channel_with hash pair c) line c work
 
--- an offer without RC4 is refused, whatever challenges wait
-abbrev pub judge_offer : (has_rc4 : Bool) → Option ChallengePair → Account → Line → AuthCall → Work → Work
-judge_offer false pair account line c work = deny_channel work line c.flags downgrade_detected
-judge_offer true pair account line c work = judge_pair pair account line c work
+abbrev pub judge_pair : Option ChallengePair → Account → Line → AuthCall → Work → Work
+judge_pair pair account line c work = judge_pair_with pair account.hash line c work
+
+-- the argument: whether RC4 is offered
+abbrev pub judge_offer_with : Bool → Option ChallengePair → List ℕ → Line → AuthCall → Work → Work
+judge_offer_with false pair hash line c work = deny_channel work line c.flags downgrade_detected
+judge_offer_with true pair hash line c work = judge_pair_with pair hash line c work
+
+abbrev pub judge_offer : Bool → Option ChallengePair → Account → Line → AuthCall → Work → Work
+judge_offer offered pair account line c work = judge_offer_with offered pair account.hash line c work
 
 abbrev pub judge_account : Option Account → Option ChallengePair → Line → AuthCall → Work → Work
 judge_account None pair line c work = deny_channel work line c.flags no_trust_sam_account

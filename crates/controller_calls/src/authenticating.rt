@@ -1,16 +1,18 @@
 //! NetrServerAuthenticate2.
 
-ghost use Rattle.std.specs.Prelude.{◌≡◌, IfOk, Some, option_copied};
+ghost use Rattle.std.specs.Prelude.{◌≡◌, IfOk, Some};
 ghost use Rattle.ntlm_flags.specs.Flags.{has_flag};
 ghost use Rattle.channel_keys.specs.Flags.{rc4_flag};
+ghost use Rattle.account_table.specs.Changes.{with_changes};
 ghost use Rattle.controller_calls.specs.Desk.{IsLine};
-ghost use Rattle.controller_calls.specs.Opening.{deny_channel, judge_pair, judge_offer, account_for, answer_authenticate};
+ghost use Rattle.controller_calls.specs.Opening.{deny_channel, judge_pair_with, judge_offer_with, answer_authenticate};
 
 use crate::computers::{put_channel, take_pair};
 use crate::line::Line;
 use crate::replying::send_reply;
+use crate::standing::hash_for;
 use crate::state::{ChallengePair, Work};
-use account_table::{Account, Table};
+use account_table::{Table, TableChanges};
 use authenticators::SecureChannel;
 use channel_keys::{RC4, SUPPORTED_FLAGS, cred, granted_flags};
 use logon_stubs::{
@@ -21,29 +23,26 @@ use ntlm_flags::has_flag;
 use std::alloc::Global;
 use wire_base::NoMemory;
 
-/// Answers NetrServerAuthenticate2 (MS-NRPC 3.5.4.4.3). The computer's challenges are taken out, whatever comes of it.
+/// Answers NetrServerAuthenticate2 (MS-NRPC 3.5.4.4.3), by the accounts as the changes leave them. The computer's
+/// challenges are taken out, whatever comes of it.
+#[tactic(auto, using(crate::proofs::HashLaws::hashing))]
 pub fn answer_authenticate(
     alloc: Global,
     table: &Table,
+    changes: &TableChanges,
     line: Line,
     call: AuthCall,
     work: Work,
 ) -> Result<Work, NoMemory>
     requires { IsLine line }
-    ensures { IfOk result (λ w. w ≡ answer_authenticate table.now line call work) }
+    ensures { IfOk result (λ w.
+        w ≡ answer_authenticate (with_changes changes.now table.now) line call work) }
 {
     let (work, pair) = take_pair(call.computer.units(), work);
-    match account_for(table, &call) {
-        Some(account) => judge_offer(alloc, account, pair, line, call, work),
+    match hash_for(table, changes, &call) {
+        Some(hash) => judge_offer(alloc, hash, pair, line, call, work),
         None => deny_channel(alloc, work, line, call.flags, STATUS_NO_TRUST_SAM_ACCOUNT),
     }
-}
-
-/// The enabled account of that name that opens that channel for that computer.
-fn account_for<'a>(table: &'a Table, call: &AuthCall) -> Option<&'a Account>
-    ensures { option_copied result ≡ account_for table.now call.now }
-{
-    table.account(table.machine(call.account.units(), call.channel, call.computer.units())?)
 }
 
 /// A refusal, to flags that are offered: a credential of zeros.
@@ -65,10 +64,10 @@ fn deny_channel(
     send_reply(alloc, work, line, &answer)
 }
 
-/// What comes of it at an account, with the challenges that waited.
+/// What comes of it at an account of that hash, with the challenges that waited.
 fn judge_offer(
     alloc: Global,
-    account: &Account,
+    hash: [u8; 16],
     pair: Option<ChallengePair>,
     line: Line,
     call: AuthCall,
@@ -76,7 +75,7 @@ fn judge_offer(
 ) -> Result<Work, NoMemory>
     requires { IsLine line }
     ensures { IfOk result (λ w.
-        w ≡ judge_offer (has_flag call.flags rc4_flag) pair account.now line call work) }
+        w ≡ judge_offer_with (has_flag call.flags rc4_flag) pair hash line call work) }
 {
     if !has_flag(call.flags, RC4) {
         return deny_channel(alloc, work, line, call.flags, STATUS_DOWNGRADE_DETECTED);
@@ -84,23 +83,23 @@ fn judge_offer(
     let Some(pair) = pair else {
         return deny_channel(alloc, work, line, call.flags, STATUS_ACCESS_DENIED);
     };
-    judge_pair(alloc, account, pair, line, call, work)
+    judge_pair(alloc, hash, pair, line, call, work)
 }
 
 /// What comes of the client's credential, on the channel that would open with these challenges.
 fn judge_pair(
     alloc: Global,
-    account: &Account,
+    hash: [u8; 16],
     pair: ChallengePair,
     line: Line,
     call: AuthCall,
     work: Work,
 ) -> Result<Work, NoMemory>
     requires { IsLine line }
-    ensures { IfOk result (λ w. w ≡ judge_pair (Some pair) account.now line call work) }
+    ensures { IfOk result (λ w. w ≡ judge_pair_with (Some pair) hash line call work) }
 {
     let flags = granted_flags(SUPPORTED_FLAGS, call.flags);
-    let channel = SecureChannel::new(account.hash, pair.client, pair.server, flags);
+    let channel = SecureChannel::new(hash, pair.client, pair.server, flags);
     let channel = channel.with_kind(call.channel);
     let key = channel.key();
     if call.credential != cred(key, pair.client) {

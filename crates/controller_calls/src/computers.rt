@@ -23,10 +23,18 @@ pub(crate) fn put_pair_if(
         return Ok(work);
     }
     let Work { computers, actions } = work;
-    let Computers { pending, channels } = computers;
+    let Computers {
+        pending,
+        channels,
+        sessions,
+    } = computers;
     let pending = put_named(pending, computer, pair)?;
     Ok(Work {
-        computers: Computers { pending, channels },
+        computers: Computers {
+            pending,
+            channels,
+            sessions,
+        },
         actions,
     })
 }
@@ -37,10 +45,18 @@ pub(crate) fn take_pair(computer: &[u16], work: Work) -> (Work, Option<Challenge
     ensures pair { result.1 ≡ lookup same_name computer.now work.computers.pending }
 {
     let Work { computers, actions } = work;
-    let Computers { pending, channels } = computers;
+    let Computers {
+        pending,
+        channels,
+        sessions,
+    } = computers;
     let (pending, pair) = take_named(pending, computer);
     let work = Work {
-        computers: Computers { pending, channels },
+        computers: Computers {
+            pending,
+            channels,
+            sessions,
+        },
         actions,
     };
     (work, pair)
@@ -55,10 +71,18 @@ pub(crate) fn put_channel(
     ensures { IfOk result (λ w. w ≡ put_channel computer channel work) }
 {
     let Work { computers, actions } = work;
-    let Computers { pending, channels } = computers;
+    let Computers {
+        pending,
+        channels,
+        sessions,
+    } = computers;
     let channels = put_named(channels, computer, channel)?;
     Ok(Work {
-        computers: Computers { pending, channels },
+        computers: Computers {
+            pending,
+            channels,
+            sessions,
+        },
         actions,
     })
 }
@@ -69,10 +93,18 @@ pub(crate) fn take_channel(computer: &[u16], work: Work) -> (Work, Option<Secure
     ensures channel { result.1 ≡ lookup same_name computer.now work.computers.channels }
 {
     let Work { computers, actions } = work;
-    let Computers { pending, channels } = computers;
+    let Computers {
+        pending,
+        channels,
+        sessions,
+    } = computers;
     let (channels, channel) = take_named(channels, computer);
     let work = Work {
-        computers: Computers { pending, channels },
+        computers: Computers {
+            pending,
+            channels,
+            sessions,
+        },
         actions,
     };
     (work, channel)

@@ -1,18 +1,20 @@
 //! Laws of the calls at a controller, over their definitions. Each function does nothing, and its clauses are the laws.
 
 ghost use Rattle.controller_calls.specs.ChannelKinds.{ChannelsHaveKinds};
-ghost use Rattle.controller_calls.specs.Passing.{DoesWhatPasses, PassesTheNext};
+ghost use Rattle.controller_calls.specs.Doing.{DoesWhatPasses};
+ghost use Rattle.controller_calls.specs.Passing.{PassesTheNext};
 
-/// A logon's authenticator passes exactly where it is the next one of the channel of the computer that the call names,
-/// whoever sent it.
+/// An authenticator passes exactly where it is the next one of the channel of the computer that the call names, whoever
+/// sent it, and whatever the call asks.
 #[tactic(auto, using(crate::proofs::PassLaws::passes_the_next))]
 pub fn the_next_authenticator_passes()
     ensures { PassesTheNext }
 {}
 
-/// What a logon comes to whose authenticator passes (`done_by`) is what the controller does and answers: the accounts
-/// behind it, the status that is told, and the reply.
-#[tactic(auto, using(crate::proofs::PassLaws::does_what_passes))]
+/// What a call comes to whose authenticator passes (`done_by`), whatever it asks, is what the controller does and
+/// answers: the accounts and the sessions behind it, the status that is told, and the reply. A call that doesn't pass
+/// leaves accounts, sessions and each computer's channel; it is told why, and answered by STATUS_ACCESS_DENIED.
+#[tactic(auto, using(crate::proofs::DoneLaws::does_what_passes))]
 pub fn what_passes_is_done()
     ensures { DoesWhatPasses }
 {}

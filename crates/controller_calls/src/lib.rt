@@ -3,17 +3,23 @@
 #![tactic(auto)]
 
 mod authenticating;
+mod calls;
 mod challenging;
 mod computers;
+mod interactive;
+mod judging;
 pub mod laws;
 mod line;
 mod logon;
 mod replying;
+mod setting;
+mod standing;
 mod state;
 
 pub use authenticating::answer_authenticate;
+pub use calls::{Asked, ControllerCall, JudgedCall};
 pub use challenging::answer_challenge;
+pub use judging::answer_judged;
 pub use line::Line;
-pub use logon::answer_logon;
-pub use replying::{fault_bytes, send_fault, tell};
+pub use replying::{fault_bytes, tell};
 pub use state::{ChallengePair, Computers, Work};

@@ -2,64 +2,29 @@
 
 ghost use Rattle.std.specs.Prelude.{◌≡◌, ◌++◌, IfOk, OnErr, OnOk, Some};
 ghost use Rattle.std.specs.Option.{option_to_list};
-ghost use Rattle.wire_base.specs.Maps.{lookup};
-ghost use Rattle.wire_base.specs.Names.{same_name};
 ghost use Rattle.account_table.specs.Changes.{with_changes};
 ghost use Rattle.logon_stubs.specs.Ranges.{HasShortTexts};
 ghost use Rattle.logon_stubs.specs.Writing.{CanWriteArm, CanWriteSamInfo};
 ghost use Rattle.sam_logon.specs.Verdict.{IfGranted};
-ghost use Rattle.controller_calls.specs.Desk.{IsLine, desk, take_channel};
-ghost use Rattle.controller_calls.specs.Logons.{IsServedLevel, refuse_logon, reply_info, pass_logon, serves_level, judge_info, with_judgement, judge_channel, answer_logon};
+ghost use Rattle.controller_calls.specs.Desk.{IsLine, desk};
+ghost use Rattle.controller_calls.specs.Logons.{IsServedLevel, refuse_logon, reply_info, pass_logon, pass_network, serves_level, judge_info};
 
-use crate::computers::{put_channel, take_channel};
 use crate::line::Line;
 use crate::replying::{send_reply, tell};
 use crate::state::Work;
 use account_table::{Table, TableChange, TableChanges};
 use channel_keys::crypt_key;
 use logon_stubs::{
-    LogonCall, LogonReply, NetworkInfo, Reply, STATUS_ACCESS_DENIED, STATUS_INVALID_INFO_CLASS,
-    SamInfo, Verdict,
+    LogonReply, NetworkInfo, Reply, STATUS_ACCESS_DENIED, STATUS_INVALID_INFO_CLASS, SamInfo,
+    Verdict,
 };
 use outside::{Action, Judged};
 use sam_logon::{Weighed, at_level, weigh_logon};
 use std::alloc::Global;
-use wire_base::{Authenticator, Name, NoMemory, Units};
-
-/// Answers NetrLogonSamLogon at a moment, in units of 100 ns since 1601 (MS-NRPC 3.5.4.5.3). The logon is judged by the
-/// accounts as the changes leave them, and what it changes itself is put behind those.
-pub fn answer_logon(
-    alloc: Global,
-    table: &Table,
-    changes: &mut TableChanges,
-    name: &Name,
-    now: u64,
-    line: Line,
-    call: LogonCall,
-    work: Work,
-) -> Result<Work, NoMemory>
-    requires { IsLine line }
-    ensures value { IfOk result (λ w. desk (with_changes changes.new table.now) w ≡ answer_logon
-        call.computer call.authenticator name.now now line call.info call.validation
-        (desk (with_changes changes.old table.now) work)) }
-{
-    let LogonCall {
-        computer,
-        authenticator,
-        info,
-        validation,
-        ..
-    } = call;
-    match (computer, authenticator) {
-        (Some(computer), Some(given)) => judge_channel(
-            alloc, table, changes, name, now, line, computer, &given, &info, validation, work,
-        ),
-        _ => refuse_logon(alloc, Judged::NoChannel, line, validation, work),
-    }
-}
+use wire_base::{Authenticator, Name, NoMemory};
 
 /// Without a channel and an authenticator that passes, nothing is returned.
-fn refuse_logon(
+pub(crate) fn refuse_logon(
     alloc: Global,
     how: Judged,
     line: Line,
@@ -80,43 +45,8 @@ fn refuse_logon(
     send_reply(alloc, work, line, &answer)
 }
 
-/// What comes of a logon on the computer's channel.
-fn judge_channel(
-    alloc: Global,
-    table: &Table,
-    changes: &mut TableChanges,
-    name: &Name,
-    now: u64,
-    line: Line,
-    computer: Units,
-    given: &Authenticator,
-    info: &NetworkInfo,
-    validation: u16,
-    work: Work,
-) -> Result<Work, NoMemory>
-    requires { IsLine line }
-    ensures value { IfOk result (λ w. desk (with_changes changes.new table.now) w ≡ judge_channel
-        (lookup same_name computer work.computers.channels) computer given.now name.now now line
-        info.now validation
-        (desk (with_changes changes.old table.now) (take_channel computer work))) }
-{
-    let (work, found) = take_channel(computer.units(), work);
-    let Some(mut channel) = found else {
-        return refuse_logon(alloc, Judged::NoChannel, line, validation, work);
-    };
-    let returned = channel.judge(given);
-    let key = channel.key();
-    let work = put_channel(computer, channel, work)?;
-    match returned {
-        Some(credential) => judge_info(
-            alloc, table, changes, name, now, line, info, validation, key, credential, work,
-        ),
-        None => refuse_logon(alloc, Judged::Barred, line, validation, work),
-    }
-}
-
-/// What comes of a logon whose authenticator passes: it is judged, and the verdict is sent.
-fn judge_info(
+/// What comes of a network logon whose authenticator passes: it is judged at a moment, and the verdict is sent.
+pub(crate) fn pass_network(
     alloc: Global,
     table: &Table,
     changes: &mut TableChanges,
@@ -130,9 +60,9 @@ fn judge_info(
     work: Work,
 ) -> Result<Work, NoMemory>
     requires { IsLine line }
-    ensures value { IfOk result (λ w. desk (with_changes changes.new table.now) w
-        ≡ with_judgement (judge_info (with_changes changes.old table.now) name.now now info.now
-        validation) line validation key credential work) }
+    ensures value { IfOk result (λ w. desk (with_changes changes.new table.now) w ≡ pass_network
+        name.now now line info.now validation key credential
+        (desk (with_changes changes.old table.now) work)) }
 {
     let verdict = verdict_at(alloc, table, changes, name, now, info, validation)?;
     pass_logon(alloc, verdict, line, validation, key, credential, work)
@@ -166,14 +96,17 @@ fn verdict_at(
 }
 
 /// Whether logons are judged at the validation level.
-fn serves_level(validation: u16) -> bool
+pub(crate) fn serves_level(validation: u16) -> bool
     ensures { result ≡ serves_level validation }
 {
     matches!(validation, 2 | 3)
 }
 
 /// The change is one more, where there is one. Without memory the changes are as they were.
-fn note_change(change: Option<TableChange>, changes: &mut TableChanges) -> Result<(), NoMemory>
+pub(crate) fn note_change(
+    change: Option<TableChange>,
+    changes: &mut TableChanges,
+) -> Result<(), NoMemory>
     ensures noted { OnOk result (changes.new ≡ changes.old ++ option_to_list change) }
     ensures unchanged { OnErr result (changes.new ≡ changes.old) }
 {
@@ -184,7 +117,7 @@ fn note_change(change: Option<TableChange>, changes: &mut TableChanges) -> Resul
 }
 
 /// The verdict is sent, with what is granted.
-fn pass_logon(
+pub(crate) fn pass_logon(
     alloc: Global,
     verdict: Verdict,
     line: Line,

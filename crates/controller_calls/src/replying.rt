@@ -7,7 +7,7 @@ ghost use Rattle.logon_stubs.specs.Writing.{CanWriteReply, written_reply};
 ghost use Rattle.rpc_units.specs.Writing.{written};
 ghost use Rattle.end_links.specs.Bounds.{IsShortSend};
 ghost use Rattle.end_links.specs.Sending.{fault_of};
-ghost use Rattle.controller_calls.specs.Desk.{IsLine, tell, send_fault, send_reply};
+ghost use Rattle.controller_calls.specs.Desk.{IsLine, tell, send_reply, send_stub};
 
 use crate::line::Line;
 use crate::state::Work;
@@ -35,14 +35,6 @@ pub fn fault_bytes(alloc: Global, call: u32, context: u16, status: u32) -> Resul
     short_unit_bytes(alloc, &fault(call, context, status))
 }
 
-/// The call is answered by a fault of that status.
-pub fn send_fault(alloc: Global, work: Work, line: Line, status: u32) -> Result<Work, NoMemory>
-    ensures { IfOk result (λ w. w ≡ send_fault work line status) }
-{
-    let bytes = fault_bytes(alloc, line.call, line.context, status)?;
-    tell(work, Action::Send(line.link, bytes))
-}
-
 /// The call is answered by the reply, all of its frames in one send of at most 131,123 bytes.
 pub(crate) fn send_reply(
     alloc: Global,
@@ -56,6 +48,15 @@ pub(crate) fn send_reply(
     ensures { IfOk result (λ w. w ≡ send_reply work line answer.now) }
 {
     let stub = reply_stub(alloc, answer)?;
+    send_stub(alloc, work, line, stub)
+}
+
+/// The same by the stub of the reply.
+pub(crate) fn send_stub(alloc: Global, work: Work, line: Line, stub: Blob) -> Result<Work, NoMemory>
+    requires short { length stub ≤ 65536 }
+    requires line { IsLine line }
+    ensures { IfOk result (λ w. w ≡ send_stub work line stub) }
+{
     let unit = response(line.call, line.context, stub);
     let bytes = call_bytes(alloc, &unit, line.limit)?;
     tell(work, Action::Send(line.link, bytes))

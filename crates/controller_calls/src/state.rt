@@ -2,6 +2,7 @@
 
 use authenticators::SecureChannel;
 use end_links::ShortActions;
+use interactive_logon::Sessions;
 use wire_base::{List, Units};
 
 /// The challenges of a NetrServerReqChallenge, which wait for a NetrServerAuthenticate2: the client's and the server's
@@ -12,11 +13,13 @@ pub struct ChallengePair {
     pub server: [u8; 8],
 }
 
-/// What is kept of computers, by their names without case: the challenges that wait, and the channels that are open.
+/// What is kept of computers, by their names without case: the challenges that wait, the channels that are open, and
+/// the sessions of users who logged on at them.
 #[derive(Drop)]
 pub struct Computers {
     pub pending: List<(Units, ChallengePair)>,
     pub channels: List<(Units, SecureChannel)>,
+    pub sessions: Sessions,
 }
 
 /// What a controller at work has beside its accounts and its links: what it keeps of computers, and its actions so far.

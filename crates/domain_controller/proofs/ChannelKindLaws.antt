@@ -6,8 +6,8 @@ use Rattle.outside.specs.declared.event.Event.TheVariants as event
 use Rattle.outside.specs.Machine.{step_by, then_part}
 use Rattle.rpc_units.specs.declared.refused.UnitRefused.{UnitRefused}
 use Rattle.rpc_units.specs.Stream.{cut_stream}
-use Rattle.logon_stubs.specs.declared.calls.Call.{Call}
-use Rattle.logon_stubs.specs.declared.calls.Call.TheVariants as call
+use Rattle.controller_calls.specs.declared.calls.ControllerCall.{ControllerCall}
+use Rattle.controller_calls.specs.declared.calls.ControllerCall.TheVariants as call
 use Rattle.logon_stubs.specs.declared.calls.ChallengeCall.{ChallengeCall}
 use Rattle.account_table.specs.AccountTable.{AccountTable}
 use Rattle.end_links.specs.Links.{LinkState}
@@ -41,11 +41,10 @@ draws : (left : List (List ℕ)) (line : Line) (c : ChallengeCall) (talk : Talk)
 draws [] line c talk d has = tt
 draws (server ∷ left) line c talk d has = channels_have_kinds.challenge d.table line c server d.work has
 
-calls : (c : Call) (line : Line) (talk : Talk) (name : List ℕ) (now : ℕ) (d : Desk) (left : List (List ℕ)) → DeskHas d → PartHas (by_call c line talk name now d left)
+calls : (c : ControllerCall) (line : Line) (talk : Talk) (name : List ℕ) (now : ℕ) (d : Desk) (left : List (List ℕ)) → DeskHas d → PartHas (by_call c line talk name now d left)
 calls (call.Challenge c) line talk name now d left has = draws left line c talk d has
 calls (call.Authenticate c) line talk name now d left has = channels_have_kinds.authenticate d.table line c d.work has
-calls (call.Logon c) line talk name now d left has = channels_have_kinds.logon c.computer c.authenticator name now line c.info c.validation d has
-calls (call.Logoff c) line talk name now d left has = has
+calls (call.Judged c) line talk name now d left has = channels_have_kinds.judged c name now line d has
 
 -- ---- units
 

@@ -2,12 +2,17 @@ pub mod AloneLaws
 pub mod ChangeLaws
 pub mod ChannelKindLaws
 pub mod CountLaws
+pub mod KeepingLaws
 pub mod NumberedLaws
 pub mod OtherLaws
 pub mod QuietLaws
 pub mod ReadBackLaws
 pub mod RestLaws
 pub mod SendLaws
+pub mod SessionLaws
+pub mod SettingLaws
 pub mod StepLaws
+pub mod UnsetLaws
+pub mod WalkLaws
 pub mod WholeLaws
 pub mod WholeParts

@@ -1,5 +1,5 @@
 -- Whose channel is changed.
-use Rattle.std.proofs.Common.{◌≡◌, ℕ, Bool, true, false, List, [], ◌∷◌, ◌++◌, nat_le, length, Option, Some, None, Ok, Err, refl, sym, subst, ◌∙◌, bytes_eq}
+use Rattle.std.proofs.Common.{◌≡◌, ◌==◌, ℕ, Bool, true, false, List, [], ◌∷◌, ◌++◌, nat_le, length, Option, Some, None, Ok, Err, refl, sym, subst, ◌∙◌, bytes_eq}
 use Rattle.std.specs.List.{AllByRecursion}
 use Rattle.wire_base.specs.Maps.{lookup, take_out, same_number}
 use Rattle.wire_base.specs.Names.{same_name}
@@ -15,13 +15,12 @@ use Rattle.outside.specs.declared.event.Event.TheVariants as event
 use Rattle.outside.specs.Machine.{step_by, then_part}
 use Rattle.rpc_units.specs.declared.refused.UnitRefused.{UnitRefused}
 use Rattle.rpc_units.specs.Stream.{cut_stream}
-use Rattle.logon_stubs.specs.declared.calls.Call.{Call}
-use Rattle.logon_stubs.specs.declared.calls.Call.TheVariants as call
+use Rattle.controller_calls.specs.declared.calls.ControllerCall.{ControllerCall}
+use Rattle.controller_calls.specs.declared.calls.ControllerCall.TheVariants as call
 use Rattle.logon_stubs.specs.declared.calls.AuthCall.{AuthCall}
 use Rattle.logon_stubs.specs.declared.calls.ChallengeCall.{ChallengeCall}
-use Rattle.logon_stubs.specs.declared.info.NetworkInfo.{NetworkInfo}
 use Rattle.account_table.specs.AccountTable.{AccountTable}
-use Rattle.account_table.specs.LookUps.{knows_in}
+use Rattle.account_table.specs.LookUps.{knows_in, machine_in}
 use Rattle.account_table.specs.declared.account.Account.{Account}
 use Rattle.end_links.specs.Links.{LinkState}
 use Rattle.end_links.specs.Serving.{ServedPart, Service, then_open, served_by, served_cut}
@@ -29,7 +28,18 @@ use Rattle.domain_controller.specs.Hearing.{hear}
 use Rattle.domain_controller.specs.Laws.{call_in, talk_after, calls_then, calls_heard, calls_on, calls_of, names_by, names, KeepsComputer, KeepsUnlessStopped, KeepsOthers}
 use Rattle.controller_calls.specs.Desk.{Desk, desk, put_pair, take_pair, put_channel, take_channel}
 use Rattle.controller_calls.specs.Opening.{put_pair_if, channel_for, open_channel, judge_pair, judge_offer, judge_account, account_for}
-use Rattle.controller_calls.specs.Logons.{judge_return, judge_channel, answer_logon}
+use Rattle.logon_stubs.specs.declared.info.Verdict.{Verdict}
+use Rattle.logon_stubs.specs.declared.info.Verdict.TheVariants.{Granted, Status}
+use Rattle.interactive_logon.specs.declared.calls.InteractiveInfo.{InteractiveInfo}
+use Rattle.interactive_logon.specs.Sessions.{session_limit}
+use Rattle.controller_calls.specs.Asking.{answers_to}
+use Rattle.controller_calls.specs.Interactive.{admitted, judge_interactive, pass_admitted}
+use Rattle.controller_calls.specs.Calls.{asked_of, computer_named, given_in}
+use Rattle.controller_calls.specs.Judging.{CallAnswers, answer_named, answer_on, answer_return}
+use Rattle.controller_calls.specs.Setting.{set_at}
+use Rattle.controller_calls.specs.declared.calls.Asked.{Asked}
+use Rattle.controller_calls.specs.declared.calls.Asked.TheVariants as asked
+use Rattle.outside.specs.declared.action.Judged.{Judged}
 use Rattle.domain_controller.specs.Machine.{draw_challenge, by_call, by_heard, controller_server}
 use Rattle.domain_controller.specs.State.{State}
 use Rattle.domain_controller.specs.Step.{LinkMap, StepPart, open_by, with_open, after_units, serve_on, by_event, start_turn, halted, state_after, first_desk, step_on}
@@ -90,26 +100,54 @@ accounts : (account : Option Account) (pair : Option ChallengePair) (n : List �
 accounts None pair n line c work other = same n work.computers
 accounts (Some account) pair n line c work other = offers (has_flag c.flags rc4_flag) pair account n line c work other
 
-returns : (credential : Option (List ℕ)) (n key name : List ℕ) (now : ℕ) (line : Line) (info : NetworkInfo) (validation : ℕ) (d : Desk) →
-    KeepsComputer n d.work.computers (judge_return credential key name now line info validation d).work.computers
-returns None n key name now line info validation d = same n d.work.computers
-returns (Some credential) n key name now line info validation d = same n d.work.computers
+-- a call on a channel, whatever it asks: its answer leaves the challenges and the channels
+record LeavesComputers (answers : CallAnswers) : Type 0 where
+  refused : (n : List ℕ) (how : Judged) (work : Work) → KeepsComputer n work.computers (answers.refused how work).computers
+  passed : (n computer : List ℕ) (channel : SecureChannelState) (credential : List ℕ) (d : Desk) → KeepsComputer n d.work.computers (answers.passed computer channel credential d).work.computers
 
-channels : (found : Option SecureChannelState) (n computer : List ℕ) (given : Authenticator) (name : List ℕ) (now : ℕ) (line : Line) (info : NetworkInfo) (validation : ℕ) (d : Desk) →
-    same_name computer n ≡ false → KeepsComputer n d.work.computers (judge_channel found computer given name now line info validation d).work.computers
-channels None n computer given name now line info validation d other = same n d.work.computers
-channels (Some channel) n computer given name now line info validation d other =
-    let moved = channel_by (passes_on channel given) channel given in
-    both n d.work.computers (put_channel computer moved d.work).computers _ (channel_put n computer moved d.work other)
-    (returns (return_by (passes_on channel given) channel given) n (key_of_channel channel) name now line info validation (desk d.table (put_channel computer moved d.work)))
+set_leaves : (n : List ℕ) (place : Option ℕ) (hash : List ℕ) (line : Line) (credential : List ℕ) (d : Desk) → KeepsComputer n d.work.computers (set_at place hash line credential d).work.computers
+set_leaves n None hash line credential d = same n d.work.computers
+set_leaves n (Some place) hash line credential d = same n d.work.computers
 
-logons : (computer : Option (List ℕ)) (given : Option Authenticator) (n name : List ℕ) (now : ℕ) (line : Line) (info : NetworkInfo) (validation : ℕ) (d : Desk) →
-    names_by computer n ≡ false → KeepsComputer n d.work.computers (answer_logon computer given name now line info validation d).work.computers
-logons None given n name now line info validation d other = same n d.work.computers
-logons (Some computer) None n name now line info validation d other = same n d.work.computers
-logons (Some computer) (Some given) n name now line info validation d other =
-    both n d.work.computers (take_channel computer d.work).computers _ (channel_taken n computer d.work other)
-    (channels (lookup same_name computer d.work.computers.channels) n computer given name now line info validation (desk d.table (take_channel computer d.work)) other)
+admitted_leaves : (n : List ℕ) (verdict : Verdict) (table : AccountTable) (line : Line) (info : InteractiveInfo) (validation : ℕ) (computer key credential : List ℕ) (work : Work) →
+    KeepsComputer n work.computers (pass_admitted verdict table line info validation computer key credential work).work.computers
+admitted_leaves n (Granted granted) table line info validation computer key credential work = record { pair = refl; channel = refl }
+admitted_leaves n (Status status) table line info validation computer key credential work = record { pair = refl; channel = refl }
+
+asked_leaves : (what : Asked) (name : List ℕ) (now : ℕ) (line : Line) → LeavesComputers (answers_to what name now line)
+asked_leaves (asked.Network info validation) name now line = record { refused = λ n how work. same n work.computers; passed = λ n computer channel credential d. same n d.work.computers }
+asked_leaves (asked.Interactive info validation) name now line = record {
+  refused = λ n how work. same n work.computers;
+  passed = λ n computer channel credential d.
+      admitted_leaves n (admitted (length d.work.computers.sessions == session_limit) (judge_interactive d.table name now info validation (key_of_channel channel)).verdict) (judge_interactive d.table name now info validation (key_of_channel channel)).table line info validation computer (key_of_channel channel) credential d.work;
+}
+asked_leaves (asked.Logoff info) name now line = record { refused = λ n how work. same n work.computers; passed = λ n computer channel credential d. record { pair = refl; channel = refl } }
+asked_leaves asked.NetworkLogoff name now line = record { refused = λ n how work. same n work.computers; passed = λ n computer channel credential d. same n d.work.computers }
+asked_leaves (asked.Set account kind hidden) name now line = record {
+  refused = λ n how work. same n work.computers;
+  passed = λ n computer channel credential d. set_leaves n (machine_in d.table.accounts account kind computer) _ line credential d;
+}
+
+module _ (answers : CallAnswers) (leaves : LeavesComputers answers) (n : List ℕ) where
+  returns : (returned : Option (List ℕ)) (computer : List ℕ) (channel : SecureChannelState) (d : Desk) →
+      KeepsComputer n d.work.computers (answer_return returned answers.refused (answers.passed computer channel) d).work.computers
+  returns None computer channel d = leaves.refused n _ d.work
+  returns (Some credential) computer channel d = leaves.passed n computer channel credential d
+
+  channels : (found : Option SecureChannelState) (computer : List ℕ) (given : Authenticator) (d : Desk) → same_name computer n ≡ false →
+      KeepsComputer n d.work.computers (answer_on found computer given answers d).work.computers
+  channels None computer given d other = leaves.refused n _ d.work
+  channels (Some channel) computer given d other =
+      let moved = channel_by (passes_on channel given) channel given in
+      both n d.work.computers (put_channel computer moved d.work).computers _ (channel_put n computer moved d.work other)
+      (returns (return_by (passes_on channel given) channel given) computer channel (desk d.table (put_channel computer moved d.work)))
+
+  named_keeps : (computer : Option (List ℕ)) (given : Option Authenticator) (d : Desk) → names_by computer n ≡ false → KeepsComputer n d.work.computers (answer_named computer given answers d).work.computers
+  named_keeps None given d other = leaves.refused n _ d.work
+  named_keeps (Some computer) None d other = leaves.refused n _ d.work
+  named_keeps (Some computer) (Some given) d other =
+      both n d.work.computers (take_channel computer d.work).computers _ (channel_taken n computer d.work other)
+      (channels (lookup same_name computer d.work.computers.channels) computer given (desk d.table (take_channel computer d.work)) other)
 
 -- a part of a step that keeps the computer, behind which that is said
 abbrev pub CallKeeps : List ℕ → Computers → Talk → ServedPart Desk Talk → Type 0
@@ -121,7 +159,7 @@ draws [] n line c talk d other = tt
 draws (server ∷ left) n line c talk d other =
     (pair_put_if (knows_in d.table.accounts c.computer) n c.computer (record { client = c.challenge; server = server }) d.work other, refl)
 
-calls : (c : Call) (n : List ℕ) (line : Line) (talk : Talk) (name : List ℕ) (now : ℕ) (d : Desk) (left : List (List ℕ)) → names c n ≡ false →
+calls : (c : ControllerCall) (n : List ℕ) (line : Line) (talk : Talk) (name : List ℕ) (now : ℕ) (d : Desk) (left : List (List ℕ)) → names c n ≡ false →
     CallKeeps n d.work.computers talk (by_call c line talk name now d left)
 calls (call.Challenge c) n line talk name now d left other = draws left n line c talk d other
 calls (call.Authenticate c) n line talk name now d left other = (
@@ -129,20 +167,20 @@ calls (call.Authenticate c) n line talk name now d left other = (
       (accounts (account_for d.table c) (lookup same_name c.computer d.work.computers.pending) n line c (take_pair c.computer d.work) other),
   refl,
 )
-calls (call.Logon c) n line talk name now d left other = (logons c.computer c.authenticator n name now line c.info c.validation d other, refl)
-calls (call.Logoff c) n line talk name now d left other = (same n d.work.computers, refl)
+calls (call.Judged c) n line talk name now d left other =
+    (named_keeps (answers_to (asked_of c) name now line) (asked_leaves (asked_of c) name now line) n (computer_named c) (given_in c) d other, refl)
 
 -- ---- units
 
-abbrev pub Others : List ℕ → List Call → Type 0
-Others n heard_calls = AllByRecursion (λ (c : Call). names c n ≡ false) heard_calls
+abbrev pub Others : List ℕ → List ControllerCall → Type 0
+Others n heard_calls = AllByRecursion (λ (c : ControllerCall). names c n ≡ false) heard_calls
 
 abbrev pub PartKeeps : List ℕ → Computers → ServedPart Desk Talk → Type 0
 PartKeeps n old (Err why) = Unit {0}
 PartKeeps n old (Ok part) = KeepsComputer n old part.value.0.work.computers
 
 -- what comes later keeps the computer, where no call heard later names it
-abbrev pub LaterKeeps : List ℕ → (Talk → List Call) → Service Desk Talk → Type 0
+abbrev pub LaterKeeps : List ℕ → (Talk → List ControllerCall) → Service Desk Talk → Type 0
 LaterKeeps n later_calls later =
     (d : Desk) (talk : Talk) (left : List (List ℕ)) → Others n (later_calls talk) → PartKeeps n d.work.computers (later d talk left)
 
@@ -150,14 +188,14 @@ from_part : (n : List ℕ) (one other : Computers) (part : ServedPart Desk Talk)
 from_part n one other (Err why) keeps later = tt
 from_part n one other (Ok part) keeps later = both n one other part.value.0.work.computers keeps later
 
-after_call : (part : ServedPart Desk Talk) (n : List ℕ) (old : Computers) (talk : Talk) (later_calls : Talk → List Call) (later : Service Desk Talk) →
+after_call : (part : ServedPart Desk Talk) (n : List ℕ) (old : Computers) (talk : Talk) (later_calls : Talk → List ControllerCall) (later : Service Desk Talk) →
     CallKeeps n old talk part → Others n (later_calls talk) → LaterKeeps n later_calls later → PartKeeps n old (then_open part later)
 after_call (Err why) n old talk later_calls later keeps others each = tt
 after_call (Ok part) n old talk later_calls later keeps others each =
     let open_talk : part.value.1 ≡ Some talk = keeps.1 in
     rw open_talk (from_part n old part.value.0.work.computers (later part.value.0 talk part.left) keeps.0 (each part.value.0 talk part.left others))
 
-after_heard : (h : Heard) (n : List ℕ) (link : ℕ) (name : List ℕ) (now : ℕ) (d : Desk) (left : List (List ℕ)) (later_calls : Talk → List Call) (later : Service Desk Talk) →
+after_heard : (h : Heard) (n : List ℕ) (link : ℕ) (name : List ℕ) (now : ℕ) (d : Desk) (left : List (List ℕ)) (later_calls : Talk → List ControllerCall) (later : Service Desk Talk) →
     Others n (call_in h ++ calls_then (talk_after h) later_calls) → LaterKeeps n later_calls later →
     PartKeeps n d.work.computers (then_open (by_heard h link name now d left) later)
 after_heard (heard.Close cause) n link name now d left later_calls later others each = same n d.work.computers

@@ -20,20 +20,24 @@ use Rattle.logon_stubs.specs.Calls.{opnum_of_reply, reply_of}
 use Rattle.logon_stubs.specs.Ranges.{InRangeReply, IsBlock}
 use Rattle.logon_stubs.specs.Writing.{CanWriteReply, written_reply}
 use Rattle.logon_stubs.proofs.WrittenLaws.{reply_of-written_reply}
+use Rattle.interactive_logon.specs.declared.calls.InteractiveInfo.{InteractiveInfo}
+use Rattle.secret_change.specs.Calls.{set_reply as set_stub, set_reply_of}
+use Rattle.secret_change.proofs.SetLaws.{reply_stub, stub_again}
 use Rattle.account_table.specs.AccountTable.{AccountTable}
 use Rattle.account_table.specs.LookUps.{account_in, route_in}
 use Rattle.account_table.specs.declared.account.Account.{Account}
 use Rattle.account_table.specs.declared.account.Policy.{Policy}
 use Rattle.account_table.specs.declared.table.Route.{Route}
 use Rattle.account_table.specs.declared.table.Route.TheVariants.{Own, Trust, Elsewhere}
-use Rattle.sam_logon.specs.Rules.{Rule, Shown, first_refusal, refusal_by, rules_for, shown_by_response}
-use Rattle.sam_logon.specs.Verdict.{IfGranted, judgement_of, verdict_by, verdict_of, verdict_routed, verdict_shown}
+use Rattle.sam_logon.specs.Rules.{Rule, Shown, first_refusal, refusal_by, rules_for, shown_by_hash, shown_by_response}
+use Rattle.sam_logon.specs.Verdict.{IfGranted, interactive_judgement_of, interactive_verdict_of, judgement_of, verdict_by, verdict_of, verdict_routed, verdict_shown}
 use Rattle.sam_logon.proofs.GrantedLaws.{granting-CanWrite, granting-InRange}
 use Rattle.end_links.specs.Sending.{response_of}
+use Rattle.controller_calls.specs.Interactive.{admitted, judge_interactive, judge_interactive_level, shown_hash}
 use Rattle.controller_calls.specs.Logons.{IsServedLevel, judge_info, judge_level, serves_level, status_of}
-use Rattle.domain_controller.specs.ReadBack.{IsReadBack, RepliesAreReadBack, opened_reply, passed_reply}
+use Rattle.domain_controller.specs.ReadBack.{IsReadBack, IsSetReadBack, RepliesAreReadBack, logged_off_reply, opened_reply, passed_reply, set_reply}
 use Rattle.domain_controller.proofs.AloneLaws.{number_fits, reply_alone}
-use Rattle.domain_controller.proofs.WholeParts.{Fits, IsRoomy, crypt_block, judged_fits, judged_served, opened_few, passed_few, reply_can, reply_heard}
+use Rattle.domain_controller.proofs.WholeParts.{Fits, IsRoomy, admitted_has, crypt_block, interactive_fit, interactive_served, judged_fits, judged_served, logoff_few, opened_few, passed_few, reply_can, reply_heard}
 
 -- ---- each status has 32 bits
 
@@ -65,6 +69,17 @@ unfolding judgement_of verdict_of
 level_small false table name info now = omega arith
 level_small true table name info now = routed_small (route_in table info.domain) (shown_by_response info) table name info.user info.workstation now
 
+interactive_level_small : (served : Bool) (table : AccountTable) (name : List ℕ) (now : ℕ) (info : InteractiveInfo) (key : List ℕ) → HasStatus (judge_interactive_level served table name now info key).verdict
+unfolding interactive_judgement_of interactive_verdict_of
+interactive_level_small false table name now info key = omega arith
+interactive_level_small true table name now info key =
+    routed_small (route_in table info.domain) (shown_by_hash (shown_hash key info)) table name info.user info.workstation now
+
+admitted_small : (full : Bool) (verdict : Verdict) → HasStatus verdict → HasStatus (admitted full verdict)
+admitted_small false verdict small = small
+admitted_small true (Granted info) small = omega arith
+admitted_small true (Status status) small = small
+
 -- ---- the reply is read as it was written
 
 read_from : (answer : Reply) → CanWriteReply answer → InRangeReply answer → IsRoomy (written_reply answer) → IsReadBack answer
@@ -87,6 +102,17 @@ passed_read (Granted info) level session credential small block status_is fits s
     (granting-InRange returned level info key 1 0 small fits.range (crypt_block (is_zero info.key) session info.key fits.range.key) (record { credential = block; timestamp = omega arith }) (omega arith) (omega arith))
     (passed_few (Granted info) level session credential block fits served)
 
+logged_off_read : (credential : List ℕ) (status : ℕ) → IsBlock 8 credential → status < 2 ^ 32 → IsReadBack (logged_off_reply credential status)
+logged_off_read credential status block small =
+    read_from (logged_off_reply credential status) tt (record { returned = record { credential = block; timestamp = omega arith }; status = small })
+    (logoff_few (Some (record { credential = credential; timestamp = 0 })) status block)
+
+set_read : (credential : List ℕ) (status : ℕ) → IsBlock 8 credential → status < 2 ^ 32 → IsSetReadBack (set_reply credential status)
+unfolding set_reply_of
+set_read credential status block small =
+    let stub = reply_stub (set_reply credential status) (record { returned = record { credential = block; timestamp = omega arith }; status = small }) in
+    record { read = stub_again set_stub (set_reply credential status) _ _ stub; few = omega (arith, stub.short); bytes = stub.are_bytes }
+
 opened_read : (key server : List ℕ) (offered : ℕ) → IsReadBack (opened_reply (cred_of key server) offered)
 opened_read key server offered =
     read_from (opened_reply (cred_of key server) offered) tt
@@ -108,5 +134,12 @@ replies_are_read_back = record {
   passed = λ table name now info validation key seed timestamp range is_name moment small.
       passed_read (judge_info table name now info validation).verdict validation key (return_of key seed timestamp) small (cred_block key (next_seed seed timestamp))
       (level_small (serves_level validation) table name info now) (judged_fits table name now range is_name moment info validation) (judged_served table name now info validation);
+  interactive = λ table name now info validation full key seed timestamp range is_name moment small.
+      passed_read (admitted full (judge_interactive table name now info validation key).verdict) validation key (return_of key seed timestamp) small (cred_block key (next_seed seed timestamp))
+      (admitted_small full _ (interactive_level_small (serves_level validation) table name now info key))
+      (admitted_has full _ Fits (interactive_fit table name now range is_name moment info validation key))
+      (admitted_has full _ (λ granted. IsServedLevel validation) (interactive_served table name now info validation key));
+  logged_off = λ key seed timestamp status small. logged_off_read (return_of key seed timestamp) status (cred_block key (next_seed seed timestamp)) small;
+  set = λ key seed timestamp status small. set_read (return_of key seed timestamp) status (cred_block key (next_seed seed timestamp)) small;
   opened = opened_read;
 }

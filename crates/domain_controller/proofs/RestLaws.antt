@@ -6,8 +6,8 @@ use Rattle.outside.proofs.DrawLaws.{IsRest-refl, IsRest-later}
 use Rattle.end_links.specs.Bounds.{ServerDrawsFew, extra_after}
 use Rattle.end_links.specs.Serving.{ServedPart, ServerLeavesRest}
 use Rattle.end_links.proofs.BoundLaws.{nothing_drawn, none_fewer}
-use Rattle.logon_stubs.specs.declared.calls.Call.{Call}
-use Rattle.logon_stubs.specs.declared.calls.Call.TheVariants as call
+use Rattle.controller_calls.specs.declared.calls.ControllerCall.{ControllerCall}
+use Rattle.controller_calls.specs.declared.calls.ControllerCall.TheVariants as call
 use Rattle.logon_stubs.specs.declared.calls.ChallengeCall.{ChallengeCall}
 use Rattle.domain_controller.specs.Hearing.{hear}
 use Rattle.controller_calls.specs.Desk.{Desk}
@@ -21,11 +21,10 @@ draw_rest : (left : List (List ℕ)) (line : Line) (c : ChallengeCall) (talk : T
 draw_rest [] line c talk d = IsRest-refl []
 draw_rest (server ∷ left) line c talk d = IsRest-later server left left (IsRest-refl left)
 
-call_rest : (c : Call) (line : Line) (talk : Talk) (name : List ℕ) (now : ℕ) (d : Desk) (left : List (List ℕ)) → IsRest (left_by (by_call c line talk name now d left)) left
+call_rest : (c : ControllerCall) (line : Line) (talk : Talk) (name : List ℕ) (now : ℕ) (d : Desk) (left : List (List ℕ)) → IsRest (left_by (by_call c line talk name now d left)) left
 call_rest (call.Challenge c) line talk name now d left = draw_rest left line c talk d
 call_rest (call.Authenticate c) line talk name now d left = IsRest-refl left
-call_rest (call.Logon c) line talk name now d left = IsRest-refl left
-call_rest (call.Logoff c) line talk name now d left = IsRest-refl left
+call_rest (call.Judged c) line talk name now d left = IsRest-refl left
 
 pub heard_rest : (h : Heard) (link : ℕ) (name : List ℕ) (now : ℕ) (d : Desk) (left : List (List ℕ)) → IsRest (left_by (by_heard h link name now d left)) left
 heard_rest (heard.Close cause) link name now d left = IsRest-refl left
@@ -49,11 +48,10 @@ draw_few : (left : List (List ℕ)) (line : Line) (c : ChallengeCall) (talk : Ta
 draw_few [] line c talk d = omega arith
 draw_few (server ∷ left) line c talk d = omega arith
 
-call_few : (c : Call) (line : Line) (talk : Talk) (name : List ℕ) (now : ℕ) (d : Desk) (left : List (List ℕ)) → DrawsOne left (by_call c line talk name now d left)
+call_few : (c : ControllerCall) (line : Line) (talk : Talk) (name : List ℕ) (now : ℕ) (d : Desk) (left : List (List ℕ)) → DrawsOne left (by_call c line talk name now d left)
 call_few (call.Challenge c) line talk name now d left = draw_few left line c talk d
 call_few (call.Authenticate c) line talk name now d left = nothing_drawn (length left) 0
-call_few (call.Logon c) line talk name now d left = nothing_drawn (length left) 0
-call_few (call.Logoff c) line talk name now d left = nothing_drawn (length left) 0
+call_few (call.Judged c) line talk name now d left = nothing_drawn (length left) 0
 
 heard_few : (h : Heard) (link : ℕ) (name : List ℕ) (now : ℕ) (d : Desk) (left : List (List ℕ)) → DrawsOne left (by_heard h link name now d left)
 heard_few (heard.Close cause) link name now d left = nothing_drawn (length left) 0

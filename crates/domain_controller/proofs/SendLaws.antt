@@ -30,11 +30,12 @@ use Rattle.rpc_units.specs.Reading.{unit_of}
 use Rattle.rpc_units.specs.Stream.{cut_stream}
 use Rattle.rpc_units.specs.Writing.{written}
 use Rattle.logon_stubs.specs.declared.calls.Call.{Call}
-use Rattle.logon_stubs.specs.declared.calls.Call.TheVariants as call
+use Rattle.logon_stubs.specs.declared.calls.Call.TheVariants as netlogon
+use Rattle.controller_calls.specs.declared.calls.ControllerCall.{ControllerCall}
+use Rattle.controller_calls.specs.declared.calls.ControllerCall.TheVariants as call
 use Rattle.logon_stubs.specs.declared.calls.AuthCall.{AuthCall}
 use Rattle.logon_stubs.specs.declared.calls.ChallengeCall.{ChallengeCall}
 use Rattle.logon_stubs.specs.declared.calls.Reply.{Reply}
-use Rattle.logon_stubs.specs.declared.info.NetworkInfo.{NetworkInfo}
 use Rattle.logon_stubs.specs.declared.refused.StubRefused.{StubRefused}
 use Rattle.logon_stubs.specs.Calls.{call_of}
 use Rattle.logon_stubs.specs.Writing.{written_reply}
@@ -47,11 +48,31 @@ use Rattle.end_links.specs.Sending.{fault_of, response_of}
 use Rattle.end_links.specs.Serving.{ServedPart, served_cut}
 use Rattle.end_links.proofs.KeepLaws.{StaysAmong, served_among}
 use Rattle.end_loop.specs.Runs.{actions_of}
-use Rattle.domain_controller.specs.Hearing.{bound_talk, hear_fresh, is_served, hear_stub, hear_opnum, hear_context, hear_whole, hear_joined, hear_bound, hear_on, hear_read, hear}
+use Rattle.domain_controller.specs.Hearing.{bound_talk, hear_fresh, is_served, hear_arm, hear_interactive, hear_netlogon, hear_number, hear_refused, hear_set, hear_stub, hear_opnum, hear_context, hear_whole, hear_joined, hear_bound, hear_on, hear_read, hear}
 use Rattle.domain_controller.specs.Laws.{done_by_open, IsAnswerTo, IsActionOn, AnswersUnits}
 use Rattle.controller_calls.specs.Desk.{Desk, desk, take_pair, put_channel, take_channel}
 use Rattle.controller_calls.specs.Opening.{put_pair_if, channel_for, open_channel, judge_pair, judge_offer, judge_account, account_for}
-use Rattle.controller_calls.specs.Logons.{judge_return, judge_channel, answer_logon}
+use Rattle.logon_stubs.specs.declared.info.Verdict.{Verdict}
+use Rattle.logon_stubs.specs.declared.info.Verdict.TheVariants.{Granted, Status}
+use Rattle.interactive_logon.specs.declared.calls.InteractiveInfo.{InteractiveInfo}
+use Rattle.interactive_logon.specs.Sessions.{session_limit}
+use Rattle.interactive_logon.specs.declared.calls.InteractiveCall.{InteractiveCall}
+use Rattle.interactive_logon.specs.Calls.{interactive_of, is_logon}
+use Rattle.logon_stubs.specs.declared.refused.StubRefused.TheVariants as stub_refused
+use Rattle.controller_calls.specs.Asking.{answers_to}
+use Rattle.controller_calls.specs.Interactive.{admitted, judge_interactive, pass_admitted}
+use Rattle.controller_calls.specs.Calls.{asked_of, computer_named, given_in}
+use Rattle.controller_calls.specs.Judging.{CallAnswers, answer_named, answer_on, answer_return}
+use Rattle.controller_calls.specs.Setting.{set_at}
+use Rattle.controller_calls.specs.declared.calls.Asked.{Asked}
+use Rattle.controller_calls.specs.declared.calls.Asked.TheVariants as asked
+use Rattle.secret_change.specs.declared.calls.SetCall.{SetCall}
+use Rattle.secret_change.specs.declared.calls.SetReply.{SetReply}
+use Rattle.secret_change.specs.declared.refused.SetRefused.{SetRefused}
+use Rattle.secret_change.specs.Calls.{set_call_of, set_opnum, written_set_reply}
+use Rattle.account_table.specs.Changes.{with_hash}
+use Rattle.account_table.specs.LookUps.{machine_in}
+use Rattle.account_table.specs.Secrets.{secrets_of}
 use Rattle.domain_controller.specs.Machine.{draw_challenge, by_call, by_heard, controller_server}
 use Rattle.domain_controller.specs.State.{State}
 use Rattle.domain_controller.specs.Step.{open_by, with_open, LinkMap, StepPart, after_units, serve_on, by_event, start_turn, halted, state_after, first_desk, step_on}
@@ -131,20 +152,47 @@ fresh_heard unit link Auth3 trailer joiner is = tt
 fresh_heard unit link (Response hint context stub) trailer joiner is = tt
 fresh_heard unit link (Fault hint context status) trailer joiner is = tt
 
-stub_heard : (read : Result Call StubRefused) (unit : RpcUnit) (link : ℕ) (line : Line) (talk : Talk) → line.link ≡ link → line.call ≡ unit.call → line.context ≡ context_of unit.body →
-    IsHeardOf link unit (hear_stub read line talk)
-stub_heard (Err why) unit link line talk on number context = fault_to unit line.call line.context _ number context
-stub_heard (Ok c) unit link line talk on number context = (on, number, context)
+module _ (unit : RpcUnit) (link : ℕ) (line : Line) (talk : Talk) (on : line.link ≡ link) (number : line.call ≡ unit.call) (context : line.context ≡ context_of unit.body) where
+  netlogon_heard : (c : Call) → IsHeardOf link unit (hear_netlogon c line talk)
+  netlogon_heard (netlogon.Challenge c) = (on, number, context)
+  netlogon_heard (netlogon.Authenticate c) = (on, number, context)
+  netlogon_heard (netlogon.Logon c) = (on, number, context)
+  netlogon_heard (netlogon.Logoff c) = (on, number, context)
 
-opnum_heard : (served : Bool) (opnum : ℕ) (stub : List ℕ) (unit : RpcUnit) (link : ℕ) (line : Line) (talk : Talk) → line.link ≡ link → line.call ≡ unit.call → line.context ≡ context_of unit.body →
-    IsHeardOf link unit (hear_opnum served opnum stub line talk)
-opnum_heard false opnum stub unit link line talk on number context = fault_to unit line.call line.context _ number context
-opnum_heard true opnum stub unit link line talk on number context = stub_heard (call_of opnum stub) unit link line talk on number context
+  interactive_heard : (read : Result InteractiveCall StubRefused) (logs_on : Bool) → IsHeardOf link unit (hear_interactive read logs_on line talk)
+  interactive_heard (Err why) logs_on = fault_to unit line.call line.context _ number context
+  interactive_heard (Ok c) logs_on = (on, number, context)
+
+  arm_heard : (is_interactive : Bool) (opnum : ℕ) (stub : List ℕ) → IsHeardOf link unit (hear_arm is_interactive opnum stub line talk)
+  arm_heard false opnum stub = fault_to unit line.call line.context _ number context
+  arm_heard true opnum stub = interactive_heard (interactive_of opnum stub) (is_logon opnum)
+
+  refused_heard : (why : StubRefused) (opnum : ℕ) (stub : List ℕ) → IsHeardOf link unit (hear_refused why opnum stub line talk)
+  refused_heard (stub_refused.BadArm arm) opnum stub = arm_heard (arm == 1) opnum stub
+  refused_heard (stub_refused.NoSuchCall other) opnum stub = fault_to unit line.call line.context _ number context
+  refused_heard (stub_refused.BadStub place) opnum stub = fault_to unit line.call line.context _ number context
+  refused_heard stub_refused.Memory opnum stub = fault_to unit line.call line.context _ number context
+
+  stub_heard : (read : Result Call StubRefused) (opnum : ℕ) (stub : List ℕ) → IsHeardOf link unit (hear_stub read opnum stub line talk)
+  stub_heard (Err why) opnum stub = refused_heard why opnum stub
+  stub_heard (Ok c) opnum stub = netlogon_heard c
+
+  set_heard : (read : Result SetCall SetRefused) → IsHeardOf link unit (hear_set read line talk)
+  set_heard (Err why) = fault_to unit line.call line.context _ number context
+  set_heard (Ok c) = (on, number, context)
+
+  number_heard : (is_set : Bool) (opnum : ℕ) (stub : List ℕ) → IsHeardOf link unit (hear_number is_set opnum stub line talk)
+  number_heard false opnum stub = stub_heard (call_of opnum stub) opnum stub
+  number_heard true opnum stub = set_heard (set_call_of stub)
+
+  opnum_heard : (served : Bool) (opnum : ℕ) (stub : List ℕ) → IsHeardOf link unit (hear_opnum served opnum stub line talk)
+  opnum_heard false opnum stub = fault_to unit line.call line.context _ number context
+  opnum_heard true opnum stub = number_heard (opnum == set_opnum) opnum stub
 
 context_heard : (accepted : Bool) (opnum : ℕ) (stub : List ℕ) (unit : RpcUnit) (link : ℕ) (line : Line) (talk : Talk) → line.link ≡ link → line.call ≡ unit.call → line.context ≡ context_of unit.body →
     IsHeardOf link unit (hear_context accepted opnum stub line talk)
 context_heard false opnum stub unit link line talk on number context = fault_to unit line.call line.context _ number context
-context_heard true opnum stub unit link line talk on number context = opnum_heard (is_served opnum) opnum stub unit link line talk on number context
+context_heard true opnum stub unit link line talk on number context = opnum_heard unit link line talk on number context (is_served opnum) opnum stub
 
 whole_heard : (body : Body) (number link : ℕ) (unit : RpcUnit) (agreed : Agreed) (talk : Talk) → number ≡ unit.call → context_of body ≡ context_of unit.body → IsHeardOf link unit (hear_whole body number link agreed talk)
 whole_heard (Request hint context opnum stub) number link unit agreed talk one other =
@@ -206,8 +254,9 @@ adds_both P one other third first second = (
 -- what may be done for a call on that line
 pub record Answering (P : Action → Type 0) (line : Line) : Type 0 where
   pub reply : (answer : Reply) → P (action.Send line.link (bytes_of_call (response_of line.call line.context (written_reply answer)) line.limit))
-  pub fault : (status : ℕ) → P (action.Send line.link (written (fault_of line.call line.context status)))
+  pub set_reply : (answer : SetReply) → P (action.Send line.link (bytes_of_call (response_of line.call line.context (written_set_reply answer)) line.limit))
   pub judged : (how : Judged) → P (action.Judged how)
+  pub kept : (bytes : List ℕ) → P (action.Keep bytes)
 
 replies : (P : Action → Type 0) (line : Line) (old : List Action) (answer : Reply) → Answering P line →
     Adds P old (old ++ action.Send line.link (bytes_of_call (response_of line.call line.context (written_reply answer)) line.limit) ∷ [])
@@ -240,24 +289,67 @@ accounts : (P : Action → Type 0) (account : Option Account) (pair : Option Cha
 accounts P None pair line c work can = replies P line work.actions _ can
 accounts P (Some account) pair line c work can = offers P (has_flag c.flags rc4_flag) pair account line c work can
 
-returns : (P : Action → Type 0) (credential : Option (List ℕ)) (key name : List ℕ) (now : ℕ) (line : Line) (info : NetworkInfo) (validation : ℕ) (d : Desk) → Answering P line →
-    Adds P d.work.actions (judge_return credential key name now line info validation d).work.actions
-returns P None key name now line info validation d can = judges P line d.work.actions _ _ can
-returns P (Some credential) key name now line info validation d can = judges P line d.work.actions _ _ can
+-- ---- a call on a channel, whatever it asks
 
-channels : (P : Action → Type 0) (found : Option SecureChannelState) (computer : List ℕ) (given : Authenticator) (name : List ℕ) (now : ℕ) (line : Line) (info : NetworkInfo) (validation : ℕ) (d : Desk) → Answering P line →
-    Adds P d.work.actions (judge_channel found computer given name now line info validation d).work.actions
-channels P None computer given name now line info validation d can = judges P line d.work.actions _ _ can
-channels P (Some channel) computer given name now line info validation d can =
-    returns P (return_by (passes_on channel given) channel given) (key_of_channel channel) name now line info validation
-    (desk d.table (put_channel computer (channel_by (passes_on channel given) channel given) d.work)) can
+record AnswersAdd (P : Action → Type 0) (answers : CallAnswers) : Type 0 where
+  refused : (how : Judged) (work : Work) → Adds P work.actions (answers.refused how work).actions
+  passed : (computer : List ℕ) (channel : SecureChannelState) (credential : List ℕ) (d : Desk) → Adds P d.work.actions (answers.passed computer channel credential d).work.actions
 
-logons : (P : Action → Type 0) (computer : Option (List ℕ)) (given : Option Authenticator) (name : List ℕ) (now : ℕ) (line : Line) (info : NetworkInfo) (validation : ℕ) (d : Desk) → Answering P line →
-    Adds P d.work.actions (answer_logon computer given name now line info validation d).work.actions
-logons P None given name now line info validation d can = judges P line d.work.actions _ _ can
-logons P (Some computer) None name now line info validation d can = judges P line d.work.actions _ _ can
-logons P (Some computer) (Some given) name now line info validation d can =
-    channels P (lookup same_name computer d.work.computers.channels) computer given name now line info validation (desk d.table (take_channel computer d.work)) can
+set_replies : (P : Action → Type 0) (line : Line) (old : List Action) (how : Judged) (answer : SetReply) → Answering P line →
+    Adds P old ((old ++ action.Judged how ∷ []) ++ action.Send line.link (bytes_of_call (response_of line.call line.context (written_set_reply answer)) line.limit) ∷ [])
+set_replies P line old how answer can =
+    adds_both P old (old ++ action.Judged how ∷ []) _ (adds_one P old (action.Judged how) (can.judged how)) (adds_one P (old ++ action.Judged how ∷ []) _ (can.set_reply answer))
+
+sets : (P : Action → Type 0) (place : Option ℕ) (hash : List ℕ) (line : Line) (credential : List ℕ) (d : Desk) → Answering P line → Adds P d.work.actions (set_at place hash line credential d).work.actions
+sets P None hash line credential d can = set_replies P line d.work.actions _ _ can
+sets P (Some place) hash line credential d can =
+    let kept : List Action = d.work.actions ++ action.Keep (secrets_of (with_hash place hash d.table).accounts) ∷ [] in
+    adds_both P d.work.actions kept _ (adds_one P d.work.actions _ (can.kept _)) (set_replies P line kept _ _ can)
+
+admits : (P : Action → Type 0) (verdict : Verdict) (table : AccountTable) (line : Line) (info : InteractiveInfo) (validation : ℕ) (computer key credential : List ℕ) (work : Work) → Answering P line →
+    Adds P work.actions (pass_admitted verdict table line info validation computer key credential work).work.actions
+admits P (Granted granted) table line info validation computer key credential work can = judges P line work.actions _ _ can
+admits P (Status status) table line info validation computer key credential work can = judges P line work.actions _ _ can
+
+asked_add : (P : Action → Type 0) (what : Asked) (name : List ℕ) (now : ℕ) (line : Line) → Answering P line → AnswersAdd P (answers_to what name now line)
+asked_add P (asked.Network info validation) name now line can = record {
+  refused = λ how work. judges P line work.actions _ _ can;
+  passed = λ computer channel credential d. judges P line d.work.actions _ _ can;
+}
+asked_add P (asked.Interactive info validation) name now line can = record {
+  refused = λ how work. judges P line work.actions _ _ can;
+  passed = λ computer channel credential d.
+      admits P (admitted (length d.work.computers.sessions == session_limit) (judge_interactive d.table name now info validation (key_of_channel channel)).verdict) (judge_interactive d.table name now info validation (key_of_channel channel)).table line info validation computer (key_of_channel channel) credential d.work can;
+}
+asked_add P (asked.Logoff info) name now line can = record {
+  refused = λ how work. judges P line work.actions _ _ can;
+  passed = λ computer channel credential d. judges P line d.work.actions _ _ can;
+}
+asked_add P asked.NetworkLogoff name now line can = record {
+  refused = λ how work. judges P line work.actions _ _ can;
+  passed = λ computer channel credential d. judges P line d.work.actions _ _ can;
+}
+asked_add P (asked.Set account kind hidden) name now line can = record {
+  refused = λ how work. set_replies P line work.actions _ _ can;
+  passed = λ computer channel credential d. sets P (machine_in d.table.accounts account kind computer) _ line credential d can;
+}
+
+module _ (P : Action → Type 0) (answers : CallAnswers) (add : AnswersAdd P answers) where
+  returns : (returned : Option (List ℕ)) (computer : List ℕ) (channel : SecureChannelState) (d : Desk) →
+      Adds P d.work.actions (answer_return returned answers.refused (answers.passed computer channel) d).work.actions
+  returns None computer channel d = add.refused _ d.work
+  returns (Some credential) computer channel d = add.passed computer channel credential d
+
+  channels : (found : Option SecureChannelState) (computer : List ℕ) (given : Authenticator) (d : Desk) → Adds P d.work.actions (answer_on found computer given answers d).work.actions
+  channels None computer given d = add.refused _ d.work
+  channels (Some channel) computer given d =
+      returns (return_by (passes_on channel given) channel given) computer channel
+      (desk d.table (put_channel computer (channel_by (passes_on channel given) channel given) d.work))
+
+  names_add : (computer : Option (List ℕ)) (given : Option Authenticator) (d : Desk) → Adds P d.work.actions (answer_named computer given answers d).work.actions
+  names_add None given d = add.refused _ d.work
+  names_add (Some computer) None d = add.refused _ d.work
+  names_add (Some computer) (Some given) d = channels (lookup same_name computer d.work.computers.channels) computer given (desk d.table (take_channel computer d.work))
 
 draws : (P : Action → Type 0) (left : List (List ℕ)) (line : Line) (c : ChallengeCall) (talk : Talk) (d : Desk) → Answering P line → PartAdds P d.work.actions (draw_challenge left line c talk d)
 draws P [] line c talk d can = tt
@@ -266,30 +358,40 @@ draws P (server ∷ left) line c talk d can =
     let work = put_pair_if (knows_in d.table.accounts c.computer) c.computer pair d.work in
     adds_both P d.work.actions work.actions _ (pair_put_if P (knows_in d.table.accounts c.computer) c.computer pair d.work) (replies P line work.actions _ can)
 
-calls : (P : Action → Type 0) (c : Call) (line : Line) (talk : Talk) (name : List ℕ) (now : ℕ) (d : Desk) (left : List (List ℕ)) → Answering P line → PartAdds P d.work.actions (by_call c line talk name now d left)
+calls : (P : Action → Type 0) (c : ControllerCall) (line : Line) (talk : Talk) (name : List ℕ) (now : ℕ) (d : Desk) (left : List (List ℕ)) → Answering P line → PartAdds P d.work.actions (by_call c line talk name now d left)
 calls P (call.Challenge c) line talk name now d left can = draws P left line c talk d can
 calls P (call.Authenticate c) line talk name now d left can =
     accounts P (account_for d.table c) (lookup same_name c.computer d.work.computers.pending) line c (take_pair c.computer d.work) can
-calls P (call.Logon c) line talk name now d left can = logons P c.computer c.authenticator name now line c.info c.validation d can
-calls P (call.Logoff c) line talk name now d left can = adds_one P d.work.actions _ (can.fault _)
+calls P (call.Judged c) line talk name now d left can =
+    names_add P (answers_to (asked_of c) name now line) (asked_add P (asked_of c) name now line can) (computer_named c) (given_in c) d
+
+same_line : (line : Line) (unit : RpcUnit) (stub : List ℕ) → line.call ≡ unit.call → line.context ≡ context_of unit.body →
+    bytes_of_call (response_of line.call line.context stub) line.limit ≡ bytes_of_call (response_of unit.call (context_of unit.body) stub) line.limit
+same_line line unit stub number context =
+    ap (λ n. bytes_of_call (response_of n line.context stub) line.limit) number ∙ ap (λ n. bytes_of_call (response_of unit.call n stub) line.limit) context
 
 heard_adds : (P : Action → Type 0) (h : Heard) (link : ℕ) (unit : RpcUnit) (name : List ℕ) (now : ℕ) (d : Desk) (left : List (List ℕ)) → IsHeardOf link unit h →
-    ((cause : CloseCause) → P (action.Close link cause)) → ((bytes : List ℕ) → IsAnswerTo unit bytes → P (action.Send link bytes)) → ((how : Judged) → P (action.Judged how)) →
+    ((cause : CloseCause) → P (action.Close link cause)) → ((bytes : List ℕ) → IsAnswerTo unit bytes → P (action.Send link bytes)) → ((how : Judged) → P (action.Judged how)) → ((bytes : List ℕ) → P (action.Keep bytes)) →
     PartAdds P d.work.actions (by_heard h link name now d left)
-heard_adds P (heard.Close cause) link unit name now d left is closes sends judged = adds_one P d.work.actions _ (closes cause)
-heard_adds P (heard.Answer bytes talk) link unit name now d left is closes sends judged = adds_one P d.work.actions _ (sends bytes is)
-heard_adds P (heard.Waits talk) link unit name now d left is closes sends judged = adds_none P d.work.actions
-heard_adds P (heard.Asked line c talk) link unit name now d left is closes sends judged =
+heard_adds P (heard.Close cause) link unit name now d left is closes sends judged keeps = adds_one P d.work.actions _ (closes cause)
+heard_adds P (heard.Answer bytes talk) link unit name now d left is closes sends judged keeps = adds_one P d.work.actions _ (sends bytes is)
+heard_adds P (heard.Waits talk) link unit name now d left is closes sends judged keeps = adds_none P d.work.actions
+heard_adds P (heard.Asked line c talk) link unit name now d left is closes sends judged keeps =
     calls P c line talk name now d left (record {
       reply = λ answer. subst (λ to. P (action.Send to (bytes_of_call (response_of line.call line.context (written_reply answer)) line.limit))) (sym is.0)
-          (sends _ (inr (inr (inr (
+          (sends _ (inr (inr (inr (inl (
             answer,
             line.limit,
-            ap (λ n. bytes_of_call (response_of n line.context (written_reply answer)) line.limit) is.1 ∙ ap (λ n. bytes_of_call (response_of unit.call n (written_reply answer)) line.limit) is.2,
-          )))));
-      fault = λ status. subst (λ to. P (action.Send to (written (fault_of line.call line.context status)))) (sym is.0)
-          (sends _ (fault_to unit line.call line.context status is.1 is.2));
+            same_line line unit (written_reply answer) is.1 is.2,
+          ))))));
+      set_reply = λ answer. subst (λ to. P (action.Send to (bytes_of_call (response_of line.call line.context (written_set_reply answer)) line.limit))) (sym is.0)
+          (sends _ (inr (inr (inr (inr (
+            answer,
+            line.limit,
+            same_line line unit (written_set_reply answer) is.1 is.2,
+          ))))));
       judged = judged;
+      kept = keeps;
     })
 
 -- ---- the units of a stream
@@ -299,7 +401,7 @@ read_adds : (read : Result RpcUnit UnitRefused) (bytes : List ℕ) (all : List (
 read_adds (Err why) bytes all link name now d talk left is has = adds_one (IsActionOn link all) d.work.actions (action.Close link close.BadUnit) refl
 read_adds (Ok unit) bytes all link name now d talk left is has =
     heard_adds (IsActionOn link all) (hear_on talk.binding unit link talk.joiner) link unit name now d left (unit_heard talk.binding unit link talk.joiner)
-    (λ cause. refl) (λ answer answers. (refl, (has.0, bytes, has.1, has.2, (unit, is, answers)))) (λ how. tt)
+    (λ cause. refl) (λ answer answers. (refl, (has.0, bytes, has.1, has.2, (unit, is, answers)))) (λ how. tt) (λ bytes. tt)
 
 -- each unit is among the units
 all_of : (P : List ℕ → Type 0) (units : List (List ℕ)) → ((bytes : List ℕ) → Contains units bytes → P bytes) → AllByRecursion P units

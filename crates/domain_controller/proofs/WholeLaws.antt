@@ -1,5 +1,5 @@
 -- The law `what_is_sent_is_whole`: a walk over the units of a piece, at a desk at which each send so far is whole.
-use Rattle.std.proofs.Common.{◌≡◌, ◌<◌, ◌^◌, ℕ, Bool, true, false, List, [], ◌∷◌, ◌++◌, length, nat_le, bytes_eq, Option, Some, None, Result, Ok, Err, if◌then◌else◌, refl, subst, arith}
+use Rattle.std.proofs.Common.{◌≡◌, ◌<◌, ◌^◌, ◌==◌, replicate, ℕ, Bool, true, false, List, [], ◌∷◌, ◌++◌, length, nat_le, bytes_eq, Option, Some, None, Result, Ok, Err, if◌then◌else◌, refl, subst, arith}
 use Rattle.std.specs.List.{AllByRecursion}
 use Rattle.wire_base.specs.Maps.{has_key, lookup, put, take_out, same_number}
 use Rattle.wire_base.specs.Names.{IsName, same_name}
@@ -30,17 +30,18 @@ use Rattle.rpc_units.proofs.FitLaws.{contexts_fit}
 use Rattle.rpc_units.proofs.GrammarLaws.{IsUnit-unit_of}
 use Rattle.ndr_codec.specs.Parts.{IfThere}
 use Rattle.logon_stubs.specs.declared.calls.Call.{Call}
-use Rattle.logon_stubs.specs.declared.calls.Call.TheVariants as call
+use Rattle.logon_stubs.specs.declared.calls.Call.TheVariants as netlogon
+use Rattle.controller_calls.specs.declared.calls.ControllerCall.{ControllerCall}
+use Rattle.controller_calls.specs.declared.calls.ControllerCall.TheVariants as call
 use Rattle.logon_stubs.specs.declared.calls.AuthCall.{AuthCall}
 use Rattle.logon_stubs.specs.declared.calls.ChallengeCall.{ChallengeCall}
 use Rattle.logon_stubs.specs.declared.calls.Reply.{Reply}
-use Rattle.logon_stubs.specs.declared.info.NetworkInfo.{NetworkInfo}
 use Rattle.logon_stubs.specs.declared.refused.StubRefused.{StubRefused}
 use Rattle.logon_stubs.specs.Calls.{call_of}
 use Rattle.logon_stubs.specs.Ranges.{IsBlock}
 use Rattle.logon_stubs.specs.Writing.{written_reply}
 use Rattle.account_table.specs.AccountTable.{AccountTable}
-use Rattle.account_table.specs.LookUps.{knows_in}
+use Rattle.account_table.specs.LookUps.{knows_in, machine_in}
 use Rattle.account_table.specs.declared.account.Account.{Account}
 use Rattle.sam_logon.specs.Verdict.{Judgement}
 use Rattle.end_links.specs.Agreed.{Agreed, accepts}
@@ -48,10 +49,35 @@ use Rattle.end_links.specs.Links.{LinkState}
 use Rattle.end_links.specs.Serving.{ServedPart, served_cut}
 use Rattle.end_links.proofs.KeepLaws.{StaysServing, served_stays}
 use Rattle.end_loop.specs.Runs.{actions_of}
-use Rattle.controller_calls.specs.Desk.{IsLine, Desk, desk, tell, send_reply, take_pair, put_channel, take_channel}
-use Rattle.domain_controller.specs.Hearing.{bound_talk, hear_fresh, is_served, hear_stub, hear_opnum, hear_context, hear_whole, hear_joined, hear_bound, hear_on, hear_read, hear}
+use Rattle.controller_calls.specs.Desk.{IsLine, Desk, desk, tell, send_reply, send_stub, take_pair, put_channel, take_channel}
+use Rattle.domain_controller.specs.Hearing.{bound_talk, hear_fresh, is_served, hear_arm, hear_interactive, hear_netlogon, hear_number, hear_refused, hear_set, hear_stub, hear_opnum, hear_context, hear_whole, hear_joined, hear_bound, hear_on, hear_read, hear}
 use Rattle.controller_calls.specs.Opening.{put_pair_if, channel_for, open_channel, judge_pair, judge_offer, judge_account, account_for}
-use Rattle.controller_calls.specs.Logons.{judge_info, judge_return, judge_channel, answer_logon, refuse_logon}
+use Rattle.controller_calls.specs.Logons.{judge_info, refuse_logon}
+use Rattle.logon_stubs.specs.declared.info.Verdict.{Verdict}
+use Rattle.logon_stubs.specs.declared.info.Verdict.TheVariants.{Granted, Status}
+use Rattle.interactive_logon.specs.declared.calls.InteractiveInfo.{InteractiveInfo}
+use Rattle.interactive_logon.specs.Sessions.{session_limit}
+use Rattle.interactive_logon.specs.declared.calls.InteractiveCall.{InteractiveCall}
+use Rattle.interactive_logon.specs.Calls.{interactive_of, is_logon}
+use Rattle.logon_stubs.specs.declared.refused.StubRefused.TheVariants as refused_stub
+use Rattle.interactive_logon.specs.Sessions.{taken_from}
+use Rattle.sam_logon.specs.Verdict.{IfGranted}
+use Rattle.controller_calls.specs.Logons.{IsServedLevel}
+use Rattle.controller_calls.specs.Asking.{answers_to, pass_asked, refuse_asked}
+use Rattle.controller_calls.specs.Interactive.{admitted, judge_interactive, pass_admitted, pass_logoff, refuse_logoff, session_opened, with_sessions}
+use Rattle.controller_calls.specs.Calls.{asked_of, computer_named, given_in}
+use Rattle.controller_calls.specs.Judging.{answer_named, answer_on, answer_return}
+use Rattle.controller_calls.specs.Setting.{refuse_set, send_set_reply, set_at}
+use Rattle.controller_calls.specs.declared.calls.Asked.{Asked}
+use Rattle.controller_calls.specs.declared.calls.Asked.TheVariants as asked
+use Rattle.outside.specs.declared.action.Judged.TheVariants as judged
+use Rattle.secret_change.specs.declared.calls.SetCall.{SetCall}
+use Rattle.secret_change.specs.declared.refused.SetRefused.{SetRefused}
+use Rattle.secret_change.specs.Calls.{set_call_of, set_opnum}
+use Rattle.secret_change.specs.Hiding.{show_of}
+use Rattle.secret_change.proofs.SetLaws.{reply_stub}
+use Rattle.account_table.specs.Changes.{with_hash}
+use Rattle.account_table.specs.Secrets.{secrets_of}
 use Rattle.domain_controller.specs.Machine.{draw_challenge, by_call, by_heard, controller_server}
 use Rattle.domain_controller.specs.State.{State}
 use Rattle.domain_controller.specs.Step.{open_by, with_open, LinkMap, StepPart, keep_link, after_units, serve_on, by_event, start_turn, halted, state_after, first_desk, step_on}
@@ -66,7 +92,7 @@ use Rattle.end_links.specs.Whole.{IsWholeIfSent, IsWholeSend}
 use Rattle.domain_controller.specs.Whole.{AreChallenges, HasLimit, InRangeDesk, InRangeLinks, InRangePart, InRangeRunning, InRangeState, InRangeTable, InRangeTalk, SendsAreWhole}
 use Rattle.end_links.proofs.WholeLaws.{limit_bounds}
 use Rattle.logon_stubs.specs.Interface.{netlogon_syntax}
-use Rattle.domain_controller.proofs.WholeParts.{IsRoomy, ack_whole, bare_few, challenge_few, fault_whole, judged_fits, judged_served, judged_table, nak_whole, opened_few, passed_few, reply_whole}
+use Rattle.domain_controller.proofs.WholeParts.{Fits, IsRoomy, ack_whole, admitted_has, bare_few, challenge_few, fault_whole, hash_table, interactive_fit, interactive_served, interactive_table, logoff_few, judged_fits, judged_served, judged_table, nak_whole, opened_few, passed_few, reply_whole}
 
 -- ---- what is heard of a unit
 
@@ -86,13 +112,41 @@ fresh_fits Auth3 trailer number joiner few = tt
 fresh_fits (Response hint context stub) trailer number joiner few = tt
 fresh_fits (Fault hint context status) trailer number joiner few = tt
 
-stub_fits : (read : Result Call StubRefused) (line : Line) (talk : Talk) → IsLine line → InRangeTalk talk → HeardFits (hear_stub read line talk)
-stub_fits (Err why) line talk range limit = (fault_whole line.call line.context _ (omega arith), limit)
-stub_fits (Ok c) line talk range limit = (range, limit)
+netlogon_fits : (c : Call) (line : Line) (talk : Talk) → IsLine line → InRangeTalk talk → HeardFits (hear_netlogon c line talk)
+netlogon_fits (netlogon.Challenge c) line talk range limit = (range, limit)
+netlogon_fits (netlogon.Authenticate c) line talk range limit = (range, limit)
+netlogon_fits (netlogon.Logon c) line talk range limit = (range, limit)
+netlogon_fits (netlogon.Logoff c) line talk range limit = (range, limit)
+
+interactive_fits : (read : Result InteractiveCall StubRefused) (logs_on : Bool) (line : Line) (talk : Talk) → IsLine line → InRangeTalk talk → HeardFits (hear_interactive read logs_on line talk)
+interactive_fits (Err why) logs_on line talk range limit = (fault_whole line.call line.context _ (omega arith), limit)
+interactive_fits (Ok c) logs_on line talk range limit = (range, limit)
+
+arm_fits : (is_interactive : Bool) (opnum : ℕ) (stub : List ℕ) (line : Line) (talk : Talk) → IsLine line → InRangeTalk talk → HeardFits (hear_arm is_interactive opnum stub line talk)
+arm_fits false opnum stub line talk range limit = (fault_whole line.call line.context _ (omega arith), limit)
+arm_fits true opnum stub line talk range limit = interactive_fits (interactive_of opnum stub) (is_logon opnum) line talk range limit
+
+refused_fits : (why : StubRefused) (opnum : ℕ) (stub : List ℕ) (line : Line) (talk : Talk) → IsLine line → InRangeTalk talk → HeardFits (hear_refused why opnum stub line talk)
+refused_fits (refused_stub.BadArm arm) opnum stub line talk range limit = arm_fits (arm == 1) opnum stub line talk range limit
+refused_fits (refused_stub.NoSuchCall other) opnum stub line talk range limit = (fault_whole line.call line.context _ (omega arith), limit)
+refused_fits (refused_stub.BadStub place) opnum stub line talk range limit = (fault_whole line.call line.context _ (omega arith), limit)
+refused_fits refused_stub.Memory opnum stub line talk range limit = (fault_whole line.call line.context _ (omega arith), limit)
+
+stub_fits : (read : Result Call StubRefused) (opnum : ℕ) (stub : List ℕ) (line : Line) (talk : Talk) → IsLine line → InRangeTalk talk → HeardFits (hear_stub read opnum stub line talk)
+stub_fits (Err why) opnum stub line talk range limit = refused_fits why opnum stub line talk range limit
+stub_fits (Ok c) opnum stub line talk range limit = netlogon_fits c line talk range limit
+
+set_fits : (read : Result SetCall SetRefused) (line : Line) (talk : Talk) → IsLine line → InRangeTalk talk → HeardFits (hear_set read line talk)
+set_fits (Err why) line talk range limit = (fault_whole line.call line.context _ (omega arith), limit)
+set_fits (Ok c) line talk range limit = (range, limit)
+
+number_fits : (is_set : Bool) (opnum : ℕ) (stub : List ℕ) (line : Line) (talk : Talk) → IsLine line → InRangeTalk talk → HeardFits (hear_number is_set opnum stub line talk)
+number_fits false opnum stub line talk range limit = stub_fits (call_of opnum stub) opnum stub line talk range limit
+number_fits true opnum stub line talk range limit = set_fits (set_call_of stub) line talk range limit
 
 opnum_fits : (served : Bool) (opnum : ℕ) (stub : List ℕ) (line : Line) (talk : Talk) → IsLine line → InRangeTalk talk → HeardFits (hear_opnum served opnum stub line talk)
 opnum_fits false opnum stub line talk range limit = (fault_whole line.call line.context _ (omega arith), limit)
-opnum_fits true opnum stub line talk range limit = stub_fits (call_of opnum stub) line talk range limit
+opnum_fits true opnum stub line talk range limit = number_fits (opnum == set_opnum) opnum stub line talk range limit
 
 context_fits : (accepted : Bool) (opnum : ℕ) (stub : List ℕ) (line : Line) (talk : Talk) → IsLine line → InRangeTalk talk → HeardFits (hear_context accepted opnum stub line talk)
 context_fits false opnum stub line talk range limit = (fault_whole line.call line.context _ (omega arith), limit)
@@ -134,7 +188,7 @@ read_fits (Ok unit) bytes link talk is limit = unit_fits talk.binding unit link 
 heard_fits : (link : ℕ) (bytes : List ℕ) (talk : Talk) → InRangeTalk talk → HeardFits (hear link bytes talk)
 heard_fits link bytes talk limit = read_fits (unit_of bytes) bytes link talk refl limit
 
-line_fits : (link : ℕ) (bytes : List ℕ) (talk later : Talk) (line : Line) (c : Call) → InRangeTalk talk → hear link bytes talk ≡ heard.Asked line c later → IsLine line
+line_fits : (link : ℕ) (bytes : List ℕ) (talk later : Talk) (line : Line) (c : ControllerCall) → InRangeTalk talk → hear link bytes talk ≡ heard.Asked line c later → IsLine line
 line_fits link bytes talk later line c limit is = (subst HeardFits is (heard_fits link bytes talk limit)).0
 
 -- ---- a desk at which each send so far is whole
@@ -149,10 +203,14 @@ with_one (first ∷ actions) what whole is = (whole.0, with_one actions what who
 told : (table : AccountTable) (work : Work) (what : Action) → InRangeDesk (desk table work) → IsWholeIfSent what → InRangeDesk (desk table (tell work what))
 told table work what fits is = record { sends = with_one work.actions what fits.sends is; table = fits.table }
 
+stub_sent : (table : AccountTable) (work : Work) (line : Line) (stub : List ℕ) → IsLine line → InRangeDesk (desk table work) → IsRoomy stub →
+    InRangeDesk (desk table (send_stub work line stub))
+stub_sent table work line stub range fits roomy =
+    told table work _ fits (reply_whole line.call line.context line.limit stub range.least range.most roomy.few roomy.are)
+
 replied : (table : AccountTable) (work : Work) (line : Line) (answer : Reply) → IsLine line → InRangeDesk (desk table work) → IsRoomy (written_reply answer) →
     InRangeDesk (desk table (send_reply work line answer))
-replied table work line answer range fits roomy =
-    told table work _ fits (reply_whole line.call line.context line.limit (written_reply answer) range.least range.most roomy.few roomy.are)
+replied table work line answer range fits roomy = stub_sent table work line (written_reply answer) range fits roomy
 
 refused : (table : AccountTable) (how : Judged) (line : Line) (validation : ℕ) (work : Work) → IsLine line → InRangeDesk (desk table work) → InRangeDesk (desk table (refuse_logon how line validation work))
 refused table how line validation work range fits =
@@ -185,37 +243,95 @@ accounts : (account : Option Account) (pair : Option ChallengePair) (line : Line
 accounts None pair line c table work range fits = replied table work line _ range fits (opened_few _ zeros_block)
 accounts (Some account) pair line c table work range fits = offers (has_flag c.flags rc4_flag) pair account line c table work range fits
 
--- ---- NetrLogonSamLogon
+-- ---- calls on a channel, whatever they ask
+
+set_replied : (line : Line) (credential : List ℕ) (status : ℕ) (table : AccountTable) (work : Work) → IsLine line → IsBlock 8 credential → status < 2 ^ 32 → InRangeDesk (desk table work) →
+    InRangeDesk (desk table (send_set_reply line credential status work))
+set_replied line credential status table work range block small fits =
+    let stub = reply_stub (record { returned = record { credential = credential; timestamp = 0 }; status = status }) (record { returned = record { credential = block; timestamp = omega arith }; status = small }) in
+    stub_sent table work line _ range fits (record { few = omega (arith, stub.short); are = stub.are_bytes })
+
+set_refused : (table : AccountTable) (how : Judged) (line : Line) (work : Work) → IsLine line → InRangeDesk (desk table work) → InRangeDesk (desk table (refuse_set how line work))
+set_refused table how line work range fits =
+    set_replied line (replicate 8 0) _ table (tell work (action.Judged how)) range zeros_block (omega arith) (told table work (action.Judged how) fits tt)
+
+sets : (place : Option ℕ) (hash : List ℕ) (line : Line) (credential : List ℕ) (d : Desk) → IsLine line → IsBlock 8 credential → InRangeDesk d → InRangeDesk (set_at place hash line credential d)
+sets None hash line credential d range block fits =
+    set_replied line credential _ d.table (tell d.work _) range block (omega arith) (told d.table d.work _ (record { sends = fits.sends; table = fits.table }) tt)
+sets (Some place) hash line credential d range block fits =
+    let table : AccountTable = with_hash place hash d.table in
+    let start : InRangeDesk (desk table d.work) = record { sends = fits.sends; table = hash_table place hash d.table fits.table } in
+    let kept : InRangeDesk (desk table (tell d.work (action.Keep (secrets_of table.accounts)))) = told table d.work (action.Keep (secrets_of table.accounts)) start tt in
+    set_replied line credential 0 table _ range block (omega arith) (told table (tell d.work (action.Keep (secrets_of table.accounts))) (action.Judged (judged.Passed 0)) kept tt)
+
+logoff_refused : (table : AccountTable) (how : Judged) (line : Line) (work : Work) → IsLine line → InRangeDesk (desk table work) → InRangeDesk (desk table (refuse_logoff how line work))
+logoff_refused table how line work range fits =
+    replied table (tell work (action.Judged how)) line _ range (told table work (action.Judged how) fits tt) (logoff_few None _ tt)
+
+logoff_passed : (table : AccountTable) (status : ℕ) (line : Line) (credential : List ℕ) (work : Work) → IsLine line → IsBlock 8 credential → InRangeDesk (desk table work) →
+    InRangeDesk (desk table (pass_logoff status line credential work))
+logoff_passed table status line credential work range block fits =
+    replied table (tell work (action.Judged (judged.Passed status))) line _ range (told table work (action.Judged (judged.Passed status)) fits tt) (logoff_few (Some _) status block)
+
+admitted_fits : (verdict : Verdict) (table : AccountTable) (line : Line) (info : InteractiveInfo) (validation : ℕ) (computer key credential : List ℕ) (work : Work) → IsLine line → IsBlock 8 credential →
+    IfGranted verdict Fits → IfGranted verdict (λ granted. IsServedLevel validation) → InRangeDesk (desk table work) → InRangeDesk (pass_admitted verdict table line info validation computer key credential work)
+admitted_fits (Granted granted) table line info validation computer key credential work range block fit served fits =
+    let opened : Work = session_opened (Granted granted) computer info work in
+    replied table (tell opened _) line _ range (told table opened _ (record { sends = fits.sends; table = fits.table }) tt) (passed_few (Granted granted) validation key credential block fit served)
+admitted_fits (Status status) table line info validation computer key credential work range block fit served fits =
+    replied table (tell work _) line _ range (told table work _ fits tt) (passed_few (Status status) validation key credential block fit served)
+
+refusals : (what : Asked) (how : Judged) (line : Line) (table : AccountTable) (work : Work) → IsLine line → InRangeDesk (desk table work) → InRangeDesk (desk table (refuse_asked what how line work))
+refusals (asked.Network info validation) how line table work range fits = refused table how line validation work range fits
+refusals (asked.Interactive info validation) how line table work range fits = refused table how line validation work range fits
+refusals (asked.Logoff info) how line table work range fits = logoff_refused table how line work range fits
+refusals asked.NetworkLogoff how line table work range fits = logoff_refused table how line work range fits
+refusals (asked.Set account kind hidden) how line table work range fits = set_refused table how line work range fits
 
 module _ (name : List ℕ) (now : ℕ) (is_name : IsName name) (moment : now < 2 ^ 64) where
-  returns : (credential : Option (List ℕ)) (key : List ℕ) (line : Line) (info : NetworkInfo) (validation : ℕ) (d : Desk) → IsLine line → IfThere (IsBlock 8) credential → InRangeDesk d →
-      InRangeDesk (judge_return credential key name now line info validation d)
-  returns None key line info validation d range block fits = refused d.table _ line validation d.work range (record { sends = fits.sends; table = fits.table })
-  returns (Some credential) key line info validation d range block fits =
-      let judged : Judgement = judge_info d.table name now info validation in
-      let table : InRangeTable judged.table = judged_table d.table name now info validation fits.table in
-      replied judged.table (tell d.work _) line _ range (told judged.table d.work _ (record { sends = fits.sends; table = table }) tt)
-      (passed_few judged.verdict validation key credential block (judged_fits d.table name now fits.table is_name moment info validation) (judged_served d.table name now info validation))
+  passes : (what : Asked) (line : Line) (computer key credential : List ℕ) (d : Desk) → IsLine line → IsBlock 8 credential → InRangeDesk d →
+      InRangeDesk (pass_asked what name now line computer key credential d)
+  passes (asked.Network info validation) line computer key credential d range block fits =
+      let judgement : Judgement = judge_info d.table name now info validation in
+      let table : InRangeTable judgement.table = judged_table d.table name now info validation fits.table in
+      replied judgement.table (tell d.work _) line _ range (told judgement.table d.work _ (record { sends = fits.sends; table = table }) tt)
+      (passed_few judgement.verdict validation key credential block (judged_fits d.table name now fits.table is_name moment info validation) (judged_served d.table name now info validation))
+  passes (asked.Interactive info validation) line computer key credential d range block fits =
+      let judgement : Judgement = judge_interactive d.table name now info validation key in
+      let full : Bool = length d.work.computers.sessions == session_limit in
+      admitted_fits (admitted full judgement.verdict) judgement.table line info validation computer key credential d.work range block
+      (admitted_has full judgement.verdict Fits (interactive_fit d.table name now fits.table is_name moment info validation key))
+      (admitted_has full judgement.verdict (λ granted. IsServedLevel validation) (interactive_served d.table name now info validation key))
+      (record { sends = fits.sends; table = interactive_table d.table name now info validation key fits.table })
+  passes (asked.Logoff info) line computer key credential d range block fits =
+      logoff_passed d.table _ line credential (with_sessions (taken_from d.work.computers.sessions computer info.user info.logon_id) d.work) range block (record { sends = fits.sends; table = fits.table })
+  passes asked.NetworkLogoff line computer key credential d range block fits =
+      logoff_passed d.table _ line credential d.work range block (record { sends = fits.sends; table = fits.table })
+  passes (asked.Set account kind hidden) line computer key credential d range block fits =
+      sets (machine_in d.table.accounts account kind computer) (show_of key hidden) line credential d range block fits
 
-  returned_block : (passes : Bool) (channel : SecureChannelState) (given : Authenticator) → IfThere (IsBlock 8) (return_by passes channel given)
-  returned_block false channel given = tt
-  returned_block true channel given = cred_block (key_of_channel channel) (next_seed channel.seed given.timestamp)
+  module _ (what : Asked) (line : Line) (range : IsLine line) where
+    returns : (credential : Option (List ℕ)) (computer : List ℕ) (channel : SecureChannelState) (d : Desk) → IfThere (IsBlock 8) credential → InRangeDesk d →
+        InRangeDesk (answer_return credential (answers_to what name now line).refused ((answers_to what name now line).passed computer channel) d)
+    returns None computer channel d block fits = refusals what _ line d.table d.work range (record { sends = fits.sends; table = fits.table })
+    returns (Some credential) computer channel d block fits = passes what line computer (key_of_channel channel) credential d range block fits
 
-  channels : (found : Option SecureChannelState) (computer : List ℕ) (given : Authenticator) (line : Line) (info : NetworkInfo) (validation : ℕ) (d : Desk) → IsLine line → InRangeDesk d →
-      InRangeDesk (judge_channel found computer given name now line info validation d)
-  channels None computer given line info validation d range fits = refused d.table _ line validation d.work range (record { sends = fits.sends; table = fits.table })
-  channels (Some channel) computer given line info validation d range fits =
-      returns (return_by (passes_on channel given) channel given) (key_of_channel channel) line info validation
-      (desk d.table (put_channel computer (channel_by (passes_on channel given) channel given) d.work)) range
-      (returned_block (passes_on channel given) channel given) (record { sends = fits.sends; table = fits.table })
+    returned_block : (passes : Bool) (channel : SecureChannelState) (given : Authenticator) → IfThere (IsBlock 8) (return_by passes channel given)
+    returned_block false channel given = tt
+    returned_block true channel given = cred_block (key_of_channel channel) (next_seed channel.seed given.timestamp)
 
-  logons : (computer : Option (List ℕ)) (given : Option Authenticator) (line : Line) (info : NetworkInfo) (validation : ℕ) (d : Desk) → IsLine line → InRangeDesk d →
-      InRangeDesk (answer_logon computer given name now line info validation d)
-  logons None given line info validation d range fits = refused d.table _ line validation d.work range (record { sends = fits.sends; table = fits.table })
-  logons (Some computer) None line info validation d range fits = refused d.table _ line validation d.work range (record { sends = fits.sends; table = fits.table })
-  logons (Some computer) (Some given) line info validation d range fits =
-      channels (lookup same_name computer d.work.computers.channels) computer given line info validation (desk d.table (take_channel computer d.work)) range
-      (record { sends = fits.sends; table = fits.table })
+    channels : (found : Option SecureChannelState) (computer : List ℕ) (given : Authenticator) (d : Desk) → InRangeDesk d → InRangeDesk (answer_on found computer given (answers_to what name now line) d)
+    channels None computer given d fits = refusals what _ line d.table d.work range (record { sends = fits.sends; table = fits.table })
+    channels (Some channel) computer given d fits =
+        returns (return_by (passes_on channel given) channel given) computer channel
+        (desk d.table (put_channel computer (channel_by (passes_on channel given) channel given) d.work))
+        (returned_block (passes_on channel given) channel given) (record { sends = fits.sends; table = fits.table })
+
+    named_fits : (computer : Option (List ℕ)) (given : Option Authenticator) (d : Desk) → InRangeDesk d → InRangeDesk (answer_named computer given (answers_to what name now line) d)
+    named_fits None given d fits = refusals what _ line d.table d.work range (record { sends = fits.sends; table = fits.table })
+    named_fits (Some computer) None d fits = refusals what _ line d.table d.work range (record { sends = fits.sends; table = fits.table })
+    named_fits (Some computer) (Some given) d fits =
+        channels (lookup same_name computer d.work.computers.channels) computer given (desk d.table (take_channel computer d.work)) (record { sends = fits.sends; table = fits.table })
 
   -- ---- units
 
@@ -229,16 +345,14 @@ module _ (name : List ℕ) (now : ℕ) (is_name : IsName name) (moment : now < 2
         eight.1,
       )
 
-  calls : (c : Call) (line : Line) (talk : Talk) (d : Desk) (left : List (List ℕ)) → IsLine line → InRangeTalk talk → InRangeDesk d → AreChallenges left → InRangePart (by_call c line talk name now d left)
+  calls : (c : ControllerCall) (line : Line) (talk : Talk) (d : Desk) (left : List (List ℕ)) → IsLine line → InRangeTalk talk → InRangeDesk d → AreChallenges left → InRangePart (by_call c line talk name now d left)
   calls (call.Challenge c) line talk d left range limit fits eight = draws left line c talk d range limit fits eight
   calls (call.Authenticate c) line talk d left range limit fits eight = (
     accounts (account_for d.table c) (lookup same_name c.computer d.work.computers.pending) line c d.table (take_pair c.computer d.work) range (record { sends = fits.sends; table = fits.table }),
     limit,
     eight,
   )
-  calls (call.Logon c) line talk d left range limit fits eight = (logons c.computer c.authenticator line c.info c.validation d range fits, limit, eight)
-  calls (call.Logoff c) line talk d left range limit fits eight =
-      (told d.table d.work _ (record { sends = fits.sends; table = fits.table }) (fault_whole line.call line.context _ (omega arith)), limit, eight)
+  calls (call.Judged c) line talk d left range limit fits eight = (named_fits (asked_of c) line range (computer_named c) (given_in c) d fits, limit, eight)
 
   heards : (h : Heard) (link : ℕ) (d : Desk) (left : List (List ℕ)) → HeardFits h → InRangeDesk d → AreChallenges left → InRangePart (by_heard h link name now d left)
   heards (heard.Close cause) link d left is fits eight = (told d.table d.work _ (record { sends = fits.sends; table = fits.table }) tt, tt, eight)

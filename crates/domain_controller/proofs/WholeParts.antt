@@ -14,7 +14,9 @@ use Rattle.wire_base.specs.declared.authenticator.Authenticator.{Authenticator}
 use Rattle.wire_base.proofs.NumberLaws.{bytes_from_all, length-to_le_bytes}
 use Rattle.rc4_stream.proofs.Rc4Laws.{All-applied, length-applied}
 use Rattle.channel_keys.specs.Hidden.{crypt_by, crypt_key, is_zero}
-use Rattle.ntlm_responses.specs.Verification.{base_key_of}
+use Rattle.digest_parts.proofs.Laws.{All-md4_of, length-md4_of}
+use Rattle.interactive_logon.specs.declared.calls.InteractiveInfo.{InteractiveInfo}
+use Rattle.controller_calls.specs.Interactive.{admitted, judge_interactive, judge_interactive_level, shown_hash}
 use Rattle.ntlm_responses.proofs.ResponseLaws.{All-base_key_of, length-base_key_of}
 use Rattle.rpc_units.specs.declared.unit.Syntax.{Syntax}
 use Rattle.rpc_units.specs.Calls.{CanBeSent, IsHeard, bytes_of_call}
@@ -31,11 +33,11 @@ use Rattle.logon_stubs.specs.declared.info.SamInfo.{SamInfo}
 use Rattle.logon_stubs.specs.declared.info.Verdict.{Verdict}
 use Rattle.logon_stubs.specs.declared.info.Verdict.TheVariants.{Granted, Status}
 use Rattle.logon_stubs.specs.Ranges.{HasShortTexts, InRangeSamInfo, IsBlock}
-use Rattle.logon_stubs.specs.Writing.{CanWriteSamInfo, put_auth_reply, put_authenticator, put_challenge_reply, put_logon_reply, written_reply}
+use Rattle.logon_stubs.specs.Writing.{CanWriteSamInfo, put_auth_reply, put_authenticator, put_challenge_reply, put_logoff_reply, put_logon_reply, written_reply}
 use Rattle.logon_stubs.proofs.AnswerLaws.{answers_are_long}
 use Rattle.logon_stubs.proofs.WrittenLaws.{AreBytes-written_reply, written_reply-few}
 use Rattle.account_table.specs.AccountTable.{AccountTable}
-use Rattle.account_table.specs.Changes.{at_place}
+use Rattle.account_table.specs.Changes.{at_place, with_hash, with_new_hash}
 use Rattle.account_table.specs.LookUps.{account_in, place_in, route_in}
 use Rattle.account_table.specs.Ranges.{InRangeAccount}
 use Rattle.account_table.specs.declared.account.Account.{Account}
@@ -43,8 +45,8 @@ use Rattle.account_table.specs.declared.account.Policy.{Policy}
 use Rattle.account_table.specs.declared.table.Route.{Route}
 use Rattle.account_table.specs.declared.table.Route.TheVariants.{Own, Trust, Elsewhere}
 use Rattle.sam_logon.specs.Granting.{granting_reply, sam_info_of}
-use Rattle.sam_logon.specs.Rules.{Shown, count_after, first_refusal, rules_for, shown_by_response}
-use Rattle.sam_logon.specs.Verdict.{IfGranted, judged_account, judgement_of, table_after, table_routed, table_shown, verdict_by, verdict_of, verdict_routed, verdict_shown}
+use Rattle.sam_logon.specs.Rules.{Shown, count_after, first_refusal, rules_for, shown_by_hash, shown_by_response}
+use Rattle.sam_logon.specs.Verdict.{IfGranted, interactive_judgement_of, interactive_table_after, interactive_verdict_of, judged_account, judgement_of, table_after, table_routed, table_shown, verdict_by, verdict_of, verdict_routed, verdict_shown}
 use Rattle.sam_logon.proofs.GrantedLaws.{granting-CanWrite, granting-InRange, in_range-counted, sam_info-CanWrite, sam_info-InRange, sam_info-IsShort}
 use Rattle.end_links.specs.Whole.{IsWholeSend}
 use Rattle.end_links.proofs.ByteLaws.{IsBytes, both, call_bytes, is_bytes, more, none, number, zero_bytes}
@@ -223,25 +225,26 @@ found None accounts all = tt
 found (Some place) accounts all = got accounts place all
 
 module _ (table : AccountTable) (name : List ℕ) (now : ℕ) (range : InRangeTable table) (is_name : IsName name) (moment : now < 2 ^ 64) where
-  shown_fits : (who : Option Account) (info : NetworkInfo) → IfThere InRangeAccount who → IfGranted (verdict_shown who (shown_by_response info) table name info.workstation now) Fits
-  shown_fits None info is = tt
-  shown_fits (Some account) info is =
-      let key : List ℕ = base_key_of account.hash info.user info.domain info.nt in
-      let block : IsBlock 16 key = (length-base_key_of account.hash info.user info.domain info.nt, bytes_from_all key (All-base_key_of account.hash info.user info.domain info.nt)) in
-      by_refusal (first_refusal (rules_for table.policy account (shown_by_response info) info.workstation now)) (sam_info_of table name account key now) (record {
-        can = sam_info-CanWrite table name account key now range.domain is_name is;
-        short = sam_info-IsShort table name account key now range.domain is_name is;
-        range = sam_info-InRange table name account key now range.domain is_name is range.sid block moment;
+  -- by what is shown, whose key is 16 bytes
+  shown_fits : (who : Option Account) (shown : Shown) (workstation : List ℕ) → ((hash : List ℕ) → IsBlock 16 (shown.key hash)) → IfThere InRangeAccount who → IfGranted (verdict_shown who shown table name workstation now) Fits
+  shown_fits None shown workstation block is = tt
+  shown_fits (Some account) shown workstation block is =
+      by_refusal (first_refusal (rules_for table.policy account shown workstation now)) (sam_info_of table name account (shown.key account.hash) now) (record {
+        can = sam_info-CanWrite table name account (shown.key account.hash) now range.domain is_name is;
+        short = sam_info-IsShort table name account (shown.key account.hash) now range.domain is_name is;
+        range = sam_info-InRange table name account (shown.key account.hash) now range.domain is_name is range.sid (block account.hash) moment;
       })
 
-  routed_fits : (route : Route) (info : NetworkInfo) → IfGranted (verdict_routed route (shown_by_response info) table name info.user info.workstation now) Fits
-  routed_fits Own info = shown_fits (account_in table.accounts info.user) info (found (place_in table.accounts info.user) table.accounts range.accounts)
-  routed_fits (Trust place) info = tt
-  routed_fits Elsewhere info = tt
+  routed_fits : (route : Route) (shown : Shown) (user workstation : List ℕ) → ((hash : List ℕ) → IsBlock 16 (shown.key hash)) → IfGranted (verdict_routed route shown table name user workstation now) Fits
+  routed_fits Own shown user workstation block = shown_fits (account_in table.accounts user) shown workstation block (found (place_in table.accounts user) table.accounts range.accounts)
+  routed_fits (Trust place) shown user workstation block = tt
+  routed_fits Elsewhere shown user workstation block = tt
 
   verdict_fits : (info : NetworkInfo) → IfGranted (verdict_of table name info now) Fits
   unfolding verdict_of
-  verdict_fits info = routed_fits (route_in table info.domain) info
+  verdict_fits info =
+      routed_fits (route_in table info.domain) (shown_by_response info) info.user info.workstation
+      (λ hash. (length-base_key_of hash info.user info.domain info.nt, bytes_from_all _ (All-base_key_of hash info.user info.domain info.nt)))
 
   level_fits : (served : Bool) (info : NetworkInfo) → IfGranted (judge_level served table name info now).verdict Fits
   unfolding judgement_of
@@ -250,6 +253,15 @@ module _ (table : AccountTable) (name : List ℕ) (now : ℕ) (range : InRangeTa
 
   pub judged_fits : (info : NetworkInfo) (validation : ℕ) → IfGranted (judge_info table name now info validation).verdict Fits
   judged_fits info validation = level_fits (serves_level validation) info
+
+  interactive_level_fits : (served : Bool) (info : InteractiveInfo) (key : List ℕ) → IfGranted (judge_interactive_level served table name now info key).verdict Fits
+  unfolding interactive_judgement_of interactive_verdict_of
+  interactive_level_fits false info key = tt
+  interactive_level_fits true info key =
+      routed_fits (route_in table info.domain) (shown_by_hash (shown_hash key info)) info.user info.workstation (λ hash. (length-md4_of hash, bytes_from_all _ (All-md4_of hash)))
+
+  pub interactive_fit : (info : InteractiveInfo) (validation : ℕ) (key : List ℕ) → IfGranted (judge_interactive table name now info validation key).verdict Fits
+  interactive_fit info validation key = interactive_level_fits (serves_level validation) info key
 
 served_level : (validation : ℕ) → serves_level validation ≡ true → IsServedLevel validation
 served_level validation is =
@@ -306,6 +318,22 @@ count_below (Some refused) count below = counted_below _ count below
 judged_range : (policy : Policy) (shown : Shown) (workstation : List ℕ) (now : ℕ) (account : Account) → InRangeAccount account → InRangeAccount (judged_account policy shown workstation now account)
 judged_range policy shown workstation now account is = in_range-counted account _ (count_below (first_refusal (rules_for policy account shown workstation now)) account.bad_count is.bad_count) is
 
+hashed_range : (hash : List ℕ) (account : Account) → InRangeAccount account → InRangeAccount (with_new_hash hash account)
+hashed_range hash account is = record {
+  name = is.name;
+  rid = is.rid;
+  full_name = is.full_name;
+  group = is.group;
+  groups = is.groups;
+  few_groups = is.few_groups;
+  extra_sids = is.extra_sids;
+  few_extra_sids = is.few_extra_sids;
+  bad_count = is.bad_count;
+  expires = is.expires;
+  password_set = is.password_set;
+  password_expires = is.password_expires;
+}
+
 all_at_place : (change : Account → Account) → ((account : Account) → InRangeAccount account → InRangeAccount (change account)) → (place : ℕ) (accounts : List Account) → AllByRecursion InRangeAccount accounts →
     AllByRecursion InRangeAccount (at_place place change accounts)
 all_at_place change each place [] all = tt
@@ -332,3 +360,59 @@ level_range true table name info now range = routed_range (route_in table info.d
 
 pub judged_table : (table : AccountTable) (name : List ℕ) (now : ℕ) (info : NetworkInfo) (validation : ℕ) → InRangeTable table → InRangeTable (judge_info table name now info validation).table
 judged_table table name now info validation range = level_range (serves_level validation) table name info now range
+
+-- so is a table whose hash was set
+pub hash_table : (place : ℕ) (hash : List ℕ) (table : AccountTable) → InRangeTable table → InRangeTable (with_hash place hash table)
+unfolding with_hash
+hash_table place hash table range = record {
+  domain = range.domain;
+  sid = range.sid;
+  accounts = all_at_place (with_new_hash hash) (λ account is. hashed_range hash account is) place table.accounts range.accounts;
+}
+
+-- ---- interactive logons and logoffs
+
+interactive_level_served : (served : Bool) (table : AccountTable) (name : List ℕ) (now : ℕ) (info : InteractiveInfo) (validation : ℕ) (key : List ℕ) → serves_level validation ≡ served →
+    IfGranted (judge_interactive_level served table name now info key).verdict (λ granted. IsServedLevel validation)
+interactive_level_served false table name now info validation key is = tt
+interactive_level_served true table name now info validation key is = if_granted (judge_interactive_level true table name now info key).verdict (IsServedLevel validation) (served_level validation is)
+
+pub interactive_served : (table : AccountTable) (name : List ℕ) (now : ℕ) (info : InteractiveInfo) (validation : ℕ) (key : List ℕ) → IfGranted (judge_interactive table name now info validation key).verdict (λ granted. IsServedLevel validation)
+interactive_served table name now info validation key = interactive_level_served (serves_level validation) table name now info validation key refl
+
+interactive_range : (served : Bool) (table : AccountTable) (name : List ℕ) (now : ℕ) (info : InteractiveInfo) (key : List ℕ) → InRangeTable table → InRangeTable (judge_interactive_level served table name now info key).table
+unfolding interactive_judgement_of interactive_table_after
+interactive_range false table name now info key range = range
+interactive_range true table name now info key range = routed_range (route_in table info.domain) (shown_by_hash (shown_hash key info)) table info.user info.workstation now range
+
+pub interactive_table : (table : AccountTable) (name : List ℕ) (now : ℕ) (info : InteractiveInfo) (validation : ℕ) (key : List ℕ) → InRangeTable table → InRangeTable (judge_interactive table name now info validation key).table
+interactive_table table name now info validation key range = interactive_range (serves_level validation) table name now info key range
+
+-- what is admitted was granted
+pub admitted_has : (full : Bool) (verdict : Verdict) (Fact : SamInfo → Type 0) → IfGranted verdict Fact → IfGranted (admitted full verdict) Fact
+admitted_has false verdict Fact has = has
+admitted_has true (Granted info) Fact has = tt
+admitted_has true (Status status) Fact has = tt
+
+pub logoff_few : (returned : Option Authenticator) (status : ℕ) → ReturnsEight returned → IsRoomy (written_reply (reply.Logoff (record { returned = returned; status = status })))
+unfolding written_reply put_logoff_reply put_authenticator
+logoff_few None status eight =
+    let first : Written = put pointer false nothing in
+    let one : length first.bytes ≤ 8 = pointer_len false nothing in
+    let rest : length (put long status first).bytes ≤ length first.bytes + 8 = long_len status first in
+    let few : length (put long status first).bytes ≤ 28015 = omega (arith, one, rest) in
+    record { few = few; are = (long_bytes status first (pointer_bytes false nothing none)).are }
+logoff_few (Some given) status eight =
+    let first : Written = put pointer true nothing in
+    let second : Written = put (raw 8) given.credential first in
+    let third : Written = put long given.timestamp second in
+    let one : length first.bytes ≤ 8 = pointer_len true nothing in
+    let two : length second.bytes ≡ length first.bytes + length given.credential = length-append first.bytes given.credential in
+    let three : length third.bytes ≤ length second.bytes + 8 = long_len given.timestamp second in
+    let rest : length (put long status third).bytes ≤ length third.bytes + 8 = long_len status third in
+    let few : length (put long status third).bytes ≤ 28015 = omega (arith, one, two, three, rest, eight.0) in
+    record {
+      few = few;
+      are = (long_bytes status third
+          (long_bytes given.timestamp second (both (pointer_bytes true nothing none) (is_bytes given.credential eight.1)))).are;
+    }

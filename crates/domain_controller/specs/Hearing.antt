@@ -18,12 +18,23 @@ use Rattle.rpc_units.specs.Numbers.{nca_op_rng_error, nca_proto_error, rpc_x_bad
 use Rattle.rpc_units.specs.Reading.{unit_of}
 use Rattle.rpc_units.specs.Writing.{written}
 use Rattle.logon_stubs.specs.declared.calls.Call.{Call}
+use Rattle.logon_stubs.specs.declared.calls.Call.TheVariants as netlogon
 use Rattle.logon_stubs.specs.declared.refused.StubRefused.{StubRefused}
+use Rattle.logon_stubs.specs.declared.refused.StubRefused.TheVariants as refused
+use Rattle.interactive_logon.specs.declared.calls.InteractiveCall.{InteractiveCall}
+use Rattle.interactive_logon.specs.Calls.{interactive_of, is_logon}
 use Rattle.logon_stubs.specs.Calls.{call_of}
 use Rattle.end_links.specs.Agreed.{Agreed, accepts}
 use Rattle.end_links.specs.Binding.{ack_of, nak_of, binding_of}
 use Rattle.end_links.specs.Sending.{fault_of}
 use Rattle.logon_stubs.specs.Interface.{netlogon_syntax}
+use Rattle.secret_change.specs.declared.calls.SetCall.{SetCall}
+use Rattle.secret_change.specs.declared.refused.SetRefused.{SetRefused}
+use Rattle.secret_change.specs.Calls.{set_call_of, set_opnum}
+use Rattle.controller_calls.specs.declared.calls.ControllerCall.{ControllerCall}
+use Rattle.controller_calls.specs.declared.calls.ControllerCall.TheVariants as call
+use Rattle.controller_calls.specs.declared.calls.JudgedCall.{JudgedCall}
+use Rattle.controller_calls.specs.declared.calls.JudgedCall.TheVariants as judged_call
 use Rattle.controller_calls.specs.declared.line.Line.{Line}
 use Rattle.domain_controller.specs.declared.state.Talk.{Talk}
 use Rattle.domain_controller.specs.declared.hearing.Heard.{Heard}
@@ -60,23 +71,64 @@ hear_fresh _ trailer call joiner = heard.Close close.OutOfPlace
 
 -- ---- a whole call
 
--- the calls that are served: NetrLogonSamLogon 2, NetrServerReqChallenge 4 and NetrServerAuthenticate2 15 (MS-NRPC
--- 3.5.4)
+-- the calls that are served: NetrLogonSamLogon 2, NetrLogonSamLogoff 3, NetrServerReqChallenge 4, NetrServerPasswordSet
+-- 6 and NetrServerAuthenticate2 15 (MS-NRPC 3.5.4)
 abbrev pub is_served : ℕ → Bool
-is_served opnum = list_any (λ number. number == opnum) (2 ∷ 4 ∷ 15 ∷ [])
+is_served opnum = list_any (λ number. number == opnum) (2 ∷ 3 ∷ 4 ∷ 6 ∷ 15 ∷ [])
 
 -- a call that isn't served is answered by a fault of that status
 abbrev pub hear_fault : Line → ℕ → Talk → Heard
 hear_fault line status talk = heard.Answer (written (fault_of line.call line.context status)) talk
 
-abbrev pub hear_stub : Result Call StubRefused → Line → Talk → Heard
-hear_stub (Err why) line talk = hear_fault line rpc_x_bad_stub_data talk
-hear_stub (Ok call) line talk = heard.Asked line call talk
+-- a call of Netlogon, as it is served
+abbrev pub served_call : Call → ControllerCall
+served_call (netlogon.Challenge c) = call.Challenge c
+served_call (netlogon.Authenticate c) = call.Authenticate c
+served_call (netlogon.Logon c) = call.Judged (judged_call.Network c)
+served_call (netlogon.Logoff c) = call.Judged (judged_call.NetworkLogoff c)
+
+abbrev pub hear_netlogon : Call → Line → Talk → Heard
+hear_netlogon (netlogon.Challenge c) line talk = heard.Asked line (call.Challenge c) talk
+hear_netlogon (netlogon.Authenticate c) line talk = heard.Asked line (call.Authenticate c) talk
+hear_netlogon (netlogon.Logon c) line talk = heard.Asked line (call.Judged (judged_call.Network c)) talk
+hear_netlogon (netlogon.Logoff c) line talk = heard.Asked line (call.Judged (judged_call.NetworkLogoff c)) talk
+
+-- the argument: whether it is a logon
+abbrev pub interactive_by : Bool → InteractiveCall → JudgedCall
+interactive_by true c = judged_call.Interactive c
+interactive_by false c = judged_call.Logoff c
+
+abbrev pub hear_interactive : Result InteractiveCall StubRefused → Bool → Line → Talk → Heard
+hear_interactive (Err why) logs_on line talk = hear_fault line rpc_x_bad_stub_data talk
+hear_interactive (Ok c) logs_on line talk = heard.Asked line (call.Judged (interactive_by logs_on c)) talk
+
+-- the argument: whether the tag is that of an interactive logon
+abbrev pub hear_arm : Bool → ℕ → List ℕ → Line → Talk → Heard
+hear_arm false opnum stub line talk = hear_fault line rpc_x_bad_stub_data talk
+hear_arm true opnum stub line talk = hear_interactive (interactive_of opnum stub) (is_logon opnum) line talk
+
+-- what was refused for its arm alone may be an interactive logon
+abbrev pub hear_refused : StubRefused → ℕ → List ℕ → Line → Talk → Heard
+hear_refused (refused.BadArm arm) opnum stub line talk = hear_arm (arm == 1) opnum stub line talk
+hear_refused _ opnum stub line talk = hear_fault line rpc_x_bad_stub_data talk
+
+abbrev pub hear_stub : Result Call StubRefused → ℕ → List ℕ → Line → Talk → Heard
+hear_stub (Err why) opnum stub line talk = hear_refused why opnum stub line talk
+hear_stub (Ok c) opnum stub line talk = hear_netlogon c line talk
+
+abbrev pub hear_set : Result SetCall SetRefused → Line → Talk → Heard
+hear_set (Err why) line talk = hear_fault line rpc_x_bad_stub_data talk
+hear_set (Ok c) line talk = heard.Asked line (call.Judged (judged_call.Set c)) talk
+
+-- the argument: whether the number is NetrServerPasswordSet's
+abbrev pub hear_number : Bool → ℕ → List ℕ → Line → Talk → Heard
+hear_number false opnum stub line talk = hear_stub (call_of opnum stub) opnum stub line talk
+hear_number true opnum stub line talk = hear_set (set_call_of stub) line talk
 
 -- the argument: whether calls of the number are served
 abbrev pub hear_opnum : Bool → ℕ → List ℕ → Line → Talk → Heard
 hear_opnum false opnum stub line talk = hear_fault line nca_op_rng_error talk
-hear_opnum true opnum stub line talk = hear_stub (call_of opnum stub) line talk
+hear_opnum true opnum stub line talk = hear_number (opnum == set_opnum) opnum stub line talk
 
 -- the argument: whether the context was accepted
 abbrev pub hear_context : Bool → ℕ → List ℕ → Line → Talk → Heard

@@ -13,12 +13,19 @@ use Rattle.rpc_units.specs.Joining.{context_of}
 use Rattle.rpc_units.specs.Reading.{unit_of}
 use Rattle.rpc_units.specs.Stream.{cut_stream}
 use Rattle.rpc_units.specs.Writing.{written}
-use Rattle.logon_stubs.specs.declared.calls.Call.{Call}
+use Rattle.logon_stubs.specs.declared.calls.LogoffCall.{LogoffCall}
 use Rattle.logon_stubs.specs.declared.calls.LogonCall.{LogonCall}
 use Rattle.logon_stubs.specs.declared.calls.Reply.{Reply}
 use Rattle.logon_stubs.specs.Writing.{written_reply}
+use Rattle.interactive_logon.specs.declared.calls.InteractiveCall.{InteractiveCall}
 use Rattle.account_table.specs.AccountTable.{AccountTable}
-use Rattle.account_table.specs.Changes.{DifferInCounts}
+use Rattle.account_table.specs.Changes.{DifferInStates, with_hash}
+use Rattle.account_table.specs.LookUps.{machine_in}
+use Rattle.authenticators.specs.SecureChannels.{key_of_channel}
+use Rattle.secret_change.specs.declared.calls.SetCall.{SetCall}
+use Rattle.secret_change.specs.declared.calls.SetReply.{SetReply}
+use Rattle.secret_change.specs.Calls.{written_set_reply}
+use Rattle.secret_change.specs.Hiding.{show_of}
 use Rattle.end_links.specs.Binding.{ack_of, nak_of}
 use Rattle.end_links.specs.Links.{LinkState}
 use Rattle.end_links.specs.Sending.{fault_of, response_of}
@@ -27,10 +34,16 @@ use Rattle.end_loop.specs.Acts.{is_made}
 use Rattle.end_loop.specs.Runs.{actions_of}
 use Rattle.domain_controller.specs.Hearing.{hear}
 use Rattle.controller_calls.specs.ChannelKinds.{HaveKinds}
+use Rattle.controller_calls.specs.Asking.{answer_judged}
+use Rattle.controller_calls.specs.Calls.{computer_named, given_in}
 use Rattle.controller_calls.specs.Desk.{Desk}
-use Rattle.controller_calls.specs.Logons.{answer_logon, judge_info}
+use Rattle.controller_calls.specs.Interactive.{judge_interactive}
+use Rattle.controller_calls.specs.Logons.{judge_info}
 use Rattle.domain_controller.specs.State.{State}
 use Rattle.domain_controller.specs.Step.{LinkMap, first_state, step_of}
+use Rattle.controller_calls.specs.declared.calls.ControllerCall.{ControllerCall}
+use Rattle.controller_calls.specs.declared.calls.JudgedCall.{JudgedCall}
+use Rattle.controller_calls.specs.declared.calls.JudgedCall.TheVariants.{Interactive, Logoff, Network, NetworkLogoff, Set}
 use Rattle.controller_calls.specs.declared.line.Line.{Line}
 use Rattle.controller_calls.specs.declared.state.Computers.{Computers}
 use Rattle.domain_controller.specs.declared.state.Running.{Running}
@@ -39,7 +52,7 @@ use Rattle.domain_controller.specs.declared.hearing.Heard.{Heard}
 use Rattle.outside.specs.declared.action.Action.TheVariants as action
 use Rattle.outside.specs.declared.action.CloseCause.TheVariants as close
 use Rattle.outside.specs.declared.event.Event.TheVariants as event
-use Rattle.logon_stubs.specs.declared.calls.Call.TheVariants as call
+use Rattle.controller_calls.specs.declared.calls.ControllerCall.TheVariants as call
 use Rattle.domain_controller.specs.declared.hearing.Heard.TheVariants as heard
 pub use Rattle.controller_calls.specs.Passing.{IsNext, judges_call, is_passed, PassesTheNext}
 
@@ -67,8 +80,13 @@ abbrev pub IsReplyTo : RpcUnit → List ℕ → Type 0
 IsReplyTo unit bytes =
     (answer : Reply) × (limit : ℕ) × (bytes ≡ bytes_of_call (response_of unit.call (context_of unit.body) (written_reply answer)) limit)
 
+abbrev pub IsSetReplyTo : RpcUnit → List ℕ → Type 0
+IsSetReplyTo unit bytes =
+    (answer : SetReply) × (limit : ℕ) × (bytes ≡ bytes_of_call (response_of unit.call (context_of unit.body) (written_set_reply answer)) limit)
+
 abbrev pub IsAnswerTo : RpcUnit → List ℕ → Type 0
-IsAnswerTo unit bytes = IsAckTo unit bytes ⊎ (IsNakTo unit bytes ⊎ (IsFaultTo unit bytes ⊎ IsReplyTo unit bytes))
+IsAnswerTo unit bytes =
+    IsAckTo unit bytes ⊎ (IsNakTo unit bytes ⊎ (IsFaultTo unit bytes ⊎ (IsReplyTo unit bytes ⊎ IsSetReplyTo unit bytes)))
 
 -- the bytes answer a unit that one of these byte strings is
 abbrev pub AnswersOne : List (List ℕ) → List ℕ → Type 0
@@ -76,7 +94,7 @@ AnswersOne units bytes = Any (λ (read : List ℕ). (unit : RpcUnit) × (unit_of
 
 -- what may be done on a link on which these units were read
 abbrev pub IsActionOn : ℕ → List (List ℕ) → Action → Type 0
-IsActionOn link units (action.Keep bytes) = ⊥
+IsActionOn link units (action.Keep bytes) = Unit {0}
 IsActionOn link units (action.Send to bytes) = (to ≡ link) × AnswersOne units bytes
 IsActionOn link units (action.Close to cause) = to ≡ link
 IsActionOn link units (action.Judged how) = Unit {0}
@@ -106,7 +124,7 @@ pub record AnswersUnits : Type 0 where
 -- ---- whose channel is changed
 
 -- the call that is heard, if a whole one is
-abbrev pub call_in : Heard → List Call
+abbrev pub call_in : Heard → List ControllerCall
 call_in (heard.Asked line call talk) = call ∷ []
 call_in (heard.Close cause) = []
 call_in (heard.Answer bytes talk) = []
@@ -119,38 +137,37 @@ talk_after (heard.Close cause) = None
 talk_after (heard.Answer bytes talk) = Some talk
 talk_after (heard.Waits talk) = Some talk
 
-abbrev pub calls_then : Option Talk → (Talk → List Call) → List Call
+abbrev pub calls_then : Option Talk → (Talk → List ControllerCall) → List ControllerCall
 calls_then None later = []
 calls_then (Some talk) later = later talk
 
 -- the calls that are heard of these units on the link, in order
-abbrev pub calls_heard : ℕ → List (List ℕ) → Talk → List Call
+abbrev pub calls_heard : ℕ → List (List ℕ) → Talk → List ControllerCall
 calls_heard link [] talk = []
 calls_heard link (bytes ∷ units) talk =
     call_in (hear link bytes talk) ++ calls_then (talk_after (hear link bytes talk)) (λ later. calls_heard link units later)
 
-abbrev pub calls_on : Option (LinkState Talk) → ℕ → List ℕ → List Call
+abbrev pub calls_on : Option (LinkState Talk) → ℕ → List ℕ → List ControllerCall
 calls_on None number piece = []
 calls_on (Some link) number piece = calls_heard number (cut_stream (link.rest ++ piece)).units link.talk
 
 -- those of an event
-abbrev pub calls_of : Event → LinkMap → List Call
+abbrev pub calls_of : Event → LinkMap → List ControllerCall
 calls_of (event.Bytes number piece) links = calls_on (lookup same_number number links) number piece
 calls_of _ links = []
 
 -- the computer that a call names
-abbrev pub computer_of : Call → Option (List ℕ)
-computer_of (call.Logon c) = c.computer
-computer_of (call.Logoff c) = c.computer
+abbrev pub computer_of : ControllerCall → Option (List ℕ)
 computer_of (call.Challenge c) = Some c.computer
 computer_of (call.Authenticate c) = Some c.computer
+computer_of (call.Judged c) = computer_named c
 
 abbrev pub names_by : Option (List ℕ) → List ℕ → Bool
 names_by None computer = false
 names_by (Some name) computer = same_name name computer
 
 -- a call names that computer
-abbrev pub names : Call → List ℕ → Bool
+abbrev pub names : ControllerCall → List ℕ → Bool
 names c computer = names_by (computer_of c) computer
 
 -- what is kept of that computer is the same
@@ -166,7 +183,7 @@ KeepsUnlessStopped computer old (Some running) = KeepsComputer computer old runn
 -- A step leaves the challenges and the channel of every computer that no call of the event names.
 pub record KeepsOthers : Type 0 where
   pub keeps : (s : State) (running : Running) (what : Event) (now : ℕ) (left : List (List ℕ)) (computer : List ℕ) → s.running ≡ Some running →
-      AllByRecursion (λ (c : Call). names c computer ≡ false) (calls_of what running.links) →
+      AllByRecursion (λ (c : ControllerCall). names c computer ≡ false) (calls_of what running.links) →
       KeepsUnlessStopped computer running.computers (step_of s what now left).state.running
 
 -- ---- of which types channels are
@@ -182,17 +199,36 @@ pub record KeptHaveKinds : Type 0 where
   pub stays : (s : State) (what : Event) (now : ℕ) (left : List (List ℕ)) → HaveKindsAtWork s.running →
       HaveKindsAtWork (step_of s what now left).state.running
 
--- ---- which counts of bad passwords change
+-- ---- what changes of the accounts
 
--- Of the accounts a step changes counts of bad passwords alone, and nothing where it isn't taken. A logon call whose
--- authenticator is the next one is judged by the accounts as they stand, and leaves what the judgement does; another
--- logon call leaves them.
+-- the table with that hash of the account at a place, where there is one
+abbrev pub set_table : Option ℕ → List ℕ → AccountTable → AccountTable
+set_table None hash table = table
+set_table (Some place) hash table = with_hash place hash table
+
+-- Of the accounts a step changes counts of bad passwords and hashes alone, and nothing where it isn't taken. A call on
+-- a channel whose authenticator isn't the next one leaves them. Where it is the next one, a logon, network or
+-- interactive, is judged by the accounts as they stand, and leaves what the judgement does; a change of a secret leaves
+-- the hash that it shows, of the account that it names, where that one is the computer's. A logoff leaves them.
 pub record CountsByVerdict : Type 0 where
-  pub counts : (s : State) (what : Event) (now : ℕ) (left : List (List ℕ)) → DifferInCounts s.table (step_of s what now left).state.table
+  pub states : (s : State) (what : Event) (now : ℕ) (left : List (List ℕ)) → DifferInStates s.table (step_of s what now left).state.table
   pub given_up : (s : State) (what : Event) (now : ℕ) (left : List (List ℕ)) (why : StepRefused) →
       (step_of s what now left).answer ≡ Err why → (step_of s what now left).state.table ≡ s.table
   pub next : (c : LogonCall) (name : List ℕ) (now : ℕ) (line : Line) (d : Desk) → IsNext d.work.computers c.computer c.authenticator →
-      (answer_logon c.computer c.authenticator name now line c.info c.validation d).table
-      ≡ (judge_info d.table name now c.info c.validation).table
-  pub other : (c : LogonCall) (name : List ℕ) (now : ℕ) (line : Line) (d : Desk) → (IsNext d.work.computers c.computer c.authenticator → ⊥) →
-      (answer_logon c.computer c.authenticator name now line c.info c.validation d).table ≡ d.table
+      (answer_judged (Network c) name now line d).table ≡ (judge_info d.table name now c.info c.validation).table
+  -- its hash is shown under that channel's key
+  pub interactive : (c : InteractiveCall) (name : List ℕ) (now : ℕ) (line : Line) (d : Desk) (next : IsNext d.work.computers c.computer c.authenticator) →
+      (answer_judged (Interactive c) name now line d).table
+      ≡ (judge_interactive d.table name now c.info c.validation (key_of_channel next.channel)).table
+  -- whatever a call asks
+  pub barred : (c : JudgedCall) (name : List ℕ) (now : ℕ) (line : Line) (d : Desk) →
+      (IsNext d.work.computers (computer_named c) (given_in c) → ⊥) → (answer_judged c name now line d).table ≡ d.table
+  -- whether they pass or don't
+  pub logoff : (c : InteractiveCall) (name : List ℕ) (now : ℕ) (line : Line) (d : Desk) → (answer_judged (Logoff c) name now line d).table ≡ d.table
+  pub network_logoff : (c : LogoffCall) (name : List ℕ) (now : ℕ) (line : Line) (d : Desk) → (answer_judged (NetworkLogoff c) name now line d).table ≡ d.table
+  -- the secret becomes what is shown under that channel's key, where the account that the call names is enabled and
+  -- opens channels of that type for that computer
+  pub set : (c : SetCall) (name : List ℕ) (now : ℕ) (line : Line) (d : Desk)
+      (next : IsNext d.work.computers (Some c.computer) (Some c.authenticator)) →
+      (answer_judged (Set c) name now line d).table
+      ≡ set_table (machine_in d.table.accounts c.account c.channel c.computer) (show_of (key_of_channel next.channel) c.hidden) d.table

@@ -1,8 +1,10 @@
 pub mod Hearing
+pub mod Keeping
 pub mod Laws
 pub mod Lines
 pub mod Machine
 pub mod ReadBack
+pub mod Sessions
 pub mod State
 pub mod Step
 pub mod Whole

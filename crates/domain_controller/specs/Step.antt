@@ -91,7 +91,7 @@ start_turn after left = whole_part after.0 after.1 left
 -- at first, and once it has stopped
 abbrev pub first_state : AccountTable → List ℕ → State
 first_state table name =
-    record { table = table; name = name; running = Some (record { computers = record { pending = []; channels = [] }; links = [] }) }
+    record { table = table; name = name; running = Some (record { computers = record { pending = []; channels = []; sessions = [] }; links = [] }) }
 
 abbrev pub halted : State → State
 halted s = record s { running = None }

@@ -8,7 +8,7 @@ use Rattle.wire_base.specs.Names.{IsName}
 use Rattle.outside.specs.declared.event.Event.{Event}
 use Rattle.ndr_codec.specs.Parts.{IfThere}
 use Rattle.logon_stubs.specs.Ranges.{IsBlock}
-use Rattle.logon_stubs.specs.declared.calls.Call.{Call}
+use Rattle.controller_calls.specs.declared.calls.ControllerCall.{ControllerCall}
 use Rattle.account_table.specs.AccountTable.{AccountTable}
 use Rattle.account_table.specs.Ranges.{InRangeAccount, InRangeSid}
 use Rattle.end_links.specs.Agreed.{Agreed}
@@ -83,5 +83,5 @@ pub record SendsAreWhole : Type 0 where
       IsName name → now < 2 ^ 64 → InRangeDesk d → InRangeTalk talk → AreChallenges left →
       InRangePart ((controller_server name now link).unit bytes d talk left)
   -- a call is answered in fragments of that size
-  pub line : (link : ℕ) (bytes : List ℕ) (talk later : Talk) (line : Line) (c : Call) → InRangeTalk talk →
+  pub line : (link : ℕ) (bytes : List ℕ) (talk later : Talk) (line : Line) (c : ControllerCall) → InRangeTalk talk →
       hear link bytes talk ≡ heard.Asked line c later → IsLine line

@@ -12,11 +12,9 @@ use crate::hearing::Heard;
 use crate::state::Talk;
 use account_table::{Table, TableChanges};
 use controller_calls::{
-    Line, Work, answer_authenticate, answer_challenge, answer_logon, send_fault, tell,
+    ControllerCall, Line, Work, answer_authenticate, answer_challenge, answer_judged, tell,
 };
-use logon_stubs::Call;
 use outside::{Action, Chances, StepRefused};
-use rpc_units::OPERATION_OUT_OF_RANGE;
 use std::alloc::Global;
 use wire_base::Name;
 
@@ -53,7 +51,6 @@ pub(crate) fn answer_heard<Q: Chances>(
 }
 
 /// Answers a call.
-#[tactic(auto, using(controller_calls::proofs::AlikeLaws::answering_alike))]
 fn answer_call<Q: Chances>(
     alloc: Global,
     table: &Table,
@@ -61,7 +58,7 @@ fn answer_call<Q: Chances>(
     name: &Name,
     now: u64,
     line: Line,
-    call: Call,
+    call: ControllerCall,
     talk: Talk,
     work: Work,
     chances: &mut Q,
@@ -74,24 +71,20 @@ fn answer_call<Q: Chances>(
         (Q.drawing chances.new).left }
 {
     match call {
-        Call::Challenge(call) => {
+        ControllerCall::Challenge(call) => {
             let server = match chances.next() {
                 Ok(server) => server,
                 Err(why) => return Err(why.into()),
             };
-            let work = answer_challenge(alloc, table, line, call, server, work)?;
+            let work = answer_challenge(alloc, table, changes, line, call, server, work)?;
             Ok((work, Some(talk)))
         }
-        Call::Authenticate(call) => {
-            let work = answer_authenticate(alloc, table, line, call, work)?;
+        ControllerCall::Authenticate(call) => {
+            let work = answer_authenticate(alloc, table, changes, line, call, work)?;
             Ok((work, Some(talk)))
         }
-        Call::Logon(call) => {
-            let work = answer_logon(alloc, table, changes, name, now, line, call, work)?;
-            Ok((work, Some(talk)))
-        }
-        Call::Logoff(_) => {
-            let work = send_fault(alloc, work, line, OPERATION_OUT_OF_RANGE)?;
+        ControllerCall::Judged(call) => {
+            let work = answer_judged(alloc, table, changes, name, now, line, call, work)?;
             Ok((work, Some(talk)))
         }
     }

@@ -1,7 +1,7 @@
 //! The controller.
 
 ghost use Rattle.std.specs.Prelude.{◌≡◌, ◌≤◌, ◌+◌, ◌↔◌, OnErr, ◌++◌, [], length, IfOk, OnOk, Err, IsTrue, false, true};
-ghost use Rattle.account_table.specs.Changes.{DifferInCounts};
+ghost use Rattle.account_table.specs.Changes.{DifferInStates};
 ghost use Rattle.outside.specs.Machine.{StepsBy};
 ghost use Rattle.end_links.specs.Bounds.{AreShortSends, units_at};
 ghost use Rattle.end_loop.specs.Acts.{is_made};
@@ -14,6 +14,7 @@ use account_table::{Table, TableChanges};
 use controller_calls::{Computers, Work};
 use end_links::{Links, ShortActions};
 use end_loop::End;
+use interactive_logon::Sessions;
 use outside::{Action, Actions, Chances, Event, StepRefused};
 use std::alloc::Global;
 use std::marker::Model;
@@ -48,6 +49,7 @@ impl Controller {
                 computers: Computers {
                     pending: List::new(alloc),
                     channels: List::new(alloc),
+                    sessions: Sessions::new(alloc)?,
                 },
                 links: Links::new(alloc),
             }),
@@ -74,8 +76,8 @@ impl Controller {
         ensures stopped { (result ≡ Err StepRefused.Stopped) ↔ IsTrue (is_stopped self.old) }
         ensures stops { OnErr result (self.new ≡ halted self.old) }
         ensures goes_on { OnOk result (is_stopped self.new ≡ false) }
-        // Of the accounts it changes counts of bad passwords alone.
-        ensures counts { DifferInCounts self.old.table self.new.table }
+        // Of the accounts it changes counts of bad passwords and hashes alone.
+        ensures states { DifferInStates self.old.table self.new.table }
         // Nothing is done where a link was closed.
         ensures quiet { IfOk result (λ actions. is_made event.now ≡ true → actions ≡ []) }
         // At most one challenge is drawn for each unit that the event can end, whatever the result; no send is long.

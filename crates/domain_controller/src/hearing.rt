@@ -7,22 +7,30 @@ ghost use Rattle.rpc_units.specs.Views.{body_shown, trailer_shown, unit_shown};
 ghost use Rattle.rpc_units.specs.Writing.{ContextsFit};
 ghost use Rattle.rpc_units.specs.Numbers.{context_limit};
 ghost use Rattle.logon_stubs.specs.Interface.{netlogon_syntax};
+ghost use Rattle.secret_change.specs.Calls.{set_call_of};
+ghost use Rattle.interactive_logon.specs.Calls.{interactive_of, is_logon};
 ghost use Rattle.controller_calls.specs.Desk.{IsLine};
-ghost use Rattle.domain_controller.specs.Hearing.{CanAnswer, bound_talk, hear, hear_bind, hear_sealed_bind, hear_unbound, hear_fresh, is_served, hear_fault, hear_opnum, hear_context, hear_whole, hear_joined, hear_bound};
+ghost use Rattle.domain_controller.specs.Hearing.{CanAnswer, bound_talk, hear, hear_bind, hear_sealed_bind, hear_unbound, hear_fresh, is_served, hear_fault, interactive_by, hear_interactive, hear_netlogon, hear_set, hear_opnum, hear_context, hear_whole, hear_joined, hear_bound};
 
 use crate::state::Talk;
-use controller_calls::{Line, fault_bytes};
+use controller_calls::{ControllerCall, JudgedCall, Line, fault_bytes};
 use end_links::{Binding, bind_ack, bind_nak, short_unit_bytes};
+use interactive_logon::{InteractiveCall, read_interactive};
 use logon_stubs::{
-    AUTHENTICATE_OPNUM, CHALLENGE_OPNUM, Call, LOGON_OPNUM, NETLOGON, StubRefused, read_call,
+    AUTHENTICATE_OPNUM, CHALLENGE_OPNUM, Call, LOGOFF_OPNUM, LOGON_OPNUM, NETLOGON, StubRefused,
+    read_call,
 };
 use outside::CloseCause;
 use rpc_units::{
     BAD_STUB_DATA, Body, BodyView, Contexts, JoinRefused, Joiner, OPERATION_OUT_OF_RANGE,
     PROTOCOL_ERROR, Unit, UnitRefused, UnitView, read_unit, view_unit,
 };
+use secret_change::{SetRefused, read_set};
 use std::alloc::Global;
 use wire_base::{Blob, NoMemory};
+
+/// The operation number of NetrServerPasswordSet (MS-NRPC 3.5.4.4.6).
+const SET_OPNUM: u16 = 6;
 
 /// What a unit on a link comes to.
 #[derive(Drop)]
@@ -34,7 +42,7 @@ pub enum Heard {
     /// Nothing is sent before more comes.
     Waits(Talk),
     /// A call that is served is whole.
-    Asked(Line, Call, Talk),
+    Asked(Line, ControllerCall, Talk),
 }
 
 /// What the bytes of a unit on the link come to, by what was said on it before.
@@ -230,10 +238,77 @@ fn hear_call(
     if !is_served(opnum) {
         return hear_fault(alloc, line, OPERATION_OUT_OF_RANGE, talk);
     }
+    if opnum == SET_OPNUM {
+        return hear_set(alloc, stub, line, talk);
+    }
     match read_call(alloc, opnum, stub) {
-        Ok(call) => Ok(Heard::Asked(line, call, talk)),
+        Ok(call) => Ok(hear_netlogon(call, line, talk)),
+        Err(StubRefused::BadArm(1)) => hear_interactive(alloc, opnum, stub, line, talk),
         Err(StubRefused::Memory) => Err(NoMemory),
         Err(_) => hear_fault(alloc, line, BAD_STUB_DATA, talk),
+    }
+}
+
+/// What a stub comes to that may be an interactive logon's, or its logoff's.
+fn hear_interactive(
+    alloc: Global,
+    opnum: u16,
+    stub: &[u8],
+    line: Line,
+    talk: Talk,
+) -> Result<Heard, NoMemory>
+    requires { IsLine line }
+    ensures value { IfOk result (λ heard. heard ≡ hear_interactive
+        (interactive_of opnum stub.now) (is_logon opnum) line talk) }
+    ensures can { IfOk result CanAnswer }
+{
+    match read_interactive(alloc, opnum, stub) {
+        Ok(call) => Ok(Heard::Asked(
+            line,
+            ControllerCall::Judged(interactive_by(opnum == LOGON_OPNUM, call)),
+            talk,
+        )),
+        Err(StubRefused::Memory) => Err(NoMemory),
+        Err(_) => hear_fault(alloc, line, BAD_STUB_DATA, talk),
+    }
+}
+
+/// An interactive logon, or its logoff.
+fn interactive_by(logs_on: bool, call: InteractiveCall) -> JudgedCall
+    ensures { result ≡ interactive_by logs_on call }
+{
+    if logs_on {
+        JudgedCall::Interactive(call)
+    } else {
+        JudgedCall::Logoff(call)
+    }
+}
+
+/// What a call of Netlogon comes to that was read.
+fn hear_netlogon(call: Call, line: Line, talk: Talk) -> Heard
+    requires { IsLine line }
+    ensures value { result ≡ hear_netlogon call line talk }
+    ensures can { CanAnswer result }
+{
+    let asked = match call {
+        Call::Challenge(call) => ControllerCall::Challenge(call),
+        Call::Authenticate(call) => ControllerCall::Authenticate(call),
+        Call::Logon(call) => ControllerCall::Judged(JudgedCall::Network(call)),
+        Call::Logoff(call) => ControllerCall::Judged(JudgedCall::NetworkLogoff(call)),
+    };
+    Heard::Asked(line, asked, talk)
+}
+
+/// What a stub of NetrServerPasswordSet comes to.
+fn hear_set(alloc: Global, stub: &[u8], line: Line, talk: Talk) -> Result<Heard, NoMemory>
+    requires { IsLine line }
+    ensures value { IfOk result (λ heard. heard ≡ hear_set (set_call_of stub.now) line talk) }
+    ensures can { IfOk result CanAnswer }
+{
+    match read_set(alloc, stub) {
+        Ok(call) => Ok(Heard::Asked(line, ControllerCall::Judged(JudgedCall::Set(call)), talk)),
+        Err(SetRefused::Memory) => Err(NoMemory),
+        Err(SetRefused::BadStub(_)) => hear_fault(alloc, line, BAD_STUB_DATA, talk),
     }
 }
 
@@ -241,7 +316,10 @@ fn hear_call(
 fn is_served(opnum: u16) -> bool
     ensures { result ≡ is_served opnum }
 {
-    matches!(opnum, LOGON_OPNUM | CHALLENGE_OPNUM | AUTHENTICATE_OPNUM)
+    matches!(
+        opnum,
+        LOGON_OPNUM | LOGOFF_OPNUM | CHALLENGE_OPNUM | SET_OPNUM | AUTHENTICATE_OPNUM
+    )
 }
 
 /// A call that isn't served is answered by a fault.

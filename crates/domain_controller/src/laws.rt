@@ -1,7 +1,9 @@
 //! Laws of the steps of a controller, over their definitions. Each function does nothing, and its clauses are the laws.
 
+ghost use Rattle.domain_controller.specs.Keeping.{HashesAreSet, KeepsSecrets};
 ghost use Rattle.domain_controller.specs.Laws.{ClosesNothing, AnswersUnits, KeepsOthers, KeptHaveKinds, CountsByVerdict};
 ghost use Rattle.domain_controller.specs.ReadBack.{RepliesAreReadBack};
+ghost use Rattle.domain_controller.specs.Sessions.{HashesStayUnset, SessionsFollowCalls};
 ghost use Rattle.domain_controller.specs.Whole.{SendsAreWhole};
 
 /// A step for a link that was closed, or for a dial's answer, has no actions.
@@ -45,10 +47,38 @@ pub fn kept_channels_have_kinds()
     ensures { KeptHaveKinds }
 {}
 
-/// Of the accounts a step changes counts of bad passwords alone, and nothing where it isn't taken. A logon whose
-/// authenticator passes is judged by the accounts as they stand, and leaves what the judgement does; another one leaves
-/// them.
+/// Of the accounts a step changes counts of bad passwords and hashes alone, and nothing where it isn't taken. A call on
+/// a channel whose authenticator doesn't pass leaves them. Where it passes, a logon is judged by the accounts as they
+/// stand, and leaves what the judgement does; a change of a secret leaves the hash that it shows.
 #[tactic(auto, using(crate::proofs::CountLaws::counts_by_verdict))]
 pub fn counts_change_by_verdicts()
     ensures { CountsByVerdict }
+{}
+
+/// A controller has no sessions at first. A step leaves those before it, to which each interactive logon that passed
+/// with status 0 added one, and from which each logoff that did took the first one of its computer, user and logon, in
+/// the order of the calls. A step that is taken tells once of each call on a channel that it heard.
+#[tactic(auto, using(crate::proofs::SessionLaws::sessions_follow))]
+pub fn sessions_follow_the_calls()
+    ensures { SessionsFollowCalls }
+{}
+
+/// A step in which no NetrServerPasswordSet is heard changes counts of bad passwords alone.
+#[tactic(auto, using(crate::proofs::UnsetLaws::hashes_stay))]
+pub fn hashes_stay_where_none_is_set()
+    ensures { HashesStayUnset }
+{}
+
+/// The text that a step keeps last is that of all accounts whose hash was set, as the step leaves them. Where it keeps
+/// none, that text is as it was.
+#[tactic(auto, using(crate::proofs::KeepingLaws::keeps_secrets))]
+pub fn what_is_kept_stands()
+    ensures { KeepsSecrets }
+{}
+
+/// A step sets hashes of machine and trust accounts alone: those of users stay. So the text that is kept, applied to
+/// the accounts as they were read, gives the hashes that stand after any steps, where no name is there twice.
+#[tactic(auto, using(crate::proofs::SettingLaws::hashes_are_set))]
+pub fn what_is_kept_is_read_again()
+    ensures { HashesAreSet }
 {}

@@ -1,5 +1,6 @@
 //! A domain controller as a machine over plain values (MS-NRPC 3.5): events of links come in, and what it sends, closes
-//! and tells goes out. It answers the calls that set up a secure channel, and judges the logons that come on one.
+//! and tells goes out. It answers the calls that set up a secure channel, and what is asked on one: logons, logoffs and
+//! changes of machine accounts' secrets.
 #![tactic(auto)]
 
 mod answering;

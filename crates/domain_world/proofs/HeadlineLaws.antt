@@ -28,9 +28,11 @@ use Rattle.domain_world.proofs.Judgements.OpeningReplyLaws.{replies_answer_openi
 use Rattle.domain_world.proofs.Judgements.OpeningRunLaws.{openings_in_order}
 use Rattle.domain_world.proofs.Judgements.ReplayLaws.{replays_by_sum}
 use Rattle.domain_world.proofs.Judgements.ReplyLaws.{replies_carry}
+use Rattle.domain_world.proofs.Judgements.SessionLaws.{grants_by_hash, sessions_follow}
 use Rattle.domain_world.proofs.Judgements.TableLaws.{tables_follow}
 use Rattle.domain_world.proofs.Judgements.ToldLaws.{passes_the_next}
 use Rattle.domain_world.proofs.Judgements.UnclashedLaws.{passes_unclashed}
+use Rattle.domain_world.proofs.Judgements.UserHashLaws.{users_stay}
 use Rattle.domain_world.proofs.Requests.CallMessageLaws.{members_ask_for_messages, sends_ask_for_messages}
 use Rattle.domain_world.proofs.Requests.KeptAskLaws.{members_ask}
 use Rattle.domain_world.proofs.Requests.MarkWayLaws.{marks_have_their_way}
@@ -52,8 +54,10 @@ all_proved plan moves = record {
   alone = tells_of_calls plan moves;
   replays = replays_by_sum plan moves;
   unclashed = passes_unclashed plan moves;
-  grants = grants_who_may plan moves;
+  grants = grants_who_may plan moves (users_stay plan moves);
+  let_on = grants_by_hash plan moves;
   tables = tables_follow plan moves;
+  sessions = sessions_follow plan moves;
   replies = replies_carry plan moves;
   answered = λ schedule calm. replies_answer plan moves schedule calm;
   kept = members_ask plan moves;

@@ -13,6 +13,10 @@ pub mod ReplyLaws
 pub mod ReplyMarkLaws
 pub mod SeedLaws
 pub mod SeedStepLaws
+pub mod SessionLaws
+pub mod SessionRunLaws
+pub mod SessionStepLaws
 pub mod TableLaws
 pub mod ToldLaws
 pub mod UnclashedLaws
+pub mod UserHashLaws

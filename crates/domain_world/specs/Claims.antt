@@ -19,6 +19,7 @@ pub mod OpeningReplies
 pub mod Openings
 pub mod OwnChallenges
 pub mod Replies
+pub mod Sessions
 pub mod SharedSequences
 pub mod Tables
 pub mod WrittenDown
@@ -243,8 +244,8 @@ judgements_of_calls told = filter (λ (one : JudgementTold). judges_call one.how
 abbrev pub AreRightlyTold : List JudgementTold → List Judging → Type 0
 AreRightlyTold told judgings = AreTheirJudgements (judgements_of_calls told) judgings
 
--- So every judgement of a call that a controller told in the run is that of one Logon call which it heard at that move,
--- each such call has one, in their order, and it is right.
+-- So every judgement of a call that a controller told in the run is that of one call on a secure channel which it heard
+-- at that move, each such call has one, in their order, and it is right.
 abbrev pub PassesTheNextCredential : Past → Type 0
 PassesTheNextCredential past = AreRightlyTold past.book.judgements past.book.judged
 

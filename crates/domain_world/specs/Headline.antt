@@ -1,5 +1,5 @@
 -- The whole claim of a run, in one record: what is proved of every run (this project's own choice).
-use Rattle.std.specs.Prelude.{◌≡◌, List, ◌++◌, false}
+use Rattle.std.specs.Prelude.{◌≡◌, List, [], ◌++◌, false}
 use Rattle.world_moves.specs.declared.moves.Move.{Move}
 use Rattle.world_moves.specs.declared.plan.Plan.{Plan}
 use Rattle.world_moves.specs.Forms.{IsSchedule}
@@ -11,7 +11,7 @@ use Rattle.domain_world.specs.Claims.{AcceptsAllGranted, AcceptsOnlyGranted, Cha
 use Rattle.domain_world.specs.Claims.AskedFor.{MembersAskForKept, MembersAskForMessages, SendsAskForMessages}
 use Rattle.domain_world.specs.Claims.Completeness.{EachSucceeds}
 use Rattle.domain_world.specs.Claims.Counts.{EachCallRaisesOnce}
-use Rattle.domain_world.specs.Claims.Grants.{GrantsWhoMayLogOn}
+use Rattle.domain_world.specs.Claims.Grants.{GrantsWhoMayLogOn, GrantsWhoseHashIsStored}
 use Rattle.domain_world.specs.Claims.LetIn.{LetsInWhoAsked}
 use Rattle.domain_world.specs.Claims.MarkedUnits.{CallsAreMarked, EachUnitIsMarked, RepliesAreMarked}
 use Rattle.domain_world.specs.Claims.Names.{LetsInByName}
@@ -19,6 +19,7 @@ use Rattle.domain_world.specs.Claims.OpeningReplies.{OpeningsAreMarked, RepliesA
 use Rattle.domain_world.specs.Claims.Openings.{OpeningsAreInOrder}
 use Rattle.domain_world.specs.Claims.OwnChallenges.{MessagesHaveOwnChallenges}
 use Rattle.domain_world.specs.Claims.Replies.{RepliesCarryTheirJudgement}
+use Rattle.domain_world.specs.Claims.Sessions.{SessionsFollow, renewals}
 use Rattle.domain_world.specs.Claims.SharedSequences.{OneTurnIsOut, SequencesAreOwn, SequencesAreShared}
 use Rattle.domain_world.specs.Claims.Tables.{TablesFollowVerdicts}
 use Rattle.domain_world.specs.Claims.WrittenDown.{ClientsAreWrittenDown, MembersAreWrittenDown, MessagesAreOfTheirClients}
@@ -45,7 +46,9 @@ pub record Proved (plan : Plan) (moves : List Move) : Type 0 where
   pub replays : ReplaysBySum (past plan moves)
   pub unclashed : PassesAreUnclashed (past plan moves)
   pub grants : GrantsWhoMayLogOn (past plan moves)
+  pub let_on : GrantsWhoseHashIsStored (past plan moves)
   pub tables : TablesFollowVerdicts (past plan moves)
+  pub sessions : SessionsFollow (past plan moves) (renewals moves (first_world plan) [])
   pub replies : RepliesCarryTheirJudgement (past plan moves)
   pub answered : IsSchedule plan moves → (past plan moves).book.clash ≡ false → RepliesAnswerCalls (past plan moves)
   -- what members ask, and whom they let in

@@ -125,7 +125,7 @@ pub fn runs_stand_so()
         RunsStandSo plan moves) }
 {}
 
-/// In every schedule each Logon call that a controller judged, and that came in a unit of the bag, is the call which
+/// In every schedule each call that a controller judged, and that came in a unit of the bag, is the call which
 /// that unit carries, with its number.
 #[tactic(auto, using(crate::proofs::Accepting::Heard::JudgedRunLaws::judged_as_carried))]
 pub fn calls_are_judged_as_carried()

@@ -14,14 +14,21 @@ use case_words::{
     number64, text, text_units, word,
 };
 use controller_calls::{
-    ChallengePair, Computers, Line, Work, answer_authenticate, answer_challenge, answer_logon,
-    fault_bytes, send_fault, tell,
+    ChallengePair, Computers, ControllerCall, JudgedCall, Line, Work, answer_authenticate,
+    answer_challenge, answer_judged, fault_bytes, tell,
 };
 use end_links::ShortActions;
-use logon_stubs::{AUTHENTICATE_OPNUM, CHALLENGE_OPNUM, Call, LOGON_OPNUM, read_call};
+use interactive_logon::{Sessions, read_interactive};
+use logon_stubs::{
+    AUTHENTICATE_OPNUM, CHALLENGE_OPNUM, Call, LOGOFF_OPNUM, LOGON_OPNUM, StubRefused, read_call,
+};
 use outside::Action;
+use secret_change::read_set;
 use std::alloc::Global;
 use wire_base::{List, Name, take_named};
+
+/// NetrServerPasswordSet (MS-NRPC 3.5.4.4.6).
+const SET_OPNUM: u16 = 6;
 
 /// A controller's accounts and name, what the calls so far changed of the accounts, and when and where the next one is
 /// answered.
@@ -69,7 +76,7 @@ fn answer_call(
     alloc: Global,
     scene: &mut Scene,
     work: Work,
-    call: Call,
+    call: ControllerCall,
     server: &str,
 ) -> anyhow::Result<Option<Work>> {
     let line = scene.line;
@@ -77,12 +84,15 @@ fn answer_call(
         return Ok(None);
     }
     let work = match call {
-        Call::Challenge(call) => {
+        ControllerCall::Challenge(call) => {
             let server = eight(server)?;
-            answer_challenge(alloc, &scene.table, line, call, server, work)?
+            let changes = &scene.changes;
+            answer_challenge(alloc, &scene.table, changes, line, call, server, work)?
         }
-        Call::Authenticate(call) => answer_authenticate(alloc, &scene.table, line, call, work)?,
-        Call::Logon(call) => answer_logon(
+        ControllerCall::Authenticate(call) => {
+            answer_authenticate(alloc, &scene.table, &scene.changes, line, call, work)?
+        }
+        ControllerCall::Judged(call) => answer_judged(
             alloc,
             &scene.table,
             &mut scene.changes,
@@ -92,9 +102,31 @@ fn answer_call(
             call,
             work,
         )?,
-        Call::Logoff(_) => return Ok(None),
     };
     Ok(Some(work))
+}
+
+/// The call of a stub, as a controller serves it: what is no network logon for its tag alone is an interactive one, or
+/// its logoff.
+fn call_of(alloc: Global, opnum: u16, stub: &[u8]) -> anyhow::Result<ControllerCall> {
+    if opnum == SET_OPNUM {
+        return Ok(ControllerCall::Judged(JudgedCall::Set(read_set(alloc, stub)?)));
+    }
+    match read_call(alloc, opnum, stub) {
+        Ok(Call::Challenge(call)) => Ok(ControllerCall::Challenge(call)),
+        Ok(Call::Authenticate(call)) => Ok(ControllerCall::Authenticate(call)),
+        Ok(Call::Logon(call)) => Ok(ControllerCall::Judged(JudgedCall::Network(call))),
+        Ok(Call::Logoff(call)) => Ok(ControllerCall::Judged(JudgedCall::NetworkLogoff(call))),
+        Err(StubRefused::BadArm(1)) => {
+            let call = read_interactive(alloc, opnum, stub)?;
+            if opnum == LOGON_OPNUM {
+                Ok(ControllerCall::Judged(JudgedCall::Interactive(call)))
+            } else {
+                Ok(ControllerCall::Judged(JudgedCall::Logoff(call)))
+            }
+        }
+        Err(refused) => Err(refused.into()),
+    }
 }
 
 /// Answers the call of a step, by its stub.
@@ -106,7 +138,7 @@ fn answer_stub(
     parts: &[&str],
 ) -> anyhow::Result<Option<Work>> {
     let stub = bytes(alloc, word(parts, 1))?;
-    let call = read_call(alloc, opnum, &stub)?;
+    let call = call_of(alloc, opnum, &stub)?;
     answer_call(alloc, scene, work, call, word(parts, 2))
 }
 
@@ -117,6 +149,29 @@ fn tell_action(alloc: Global, work: Work, name: &str) -> anyhow::Result<Option<W
         return Ok(None);
     }
     Ok(Some(tell(work, action)?))
+}
+
+/// So many sessions of a computer and a user are added, with logon ids from 0 on, of which those that there is room for
+/// stand: `COMPUTER/USER/COUNT`, behind the first part.
+fn fill(alloc: Global, work: Work, parts: &[&str]) -> anyhow::Result<Option<Work>> {
+    let computer = text_units(alloc, word(parts, 1))?;
+    let user = text_units(alloc, word(parts, 2))?;
+    let count = number64(word(parts, 3))?;
+    let Work { computers, actions } = work;
+    let Computers {
+        pending,
+        channels,
+        mut sessions,
+    } = computers;
+    for id in 0..count {
+        let _added = sessions.add(computer.units(), user.units(), id);
+    }
+    let computers = Computers {
+        pending,
+        channels,
+        sessions,
+    };
+    Ok(Some(Work { computers, actions }))
 }
 
 /// What a step leaves. None where it is none.
@@ -130,10 +185,15 @@ fn step(
         "challenge" => answer_stub(alloc, scene, work, CHALLENGE_OPNUM, parts),
         "authenticate" => answer_stub(alloc, scene, work, AUTHENTICATE_OPNUM, parts),
         "logon" => answer_stub(alloc, scene, work, LOGON_OPNUM, parts),
+        "logoff" => answer_stub(alloc, scene, work, LOGOFF_OPNUM, parts),
+        "set" => answer_stub(alloc, scene, work, SET_OPNUM, parts),
+        "fill" => fill(alloc, work, parts),
         "tell" => tell_action(alloc, work, word(parts, 1)),
         "fault" => {
             let status = flags(word(parts, 1))?;
-            Ok(Some(send_fault(alloc, work, scene.line, status)?))
+            let line = scene.line;
+            let bytes = fault_bytes(alloc, line.call, line.context, status)?;
+            Ok(Some(tell(work, Action::Send(line.link, bytes))?))
         }
         "on" => {
             scene.line = line(parts)?;
@@ -153,6 +213,7 @@ fn work_after(alloc: Global, scene: &mut Scene, steps: &[&str]) -> anyhow::Resul
         computers: Computers {
             pending: List::new(alloc),
             channels: List::new(alloc),
+            sessions: Sessions::new(alloc)?,
         },
         actions: ShortActions::new(alloc),
     };
@@ -206,13 +267,21 @@ fn add_kept(
     name: &str,
 ) -> anyhow::Result<Computers> {
     let name = text_units(alloc, name)?;
-    let Computers { pending, channels } = computers;
+    let Computers {
+        pending,
+        channels,
+        sessions,
+    } = computers;
     let (pending, pair) = take_named(pending, name.units());
     let (channels, channel) = take_named(channels, name.units());
     let pair = pair_text(alloc, pair)?;
     let key = key_text(alloc, channel)?;
     add_answer(answers, &format!(in alloc; "{pair} {key}")?)?;
-    Ok(Computers { pending, channels })
+    Ok(Computers {
+        pending,
+        channels,
+        sessions,
+    })
 }
 
 /// The actions, the counts of bad passwords, and what is kept of computers of these names.
@@ -223,6 +292,19 @@ fn work_text(alloc: Global, scene: &Scene, work: Work, names: &str) -> anyhow::R
     let mut computers = computers;
     for name in names.split(',') {
         computers = add_kept(alloc, &mut answers, computers, name)?;
+    }
+    Ok(answers)
+}
+
+/// The text of the secrets that are set, as the changes leave them, how many sessions stand, and the last four of them.
+fn left_text(alloc: Global, scene: &Scene, work: Work) -> anyhow::Result<String> {
+    let secrets = scene.table.secrets_with(alloc, &scene.changes)?;
+    let mut answers = text(alloc, secrets.bytes())?;
+    let sessions = work.computers.sessions.items();
+    let count = sessions.len();
+    add_answer(&mut answers, &count.to_string(alloc)?)?;
+    if let Some(last) = sessions.get(count.saturating_sub(4)..) {
+        add_answer(&mut answers, &format!(in alloc; "{last:?}")?)?;
     }
     Ok(answers)
 }
@@ -259,6 +341,18 @@ fn run(alloc: Global, words: &[&str]) -> anyhow::Result<String> {
     }
 }
 
+/// `calls.left DOCUMENT NAME COMPUTERS STEP ..`.
+fn left(alloc: Global, words: &[&str]) -> anyhow::Result<String> {
+    let Some(steps) = words.get(4..) else {
+        return no_case(alloc);
+    };
+    let mut scene = scene_of(alloc, words)?;
+    match work_after(alloc, &mut scene, steps)? {
+        Some(work) => left_text(alloc, &scene, work),
+        None => no_case(alloc),
+    }
+}
+
 /// `calls.fault CALL CONTEXT STATUS`: the bytes of a fault.
 fn fault(alloc: Global, words: &[&str]) -> anyhow::Result<String> {
     let call = number(word(words, 1))?;
@@ -272,6 +366,7 @@ fn fault(alloc: Global, words: &[&str]) -> anyhow::Result<String> {
 pub(crate) fn answer(alloc: Global, operation: &str, words: &[&str]) -> anyhow::Result<String> {
     match operation {
         "run" => run(alloc, words),
+        "left" => left(alloc, words),
         "fault" => fault(alloc, words),
         _ => no_case(alloc),
     }

@@ -3,7 +3,7 @@
 use crate::members::name;
 use crate::scenes::{chances, play_and_count};
 use account_table::Table;
-use case_words::{add_part, bytes, debug_text, flags, list_text, no_case, word};
+use case_words::{add_part, bytes, debug_text, flags, list_text, no_case, text, word};
 use domain_controller::Controller;
 use end_loop::End;
 use outside::{Action, CloseCause, DropCause, Judged, Outcome};
@@ -61,6 +61,20 @@ fn counts(alloc: Global, words: &[&str]) -> anyhow::Result<String> {
     play_and_count(alloc, &mut end, &mut chances, steps)?;
     let (table, _) = end.into_parts();
     counts_text(alloc, &table)
+}
+
+/// `controller.secrets DOCUMENT NAME CHALLENGES STEP ..`: the text of the secrets that were set, as the accounts stand
+/// after the steps.
+fn secrets(alloc: Global, words: &[&str]) -> anyhow::Result<String> {
+    let Some(steps) = words.get(4..) else {
+        return no_case(alloc);
+    };
+    let mut chances = chances(alloc, word(words, 3))?;
+    let mut end = controller(alloc, words)?;
+    play_and_count(alloc, &mut end, &mut chances, steps)?;
+    let (table, _) = end.into_parts();
+    let secrets = table.secrets(alloc)?;
+    text(alloc, secrets.bytes())
 }
 
 /// Bytes that are sent.
@@ -122,6 +136,7 @@ pub(crate) fn answer(alloc: Global, operation: &str, words: &[&str]) -> anyhow::
     match operation {
         "run" => run(alloc, words),
         "counts" => counts(alloc, words),
+        "secrets" => secrets(alloc, words),
         "line" => line(alloc, words),
         _ => no_case(alloc),
     }

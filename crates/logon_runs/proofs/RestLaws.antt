@@ -65,7 +65,7 @@ first_so plan is forms = record {
         table = planned;
         differs = differs-none planned;
         ranged = table_in_range planned (item_has IsTable plan.tables at planned forms.tables is_table);
-        computers = record { pending = []; channels = [] };
+        computers = record { pending = []; channels = []; sessions = [] };
         rests = got_controller plan.tables plan.controllers at planned named.item is_table named.is;
       };
   members = λ at member is_plan. record {

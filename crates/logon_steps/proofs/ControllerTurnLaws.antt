@@ -18,7 +18,7 @@ use Rattle.end_links.specs.Links.{LinkState}
 use Rattle.end_links.specs.Serving.{ServedPart, served_cut}
 use Rattle.logon_stubs.specs.Interface.{netlogon_syntax}
 use Rattle.channel_client.specs.Machine.{auth_call, challenge_call, level_asked, logon_call}
-use Rattle.domain_controller.specs.Hearing.{bound_talk, first_talk}
+use Rattle.domain_controller.specs.Hearing.{bound_talk, first_talk, served_call}
 use Rattle.domain_controller.specs.Machine.{Desk, by_call, controller_server, judge_info, put_channel, take_channel, with_judgement}
 use Rattle.domain_controller.specs.State.{State}
 use Rattle.domain_controller.specs.Step.{LinkMap, StepPart, after_units, first_desk, halted, serve_on, start_turn, state_after, step_of}
@@ -60,10 +60,10 @@ on_link table name computers link now talk piece left part served rest =
 pub asked_steps : (table : AccountTable) (name : List ℕ) (computers : Computers) (link now number : ℕ) (c : Call) (left : List (List ℕ)) → number < 2 ^ 32 → IsTurnCall c →
     step_of (controller_at table name computers (turn_link link)) (event.Bytes link (bytes_of_call (turn_request number c) 5840)) now left
     ≡ stepped table name computers (turn_link link) left
-    (after_units (by_call c (record { link = link; call = number; context = 0; limit = 5840 }) (bound_talk None turn_agreed) name now (first_desk table (running computers (turn_link link))) left) [] link [])
+    (after_units (by_call (served_call c) (record { link = link; call = number; context = 0; limit = 5840 }) (bound_talk None turn_agreed) name now (first_desk table (running computers (turn_link link))) left) [] link [])
 asked_steps table name computers link now number c left below is =
     on_link table name computers link now (bound_talk None turn_agreed) (bytes_of_call (turn_request number c) 5840) left
-    (by_call c (record { link = link; call = number; context = 0; limit = 5840 }) (bound_talk None turn_agreed) name now (first_desk table (running computers (turn_link link))) left)
+    (by_call (served_call c) (record { link = link; call = number; context = 0; limit = 5840 }) (bound_talk None turn_agreed) name now (first_desk table (running computers (turn_link link))) left)
     (turns_go_through.hears.call name now link number c (first_desk table (running computers (turn_link link))) left below is)
     (ap Cut.rest (call_heard (turn_request number c) 5840 (request_sends number c below is) (request_joins number c is)).stream)
 

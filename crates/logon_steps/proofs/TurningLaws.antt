@@ -1,6 +1,6 @@
 -- A turn goes through, whichever call it makes.
 -- Of `turns_go_through`.
-use Rattle.std.proofs.Common.{◌≡◌, ℕ, zero, suc, ◌≤◌, ◌<◌, ◌^◌, take, drop, nat_le, inl, inr, Bool, true, false, List, [], ◌∷◌, ◌++◌, length, map, Option, Some, None, Result, Ok, refl, sym, ap, ap₂, ◌∙◌, arith}
+use Rattle.std.proofs.Common.{◌≡◌, ◌==◌, ℕ, zero, suc, ◌≤◌, ◌<◌, ◌^◌, take, drop, nat_le, inl, inr, Bool, true, false, List, [], ◌∷◌, ◌++◌, length, map, Option, Some, None, Result, Ok, refl, sym, ap, ap₂, ◌∙◌, arith}
 use Rattle.std.specs.List.{flat_map}
 use Rattle.outside.specs.declared.action.Action.TheVariants as action
 use Rattle.rpc_units.specs.declared.unit.Unit.{Unit as RpcUnit}
@@ -37,8 +37,10 @@ use Rattle.channel_client.specs.Machine.{act, judge, hear_by, hear_reply, questi
 use Rattle.channel_client.specs.State.{Requester}
 use Rattle.domain_controller.specs.declared.state.Talk.{Talk}
 use Rattle.domain_controller.specs.declared.hearing.Heard.{Heard}
+use Rattle.domain_controller.specs.declared.hearing.Heard.TheVariants as heard
 use Rattle.controller_calls.specs.declared.line.Line.{Line}
-use Rattle.domain_controller.specs.Hearing.{bound_talk, first_talk, hear_joined, hear_opnum, hear_read, hear_stub, hear_whole}
+use Rattle.domain_controller.specs.Hearing.{bound_talk, first_talk, hear_joined, hear_netlogon, hear_number, hear_opnum, hear_read, hear_stub, hear_whole, served_call}
+use Rattle.secret_change.specs.Calls.{set_opnum}
 use Rattle.domain_controller.specs.Machine.{Desk, by_call, by_heard, controller_server, desk, goes_on, tell}
 use Rattle.member_server.specs.Turns.{AtTurn, take_by, turn_by_join, turn_server, turn_talk, turn_unit}
 use Rattle.logon_steps.specs.Turning.{IsTurnCall, IsTurnReply, TurnsGoThrough, turn_ack, turn_agreed, turn_at, turn_request, turn_response}
@@ -160,9 +162,26 @@ joins name now link number opnum stub = record {
       (none_open so_far unit (request_of number 0 opnum stub) answer);
 }
 
+-- no call of Netlogon has the number of NetrServerPasswordSet
+pub other_number : (c : Call) → (opnum_of_call c == set_opnum) ≡ false
+other_number (call.Logon value) = refl
+other_number (call.Logoff value) = refl
+other_number (call.Challenge value) = refl
+other_number (call.Authenticate value) = refl
+
+pub netlogon_heard : (c : Call) (line : Line) (talk : Talk) → hear_netlogon c line talk ≡ heard.Asked line (served_call c) talk
+netlogon_heard (call.Logon value) line talk = refl
+netlogon_heard (call.Logoff value) line talk = refl
+netlogon_heard (call.Challenge value) line talk = refl
+netlogon_heard (call.Authenticate value) line talk = refl
+
+call_served : (c : Call) (line : Line) (talk : Talk) (name : List ℕ) (now link : ℕ) (d : Desk) (left : List (List ℕ)) →
+    by_heard (hear_netlogon c line talk) link name now d left ≡ by_call (served_call c) line talk name now d left
+call_served c line talk name now link d left = ap (λ (what : Heard). by_heard what link name now d left) (netlogon_heard c line talk)
+
 call_heard : (name : List ℕ) (now link number : ℕ) (c : Call) (d : Desk) (left : List (List ℕ)) → number < 2 ^ 32 → IsTurnCall c →
     served_cut (controller_server name now link) (cut_stream (bytes_of_call (turn_request number c) 5840)) d (bound_talk None turn_agreed) left
-    ≡ by_call c (record { link = link; call = number; context = 0; limit = 5840 }) (bound_talk None turn_agreed) name now d left
+    ≡ by_call (served_call c) (record { link = link; call = number; context = 0; limit = 5840 }) (bound_talk None turn_agreed) name now d left
 call_heard name now link number c d left below is =
     let line : Line = record { link = link; call = number; context = 0; limit = 5840 } in
     let talk : Talk = bound_talk None turn_agreed in
@@ -170,7 +189,9 @@ call_heard name now link number c d left below is =
     (hears_whole name now link (turn_request number c)) d left (request_sends number c below is)
     (omega (arith, written_call-content c is.writes is.range, is.short)) (joins name now link number (opnum_of_call c) (written_call c))
     ∙ ap (λ (served : Bool). by_heard (hear_opnum served (opnum_of_call c) (written_call c) line talk) link name now d left) is.served
-    ∙ ap (λ (read : Result Call StubRefused). by_heard (hear_stub read line talk) link name now d left) (call_of-written_call c is.writes is.range)
+    ∙ ap (λ (sets : Bool). by_heard (hear_number sets (opnum_of_call c) (written_call c) line talk) link name now d left) (other_number c)
+    ∙ ap (λ (read : Result Call StubRefused). by_heard (hear_stub read (opnum_of_call c) (written_call c) line talk) link name now d left) (call_of-written_call c is.writes is.range)
+    ∙ call_served c line talk name now link d left
 
 -- ---- a member's channel
 

@@ -12,6 +12,7 @@ use Rattle.account_table.specs.LookUps.{knows_in}
 use Rattle.account_table.specs.declared.account.Account.{Account}
 use Rattle.channel_client.specs.declared.caller.Caller.{Caller}
 use Rattle.channel_client.specs.Machine.{auth_call, challenge_call, level_asked, logon_call, offered_flags, server_credential}
+use Rattle.domain_controller.specs.Hearing.{served_call}
 use Rattle.domain_controller.specs.Machine.{Desk, account_for, by_call, channel_for, desk, goes_on, judge_info, put_channel, put_pair, send_reply, take_channel, take_pair, with_judgement}
 use Rattle.controller_calls.specs.declared.line.Line.{Line}
 use Rattle.controller_calls.specs.declared.state.ChallengePair.{ChallengePair}
@@ -47,14 +48,14 @@ pub record CallsAreAnswered : Type 0 where
   -- both challenges wait, where the computer is known
   pub challenge : (caller : Caller) (client server : List ℕ) (line : Line) (talk : Talk) (name : List ℕ) (now : ℕ) (d : Desk) (left : List (List ℕ)) →
       knows_in d.table.accounts caller.computer ≡ true →
-      by_call (challenge_call caller client) line talk name now d (server ∷ left)
+      by_call (served_call (challenge_call caller client)) line talk name now d (server ∷ left)
       ≡ goes_on (desk d.table
       (send_reply (put_pair caller.computer (pair_of client server) d.work) line (reply.Challenge (record { challenge = server; status = 0 })))) talk left
   -- the channel stands, where the account's hash is the computer's secret and these challenges wait
   pub opens : (caller : Caller) (client server : List ℕ) (account : Account) (line : Line) (talk : Talk) (name : List ℕ) (now : ℕ) (d : Desk) (left : List (List ℕ)) →
       account_for d.table (auth_value caller client server) ≡ Some account → account.hash ≡ caller.secret →
       lookup same_name caller.computer d.work.computers.pending ≡ Some (pair_of client server) →
-      by_call (auth_call caller client server) line talk name now d left
+      by_call (served_call (auth_call caller client server)) line talk name now d left
       ≡ goes_on (desk d.table
       (send_reply (put_channel caller.computer (channel_for account (pair_of client server) (auth_value caller client server)) (take_pair caller.computer d.work)) line
       (reply.Authenticate (record { credential = server_credential caller.secret client server; flags = offered_flags; status = 0 })))) talk left
@@ -63,7 +64,7 @@ pub record CallsAreAnswered : Type 0 where
   -- the authenticator passes where both are in step, and they are so again; the logon is judged
   pub judges : (caller : Caller) (o c : SecureChannelState) (info : NetworkInfo) (timestamp : ℕ) (line : Line) (talk : Talk) (name : List ℕ) (now : ℕ) (d : Desk)
       (left : List (List ℕ)) → lookup same_name caller.computer d.work.computers.channels ≡ Some c → IsInStep o c →
-      by_call (logon_call caller o timestamp info) line talk name now d left
+      by_call (served_call (logon_call caller o timestamp info)) line talk name now d left
       ≡ goes_on (with_judgement (judge_info d.table name now info level_asked) line level_asked (key_of_channel o) (return_of (key_of_channel o) o.seed timestamp)
       (put_channel caller.computer (moved c timestamp) (take_channel caller.computer d.work))) talk left
   pub stays : (o c : SecureChannelState) (timestamp : ℕ) → IsInStep o c → IsInStep (after_return true (after_call o timestamp)) (moved c timestamp)

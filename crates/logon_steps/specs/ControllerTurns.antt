@@ -85,6 +85,7 @@ pub record ControllersStep : Type 0 where
       (controller_at table name (record {
         pending = take_out same_name caller.computer computers.pending;
         channels = put same_name caller.computer (channel_for account (pair_of client server) (auth_value caller client server)) computers.channels;
+        sessions = computers.sessions;
       }) (turn_link link))
   -- the logon is judged by the accounts as they stand, and leaves what the judgement does
   pub judged : (table : AccountTable) (name : List ℕ) (computers : Computers) (link now number timestamp : ℕ) (caller : Caller) (o c : SecureChannelState)

@@ -24,7 +24,7 @@ use Rattle.channel_client.specs.declared.state.Step.{Step}
 use Rattle.channel_client.specs.declared.state.Step.TheVariants as step
 use Rattle.channel_client.specs.Machine.{judge, opnum_asked, question_of, settle, take_of, wait_for}
 use Rattle.channel_client.specs.State.{Requester}
-use Rattle.domain_controller.specs.Hearing.{bound_talk, first_talk, is_served}
+use Rattle.domain_controller.specs.Hearing.{bound_talk, first_talk, is_served, served_call}
 use Rattle.domain_controller.specs.Machine.{Desk, by_call, controller_server, desk, goes_on, tell}
 use Rattle.member_server.specs.Turns.{AtTurn, take_by, turn_server, turn_talk}
 
@@ -75,7 +75,7 @@ pub record HearsTurns : Type 0 where
   -- the call is heard once, whatever its fragments
   pub call : (name : List ℕ) (now link number : ℕ) (c : Call) (d : Desk) (left : List (List ℕ)) → number < 2 ^ 32 → IsTurnCall c →
       served_cut (controller_server name now link) (cut_stream (bytes_of_call (turn_request number c) 5840)) d (bound_talk None turn_agreed) left
-      ≡ by_call c (record { link = link; call = number; context = 0; limit = 5840 }) (bound_talk None turn_agreed) name now d left
+      ≡ by_call (served_call c) (record { link = link; call = number; context = 0; limit = 5840 }) (bound_talk None turn_agreed) name now d left
 
 -- ---- a member's channel
 

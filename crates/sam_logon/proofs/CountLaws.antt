@@ -3,14 +3,15 @@ use Rattle.std.proofs.Common.{◌≡◌, ℕ, ◌==◌, List, Option, Some, None
 use Rattle.std.specs.List.{slice_get}
 use Rattle.std.proofs.lemmas.Bool.{cases_Bool, eqb-true}
 use Rattle.account_table.specs.AccountTable.{AccountTable}
-use Rattle.account_table.specs.Changes.{at_place, with_count, with_bad_count, with_change_if, with_changes, DifferInCounts}
+use Rattle.account_table.specs.Changes.{at_place, settled, state_of, with_count, with_bad_count, with_change_if, with_changes, with_state, DifferInCounts}
 use Rattle.account_table.specs.LookUps.{place_in, route_in}
 use Rattle.account_table.specs.declared.account.Account.{Account}
 use Rattle.account_table.specs.declared.account.Policy.{Policy}
+use Rattle.account_table.specs.declared.changes.AccountState.{AccountState}
 use Rattle.account_table.specs.declared.changes.TableChange.{TableChange}
 use Rattle.account_table.specs.declared.table.Route.{Route}
 use Rattle.account_table.specs.declared.table.Route.TheVariants.{Own, Trust, Elsewhere}
-use Rattle.account_table.proofs.ChangeLaws.{accounts-stay, at_place-id, at_place-like, differs-none, map-at_place, with_changes-differs}
+use Rattle.account_table.proofs.ChangeLaws.{accounts-left, at_place-id, at_place-like, differs-none, map-at_place, with_changes-differs}
 use Rattle.logon_stubs.specs.declared.info.NetworkInfo.{NetworkInfo}
 use Rattle.sam_logon.specs.Rules.{Shown, answer_by, change_of, count_after, first_refusal, rules_for, shown_by_hash, shown_by_response}
 use Rattle.logon_stubs.specs.declared.info.SamInfo.{SamInfo}
@@ -74,58 +75,63 @@ change_made table place account found count after count_is =
 
 -- ---- the account as the changes leave it
 
-standing_by : (found : Option Account) (account : Account) (count : ℕ) → option_map (with_count 0) found ≡ Some (with_count 0 account) → Some count ≡ option_map (λ a. a.bad_count) found → found ≡ Some (with_count count account)
-standing_by None account count same counted = absurd (cc)
-standing_by (Some other) account count same counted =
-    let alike : with_count 0 other ≡ with_count 0 account = cc in
-    let is : other.bad_count ≡ count = cc in
-    ap (λ (a : Account). Some a) (ap (λ (a : Account). with_count other.bad_count a) alike ∙ ap (λ (n : ℕ). with_count n account) is)
+-- an account that has that state, and is like one but for what may change, is that one with the state
+state_put : (other account : Account) (state : AccountState) → settled other ≡ settled account → state_of other ≡ state → other ≡ with_state state account
+state_put other account state same is =
+    ap (λ (s : AccountState). with_state s other) is ∙ ap (λ (a : Account). with_state state a) same
 
-not_past : (found : Option Account) (account : Account) → option_map (with_count 0) found ≡ Some (with_count 0 account) → None ≡ option_map (λ a. a.bad_count) found → ⊥
+standing_by : (found : Option Account) (account : Account) (state : AccountState) → option_map settled found ≡ Some (settled account) → Some state ≡ option_map state_of found → found ≡ Some (with_state state account)
+standing_by None account state same stated = absurd (cc)
+standing_by (Some other) account state same stated =
+    let alike : settled other ≡ settled account = cc in
+    let is : state_of other ≡ state = cc in
+    ap (λ (a : Account). Some a) (state_put other account state alike is)
+
+not_past : (found : Option Account) (account : Account) → option_map settled found ≡ Some (settled account) → None ≡ option_map state_of found → ⊥
 not_past None account same past = cc
 not_past (Some other) account same past = cc
 
 module _ (table : AccountTable) (changes : List TableChange) (place : ℕ) (account : Account) (found : slice_get table.accounts place ≡ Some account) where
-  alike : option_map (with_count 0) (slice_get (with_changes changes table).accounts place) ≡ Some (with_count 0 account)
+  alike : option_map settled (slice_get (with_changes changes table).accounts place) ≡ Some (settled account)
   alike =
-      accounts-stay table (with_changes changes table) (with_changes-differs changes table) place
-      ∙ ap (λ (o : Option Account). option_map (with_count 0) o) found
+      accounts-left table (with_changes changes table) (with_changes-differs changes table) place
+      ∙ ap (λ (o : Option Account). option_map settled o) found
 
-  pub stands_there : None ≡ option_map (λ a. a.bad_count) (slice_get (with_changes changes table).accounts place) → ⊥
+  pub stands_there : None ≡ option_map state_of (slice_get (with_changes changes table).accounts place) → ⊥
   stands_there past = not_past _ account alike past
 
-  module _ (shown : Shown) (workstation : List ℕ) (now count : ℕ) (policy : Policy) (counted : Some count ≡ option_map (λ a. a.bad_count) (slice_get (with_changes changes table).accounts place)) (policy_is : policy ≡ table.policy) where
-    standing : slice_get (with_changes changes table).accounts place ≡ Some (with_count count account)
-    standing = standing_by _ account count alike counted
+  module _ (shown : Shown) (workstation : List ℕ) (now : ℕ) (state : AccountState) (policy : Policy) (stated : Some state ≡ option_map state_of (slice_get (with_changes changes table).accounts place)) (policy_is : policy ≡ table.policy) where
+    standing : slice_get (with_changes changes table).accounts place ≡ Some (with_state state account)
+    standing = standing_by _ account state alike stated
 
     policies : (with_changes changes table).policy ≡ policy
     policies = (with_changes-differs changes table).policy ∙ sym policy_is
 
-    pub granted_change : (key granted : List ℕ) → Ok granted ≡ answer_by (first_refusal (rules_for policy (with_count count account) shown workstation now)) key → (change : Option TableChange) → change ≡ change_of place count 0 → with_change_if change (with_changes changes table) ≡ table_shown (Some place) shown (with_changes changes table) workstation now
+    pub granted_change : (key granted : List ℕ) → Ok granted ≡ answer_by (first_refusal (rules_for policy (with_state state account) shown workstation now)) key → (change : Option TableChange) → change ≡ change_of place state.bad_count 0 → with_change_if change (with_changes changes table) ≡ table_shown (Some place) shown (with_changes changes table) workstation now
     granted_change key granted judged change is =
         ap (λ (c : Option TableChange). with_change_if c (with_changes changes table)) is
-        ∙ change_made (with_changes changes table) place (with_count count account) standing count 0 refl
-        ∙ granted_table shown workstation now (with_changes changes table) place (with_count count account) standing key granted (rw policies judged)
+        ∙ change_made (with_changes changes table) place (with_state state account) standing state.bad_count 0 refl
+        ∙ granted_table shown workstation now (with_changes changes table) place (with_state state account) standing key granted (rw policies judged)
 
-    pub refused_change : (key : List ℕ) (refused : Refusal) → Err refused ≡ answer_by (first_refusal (rules_for policy (with_count count account) shown workstation now)) key → (after : ℕ) → after ≡ count_after (Some refused) count → (change : Option TableChange) → change ≡ change_of place count after → with_change_if change (with_changes changes table) ≡ table_shown (Some place) shown (with_changes changes table) workstation now
+    pub refused_change : (key : List ℕ) (refused : Refusal) → Err refused ≡ answer_by (first_refusal (rules_for policy (with_state state account) shown workstation now)) key → (after : ℕ) → after ≡ count_after (Some refused) state.bad_count → (change : Option TableChange) → change ≡ change_of place state.bad_count after → with_change_if change (with_changes changes table) ≡ table_shown (Some place) shown (with_changes changes table) workstation now
     refused_change key refused judged after after_is change is =
         ap (λ (c : Option TableChange). with_change_if c (with_changes changes table)) is
-        ∙ change_made (with_changes changes table) place (with_count count account) standing count after refl
-        ∙ refused_table shown workstation now (with_changes changes table) place (with_count count account) standing key refused (rw policies judged) after after_is
+        ∙ change_made (with_changes changes table) place (with_state state account) standing state.bad_count after refl
+        ∙ refused_table shown workstation now (with_changes changes table) place (with_state state account) standing key refused (rw policies judged) after after_is
 
-    pub refused_weighed : (controller key : List ℕ) (refused : Refusal) → Err refused ≡ answer_by (first_refusal (rules_for policy (with_count count account) shown workstation now)) key → Status refused.status ≡ verdict_shown (slice_get (with_changes changes table).accounts place) shown (with_changes changes table) controller workstation now
+    pub refused_weighed : (controller key : List ℕ) (refused : Refusal) → Err refused ≡ answer_by (first_refusal (rules_for policy (with_state state account) shown workstation now)) key → Status refused.status ≡ verdict_shown (slice_get (with_changes changes table).accounts place) shown (with_changes changes table) controller workstation now
     refused_weighed controller key refused judged =
-        refused_verdict shown workstation now (with_changes changes table) place (with_count count account) standing controller key refused (rw policies judged)
+        refused_verdict shown workstation now (with_changes changes table) place (with_state state account) standing controller key refused (rw policies judged)
 
     -- what is granted names the domain, which the changes leave
-    same_granted : (controller key : List ℕ) → sam_info_of table controller (with_count count account) key now ≡ sam_info_of (with_changes changes table) controller (with_count count account) key now
+    same_granted : (controller key : List ℕ) → sam_info_of table controller (with_count state.bad_count account) key now ≡ sam_info_of (with_changes changes table) controller (with_state state account) key now
     unfolding sam_info_of
     same_granted controller key = rw ((with_changes-differs changes table).domain, (with_changes-differs changes table).sid) refl
 
-    pub granted_weighed : (controller key : List ℕ) (granted : SamInfo) → Ok key ≡ answer_by (first_refusal (rules_for policy (with_count count account) shown workstation now)) (shown.key account.hash) → granted ≡ sam_info_of table controller (with_count count account) key now → Granted granted ≡ verdict_shown (slice_get (with_changes changes table).accounts place) shown (with_changes changes table) controller workstation now
+    pub granted_weighed : (controller key : List ℕ) (granted : SamInfo) → Ok key ≡ answer_by (first_refusal (rules_for policy (with_state state account) shown workstation now)) (shown.key state.hash) → granted ≡ sam_info_of table controller (with_count state.bad_count account) key now → Granted granted ≡ verdict_shown (slice_get (with_changes changes table).accounts place) shown (with_changes changes table) controller workstation now
     granted_weighed controller key granted judged is =
         ap (λ (i : SamInfo). Granted i) (is ∙ same_granted controller key)
-        ∙ granted_verdict shown workstation now (with_changes changes table) place (with_count count account) standing controller key (rw policies judged)
+        ∙ granted_verdict shown workstation now (with_changes changes table) place (with_state state account) standing controller key (rw policies judged)
 
 -- ---- what differs
 

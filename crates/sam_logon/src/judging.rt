@@ -394,10 +394,11 @@ fn weigh_at<S: Shows>(
     let Some(account) = table.account(place) else {
         unreachable!();
     };
-    let Some(count) = table.bad_count_with(changes, place) else {
+    let Some(state) = table.state_with(changes, place) else {
         unreachable!();
     };
-    match judge_account(table.policy(), account, count, shown, workstation, now) {
+    let count = state.bad_count;
+    match judge_account(table.policy(), account, state, shown, workstation, now) {
         Ok(key) => {
             let granted = sam_info(alloc, table, controller, account, count, key, now)?;
             Ok(Weighed {

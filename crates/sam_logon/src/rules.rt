@@ -1,11 +1,11 @@
 //! The rules by which an account's logon is judged, in their order.
 
 ghost use Rattle.std.specs.Prelude.{◌≡◌};
-ghost use Rattle.account_table.specs.Changes.{with_count};
+ghost use Rattle.account_table.specs.Changes.{with_count, with_state};
 ghost use Rattle.sam_logon.specs.Rules.{allows, answer_by, counting_refusal, first_refusal, has_come, has_reached, is_locked_out, is_refused_response, kind_rules, lists, plain_refusal, rules_for};
 
 use crate::showing::Shows;
-use account_table::{Account, Kind, Policy};
+use account_table::{Account, AccountState, Kind, Policy};
 use logon_stubs::{
     STATUS_ACCOUNT_DISABLED, STATUS_ACCOUNT_EXPIRED, STATUS_ACCOUNT_LOCKED_OUT,
     STATUS_INVALID_WORKSTATION, STATUS_NOLOGON_INTERDOMAIN_TRUST_ACCOUNT,
@@ -43,29 +43,29 @@ fn counting_refusal(status: u32) -> Refusal
     }
 }
 
-/// The session base key of a logon at that computer that no rule refuses, or how the first rule refuses it, where the
-/// account's count of bad passwords is that.
+/// The session base key of a logon at that computer that no rule refuses, or how the first rule refuses it, where what
+/// changes of the account is that.
 pub(crate) fn judge_account<S: Shows>(
     policy: Policy,
     account: &Account,
-    count: u16,
+    state: AccountState,
     shown: &S,
     workstation: &[u16],
     now: u64,
 ) -> Result<[u8; 16], Refusal>
     ensures { result ≡ answer_by
-        (first_refusal (rules_for policy (with_count count account.now) (S.shown shown.now)
+        (first_refusal (rules_for policy (with_state state account.now) (S.shown shown.now)
         workstation.now now))
-        ((S.shown shown.now).key account.now.hash) }
+        ((S.shown shown.now).key state.hash) }
 {
     judge_kind(account.kind)?;
-    if is_locked_out(policy, account, count) {
+    if is_locked_out(policy, account, state.bad_count) {
         return Err(plain_refusal(STATUS_ACCOUNT_LOCKED_OUT));
     }
     if is_refused_response(policy, shown.is_short()) {
         return Err(plain_refusal(STATUS_WRONG_PASSWORD));
     }
-    let Some(key) = shown.key(&account.hash) else {
+    let Some(key) = shown.key(&state.hash) else {
         return Err(counting_refusal(STATUS_WRONG_PASSWORD));
     };
     if account.disabled {

@@ -7,5 +7,6 @@ pub mod JudgedCallLaws
 pub mod JudgedInRangeLaws
 pub mod JudgedStepLaws
 pub mod KeptNoteLaws
+pub mod ReadCallLaws
 pub mod ReplySendLaws
 pub mod ReplyStepLaws

@@ -36,12 +36,14 @@ use Rattle.channel_client.specs.declared.hearing.Hearing.TheVariants as hearing
 use Rattle.channel_client.specs.declared.state.Question.TheVariants as question
 use Rattle.channel_client.specs.declared.state.Standing.TheVariants as standing
 use Rattle.channel_client.specs.declared.state.Step.TheVariants as step
-use Rattle.domain_controller.specs.Hearing.{hear}
+use Rattle.domain_controller.specs.Hearing.{hear, served_call}
 use Rattle.domain_controller.specs.Machine.{Desk, account_for, by_call, controller_server, send_reply}
 use Rattle.domain_controller.specs.State.{State as ControllerState}
 use Rattle.domain_controller.specs.Step.{step_of as controller_step}
 use Rattle.domain_controller.specs.declared.hearing.Heard.{Heard}
 use Rattle.domain_controller.specs.declared.hearing.Heard.TheVariants as heard
+use Rattle.controller_calls.specs.declared.calls.ControllerCall.{ControllerCall}
+use Rattle.controller_calls.specs.declared.calls.ControllerCall.TheVariants as served
 use Rattle.controller_calls.specs.declared.line.Line.{Line}
 use Rattle.controller_calls.specs.declared.state.Computers.{Computers}
 use Rattle.domain_controller.specs.declared.state.Talk.{Talk as ControllerTalk}
@@ -64,7 +66,7 @@ use Rattle.member_server.specs.Turns.{AtTurn, turn_server}
 use Rattle.channel_turns.specs.declared.state.TurnTalk.{TurnTalk}
 use Rattle.channel_events.specs.Marks.{Calling, Mark, Opening, Plain}
 use Rattle.step_notes.specs.ClientNotes.{ClientAt, made_note, units_of_client}
-use Rattle.step_notes.specs.ControllerNotes.{Where, answer_on, call_answer, checked_on, has_passed, logon_answer, opened_by, opening, passing, units_of_controller}
+use Rattle.step_notes.specs.ControllerNotes.{Where, answer_on, call_answer, checked_on, has_passed, judged_answer, opened_by, opening, passing, units_of_controller}
 use Rattle.step_notes.specs.Marking.{answered_marks, clashes, sent_channel}
 use Rattle.step_notes.specs.MemberNotes.{TurnNote, half_channel, request_note, taking_note, turn_note}
 use Rattle.step_notes.specs.Records.{Judging, MessageMade, Sent, computer_named, timestamp_in, unit_in}
@@ -128,15 +130,15 @@ StandsOrGoes channel (Some other) = other ≡ channel
 -- ---- at a controller
 
 -- the account that lets a call open a channel
-abbrev pub account_asked : Call → AccountTable → Option Account
-account_asked (call.Authenticate c) table = account_for table c
+abbrev pub account_asked : ControllerCall → AccountTable → Option Account
+account_asked (served.Authenticate c) table = account_for table c
 account_asked _ table = None
 
 -- What a controller has of a computer whose member knows both challenges: an account for its call, with the hash that
 -- is the member's secret, and the challenges.
 pub record Expects (d : Desk) (s : Requester) (client server : List ℕ) : Type 0 where
   pub account : Account
-  pub found : account_asked (auth_call s.caller client server) d.table ≡ Some account
+  pub found : account_asked (served_call (auth_call s.caller client server)) d.table ≡ Some account
   pub secret : account.hash ≡ s.caller.secret
   pub pair : lookup same_name s.caller.computer d.work.computers.pending ≡ Some (record { client = client; server = server })
 
@@ -147,8 +149,8 @@ pub record HasChannel (computers : Computers) (channel : ChannelIdentity) : Type
   pub is : channel_of channel.controller channel.computer state ≡ channel
 
 -- the channel that a unit opens, if it does
-abbrev pub opened_call : ℕ → Call → Desk → Option ChannelIdentity
-opened_call controller (call.Authenticate c) d = opened_by controller c d
+abbrev pub opened_call : ℕ → ControllerCall → Desk → Option ChannelIdentity
+opened_call controller (served.Authenticate c) d = opened_by controller c d
 opened_call controller _ d = None
 
 abbrev pub opened_unit : ℕ → Heard → Desk → Option ChannelIdentity
@@ -175,7 +177,7 @@ pub record ChallengesAreShared : Type 0 where
       × (step_in (take_of s unit).state.turn ≡ Some (step.Reply (question.Challenge client)))
   pub waits : (s : Requester) (client server : List ℕ) (line : Line) (talk : ControllerTalk) (name : List ℕ) (now : ℕ) (before after : Desk)
       (left : List (List ℕ)) → knows_in before.table.accounts s.caller.computer ≡ true →
-      work_after (by_call (challenge_call s.caller client) line talk name now before (server ∷ left)) ≡ Some after →
+      work_after (by_call (served_call (challenge_call s.caller client)) line talk name now before (server ∷ left)) ≡ Some after →
       (lookup same_name s.caller.computer after.work.computers.pending ≡ Some (record { client = client; server = server }))
       × (after.work.actions ≡ (send_reply before.work line (reply.Challenge (record { challenge = server; status = 0 }))).actions)
       × (after.table ≡ before.table)
@@ -196,10 +198,10 @@ pub record OpeningsAreNamedAlike : Type 0 where
       × (taking_note (Some (take_of s unit)) controller s ≡ request_note (Opening (half_channel controller s client server) s.next_call) None)
   pub opens : (s : Requester) (client server : List ℕ) (w : Where) (line : Line) (before : Desk) (after : Option Desk) →
       Expects before s client server →
-      call_answer (auth_call s.caller client server) line w before after ≡ opening (Some (half_channel w.controller s client server)) w line.call
+      call_answer (served_call (auth_call s.caller client server)) line w before after ≡ opening (Some (half_channel w.controller s client server)) w line.call
   pub keeps : (controller : ℕ) (s : Requester) (client server : List ℕ) (line : Line) (talk : ControllerTalk) (name : List ℕ) (now : ℕ)
       (before after : Desk) (left : List (List ℕ)) → Expects before s client server →
-      work_after (by_call (auth_call s.caller client server) line talk name now before left) ≡ Some after →
+      work_after (by_call (served_call (auth_call s.caller client server)) line talk name now before left) ≡ Some after →
       HasChannel after.work.computers (half_channel controller s client server)
 
 -- Standing: the reply that opens a channel at a member opens the one that the call was made for, and it has that name
@@ -236,7 +238,7 @@ pub record CallsAreNamedAlike : Type 0 where
       work_after ((controller_server name now link).unit bytes before talk left) ≡ Some after → HasChannel after.work.computers channel
   pub passes : (j : Judging) (computers : Computers) (channel : ChannelIdentity) → j.checks ≡ checked_on (computer_named j.asked) computers →
       j.controller ≡ channel.controller → computer_named j.asked ≡ Some channel.computer → HasChannel computers channel →
-      has_passed j.how ≡ true → logon_answer j ≡ passing (Some channel) j
+      has_passed j.how ≡ true → judged_answer j ≡ passing (Some channel) j
   pub takes : (controller : ℕ) (s : Requester) (unit : RpcUnit) (place : ℕ) → place_answered (take_of s unit).taken ≡ Some place →
       (channel : ChannelIdentity) × (standing_channel controller s ≡ Some channel)
       × (standing_channel controller (take_of s unit).state ≡ Some channel)
@@ -259,7 +261,7 @@ channel_marked (Some unit) sent = sent_channel (slice_get sent unit)
 pub record ExchangesHaveNoClash : Type 0 where
   pub opening : (s : Requester) (client server : List ℕ) (w : Where) (line : Line) (before : Desk) (after : Option Desk) (sent : List Sent) →
       Expects before s client server → channel_marked (unit_in w.source) sent ≡ Some (half_channel w.controller s client server) →
-      clashes (call_answer (auth_call s.caller client server) line w before after).checked (unit_in w.source) sent ≡ false
+      clashes (call_answer (served_call (auth_call s.caller client server)) line w before after).checked (unit_in w.source) sent ≡ false
   pub opened : (controller : ℕ) (s : Requester) (unit : RpcUnit) (client server : List ℕ) (number : Option ℕ) (sent : List Sent) →
       s.standing ≡ standing.Half client server → (take_of s unit).taken ≡ taken.Opened →
       channel_marked number sent ≡ Some (half_channel controller s client server) →
@@ -267,7 +269,7 @@ pub record ExchangesHaveNoClash : Type 0 where
   pub calling : (j : Judging) (computers : Computers) (channel : ChannelIdentity) (sent : List Sent) →
       j.checks ≡ checked_on (computer_named j.asked) computers → j.controller ≡ channel.controller →
       computer_named j.asked ≡ Some channel.computer → HasChannel computers channel → has_passed j.how ≡ true →
-      channel_marked (unit_in j.source) sent ≡ Some channel → clashes (logon_answer j).checked (unit_in j.source) sent ≡ false
+      channel_marked (unit_in j.source) sent ≡ Some channel → clashes (judged_answer j).checked (unit_in j.source) sent ≡ false
   pub answered : (controller : ℕ) (s : Requester) (unit : RpcUnit) (place : ℕ) (channel : ChannelIdentity) (number : Option ℕ) (sent : List Sent) →
       standing_channel controller s ≡ Some channel → place_answered (take_of s unit).taken ≡ Some place →
       channel_marked number sent ≡ Some channel → clashes (taking_note (Some (take_of s unit)) controller s).checked number sent ≡ false

@@ -13,8 +13,6 @@ use Rattle.outside.specs.declared.action.Action.{Action}
 use Rattle.outside.specs.declared.action.Action.TheVariants as action
 use Rattle.outside.specs.declared.action.Judged.{Judged}
 use Rattle.outside.specs.declared.event.Event.TheVariants as event
-use Rattle.logon_stubs.specs.declared.calls.Call.{Call}
-use Rattle.logon_stubs.specs.declared.calls.Call.TheVariants as call
 use Rattle.logon_stubs.specs.declared.calls.AuthCall.{AuthCall}
 use Rattle.account_table.specs.declared.account.Account.{Account}
 use Rattle.rpc_units.specs.Stream.{cut_stream}
@@ -27,13 +25,16 @@ use Rattle.domain_controller.specs.State.{State as ControllerState}
 use Rattle.domain_controller.specs.Step.{first_desk, step_of}
 use Rattle.domain_controller.specs.declared.hearing.Heard.{Heard}
 use Rattle.domain_controller.specs.declared.hearing.Heard.TheVariants as heard
+use Rattle.controller_calls.specs.declared.calls.ControllerCall.{ControllerCall}
+use Rattle.controller_calls.specs.declared.calls.ControllerCall.TheVariants as call
 use Rattle.controller_calls.specs.declared.line.Line.{Line}
 use Rattle.controller_calls.specs.declared.state.Computers.{Computers}
 use Rattle.controller_calls.specs.declared.state.ChallengePair.{ChallengePair}
 use Rattle.domain_controller.specs.declared.state.Running.{Running}
 use Rattle.domain_controller.specs.declared.state.Talk.{Talk}
 use Rattle.channel_events.specs.Marks.{Mark, Plain, Opened, ReplyTo}
-use Rattle.step_notes.specs.Records.{ChannelAccepted, JudgedCall, Judging, Network, Source, computer_named, unit_in}
+use Rattle.step_notes.specs.Records.{Judging, Source, computer_named, unit_in, ChannelAccepted}
+use Rattle.controller_calls.specs.declared.calls.JudgedCall.{JudgedCall}
 use Rattle.step_notes.specs.Served.{units_if_taken, work_after}
 
 -- ---- the units
@@ -95,7 +96,7 @@ opened_by controller c d =
 -- ---- a unit that is answered
 
 -- what a unit comes to: whether something is sent on its link, and what that was made for; the channel on which a
--- credential passed; the Logon call that was judged; and the channel that was accepted
+-- credential passed; the call on a secure channel that was judged; and the channel that was accepted
 pub record Answered : Type 0 where
   pub sends : Bool
   pub mark : Mark
@@ -129,7 +130,7 @@ abbrev pub reply_mark : Option ℕ → ChannelIdentity → ℕ → Mark
 reply_mark None channel number = Plain
 reply_mark (Some unit) channel number = ReplyTo channel number unit
 
--- a NetrLogonSamLogon that passed, by its channel
+-- a call on a secure channel that passed, by its channel
 abbrev pub passing : Option ChannelIdentity → Judging → Answered
 passing None j = record { sends = true; mark = Plain; checked = None; judging = Some j; accepted = None }
 passing (Some channel) j =
@@ -179,19 +180,19 @@ judging_of w line asked before after = record {
   asked = asked;
   checks = checked_on (computer_named asked) before.work.computers;
   table = before.table;
+  sessions = before.work.computers.sessions;
   moment = w.moment;
   how = judged_in (new_actions after before);
   reply = None;
 }
 
-abbrev pub logon_answer : Judging → Answered
-logon_answer j = judging_by (has_passed j.how) j
+abbrev pub judged_answer : Judging → Answered
+judged_answer j = judging_by (has_passed j.how) j
 
-abbrev pub call_answer : Call → Line → Where → Desk → Option Desk → Answered
+abbrev pub call_answer : ControllerCall → Line → Where → Desk → Option Desk → Answered
 call_answer (call.Challenge c) line w before after = plain
 call_answer (call.Authenticate c) line w before after = opening (opened_by w.controller c before) w line.call
-call_answer (call.Logon c) line w before after = logon_answer (judging_of w line (Network c) before after)
-call_answer (call.Logoff c) line w before after = plain
+call_answer (call.Judged c) line w before after = judged_answer (judging_of w line c before after)
 
 abbrev pub heard_answer : Heard → Where → Desk → Option Desk → Answered
 heard_answer (heard.Close cause) w before after = silent

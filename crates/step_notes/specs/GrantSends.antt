@@ -21,7 +21,8 @@ use Rattle.domain_controller.specs.Machine.{Desk, answer_logon}
 use Rattle.controller_calls.specs.declared.line.Line.{Line}
 use Rattle.step_notes.specs.ControllerNotes.{Where, judging_of, new_actions}
 use Rattle.step_notes.specs.Judged.{IsNextOn, base_key_asked}
-use Rattle.step_notes.specs.Records.{Judging, Network, given_in}
+use Rattle.step_notes.specs.Records.{Judging, given_in}
+use Rattle.controller_calls.specs.declared.calls.JudgedCall.TheVariants.{Network}
 
 -- ---- what is sent then
 

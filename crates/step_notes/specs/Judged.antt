@@ -1,5 +1,6 @@
--- How a Logon call that a controller heard was judged: on which channel its authenticator passed, by which hash and
--- key, and whether that is right (MS-NRPC 3.1.4.5; the names are this project's own choice).
+-- How a call on a secure channel that a controller heard was judged: on which channel its authenticator passed, of a
+-- network logon by which hash and key, and whether that is right (MS-NRPC 3.1.4.5; the names are this project's own
+-- choice).
 use Rattle.std.specs.Prelude.{ℕ, ◌≡◌, ◌↔◌, Bool, true, false, List, [], Option, Some, None}
 use Rattle.wire_base.specs.declared.authenticator.Authenticator.{Authenticator}
 use Rattle.authenticators.specs.Channels.{ChannelIdentity}

@@ -1,6 +1,6 @@
--- That the Logon calls which a controller judges are judged in ranges: by accounts and a name that are in theirs, at a
--- moment of 64 bits; and that the reply to one that passed is read as it was made (MS-NRPC 3.5.4.5.3; what is claimed
--- is this project's own choice, in the standard's terms).
+-- That the calls on secure channels which a controller judges are judged in ranges: by accounts and a name that are in
+-- theirs, at a moment of 64 bits; and that the reply to one that passed is read as it was made (MS-NRPC 3.5.4.4.6,
+-- 3.5.4.5.3, 3.5.4.5.4; what is claimed is this project's own choice, in the standard's terms).
 use Rattle.std.specs.Prelude.{ℕ, ◌≡◌, ◌<◌, ◌^◌, List, Ok, map}
 use Rattle.std.specs.List.{AllByRecursion}
 use Rattle.wire_base.specs.Names.{IsName}
@@ -14,7 +14,8 @@ use Rattle.domain_controller.specs.ReadBack.{heard_reply}
 use Rattle.domain_controller.specs.State.{State as ControllerState}
 use Rattle.domain_controller.specs.Whole.{AreChallenges, InRangeState, InRangeTable}
 use Rattle.step_notes.specs.ControllerNotes.{Answered, answer_on, units_of_controller}
-use Rattle.step_notes.specs.Records.{IfNetwork, JudgedCall, Judging, Source}
+use Rattle.step_notes.specs.Records.{IfNetwork, Judging, Source}
+use Rattle.controller_calls.specs.declared.calls.JudgedCall.{JudgedCall}
 use Rattle.step_notes.specs.ReplySends.{IsItsReply, reply_passed, standing_at, stub_passed}
 
 pub record IsJudgedInRange (j : Judging) : Type 0 where

@@ -1,5 +1,5 @@
 -- What a controller keeps of computers but for the seeds, and how each call changes it (MS-NRPC 3.5.4.4.1, 3.5.4.4.3,
--- 3.5.4.5.3): which server's challenge waits, which channel is kept, and what is forgotten.
+-- 3.5.4.4.6, 3.5.4.5.3, 3.5.4.5.4): which server's challenge waits, which channel is kept, and what is forgotten.
 use Rattle.std.specs.Prelude.{ℕ, ◌≡◌, ◌⊎◌, Bool, true, false, List, Option, Some, None}
 use Rattle.wire_base.specs.Maps.{IsMap, lookup}
 use Rattle.wire_base.specs.Names.{SameName, same_name}
@@ -7,10 +7,10 @@ use Rattle.wire_base.specs.declared.authenticator.Authenticator.{Authenticator}
 use Rattle.authenticators.specs.Channels.{ChannelIdentity, SameChannel}
 use Rattle.logon_stubs.specs.declared.calls.AuthCall.{AuthCall}
 use Rattle.logon_stubs.specs.declared.calls.ChallengeCall.{ChallengeCall}
-use Rattle.logon_stubs.specs.declared.info.NetworkInfo.{NetworkInfo}
 use Rattle.account_table.specs.AccountTable.{AccountTable}
 use Rattle.account_table.specs.LookUps.{knows_in}
-use Rattle.domain_controller.specs.Machine.{Desk, answer_authenticate, answer_challenge, answer_logon, desk}
+use Rattle.domain_controller.specs.Machine.{Desk, answer_authenticate, answer_challenge, answer_judged, desk}
+use Rattle.controller_calls.specs.declared.calls.JudgedCall.{JudgedCall}
 use Rattle.controller_calls.specs.declared.line.Line.{Line}
 use Rattle.controller_calls.specs.declared.state.Computers.{Computers}
 use Rattle.controller_calls.specs.declared.state.ChallengePair.{ChallengePair}
@@ -69,14 +69,13 @@ IsKeptBy controller computer (Some channel) before after = Accepts controller co
 
 -- What each call comes to: a NetrServerReqChallenge lets the challenge that was drawn wait where the accounts know the
 -- computer, else it changes nothing; a NetrServerAuthenticate2 takes it out, and keeps the channel that is written down
--- of it, or none more; and a NetrLogonSamLogon keeps no more than was kept. Where something changes, it isn't said of
--- what else was kept that it stays.
+-- of it, or none more; and a call on a secure channel, whatever it asks, keeps no more than was kept. Where something
+-- changes, it isn't said of what else was kept that it stays.
 pub record CallsAreKept : Type 0 where
   pub challenge : (controller : ℕ) (table : AccountTable) (line : Line) (c : ChallengeCall) (server : List ℕ) (work : Work) →
       WaitsIfKnown (knows_in table.accounts c.computer) controller c.computer server work.computers
       (answer_challenge table line c server work).computers
   pub authenticate : (controller : ℕ) (table : AccountTable) (line : Line) (c : AuthCall) (work : Work) → IsMap same_name work.computers.pending →
       IsKeptBy controller c.computer (opened_by controller c (desk table work)) work.computers (answer_authenticate table line c work).computers
-  pub logon : (controller : ℕ) (computer : Option (List ℕ)) (given : Option Authenticator) (name : List ℕ) (now : ℕ) (line : Line) (info : NetworkInfo)
-      (validation : ℕ) (d : Desk) →
-      KeepsNoMore controller d.work.computers (answer_logon computer given name now line info validation d).work.computers
+  pub judged : (controller : ℕ) (c : JudgedCall) (name : List ℕ) (now : ℕ) (line : Line) (d : Desk) →
+      KeepsNoMore controller d.work.computers (answer_judged c name now line d).work.computers

@@ -140,9 +140,10 @@ half_channel controller s client server = record {
   flags = offered_flags;
 }
 
--- the timestamp of the Logon call that waits for its bind; 0 where none does
+-- the timestamp of the Logon or Logoff call that waits for its bind; 0 where none does
 abbrev pub timestamp_bound : Option Step → ℕ
 timestamp_bound (Some (step.Bind (call.Logon c))) = timestamp_in c.authenticator
+timestamp_bound (Some (step.Bind (call.Logoff c))) = timestamp_in c.authenticator
 timestamp_bound _ = 0
 
 -- by what is asked, by the channel, and by the requester before and after it

@@ -8,7 +8,9 @@ use Rattle.authenticators.specs.SecureChannels.{SecureChannelState}
 use Rattle.outside.specs.declared.action.Judged.{Judged}
 use Rattle.outside.specs.declared.action.Outcome.{Outcome}
 use Rattle.account_table.specs.AccountTable.{AccountTable}
-pub use Rattle.controller_calls.specs.Calls.{JudgedCall, Network, computer_named, given_in, IfNetwork}
+use Rattle.interactive_logon.specs.declared.sessions.Session.{Session}
+pub use Rattle.controller_calls.specs.Calls.{computer_named, given_in, IfNetwork}
+use Rattle.controller_calls.specs.declared.calls.JudgedCall.{JudgedCall}
 use Rattle.logon_client.specs.declared.plan.ClientPlan.{ClientPlan}
 use Rattle.member_server.specs.declared.state.Logon.{Logon}
 use Rattle.channel_events.specs.Marks.{Mark}
@@ -54,8 +56,9 @@ pub record Judging : Type 0 where
   pub asked : JudgedCall
   -- the channel that it is checked on, as it stood before: that of the computer that it names
   pub checks : Option SecureChannelState
-  -- the accounts, and the moment, before it was judged
+  -- the accounts, the sessions, and the moment, before it was judged
   pub table : AccountTable
+  pub sessions : List Session
   pub moment : ℕ
   -- how it was judged, as the controller told
   pub how : Option Judged

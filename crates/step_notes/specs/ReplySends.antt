@@ -1,5 +1,5 @@
--- What a controller sends when bytes come, as replies to the Logon calls that it judged (MS-NRPC 3.5.4.5.3; what is
--- claimed is this project's own choice, in the standard's terms).
+-- What a controller sends when bytes come, as replies to the calls on secure channels that it judged (MS-NRPC
+-- 3.5.4.4.6, 3.5.4.5.3, 3.5.4.5.4; what is claimed is this project's own choice, in the standard's terms).
 use Rattle.std.specs.Prelude.{ℕ, ◌≡◌, Bool, true, false, List, [], ◌∷◌, Option, Some, None, Ok, map}
 use Rattle.authenticators.specs.Channels.{ChannelIdentity}
 use Rattle.authenticators.specs.Sequences.{return_of}
@@ -12,13 +12,11 @@ use Rattle.outside.specs.declared.event.Event.TheVariants as event
 use Rattle.rpc_units.specs.Calls.{bytes_of_call}
 use Rattle.logon_stubs.specs.declared.calls.LogonCall.{LogonCall}
 use Rattle.logon_stubs.specs.declared.calls.Reply.{Reply}
-use Rattle.logon_stubs.specs.declared.calls.Reply.TheVariants as reply
-use Rattle.logon_stubs.specs.declared.info.SamInfo.{SamInfo}
 use Rattle.logon_stubs.specs.declared.info.Verdict.{Verdict}
 use Rattle.logon_stubs.specs.Writing.{written_reply}
 use Rattle.end_links.specs.Sending.{response_of}
-use Rattle.controller_calls.specs.Calls.{Done, done_by, network_judged}
-use Rattle.domain_controller.specs.Machine.{info_of}
+use Rattle.controller_calls.specs.Doing.{Done, done_by, reply_stub}
+use Rattle.controller_calls.specs.Logons.{judge_info}
 use Rattle.domain_controller.specs.ReadBack.{opened_reply, passed_reply}
 use Rattle.domain_controller.specs.State.{State as ControllerState}
 use Rattle.domain_controller.specs.Step.{step_of as controller_step}
@@ -26,36 +24,20 @@ use Rattle.channel_events.specs.Marks.{Mark, Plain, Opening, Opened, Calling, Re
 use Rattle.step_notes.specs.ChannelNames.{sends_in}
 use Rattle.step_notes.specs.ControllerNotes.{Answered, Where, answer_on, units_of_controller}
 use Rattle.step_notes.specs.Judged.{IsNextOn, passed_channel}
-use Rattle.step_notes.specs.Records.{InUnit, JudgedCall, Judging, Network, Source, given_in}
+use Rattle.step_notes.specs.Records.{InUnit, Judging, Source, given_in}
 
 -- ---- the reply to a call that passed
 
 -- what the call comes to where it passes on that channel, by the accounts of its controller and at the moment of that
 -- step
 abbrev pub done_on : Judging → SecureChannelState → Done
-done_on j channel = done_by j.asked channel j.name j.table j.moment
+done_on j channel = done_by j.asked channel j.name j.table j.moment j.sessions
 
 -- the verdict on a network logon at that step; a level other than 2 and 3 isn't served
 abbrev pub verdict_passed : Judging → LogonCall → Verdict
-verdict_passed j c = (network_judged c j.name j.table j.moment).verdict
+verdict_passed j c = (judge_info j.table j.name j.moment c.info c.validation).verdict
 
--- what is granted has its key under the session key of the channel
-abbrev pub info_done : ℕ → List ℕ → Option Verdict → Option SamInfo
-info_done level key None = None
-info_done level key (Some verdict) = info_of level key verdict
-
--- the stub of the reply, by that session key, the credential that is returned, and what the call came to: of a network
--- logon at the level that was asked for
-abbrev pub reply_stub : JudgedCall → List ℕ → List ℕ → Done → List ℕ
-reply_stub (Network c) key credential done = written_reply (reply.Logon (record {
-  returned = Some (record { credential = credential; timestamp = 0 });
-  level = c.validation;
-  info = info_done c.validation key done.verdict;
-  authoritative = 1;
-  status = done.status;
-}))
-
--- on a channel whose next authenticator the call has
+-- the stub of the reply, on a channel whose next authenticator the call has
 abbrev pub stub_passed : Judging → SecureChannelState → Authenticator → List ℕ
 stub_passed j channel given =
     reply_stub j.asked (key_of_channel channel) (return_of (key_of_channel channel) channel.seed given.timestamp) (done_on j channel)

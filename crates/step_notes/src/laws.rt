@@ -20,25 +20,26 @@ pub fn grants_carry_their_key()
 
 /// Where bytes come, whoever sent them, a controller sends one unit of bytes for each unit that is written down as
 /// answered, in their order. Each that is marked as a reply is all frames of the reply to the call that is written down
-/// with it: that call passed on the channel of the mark, and the reply carries what it came to, with the credential
-/// that is returned and, where it was granted, the key under the session key of the channel (MS-NRPC 3.5.4.5.3). Each
-/// that is marked as the reply to an opening is all frames of a reply that opens a channel (3.5.4.4.2). None is marked
-/// as a request.
+/// with it: that call, whatever it asks, passed on the channel of the mark, and the reply carries what it came to, with
+/// the credential that is returned and, where a logon was granted, the key under the session key of the channel
+/// (MS-NRPC 3.5.4.4.6, 3.5.4.5.3, 3.5.4.5.4). Each that is marked as the reply to an opening is all frames of a reply
+/// that opens a channel (3.5.4.4.2). None is marked as a request.
 #[tactic(auto, using(crate::proofs::Controllers::ReplyStepLaws::replies_sent))]
 pub fn replies_are_sent_as_judged()
     ensures { RepliesAreSentAsJudged }
 {}
 
-/// Where a controller has its ranges, each Logon call is judged in them. The bytes of the reply to a call that passed,
-/// where they are those of one whole unit, are read as the reply that was made (MS-NRPC 3.5.4.5.3).
+/// Where a controller has its ranges, each call on a secure channel is judged in them, whatever it asks. The bytes of
+/// the reply to one that passed, where they are those of one whole unit, are the unit that was made, and of a network
+/// logon are read as its reply (MS-NRPC 3.5.4.4.6, 3.5.4.5.3, 3.5.4.5.4).
 #[tactic(auto, using(crate::proofs::Controllers::JudgedInRangeLaws::replies_are_read))]
 pub fn passed_replies_are_read()
     ensures { PassedRepliesAreRead }
 {}
 
 /// Both ends of a secure channel name it alike in what is written down of a run: as it is opened (MS-NRPC 3.1.4.1), as
-/// it stands at the member, and where a Logon call passes on it. So a credential that passes in a unit that was made
-/// for the channel is no clash.
+/// it stands at the member, and where a call passes on it, whatever it asks. So a credential that passes in a unit that
+/// was made for the channel is no clash.
 #[tactic(auto, using(crate::proofs::Channels::ChannelNameLaws::channels_are_named_alike))]
 pub fn channels_are_named_alike()
     ensures { ChannelsAreNamedAlike }
@@ -69,7 +70,7 @@ pub fn steps_are_noted_by_effect()
 /// What a controller keeps of computers changes by its calls: a NetrServerReqChallenge lets the server's challenge that
 /// was drawn wait where the accounts know the computer, else it changes nothing (MS-NRPC 3.5.4.4.1), a
 /// NetrServerAuthenticate2 takes it out, and keeps the channel that is written down of it, or none more (3.5.4.4.3),
-/// and a NetrLogonSamLogon keeps nothing more (3.5.4.5.3).
+/// and a call on a secure channel, whatever it asks, keeps nothing more (3.5.4.4.6, 3.5.4.5.3, 3.5.4.5.4).
 #[tactic(auto, using(crate::proofs::Controllers::KeptNoteLaws::calls_are_kept))]
 pub fn calls_change_what_is_kept()
     ensures { CallsAreKept }

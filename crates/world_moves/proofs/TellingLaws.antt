@@ -3,7 +3,6 @@
 use Rattle.std.proofs.Common.{◌≡◌, ℕ, ◌+◌, ◌*◌, ◌≤◌, Bool, true, false, List, [], ◌∷◌, ◌++◌, length, Option, Some, None, Ok, Err, if◌then◌else◌, nat_le, refl, ap, arith, length-append}
 use Rattle.wire_base.specs.Maps.{has_key, lookup, put, take_out, same_number}
 use Rattle.wire_base.specs.Names.{same_name}
-use Rattle.wire_base.specs.declared.authenticator.Authenticator.{Authenticator}
 use Rattle.ntlm_flags.specs.Flags.{has_flag}
 use Rattle.channel_keys.specs.Flags.{rc4_flag}
 use Rattle.authenticators.specs.SecureChannels.{SecureChannelState}
@@ -11,8 +10,6 @@ use Rattle.outside.specs.declared.action.Action.{Action}
 use Rattle.outside.specs.declared.action.Action.TheVariants as action
 use Rattle.outside.specs.declared.action.CloseCause.{CloseCause}
 use Rattle.outside.specs.declared.action.CloseCause.TheVariants as close
-use Rattle.outside.specs.declared.action.Judged.{Judged}
-use Rattle.outside.specs.declared.action.Judged.TheVariants as judged
 use Rattle.outside.specs.declared.event.Event.{Event}
 use Rattle.outside.specs.declared.event.Event.TheVariants as event
 use Rattle.outside.specs.Machine.{step_by, then_part}
@@ -20,16 +17,19 @@ use Rattle.rpc_units.specs.declared.refused.UnitRefused.{UnitRefused}
 use Rattle.rpc_units.specs.Stream.{cut_stream}
 use Rattle.rpc_units.proofs.CutStreamLaws.{units_counted}
 use Rattle.logon_stubs.specs.declared.calls.AuthCall.{AuthCall}
-use Rattle.logon_stubs.specs.declared.calls.Call.{Call}
-use Rattle.logon_stubs.specs.declared.calls.Call.TheVariants as call
+use Rattle.controller_calls.specs.declared.calls.ControllerCall.{ControllerCall}
+use Rattle.controller_calls.specs.declared.calls.ControllerCall.TheVariants as call
+use Rattle.controller_calls.specs.declared.calls.JudgedCall.{JudgedCall}
+use Rattle.controller_calls.specs.Passing.{IsKeep}
+use Rattle.controller_calls.proofs.PassLaws.{passes_the_next}
+use Rattle.std.specs.List.{AllByRecursion}
 use Rattle.logon_stubs.specs.declared.calls.ChallengeCall.{ChallengeCall}
-use Rattle.logon_stubs.specs.declared.info.NetworkInfo.{NetworkInfo}
 use Rattle.account_table.specs.declared.account.Account.{Account}
 use Rattle.account_table.specs.LookUps.{knows_in}
 use Rattle.end_links.specs.Links.{LinkState}
 use Rattle.end_links.specs.Serving.{ServedPart, Service, served_by, served_cut, then_open, then_talk}
 use Rattle.domain_controller.specs.Hearing.{first_talk, hear}
-use Rattle.domain_controller.specs.Machine.{Desk, account_for, answer_logon, by_call, by_heard, channel_for, controller_server, draw_challenge, judge_account, judge_channel, judge_offer, judge_pair, judge_return, open_channel, put_pair_if, take_pair}
+use Rattle.domain_controller.specs.Machine.{Desk, account_for, answer_judged, by_call, by_heard, channel_for, controller_server, draw_challenge, judge_account, judge_offer, judge_pair, open_channel, put_pair_if, take_pair}
 use Rattle.domain_controller.specs.State.{State as ControllerState}
 use Rattle.domain_controller.specs.Step.{LinkMap, StepPart, after_units, by_event, first_desk, halted, keep_link, open_by, serve_on, start_turn, state_after, step_of, step_on}
 use Rattle.domain_controller.specs.declared.hearing.Heard.{Heard}
@@ -65,10 +65,6 @@ sent most actions link bytes few = omega (arith, few, told_more actions (action.
 closed : (most : ℕ) (actions : List Action) (link : ℕ) (cause : CloseCause) → told_by actions ≤ most → told_by (actions ++ action.Close link cause ∷ []) ≤ most
 closed most actions link cause few = omega (arith, few, told_more actions (action.Close link cause))
 
-judged_one : (actions : List Action) (how : Judged) (link : ℕ) (bytes : List ℕ) → told_by ((actions ++ action.Judged how ∷ []) ++ action.Send link bytes ∷ []) ≤ told_by actions + 1
-judged_one actions how link bytes =
-    sent (told_by actions + 1) (actions ++ action.Judged how ∷ []) link bytes (omega (arith, told_more actions (action.Judged how)))
-
 as_before : (actions : List Action) → told_by actions ≤ told_by actions + 1
 as_before actions = omega arith
 
@@ -100,29 +96,27 @@ account_few : (account : Option Account) (pair : Option ChallengePair) (line : L
 account_few None pair line c work = sends_one work.actions _ _
 account_few (Some account) pair line c work = offer_few (has_flag c.flags rc4_flag) pair account line c work
 
-return_few : (credential : Option (List ℕ)) (key name : List ℕ) (now : ℕ) (line : Line) (info : NetworkInfo) (validation : ℕ) (d : Desk) →
-    told_by (judge_return credential key name now line info validation d).work.actions ≤ told_by d.work.actions + 1
-return_few None key name now line info validation d = judged_one d.work.actions judged.Barred _ _
-return_few (Some credential) key name now line info validation d = judged_one d.work.actions _ _ _
+-- texts that are kept tell nothing
+kept_tells : (kept : List Action) → AllByRecursion IsKeep kept → told_by kept ≡ 0
+kept_tells [] are = refl
+kept_tells (action.Keep text ∷ kept) are = omega (arith, kept_tells kept are.1)
+kept_tells (action.Send at more ∷ kept) are = absurd are.0
+kept_tells (action.Dial peer ∷ kept) are = absurd are.0
+kept_tells (action.Close at cause ∷ kept) are = absurd are.0
+kept_tells (action.Told at outcome ∷ kept) are = absurd are.0
+kept_tells (action.Judged other ∷ kept) are = absurd are.0
 
-channel_few : (channel : Option SecureChannelState) (computer : List ℕ) (given : Authenticator) (name : List ℕ) (now : ℕ) (line : Line) (info : NetworkInfo) (validation : ℕ) (d : Desk) →
-    told_by (judge_channel channel computer given name now line info validation d).work.actions ≤ told_by d.work.actions + 1
-channel_few None computer given name now line info validation d = judged_one d.work.actions judged.NoChannel _ _
-channel_few (Some channel) computer given name now line info validation d = return_few _ _ name now line info validation _
+judged_few : (c : JudgedCall) (name : List ℕ) (now : ℕ) (line : Line) (d : Desk) → told_by (answer_judged c name now line d).work.actions ≤ told_by d.work.actions + 1
+judged_few c name now line d =
+    let told = passes_the_next.judged c name now line d in
+    let tail : List Action = told.0 ++ action.Judged told.1 ∷ action.Send line.link told.2 ∷ [] in
+    omega (arith, ap told_by told.4, told_append d.work.actions tail, told_append told.0 (action.Judged told.1 ∷ action.Send line.link told.2 ∷ []), kept_tells told.0 told.3)
 
-logon_few : (computer : Option (List ℕ)) (given : Option Authenticator) (name : List ℕ) (now : ℕ) (line : Line) (info : NetworkInfo) (validation : ℕ) (d : Desk) →
-    told_by (answer_logon computer given name now line info validation d).work.actions ≤ told_by d.work.actions + 1
-logon_few None given name now line info validation d = judged_one d.work.actions judged.NoChannel _ _
-logon_few (Some computer) None name now line info validation d = judged_one d.work.actions judged.NoChannel _ _
-logon_few (Some computer) (Some given) name now line info validation d =
-    channel_few (lookup same_name computer d.work.computers.channels) computer given name now line info validation _
-
-call_few : (what : Call) (line : Line) (talk : Talk) (name : List ℕ) (now : ℕ) (d : Desk) (left : List (List ℕ)) → Tells (told_by d.work.actions + 1) (by_call what line talk name now d left)
+call_few : (what : ControllerCall) (line : Line) (talk : Talk) (name : List ℕ) (now : ℕ) (d : Desk) (left : List (List ℕ)) → Tells (told_by d.work.actions + 1) (by_call what line talk name now d left)
 call_few (call.Challenge c) line talk name now d left = drawn_few left line c talk d
 call_few (call.Authenticate c) line talk name now d left =
     account_few (account_for d.table c) (lookup same_name c.computer d.work.computers.pending) line c (take_pair c.computer d.work)
-call_few (call.Logon c) line talk name now d left = logon_few c.computer c.authenticator name now line c.info c.validation d
-call_few (call.Logoff c) line talk name now d left = sends_one d.work.actions _ _
+call_few (call.Judged c) line talk name now d left = judged_few c name now line d
 
 -- a unit tells one judgement at most
 heard_few : (what : Heard) (link : ℕ) (name : List ℕ) (now : ℕ) (d : Desk) (left : List (List ℕ)) → Tells (told_by d.work.actions + 1) (by_heard what link name now d left)

@@ -23,7 +23,7 @@ use Rattle.channel_client.specs.declared.state.Standing.{Standing}
 use Rattle.channel_client.specs.declared.state.Standing.TheVariants as standing
 use Rattle.channel_client.specs.declared.state.Step.TheVariants as step
 use Rattle.channel_events.specs.Marks.{Calling, ReplyTo}
-use Rattle.domain_controller.specs.Hearing.{bound_talk}
+use Rattle.domain_controller.specs.Hearing.{bound_talk, served_call}
 use Rattle.domain_controller.specs.Machine.{Desk, by_call}
 use Rattle.domain_controller.specs.State.{State as ControllerState}
 use Rattle.domain_controller.specs.Step.{step_of as controller_step_of}
@@ -33,7 +33,8 @@ use Rattle.step_notes.specs.ControllerNotes.{Answered, has_passed, judged_in, ju
 use Rattle.step_notes.specs.Marking.{answered_marks}
 use Rattle.step_notes.specs.MemberNotes.{asked_note}
 use Rattle.step_notes.specs.Judged.{hash_in}
-use Rattle.step_notes.specs.Records.{Book, Judging, Network}
+use Rattle.step_notes.specs.Records.{Book, Judging}
+use Rattle.controller_calls.specs.declared.calls.JudgedCall.TheVariants.{Network}
 use Rattle.step_notes.specs.Served.{work_after}
 use Rattle.step_notes.proofs.Channels.ChannelNameLaws.{channels_are_named_alike}
 use Rattle.world_moves.specs.declared.moves.Move.TheVariants as move
@@ -92,7 +93,7 @@ logon_trail s t accounts next number stamp o state info sam how_judged computers
     let named : ChannelIdentity = channel_of t.at_controller t.caller.computer o in
     let base : List ℕ = key_in_turn t info in
     let d : Desk = desk_in_turn t computers in
-    let then_so : Option Desk = work_after (by_call c (turn_line t.link next) (bound_talk None turn_agreed) t.name moment d left) in
+    let then_so : Option Desk = work_after (by_call (served_call c) (turn_line t.link next) (bound_talk None turn_agreed) t.name moment d left) in
     let has : HasChannel computers named = record { state = state; kept = found; is = is_named } in
     let passed : has_passed (judged_in (new_actions then_so d)) ≡ true =
     ap (λ (part : _). has_passed (judged_in (new_actions (work_after part) d)))

@@ -18,7 +18,7 @@ use Rattle.channel_client.specs.declared.state.Standing.{Standing}
 use Rattle.channel_client.specs.declared.state.Standing.TheVariants as standing
 use Rattle.channel_client.specs.declared.state.Step.TheVariants as step
 use Rattle.channel_events.specs.Marks.{Mark, Opened, Opening, Plain}
-use Rattle.domain_controller.specs.Hearing.{bound_talk}
+use Rattle.domain_controller.specs.Hearing.{bound_talk, served_call}
 use Rattle.domain_controller.specs.Machine.{Desk, account_for, by_call}
 use Rattle.controller_calls.specs.declared.state.Computers.{Computers}
 use Rattle.step_notes.specs.ChannelNames.{Expects}
@@ -146,7 +146,7 @@ opening_trail s t next number client server account computers kept left moment s
     (ap (λ (h : Standing). asked_note (Some (step.Reply q)) h t.at_controller asks (wait_for asks t.place (step.Reply q))) how)
     (λ k b f.
     let d : Desk = desk_in_turn t computers in
-    let then_so : Option Desk = work_after (by_call c (turn_line t.link next) (bound_talk None turn_agreed) t.name moment d left) in
+    let then_so : Option Desk = work_after (by_call (served_call c) (turn_line t.link next) (bound_talk None turn_agreed) t.name moment d left) in
     let expects : Expects d channel client server = record { account = account; found = found; secret = hash; pair = waits } in
     let one : (unit : ℕ) → answer_in_turn s3 t next c computers k unit left moment ≡ opening (Some named) (where_in_turn s3 t next c computers k unit) next =
     λ unit. channels_are_named_alike.openings.opens channel client server (where_in_turn s3 t next c computers k unit) (turn_line t.link next) d then_so expects in

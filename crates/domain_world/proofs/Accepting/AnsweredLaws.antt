@@ -34,7 +34,8 @@ use Rattle.channel_events.specs.Marks.{OneOf, ReplyTo}
 use Rattle.step_notes.specs.ControllerNotes.{identity_by, channel_in, has_passed}
 use Rattle.step_notes.specs.Judged.{IsJudgedRight, IsNextOn, IsOfName, base_key_asked, channel_if, hash_in, passed_channel, stored_hash}
 use Rattle.step_notes.specs.Marking.{clashes, is_channel, sent_channel}
-use Rattle.step_notes.specs.Records.{ChallengeSent, InUnit, JudgementTold, Judging, MessageMade, MessageTaken, Network, OutcomeTold, Outside, Sent, Source, computer_named, given_in, unit_in}
+use Rattle.step_notes.specs.Records.{ChallengeSent, InUnit, JudgementTold, Judging, MessageMade, MessageTaken, OutcomeTold, Outside, Sent, Source, computer_named, given_in, unit_in}
+use Rattle.controller_calls.specs.declared.calls.JudgedCall.TheVariants.{Network}
 use Rattle.step_notes.specs.ReplySends.{IsReplyOfCall, done_on, verdict_passed}
 use Rattle.world_moves.specs.declared.bag.BagUnit.{BagUnit}
 use Rattle.world_moves.specs.Counting.{is_in}

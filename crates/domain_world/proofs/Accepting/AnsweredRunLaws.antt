@@ -11,6 +11,7 @@ use Rattle.domain_world.proofs.Accepting.ShortResponseLaws.{short_once}
 use Rattle.domain_world.proofs.Challenges.OwnChallengeLaws.{messages_own}
 use Rattle.domain_world.proofs.Frames.BagFrameLaws.{each_marked}
 use Rattle.domain_world.proofs.Judgements.GrantLaws.{grants_who_may}
+use Rattle.domain_world.proofs.Judgements.UserHashLaws.{users_stay}
 use Rattle.domain_world.proofs.Judgements.ReplayLaws.{replays_by_sum}
 use Rattle.domain_world.proofs.Judgements.ReplyLaws.{replies_carry}
 use Rattle.domain_world.proofs.Judgements.ToldLaws.{passes_the_next}
@@ -22,7 +23,7 @@ pub is_proved : (plan : Plan) (moves : List Move) → DrawsDiffer (past plan mov
 is_proved plan moves differ = record {
   credentials = passes_the_next plan moves;
   replays = replays_by_sum plan moves;
-  grants = grants_who_may plan moves;
+  grants = grants_who_may plan moves (users_stay plan moves);
   replies = replies_carry plan moves;
   own = messages_own plan moves differ;
   marked = each_marked plan moves;

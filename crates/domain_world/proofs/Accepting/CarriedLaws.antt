@@ -12,16 +12,21 @@ use Rattle.rpc_units.specs.declared.refused.JoinRefused.{JoinRefused}
 use Rattle.rpc_units.specs.declared.refused.UnitRefused.{UnitRefused}
 use Rattle.rpc_units.specs.declared.unit.Unit.{Unit as RpcUnit}
 use Rattle.logon_stubs.specs.Calls.{reply_of}
-use Rattle.logon_stubs.specs.declared.calls.Call.TheVariants as call
-use Rattle.logon_stubs.specs.declared.calls.LogonCall.{LogonCall}
+use Rattle.logon_stubs.specs.Writing.{written_call}
+use Rattle.logon_stubs.specs.declared.calls.Call.{Call}
+use Rattle.logon_stubs.specs.declared.calls.Call.TheVariants as netlogon
+use Rattle.logon_stubs.specs.declared.refused.StubRefused.{StubRefused}
 use Rattle.channel_events.specs.Marks.{Mark, Plain, Opening, Opened, Calling, ReplyTo}
 use Rattle.step_notes.specs.Judged.{passed_channel}
 use Rattle.step_notes.specs.Marking.{clashes, is_channel, mark_channel, sent_channel}
-use Rattle.step_notes.specs.Records.{CallTaken, InUnit, JudgedCall, Judging, MessageTaken, Network, RequesterId, Sent, Source, unit_in}
+use Rattle.step_notes.specs.Records.{CallTaken, InUnit, Judging, MessageTaken, RequesterId, Sent, Source, unit_in}
+use Rattle.controller_calls.specs.declared.calls.JudgedCall.{JudgedCall}
+use Rattle.controller_calls.specs.declared.calls.JudgedCall.TheVariants.{Network}
 use Rattle.step_notes.specs.ReplySends.{IsReplyOfCall}
 use Rattle.world_moves.specs.declared.bag.BagUnit.{BagUnit}
 use Rattle.domain_world.specs.Accepting.Answered.{AsksForIt, IsAnsweredIn, IsItsWay, MarksHaveTheirWay, PassesAreUnclashed}
-use Rattle.domain_world.specs.Accepting.Carried.{AnswersAreInTurn, AsksOf, CallsHaveNumbers, CarriedCallsAreHeard, IsCalledFor, IsJudgedAsCarried, IsPlain, IsReadAsAnswer, IsAnsweredInTurn, IsTakenInTurn, IsWholeAsMarked, IsWholeUnit, JudgedAsCarried, MarkedUnitsAreWhole, MessagesAreCalled, call_carried, call_judged, call_read}
+use Rattle.domain_world.specs.Accepting.Carried.{AnswersAreInTurn, AsksOf, CallsHaveNumbers, CarriedCallsAreHeard, IsCalledFor, IsJudgedAsCarried, IsPlain, IsReadAsAnswer, IsTakenInTurn, IsWholeAsMarked, IsWholeUnit, JudgedAsCarried, MarkedUnitsAreWhole, MessagesAreCalled, call_carried, call_judged, IsAnsweredInTurn}
+use Rattle.step_notes.specs.HeardWhole.{call_read}
 use Rattle.domain_world.specs.Claims.{HasController}
 use Rattle.domain_world.specs.Claims.Replies.{IsReplyOfOne, RepliesCarryTheirJudgement}
 use Rattle.domain_world.specs.Past.{Past, plain_form}
@@ -70,14 +75,11 @@ one_unit bytes one other = one_whole bytes one.frames other.frames one.unit othe
 one_carrier : (past : Past) (n : ℕ) (one other : BagUnit) → slice_get past.world.state.bag n ≡ Some one → slice_get past.world.state.bag n ≡ Some other → one ≡ other
 one_carrier past n one other there also = some_is one other (sym there ∙ also)
 
-pub logon_is : (one other : LogonCall) → Some (call.Logon one) ≡ Some (call.Logon other) → one ≡ other
-logon_is one other is = cc
-
 -- ---- units are heard alike
 
 -- calls that are read alike are one call
-asked_is : (one other : JudgedCall) → Some (call_judged one) ≡ Some (call_judged other) → one ≡ other
-asked_is (Network c) (Network d) is = ap (λ (call : LogonCall). Network call) (logon_is c d is)
+pub asked_is : (one other : JudgedCall) → Some (call_judged one) ≡ Some (call_judged other) → one ≡ other
+asked_is one other is = cc
 
 module _ (past : Past) where
   carried_units : (n : ℕ) (one other : BagUnit) (whole : IsWholeUnit (plain_form past.book.sent n one)) (also : IsWholeUnit (plain_form past.book.sent n other)) → slice_get past.world.state.bag n ≡ Some one →
@@ -109,7 +111,7 @@ module _ (past : Past) where
       let whole : IsWholeUnit (plain_form past.book.sent n called.carrier) = record { frames = called.frames; unit = _; heard = called.heard } in
       let units : whole.unit ≡ is.whole.unit = carried_units n called.carrier is.carrier whole is.whole called.there is.there in
       let same : Network called.logon ≡ j.asked =
-      asked_is (Network called.logon) j.asked (sym (ap call_read called.again) ∙ ap (λ (u : RpcUnit). call_carried u.body) units ∙ is.carried) in
+      asked_is (Network called.logon) j.asked (sym (ap (λ (read : Result Call StubRefused). call_read read 2 (written_call (netlogon.Logon called.logon))) called.again) ∙ ap (λ (u : RpcUnit). call_carried u.body) units ∙ is.carried) in
       record { call = called.logon; is = sym same; info = called.info; level = called.level }
 
   asks_for : JudgedAsCarried past → MessagesAreCalled past →

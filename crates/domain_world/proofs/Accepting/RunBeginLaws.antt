@@ -25,7 +25,7 @@ use Rattle.step_notes.specs.Records.{OfMember, RequesterId}
 -- ---- controllers
 
 abbrev empty_running : ControllerRunning
-empty_running = record { computers = record { pending = []; channels = [] }; links = [] }
+empty_running = record { computers = record { pending = []; channels = []; sessions = [] }; links = [] }
 
 first_controller : (tables : List AccountTable) (names : List (List ℕ)) (i : ℕ) (c : ControllerState) (running : ControllerRunning) →
     slice_get (first_controllers tables names) i ≡ Some c → c.running ≡ Some running → AllByRecursion (IsQuietLink []) running.links

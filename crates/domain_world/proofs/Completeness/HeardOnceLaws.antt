@@ -27,7 +27,7 @@ use Rattle.end_links.specs.Binding.{bind_of}
 use Rattle.end_links.specs.Links.{LinkState}
 use Rattle.end_links.specs.Serving.{IsFragmentOf, ServedPart, Server, ServedUnit, served_units, units_on, units_then}
 use Rattle.logon_stubs.specs.Interface.{netlogon_syntax}
-use Rattle.domain_controller.specs.Hearing.{bound_talk, first_talk, hear, hear_joined, hear_opnum, hear_read, hear_stub}
+use Rattle.domain_controller.specs.Hearing.{bound_talk, first_talk, hear, hear_joined, hear_number, hear_opnum, hear_read, hear_stub, served_call}
 use Rattle.domain_controller.specs.Machine.{Desk, by_call, by_heard, controller_server}
 use Rattle.domain_controller.specs.Step.{first_desk, step_of}
 use Rattle.domain_controller.specs.declared.hearing.Heard.{Heard}
@@ -43,7 +43,7 @@ use Rattle.domain_world.specs.Past.{any_clash, judged_of}
 use Rattle.logon_steps.specs.ControllerTurns.{controller_at, one_link, turn_link}
 use Rattle.logon_steps.specs.Turning.{IsTurnCall, turn_agreed, turn_request}
 use Rattle.logon_steps.proofs.StreamLaws.{none_open, one_unit, read_again, same}
-use Rattle.logon_steps.proofs.TurningLaws.{request_joins, request_sends, turn_bind_sends}
+use Rattle.logon_steps.proofs.TurningLaws.{netlogon_heard, other_number, request_joins, request_sends, turn_bind_sends}
 
 -- ---- what answers come to
 
@@ -91,7 +91,7 @@ turn_line link number = record { link = link; call = number; context = 0; limit 
 
 -- what the whole call comes to
 abbrev pub turn_answer : List ℕ → ℕ → ℕ → ℕ → Call → Where → Desk → List (List ℕ) → Answered
-turn_answer name now link number c w d left = call_answer c (turn_line link number) w d (work_after (by_call c (turn_line link number) (bound_talk None turn_agreed) name now d left))
+turn_answer name now link number c w d left = call_answer (served_call c) (turn_line link number) w d (work_after (by_call (served_call c) (turn_line link number) (bound_talk None turn_agreed) name now d left))
 
 module _ (name : List ℕ) (now link number : ℕ) (c : Call) (w : Where) (is : IsTurnCall c) where
   fragment_hears : (bytes : List ℕ) (unit : RpcUnit) (so_far : Option RpcUnit) → unit_of bytes ≡ Ok unit → IsFragmentOf (turn_request number c) unit →
@@ -106,12 +106,14 @@ module _ (name : List ℕ) (now link number : ℕ) (c : Call) (w : Where) (is : 
       fragment_hears bytes unit so_far read of ∙ ap (λ (a : Result (Option RpcUnit) JoinRefused). hear_joined a (open_after so_far unit) link turn_agreed) answer
 
   last_hears : (bytes : List ℕ) (unit : RpcUnit) (so_far : Option RpcUnit) → unit_of bytes ≡ Ok unit → IsFragmentOf (turn_request number c) unit → answer_of so_far unit ≡ Ok (Some (turn_request number c)) →
-      hear link bytes (bound_talk so_far turn_agreed) ≡ heard.Asked (turn_line link number) c (bound_talk None turn_agreed)
+      hear link bytes (bound_talk so_far turn_agreed) ≡ heard.Asked (turn_line link number) (served_call c) (bound_talk None turn_agreed)
   last_hears bytes unit so_far read of answer =
       fragment_hears bytes unit so_far read of
       ∙ ap₂ (λ (a : Result (Option RpcUnit) JoinRefused) (after : Option RpcUnit). hear_joined a after link turn_agreed) answer (none_open so_far unit (turn_request number c) answer)
       ∙ ap (λ (served : Bool). hear_opnum served (opnum_of_call c) (written_call c) (turn_line link number) (bound_talk None turn_agreed)) is.served
-      ∙ ap (λ (read : Result Call StubRefused). hear_stub read (turn_line link number) (bound_talk None turn_agreed)) (call_of-written_call c is.writes is.range)
+      ∙ ap (λ (sets : Bool). hear_number sets (opnum_of_call c) (written_call c) (turn_line link number) (bound_talk None turn_agreed)) (other_number c)
+      ∙ ap (λ (read : Result Call StubRefused). hear_stub read (opnum_of_call c) (written_call c) (turn_line link number) (bound_talk None turn_agreed)) (call_of-written_call c is.writes is.range)
+      ∙ netlogon_heard c (turn_line link number) (bound_talk None turn_agreed)
 
   frames_answer : (frames : List RpcUnit) (so_far : Option RpcUnit) (d : Desk) (left : List (List ℕ)) → AllByRecursion IsSendable frames → AllByRecursion (IsFragmentOf (turn_request number c)) frames →
       AddsTo so_far frames (turn_request number c) →
@@ -120,7 +122,7 @@ module _ (name : List ℕ) (now link number : ℕ) (c : Call) (w : Where) (is : 
   frames_answer (frame ∷ []) so_far d left sends of adds =
       let read : unit_of (written frame) ≡ Ok frame = unit_of-written frame sends.0.writable sends.0.range sends.0.short in
       let what : Heard = hear link (written frame) (bound_talk so_far turn_agreed) in
-      let hears : what ≡ heard.Asked (turn_line link number) c (bound_talk None turn_agreed) = last_hears (written frame) frame so_far read of.0 adds in
+      let hears : what ≡ heard.Asked (turn_line link number) (served_call c) (bound_talk None turn_agreed) = last_hears (written frame) frame so_far read of.0 adds in
       let answers : heard_answer what w d (work_after (by_heard what link name now d left)) ≡ turn_answer name now link number c w d left =
       ap (λ (h : Heard). heard_answer h w d (work_after (by_heard h link name now d left))) hears in
       subst (λ (units : List (ServedUnit Desk Talk)). ComeTo (heard_answer what w d (work_after (by_heard what link name now d left)) ∷ map (answer_on link w) units) (turn_answer name now link number c w d left))

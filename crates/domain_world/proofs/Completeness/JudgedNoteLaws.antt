@@ -23,7 +23,7 @@ use Rattle.channel_client.specs.declared.state.Question.TheVariants as question
 use Rattle.channel_client.specs.declared.state.Step.TheVariants as step
 use Rattle.channel_client.specs.declared.caller.Caller.{Caller}
 use Rattle.channel_client.specs.Machine.{after, level_asked}
-use Rattle.domain_controller.specs.Hearing.{bound_talk}
+use Rattle.domain_controller.specs.Hearing.{bound_talk, served_call}
 use Rattle.domain_controller.specs.Machine.{Desk, by_call, put_channel, take_channel, with_judgement}
 use Rattle.controller_calls.specs.declared.line.Line.{Line}
 use Rattle.domain_controller.specs.declared.state.Talk.{Talk}
@@ -32,7 +32,8 @@ use Rattle.domain_controller.specs.Step.{first_desk}
 use Rattle.channel_events.specs.Marks.{OneOf}
 use Rattle.step_notes.specs.ControllerNotes.{Answered, Where, answer_on, identity_by, channel_in, has_passed, judged_in, judging_by, judging_of, new_actions, passing, units_of_controller}
 use Rattle.step_notes.specs.Judged.{channel_if, hash_in, passed_channel}
-use Rattle.step_notes.specs.Records.{Book, Judging, Network, computer_named}
+use Rattle.step_notes.specs.Records.{Book, Judging, computer_named}
+use Rattle.controller_calls.specs.declared.calls.JudgedCall.TheVariants.{Network}
 use Rattle.step_notes.specs.Served.{work_after}
 use Rattle.world_moves.specs.declared.bag.BagUnit.{BagUnit}
 use Rattle.world_moves.specs.declared.links.EndId.TheVariants.{Controller}
@@ -109,7 +110,7 @@ module _ (p : LogonComing) (a : Asked) (v : TurnAt) (o c : SecureChannelState) (
   before = first_desk p.table (record { computers = v.computers; links = turn_link (length v.links) })
 
   abbrev then_so : Option Desk
-  then_so = work_after (by_call (call_for p a (Third o c timestamp)) line (bound_talk None turn_agreed) p.name moment before left)
+  then_so = work_after (by_call (served_call (call_for p a (Third o c timestamp))) line (bound_talk None turn_agreed) p.name moment before left)
 
   passed_so : judged_in (new_actions then_so before) ≡ Some (judged.Passed 0)
   passed_so =

@@ -19,10 +19,11 @@ use Rattle.world_moves.specs.Acting.{Given, forget, Heard, given_by, hear, hear_
 use Rattle.world_moves.specs.Ends.{EndStates}
 use Rattle.world_moves.specs.Links.{acceptor_of}
 use Rattle.world_moves.specs.Moving.{begun, renewed, with_link}
-use Rattle.world_moves.specs.World.{World, first_world, run}
-use Rattle.domain_world.specs.Past.{Coming, book, note_at, note_given, past}
+use Rattle.world_moves.specs.World.{World, first_world, happens, run}
+use Rattle.domain_world.specs.Claims.Sessions.{restarted}
+use Rattle.domain_world.specs.Past.{Coming, book, note, note_at, note_given, past}
 use Rattle.domain_world.proofs.Frames.ComingLaws.{CameFrom}
-use Rattle.domain_world.proofs.Frames.MoveFrameLaws.{HoldsAfterMoves, KeepsMoves, MoveFact, NoSide, later_keeps, moves_keep}
+use Rattle.domain_world.proofs.Frames.MoveFrameLaws.{HoldsAfterMoves, KeepsCalmMoves, KeepsMoves, MoveFact, NoSide, later_keeps, move_keeps, moves_keep}
 use Rattle.domain_world.proofs.Frames.PlacedLaws.{IsPlaced}
 use Rattle.domain_world.proofs.Frames.OpenMadeLaws.{IsAtSide}
 
@@ -80,7 +81,50 @@ pub record KeepsEnds (Holds : EndFact) : Type 0 where
   -- the move is over, whatever comes in the next one
   pub over : (at : ℕ) (on next : Option Coming) (s : State) (given : Given) (b : Book) → Holds at on (ends_in s) given b → Holds (at + 1) next (ends_in s) [] (note_given at given s b)
 
+-- The same but for an end that is made anew, where it isn't known to hold on.
+pub record KeepsCalmEnds (Holds : EndFact) : Type 0 where
+  pub calm : (at : ℕ) (on : Option Coming) (end : EndId) (what : Event) (s : State) (given : Given) (b : Book) → IsCalm what → Holds at on (ends_in s) given b →
+      HasHeard Holds at on end (hear end what s) given b
+  pub dialled : (at : ℕ) (end : EndId) (link : ℕ) (s : State) (given : Given) (b : Book) → IsAtSide s.links link true end → Holds at None (ends_in s) given b →
+      HasHeard Holds at None end (hear end (event.Dialled link) s) given b
+  pub opens : (at : ℕ) (route : Route) (s : State) (given : Given) (b : Book) → Holds at None (ends_in s) given b →
+      HasHeard Holds at None (acceptor_of route) (hear (acceptor_of route) (event.Opened (length s.links)) (with_link route s)) given b
+  pub begins : (at client : ℕ) (plan : ClientPlan) (s : State) (b : Book) → slice_get s.client_plans client ≡ Some plan → Holds at None (ends_in s) [] b →
+      HasHeard Holds at None (Client client) (begun client plan s) [] b
+  pub comes : (end : EndId) (w : Coming) (piece : List ℕ) (s : State) (given : Given) (b : Book) → IsAtSide s.links w.link w.back end → CameFrom w.source s w piece →
+      Holds w.at (Some w) (ends_in s) given b →
+      HasHeard Holds w.at (Some w) end (hear end (event.Bytes w.link piece) s) given (note_at (Some end) w piece s (hear_and_act end (event.Bytes w.link piece) s).state b)
+  pub over : (at : ℕ) (on next : Option Coming) (s : State) (given : Given) (b : Book) → Holds at on (ends_in s) given b → Holds (at + 1) next (ends_in s) [] (note_given at given s b)
+
 -- ---- a run
+
+module _ (Holds : EndFact) (keeps : KeepsCalmEnds Holds) where
+  abbrev OfCalmMoves : MoveFact
+  OfCalmMoves n p s given b = Holds p.at p.on (ends_in s) given b
+
+  calm_ends_keep : KeepsCalmMoves ⊥ NoSide OfCalmMoves
+  calm_ends_keep = record {
+    closes = λ n p end link s given b work none holds. keeps.calm p.at p.on end (event.Closed link) s given b tt holds;
+    opens = λ n at dial route s given b none holds. keeps.opens at route s given b holds;
+    dialled = λ n at end link s given b side none holds. keeps.dialled at end link s given b side holds;
+    fails = λ n at end s b none holds. keeps.calm at None end event.DialFailed s [] b tt holds;
+    begins = λ n at client plan s b is none holds. keeps.begins at client plan s b is holds;
+    comes = λ n end w piece s given b side came bytes none holds. keeps.comes end w piece s given b side came holds;
+    reaches = λ n w s given b none holds. holds;
+    acts = λ n p end what s given b work none holds. holds;
+    shuts = λ n p link s given b work none holds. holds;
+    answers = λ n at dial link there s given b is none holds. holds;
+    forgets = λ n at end s b none holds. holds;
+    settles = λ n at on number s b none holds. holds;
+    dials = λ n at dial s b is none holds. holds;
+    ticks = λ n at more s b none holds. holds;
+    over = λ n at on next s given b none holds. keeps.over at on next s given b holds;
+  }
+
+  -- through one move at which no end is made anew
+  pub ends_through : (what : Move) (w : World) (b : Book) → restarted what w.state ≡ None → IsPlaced w.state → ((on : Option Coming) → Holds w.moves on (ends_in w.state) [] b) →
+      (next : Option Coming) → Holds (happens w what).moves next (ends_in (happens w what).state) [] (note w what b)
+  ends_through what w b none placed holds = (move_keeps OfCalmMoves calm_ends_keep what w b none placed holds).1
 
 module _ (Holds : EndFact) (keeps : KeepsEnds Holds) where
   abbrev pub OfMoves : MoveFact

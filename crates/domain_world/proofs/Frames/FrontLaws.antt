@@ -1,32 +1,34 @@
 -- Where bytes come, what a controller sends goes on their link, before it closes any, once for each mark.
 -- It serves `Proved.marked`, `Proved.ways`, `Proved.replies` and 3 more.
-use Rattle.std.proofs.Common.{◌≡◌, ◌⊎◌, ℕ, suc, ◌+◌, Bool, true, false, List, [], ◌∷◌, ◌++◌, length, map, slice_get, Option, Some, None, Result, Ok, Err, refl, sym, ap, ◌∙◌, bytes_eq}
+use Rattle.std.proofs.Common.{◌≡◌, ◌⊎◌, ℕ, suc, ◌+◌, Bool, true, false, List, [], ◌∷◌, ◌++◌, length, map, slice_get, Option, Some, None, Result, Ok, Err, refl, sym, ap, subst, ◌∙◌, bytes_eq}
 use Rattle.std.specs.List.{AllByRecursion}
 use Rattle.std.proofs.lemmas.Bool.Decides.{Decides-eqb}
 use Rattle.std.proofs.lemmas.List.{append-nil, length-map}
 use Rattle.std.proofs.lemmas.List.Concat.{flat_map-append}
 use Rattle.wire_base.specs.Maps.{lookup, same_number, take_out}
 use Rattle.wire_base.specs.Names.{same_name}
-use Rattle.wire_base.specs.declared.authenticator.Authenticator.{Authenticator}
 use Rattle.ntlm_flags.specs.Flags.{has_flag}
 use Rattle.channel_keys.specs.Credentials.{cred_of}
 use Rattle.channel_keys.specs.Flags.{rc4_flag}
-use Rattle.authenticators.specs.SecureChannels.{SecureChannelState, channel_by, key_of_channel, passes_on, return_by}
+use Rattle.authenticators.specs.SecureChannels.{SecureChannelState, key_of_channel}
 use Rattle.outside.specs.declared.action.Action.{Action}
 use Rattle.outside.specs.declared.action.StepRefused.{StepRefused}
 use Rattle.outside.specs.Machine.{step_by, then_part}
 use Rattle.rpc_units.specs.Reading.{unit_of}
 use Rattle.rpc_units.specs.Stream.{Cut, cut_stream}
 use Rattle.logon_stubs.specs.declared.calls.AuthCall.{AuthCall}
-use Rattle.logon_stubs.specs.declared.calls.Call.{Call}
+use Rattle.controller_calls.specs.declared.calls.ControllerCall.{ControllerCall}
+use Rattle.controller_calls.specs.declared.calls.JudgedCall.{JudgedCall}
+use Rattle.controller_calls.specs.Passing.{IsKeep}
+use Rattle.controller_calls.proofs.PassLaws.{passes_the_next}
+use Rattle.outside.specs.declared.action.Judged.{Judged}
 use Rattle.logon_stubs.specs.declared.calls.ChallengeCall.{ChallengeCall}
-use Rattle.logon_stubs.specs.declared.info.NetworkInfo.{NetworkInfo}
 use Rattle.account_table.specs.LookUps.{knows_in}
 use Rattle.account_table.specs.declared.account.Account.{Account}
 use Rattle.end_links.specs.Links.{LinkState}
 use Rattle.end_links.specs.Serving.{ServedPart, served_cut, ServedUnit}
 use Rattle.domain_controller.specs.Hearing.{hear}
-use Rattle.domain_controller.specs.Machine.{Desk, account_for, answer_logon, by_call, by_heard, channel_for, controller_server, desk, draw_challenge, judge_account, judge_channel, judge_offer, judge_pair, judge_return, open_channel, put_channel, put_pair_if, take_channel, take_pair}
+use Rattle.domain_controller.specs.Machine.{Desk, account_for, answer_judged, by_call, by_heard, channel_for, controller_server, draw_challenge, judge_account, judge_offer, judge_pair, open_channel, put_pair_if, take_pair}
 use Rattle.domain_controller.specs.State.{State as ControllerState}
 use Rattle.domain_controller.specs.Step.{LinkMap, first_desk, halted, serve_on, start_turn, state_after, step_on, step_of}
 use Rattle.domain_controller.specs.declared.hearing.Heard.{Heard}
@@ -58,7 +60,7 @@ use Rattle.domain_world.proofs.Frames.OpenMadeLaws.{IsAtSide, side_of}
 use Rattle.end_links.proofs.KeepLaws.{StaysServing, served_stays}
 use Rattle.outside.specs.declared.action.Action.TheVariants as action
 use Rattle.outside.specs.declared.event.Event.TheVariants as event
-use Rattle.logon_stubs.specs.declared.calls.Call.TheVariants as call
+use Rattle.controller_calls.specs.declared.calls.ControllerCall.TheVariants as call
 use Rattle.domain_controller.specs.declared.hearing.Heard.TheVariants as heard
 
 abbrev pub AllHere : ℕ → List Action → Type 0
@@ -66,11 +68,6 @@ AllHere link actions = AllByRecursion (IsHere link) actions
 
 sends_here : (link : ℕ) (actions : List Action) (other : ℕ) (bytes : List ℕ) → other ≡ link → AllHere link actions → AllHere link (actions ++ action.Send other bytes ∷ [])
 sends_here link actions other bytes on here = all_push (IsHere link) actions (action.Send other bytes) here on
-
-judged_here : (link : ℕ) (actions : List Action) (how : _) (other : ℕ) (bytes : List ℕ) → other ≡ link → AllHere link actions →
-    AllHere link ((actions ++ action.Judged how ∷ []) ++ action.Send other bytes ∷ [])
-judged_here link actions how other bytes on here =
-    sends_here link (actions ++ action.Judged how ∷ []) other bytes on (all_push (IsHere link) actions (action.Judged how) here tt)
 
 pair_here : (link : ℕ) (knows : Bool) (computer : List ℕ) (pair : ChallengePair) (work : Work) → AllHere link work.actions → AllHere link (put_pair_if knows computer pair work).actions
 pair_here link false computer pair work here = here
@@ -107,32 +104,34 @@ account_here : (link : ℕ) (account : Option Account) (pair : Option ChallengeP
 account_here link None pair line c work on here = sends_here link work.actions line.link _ on here
 account_here link (Some account) pair line c work on here = offer_here link (has_flag c.flags rc4_flag) pair account line c work on here
 
-return_here : (link : ℕ) (credential : Option (List ℕ)) (key name : List ℕ) (now : ℕ) (line : Line) (info : NetworkInfo) (validation : ℕ) (d : Desk) → line.link ≡ link → AllHere link d.work.actions →
-    AllHere link (judge_return credential key name now line info validation d).work.actions
-return_here link None key name now line info validation d on here = judged_here link d.work.actions _ line.link _ on here
-return_here link (Some credential) key name now line info validation d on here = judged_here link d.work.actions _ line.link _ on here
+-- texts that are kept are done on no link
+kept_here : (link : ℕ) (kept : List Action) (how : Judged) (other : ℕ) (bytes : List ℕ) → other ≡ link → AllByRecursion IsKeep kept →
+    AllHere link (kept ++ action.Judged how ∷ action.Send other bytes ∷ [])
+kept_here link [] how other bytes on are = (tt, (on, tt))
+kept_here link (action.Keep text ∷ kept) how other bytes on are = (tt, kept_here link kept how other bytes on are.1)
+kept_here link (action.Send at more ∷ kept) how other bytes on are = absurd are.0
+kept_here link (action.Dial peer ∷ kept) how other bytes on are = absurd are.0
+kept_here link (action.Close at cause ∷ kept) how other bytes on are = absurd are.0
+kept_here link (action.Told at outcome ∷ kept) how other bytes on are = absurd are.0
+kept_here link (action.Judged more ∷ kept) how other bytes on are = absurd are.0
 
-channel_here : (link : ℕ) (found : Option SecureChannelState) (computer : List ℕ) (given : Authenticator) (name : List ℕ) (now : ℕ) (line : Line) (info : NetworkInfo) (validation : ℕ) (d : Desk) → line.link ≡ link →
-    AllHere link d.work.actions → AllHere link (judge_channel found computer given name now line info validation d).work.actions
-channel_here link None computer given name now line info validation d on here = judged_here link d.work.actions _ line.link _ on here
-channel_here link (Some channel) computer given name now line info validation d on here =
-    return_here link (return_by (passes_on channel given) channel given) (key_of_channel channel) name now line info validation
-    (desk d.table (put_channel computer (channel_by (passes_on channel given) channel given) d.work)) on here
+all_joined : (link : ℕ) (one two : List Action) → AllHere link one → AllHere link two → AllHere link (one ++ two)
+all_joined link [] two first second = second
+all_joined link (what ∷ one) two first second = (first.0, all_joined link one two first.1 second)
 
-logon_here : (link : ℕ) (computer : Option (List ℕ)) (given : Option Authenticator) (name : List ℕ) (now : ℕ) (line : Line) (info : NetworkInfo) (validation : ℕ) (d : Desk) → line.link ≡ link →
-    AllHere link d.work.actions → AllHere link (answer_logon computer given name now line info validation d).work.actions
-logon_here link None given name now line info validation d on here = judged_here link d.work.actions _ line.link _ on here
-logon_here link (Some computer) None name now line info validation d on here = judged_here link d.work.actions _ line.link _ on here
-logon_here link (Some computer) (Some given) name now line info validation d on here =
-    channel_here link (lookup same_name computer d.work.computers.channels) computer given name now line info validation (desk d.table (take_channel computer d.work)) on here
+judged_here : (link : ℕ) (c : JudgedCall) (name : List ℕ) (now : ℕ) (line : Line) (d : Desk) → line.link ≡ link → AllHere link d.work.actions →
+    AllHere link (answer_judged c name now line d).work.actions
+judged_here link c name now line d on here =
+    let told = passes_the_next.judged c name now line d in
+    let tail : List Action = told.0 ++ action.Judged told.1 ∷ action.Send line.link told.2 ∷ [] in
+    subst (λ (actions : List Action). AllHere link actions) (sym told.4) (all_joined link d.work.actions tail here (kept_here link told.0 told.1 line.link told.2 on told.3))
 
-call_here : (link : ℕ) (c : Call) (line : Line) (talk : Talk) (name : List ℕ) (now : ℕ) (d : Desk) (left : List (List ℕ)) → line.link ≡ link → AllHere link d.work.actions →
+call_here : (link : ℕ) (c : ControllerCall) (line : Line) (talk : Talk) (name : List ℕ) (now : ℕ) (d : Desk) (left : List (List ℕ)) → line.link ≡ link → AllHere link d.work.actions →
     PartHere link (by_call c line talk name now d left)
 call_here link (call.Challenge c) line talk name now d left on here = draw_here link left line c talk d on here
 call_here link (call.Authenticate c) line talk name now d left on here =
     account_here link (account_for d.table c) (lookup same_name c.computer d.work.computers.pending) line c (take_pair c.computer d.work) on here
-call_here link (call.Logon c) line talk name now d left on here = logon_here link c.computer c.authenticator name now line c.info c.validation d on here
-call_here link (call.Logoff c) line talk name now d left on here = sends_here link d.work.actions line.link _ on here
+call_here link (call.Judged c) line talk name now d left on here = judged_here link c name now line d on here
 
 heard_here : (what : Heard) (link : ℕ) (name : List ℕ) (now : ℕ) (d : Desk) (left : List (List ℕ)) → IsOn link what → AllHere link d.work.actions → PartHere link (by_heard what link name now d left)
 heard_here (heard.Close cause) link name now d left on here = (d.work.actions, cause, refl, here)

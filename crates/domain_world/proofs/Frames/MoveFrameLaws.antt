@@ -31,6 +31,7 @@ use Rattle.world_moves.specs.Ends.{acceptors_in, count_of, end_at}
 use Rattle.world_moves.specs.Links.{accepted, acceptor_of, answered, dialler_of, handed_links, hearer_of, hearer_on, links_of, other_hearer}
 use Rattle.world_moves.specs.Moving.{act, answer_by, answered_link, begun, come_by, come_on_own, connect_by, connect_first, deliver_by, deliver_on, deliver_unit, end_of_peer, fail_first, hand_on, lose_by, onward_by, open_link, renewed, restart_at, restart_by, route_to, settle, shut_at, shut_by, start_at, start_by, stranger_at, stranger_by, tick, with_link, without_first}
 use Rattle.world_moves.specs.World.{World, first_world, happens, run}
+use Rattle.domain_world.specs.Claims.Sessions.{end_by, restarted}
 use Rattle.domain_world.specs.Past.{Coming, book, note, note_at, note_chosen, note_coming, note_deliver, note_given, note_hand, note_on, note_onward, note_own, note_pieces, note_unit, past}
 use Rattle.channel_events.proofs.ListLaws.{got_last, got_nothing}
 use Rattle.world_moves.proofs.BagLaws.{pieces_few}
@@ -128,8 +129,66 @@ pub record KeepsMoves (Known : Type 0) (Side Holds : MoveFact) : Type 0 where
   pub over : (n at : ℕ) (on next : Option Coming) (s : State) (given : Given) (b : Book) → Side n (started at on) s given b → Holds n (started at on) s given b →
       Holds n (started (at + 1) next) s [] (note_given at given s b)
 
+-- The same but for an end that is made anew, where it isn't known to hold on.
+pub record KeepsCalmMoves (Known : Type 0) (Side Holds : MoveFact) : Type 0 where
+  -- an end takes a step
+  pub closes : (n : ℕ) (p : Progress) (end : EndId) (link : ℕ) (s : State) (given : Given) (b : Book) → AtWork p.on p.to → Side n p s given b → Holds n p s given b →
+      IsHeard Holds n p end (hear end (event.Closed link) s) given b
+  pub opens : (n at : ℕ) (dial : Option EndId) (route : Route) (s : State) (given : Given) (b : Book) → Side n (waiting at dial) s given b → Holds n (waiting at dial) s given b →
+      IsHeard Holds n (waiting at dial) (acceptor_of route) (hear (acceptor_of route) (event.Opened (length s.links)) (with_link route s)) given b
+  pub dialled : (n at : ℕ) (end : EndId) (link : ℕ) (s : State) (given : Given) (b : Book) → IsAtSide s.links link true end → Side n (waiting at (Some end)) s given b →
+      Holds n (waiting at (Some end)) s given b → IsHeard Holds n (waiting at None) end (hear end (event.Dialled link) s) given b
+  pub fails : (n at : ℕ) (end : EndId) (s : State) (b : Book) → Side n (waiting at (Some end)) s [] b → Holds n (waiting at (Some end)) s [] b →
+      IsHeard Holds n (waiting at None) end (hear end event.DialFailed s) [] b
+  pub begins : (n at client : ℕ) (plan : ClientPlan) (s : State) (b : Book) → slice_get s.client_plans client ≡ Some plan → Side n (waiting at None) s [] b →
+      Holds n (waiting at None) s [] b → IsHeard Holds n (waiting at None) (Client client) (begun client plan s) [] b
+  pub comes : (n : ℕ) (end : EndId) (w : Coming) (piece : List ℕ) (s : State) (given : Given) (b : Book) → IsAtSide s.links w.link w.back end → CameFrom w.source s w piece →
+      (Known → AreBytes piece) → Side n (coming w) s given b → Holds n (coming w) s given b →
+      let after : State = (hear_and_act end (event.Bytes w.link piece) s).state in
+      IsHeard Holds n (record (coming w) { to = Some after }) end (hear end (event.Bytes w.link piece) s) given (note_at (Some end) w piece s after b)
+  -- the step at bytes is done
+  pub reaches : (n : ℕ) (w : Coming) (s : State) (given : Given) (b : Book) → Side n (record (coming w) { to = Some s }) s given b → Holds n (record (coming w) { to = Some s }) s given b →
+      Holds n (coming w) s given b
+  -- an action is done: a unit goes into the bag, or a dial waits
+  pub acts : (n : ℕ) (p : Progress) (end : EndId) (what : Action) (s : State) (given : Given) (b : Book) → AtWork p.on p.to → Side n (with_rest ((end, what) ∷ []) p) s given b →
+      Holds n (with_rest ((end, what) ∷ []) p) s given b → Holds n p (perform_quietly end what s) given b
+  -- one thing changes
+  pub shuts : (n : ℕ) (p : Progress) (link : ℕ) (s : State) (given : Given) (b : Book) → AtWork p.on p.to → Side n p s given b → Holds n p s given b → Holds n p (shut_link link s) given b
+  pub answers : (n at : ℕ) (dial : Option EndId) (link : ℕ) (there : OpenLink) (s : State) (given : Given) (b : Book) → lookup same_number link s.open_links ≡ Some there →
+      Side n (waiting at dial) s given b → Holds n (waiting at dial) s given b → Holds n (waiting at dial) (answered_link link there s) given b
+  pub forgets : (n at : ℕ) (end : EndId) (s : State) (b : Book) → Side n (waiting at None) s [] b → Holds n (waiting at None) s [] b → Holds n (waiting at None) (forget end s) [] b
+  pub settles : (n at : ℕ) (on : Option Coming) (number : ℕ) (s : State) (b : Book) → Side n (started at on) s [] b → Holds n (started at on) s [] b →
+      Holds n (started at on) (settle number s) [] b
+  -- the first dial waits no more
+  pub dials : (n at : ℕ) (dial : WaitingDial) (s : State) (b : Book) → slice_get s.dials 0 ≡ Some dial → Side n (waiting at None) s [] b → Holds n (waiting at None) s [] b →
+      Holds n (waiting at (Some dial.end)) (without_first s) [] b
+  pub ticks : (n at more : ℕ) (s : State) (b : Book) → Side n (waiting at None) s [] b → Holds n (waiting at None) s [] b → Holds n (waiting at None) (tick more s) [] b
+  -- the move is over, and what ends gave is written down; whatever comes in the next one
+  pub over : (n at : ℕ) (on next : Option Coming) (s : State) (given : Given) (b : Book) → Side n (started at on) s given b → Holds n (started at on) s given b →
+      Holds n (started (at + 1) next) s [] (note_given at given s b)
+
 abbrev pub NoSide : MoveFact
 NoSide n p s given b = Unit {0}
+
+-- what holds on where an end is made anew too
+pub but_renewed : (Known : Type 0) (Holds : MoveFact) → KeepsMoves Known NoSide Holds → KeepsCalmMoves Known NoSide Holds
+but_renewed Known Holds keeps = record {
+  closes = keeps.closes;
+  opens = keeps.opens;
+  dialled = keeps.dialled;
+  fails = keeps.fails;
+  begins = keeps.begins;
+  comes = keeps.comes;
+  reaches = keeps.reaches;
+  acts = keeps.acts;
+  shuts = keeps.shuts;
+  answers = keeps.answers;
+  forgets = keeps.forgets;
+  settles = keeps.settles;
+  dials = keeps.dials;
+  ticks = keeps.ticks;
+  over = keeps.over;
+}
 
 abbrev pub Both : MoveFact → MoveFact → MoveFact
 Both A B n p s given b = A n p s given b × B n p s given b
@@ -194,7 +253,7 @@ none_dialled (dial ∷ dials) none = absurd (let x = none in cc)
 
 -- ---- a part of a move
 
-module _ (Known : Type 0) (Holds : MoveFact) (keeps : KeepsMoves Known NoSide Holds) where
+module _ (Known : Type 0) (Holds : MoveFact) (keeps : KeepsCalmMoves Known NoSide Holds) where
   -- it holds after it, and no more steps were taken than are allowed; a link that is open allows two
   record After (p : Progress) (most : ℕ) (acted : Acted) (given : Given) (b : Book) : Type 0 where
     steps : ℕ
@@ -382,14 +441,20 @@ module _ (Known : Type 0) (Holds : MoveFact) (keeps : KeepsMoves Known NoSide Ho
   shut_part None n at s b holds = nothing (waiting at None) (n + 2 + 2 * length s.open_links) n s [] b holds (omega arith)
   shut_part (Some number) n at s b holds = shut_by_part (slice_get s.open_links number) n at s b holds
 
-  restart_by_part : (end : Option EndId) (n at : ℕ) (s : State) (b : Book) → Holds n (waiting at None) s [] b → Quietly at (n + 2 * length s.open_links) (nothing_done (restart_by end s)) [] b
-  restart_by_part None n at s b holds = nothing (waiting at None) (n + 2 * length s.open_links) n s [] b holds (omega arith)
-  restart_by_part (Some end) n at s b holds =
-      nothing (waiting at None) (n + 2 * length s.open_links) n (renewed end (forget end s)) [] b (keeps.renews n at end s b tt holds) (omega (arith, forgotten_fewer end s.open_links))
+  -- what an end comes to that is made anew is shown apart
+  abbrev IsRenewed : ℕ → ℕ → State → Book → EndId → Type 0
+  IsRenewed n at s b end = Holds n (waiting at None) (renewed end (forget end s)) [] b
 
-  restart_part : (number : Option ℕ) (n at : ℕ) (s : State) (b : Book) → Holds n (waiting at None) s [] b → Quietly at (n + 2 * length s.open_links) (nothing_done (restart_at number s)) [] b
-  restart_part None n at s b holds = nothing (waiting at None) (n + 2 * length s.open_links) n s [] b holds (omega arith)
-  restart_part (Some number) n at s b holds = restart_by_part (end_at number s.ends) n at s b holds
+  restart_by_part : (end : Option EndId) (n at : ℕ) (s : State) (b : Book) → ((one : EndId) → end ≡ Some one → IsRenewed n at s b one) → Holds n (waiting at None) s [] b →
+      Quietly at (n + 2 * length s.open_links) (nothing_done (restart_by end s)) [] b
+  restart_by_part None n at s b anew holds = nothing (waiting at None) (n + 2 * length s.open_links) n s [] b holds (omega arith)
+  restart_by_part (Some end) n at s b anew holds =
+      nothing (waiting at None) (n + 2 * length s.open_links) n (renewed end (forget end s)) [] b (anew end refl) (omega (arith, forgotten_fewer end s.open_links))
+
+  restart_part : (number : Option ℕ) (n at : ℕ) (s : State) (b : Book) → ((one : EndId) → end_by number s ≡ Some one → IsRenewed n at s b one) → Holds n (waiting at None) s [] b →
+      Quietly at (n + 2 * length s.open_links) (nothing_done (restart_at number s)) [] b
+  restart_part None n at s b anew holds = nothing (waiting at None) (n + 2 * length s.open_links) n s [] b holds (omega arith)
+  restart_part (Some number) n at s b anew holds = restart_by_part (end_at number s.ends) n at s b anew holds
 
   -- ---- bytes come
 
@@ -531,43 +596,53 @@ module _ (Known : Type 0) (Holds : MoveFact) (keeps : KeepsMoves Known NoSide Ho
     few = λ known. omega (arith, part.few, few);
   }
 
-  act_part : (what : Move) (n at : ℕ) (s : State) (b : Book) → IsPlaced s → (Known → IsBytesBag s.bag) → (Known → HandsBytes what) → HoldsFor n at s b →
+  act_part : (what : Move) (n at : ℕ) (s : State) (b : Book) → IsPlaced s → (Known → IsBytesBag s.bag) → (Known → HandsBytes what) →
+      ((one : EndId) → restarted what s ≡ Some one → IsRenewed n at s b one) → HoldsFor n at s b →
       Moved n at s (act s what) (note_coming what at s b)
-  act_part move.Onward n at s b placed have handed holds = onward_part (first_waiting s.bag) n at s b placed have holds
-  act_part (move.Deliver unit link) n at s b placed have handed holds = deliver_part (chosen_place unit (length s.bag)) link n at s b placed have holds
-  act_part (move.Hand link back piece) n at s b placed have handed holds =
+  act_part move.Onward n at s b placed have handed anew holds = onward_part (first_waiting s.bag) n at s b placed have holds
+  act_part (move.Deliver unit link) n at s b placed have handed anew holds = deliver_part (chosen_place unit (length s.bag)) link n at s b placed have holds
+  act_part (move.Hand link back piece) n at s b placed have handed anew holds =
       hand_part (chosen_in link (handed_links s.links)) back piece n at s b (λ there is. handed_outside s.links (link % length (handed_links s.links)) there is) placed handed holds
-  act_part (move.Start number) n at s b placed have handed holds =
+  act_part (move.Start number) n at s b placed have handed anew holds =
       quiet_part (move.Start number) (n + 1 + 2 * length s.open_links) n at s b placed (omega arith) (start_part (chosen_place number (length s.ends.clients)) n at s b (holds None))
-  act_part (move.Stranger number) n at s b placed have handed holds =
+  act_part (move.Stranger number) n at s b placed have handed anew holds =
       quiet_part (move.Stranger number) (n + 3 + 2 * length s.open_links) n at s b placed (omega arith) (stranger_part (chosen_place number (acceptors_in s.ends)) n at s b (holds None))
-  act_part move.Connect n at s b placed have handed holds =
+  act_part move.Connect n at s b placed have handed anew holds =
       quiet_part move.Connect (n + 6 + 2 * length s.open_links) n at s b placed (omega arith) (connect_part (slice_get s.dials 0) n at s b refl (holds None))
-  act_part move.FailDial n at s b placed have handed holds =
+  act_part move.FailDial n at s b placed have handed anew holds =
       quiet_part move.FailDial (n + 1 + 2 * length s.open_links) n at s b placed (omega arith) (fail_part (slice_get s.dials 0) n at s b refl (holds None))
-  act_part move.Lose n at s b placed have handed holds =
+  act_part move.Lose n at s b placed have handed anew holds =
       quiet_part move.Lose (n + 2 * length s.open_links) n at s b placed (omega arith) (lose_part (first_waiting s.bag) n at s b (holds None))
-  act_part (move.Shut number) n at s b placed have handed holds =
+  act_part (move.Shut number) n at s b placed have handed anew holds =
       quiet_part (move.Shut number) (n + 2 + 2 * length s.open_links) n at s b placed (omega arith) (shut_part (chosen_place number (length s.open_links)) n at s b (holds None))
-  act_part (move.Restart number) n at s b placed have handed holds =
-      quiet_part (move.Restart number) (n + 2 * length s.open_links) n at s b placed (omega arith) (restart_part (chosen_place number (count_of s.ends)) n at s b (holds None))
-  act_part (move.Tick more) n at s b placed have handed holds =
+  act_part (move.Restart number) n at s b placed have handed anew holds =
+      quiet_part (move.Restart number) (n + 2 * length s.open_links) n at s b placed (omega arith) (restart_part (chosen_place number (count_of s.ends)) n at s b anew (holds None))
+  act_part (move.Tick more) n at s b placed have handed anew holds =
       quiet_part (move.Tick more) (n + 2 * length s.open_links) n at s b placed (omega arith)
       (nothing (waiting at None) (n + 2 * length s.open_links) n (tick more s) [] b (keeps.ticks n at more s b tt (holds None)) (omega arith))
 
-  -- ---- a run
+-- ---- a run
+
+module _ (Known : Type 0) (Holds : MoveFact) (keeps : KeepsMoves Known NoSide Holds) where
+  abbrev Calm : KeepsCalmMoves Known NoSide Holds
+  Calm = but_renewed Known Holds keeps
+
+  -- a move, at which an end may be made anew
+  any_part : (what : Move) (n at : ℕ) (s : State) (b : Book) → IsPlaced s → (Known → IsBytesBag s.bag) → (Known → HandsBytes what) → HoldsFor Known Holds Calm n at s b →
+      Moved Known Holds Calm n at s (act s what) (note_coming what at s b)
+  any_part what n at s b placed have handed holds = act_part Known Holds Calm what n at s b placed have handed (λ end is. keeps.renews n at end s b tt (holds None)) holds
 
   record Ran (n : ℕ) (moves : List Move) (w : World) (b : Book) : Type 0 where
     steps : ℕ
-    holds : HoldsFor steps (run moves w).moves (run moves w).state (book moves w b)
+    holds : HoldsFor Known Holds Calm steps (run moves w).moves (run moves w).state (book moves w b)
     few : Known → steps + 2 * length (run moves w).state.open_links ≤ n + 2 * length w.state.open_links + 10 * length moves
 
   run_part : (moves : List Move) (n : ℕ) (w : World) (b : Book) → (Known → IsBytesBag (run moves w).state.bag) → (Known → AllByRecursion HandsBytes moves) → IsPlaced w.state →
-      HoldsFor n w.moves w.state b → Ran n moves w b
+      HoldsFor Known Holds Calm n w.moves w.state b → Ran n moves w b
   run_part [] n w b have handed placed holds = record { steps = n; holds = holds; few = λ known. omega arith }
   run_part (what ∷ moves) n w b have handed placed holds =
-      let moved : Moved n w.moves w.state (act w.state what) (note_coming what w.moves w.state b) =
-      act_part what n w.moves w.state b placed
+      let moved : Moved Known Holds Calm n w.moves w.state (act w.state what) (note_coming what w.moves w.state b) =
+      any_part what n w.moves w.state b placed
       (λ known. bag_before w.state.bag (run (what ∷ moves) w).state.bag (run_still (what ∷ moves) w) (have known)) (λ known. (handed known).0) holds in
       let later : Ran moved.steps moves (happens w what) (note w what b) =
       run_part moves moved.steps (happens w what) (note w what b) have (λ known. (handed known).1) moved.placed
@@ -577,12 +652,12 @@ module _ (Known : Type 0) (Holds : MoveFact) (keeps : KeepsMoves Known NoSide Ho
 -- the same where what holds says of the bag that its units are short, and have bytes
 module _ (Holds : MoveFact) (keeps : KeepsMoves (Unit {0}) NoSide Holds)
     (says : (n at : ℕ) (s : State) (b : Book) → Holds n (started at None) s [] b → IsBytesBag s.bag) where
-  carry_part : (moves : List Move) (n : ℕ) (w : World) (b : Book) → AllByRecursion HandsBytes moves → IsPlaced w.state → HoldsFor (Unit {0}) Holds keeps n w.moves w.state b →
+  carry_part : (moves : List Move) (n : ℕ) (w : World) (b : Book) → AllByRecursion HandsBytes moves → IsPlaced w.state → HoldsFor (Unit {0}) Holds (Calm (Unit {0}) Holds keeps) n w.moves w.state b →
       Ran (Unit {0}) Holds keeps n moves w b
   carry_part [] n w b handed placed holds = record { steps = n; holds = holds; few = λ known. omega arith }
   carry_part (what ∷ moves) n w b handed placed holds =
-      let moved : Moved (Unit {0}) Holds keeps n w.moves w.state (act w.state what) (note_coming what w.moves w.state b) =
-      act_part (Unit {0}) Holds keeps what n w.moves w.state b placed (λ known. says n w.moves w.state b (holds None)) (λ known. handed.0) holds in
+      let moved : Moved (Unit {0}) Holds (Calm (Unit {0}) Holds keeps) n w.moves w.state (act w.state what) (note_coming what w.moves w.state b) =
+      any_part (Unit {0}) Holds keeps what n w.moves w.state b placed (λ known. says n w.moves w.state b (holds None)) (λ known. handed.0) holds in
       let later : Ran (Unit {0}) Holds keeps moved.steps moves (happens w what) (note w what b) =
       carry_part moves moved.steps (happens w what) (note w what b) handed.1 moved.placed
       (λ next. keeps.over moved.steps w.moves moved.on next (act w.state what).state (act w.state what).given (note_coming what w.moves w.state b) tt moved.holds) in
@@ -648,5 +723,17 @@ any_keeps = record {
 -- they have their places after each move
 pub placed_next : (what : Move) (w : World) (b : Book) → IsPlaced w.state → IsPlaced (act w.state what).state
 placed_next what w b placed =
-    let moved : Moved ⊥ AnyMove any_keeps 0 w.moves w.state (act w.state what) (note_coming what w.moves w.state b) =
-    act_part ⊥ AnyMove any_keeps what 0 w.moves w.state b placed (λ none. absurd none) (λ none. absurd none) (λ on. tt) in moved.placed
+    let moved : Moved ⊥ AnyMove (Calm ⊥ AnyMove any_keeps) 0 w.moves w.state (act w.state what) (note_coming what w.moves w.state b) =
+    any_part ⊥ AnyMove any_keeps what 0 w.moves w.state b placed (λ none. absurd none) (λ none. absurd none) (λ on. tt) in moved.placed
+
+-- ---- a move at which no end is made anew
+
+-- it holds on through it, though it isn't known to where one is
+pub move_keeps : (Holds : MoveFact) → KeepsCalmMoves ⊥ NoSide Holds → (what : Move) (w : World) (b : Book) → restarted what w.state ≡ None → IsPlaced w.state →
+    ((on : Option Coming) → Holds 0 (started w.moves on) w.state [] b) →
+    (n : ℕ) × ((next : Option Coming) → Holds n (started (happens w what).moves next) (happens w what).state [] (note w what b))
+move_keeps Holds keeps what w b none placed holds =
+    let moved : Moved ⊥ Holds keeps 0 w.moves w.state (act w.state what) (note_coming what w.moves w.state b) =
+    act_part ⊥ Holds keeps what 0 w.moves w.state b placed (λ never. absurd never) (λ never. absurd never)
+    (λ end is. absurd (let never : None ≡ Some end = sym none ∙ is in cc)) holds in
+    (moved.steps, λ next. keeps.over moved.steps w.moves moved.on next (act w.state what).state (act w.state what).given (note_coming what w.moves w.state b) tt moved.holds)

@@ -1,104 +1,86 @@
 -- In every run a controller grants a Logon call exactly where it is to be granted, by the accounts of the plan.
 -- It serves `Proved.grants` and `Proved.alone`.
-use Rattle.std.proofs.Common.{◌≡◌, ◌↔◌, ℕ, zero, suc, true, false, List, [], ◌∷◌, ◌++◌, drop, length, Option, Some, None, Ok, Err, inl, inr, slice_get, slice_set, refl, sym, ap, subst, ◌∙◌}
+use Rattle.std.proofs.Common.{◌≡◌, ◌↔◌, ℕ, zero, suc, true, List, [], ◌∷◌, ◌++◌, Option, Some, None, Ok, Err, inl, inr, slice_get, slice_set, refl, sym, ap, subst, ◌∙◌}
 use Rattle.std.specs.List.{AllByRecursion}
 use Rattle.wire_base.specs.Maps.{lookup, same_number}
-use Rattle.wire_base.specs.Names.{same_name}
-use Rattle.wire_base.specs.declared.authenticator.Authenticator.{Authenticator}
-use Rattle.authenticators.specs.SecureChannels.{SecureChannelState, key_of_channel, channel_by, passes_on, return_by}
+use Rattle.authenticators.specs.SecureChannels.{SecureChannelState}
 use Rattle.outside.specs.Machine.{step_by, then_part}
-use Rattle.outside.specs.declared.action.Action.{Action}
 use Rattle.outside.specs.declared.action.Judged.{Judged}
 use Rattle.outside.specs.declared.event.Event.{Event}
 use Rattle.rpc_units.specs.Stream.{cut_stream}
 use Rattle.logon_stubs.specs.declared.calls.LogonCall.{LogonCall}
-use Rattle.logon_stubs.specs.declared.info.NetworkInfo.{NetworkInfo}
 use Rattle.logon_stubs.specs.declared.info.Verdict.{Verdict}
 use Rattle.account_table.specs.AccountTable.{AccountTable}
-use Rattle.account_table.specs.Changes.{DifferInCounts}
-use Rattle.account_table.proofs.ChangeLaws.{differs-again, differs-none}
+use Rattle.account_table.specs.Changes.{DifferInStates}
+use Rattle.account_table.proofs.ChangeLaws.{states-again, states-none}
 use Rattle.end_links.specs.Links.{LinkState}
 use Rattle.end_links.specs.Serving.{ServedUnit, served_units}
 use Rattle.domain_controller.specs.Hearing.{hear}
-use Rattle.domain_controller.proofs.CountLaws.{PartCounts, counts_by_verdict, heard-differs, part-differs}
-use Rattle.domain_controller.specs.Laws.{is_passed}
-use Rattle.domain_controller.specs.Machine.{Desk, answer_logon, by_heard, controller_server, desk, judge_channel, judge_info, judge_return, put_channel, status_of, take_channel}
+use Rattle.domain_controller.proofs.CountLaws.{PartDiffers, counts_by_verdict, heard-differs, part-differs}
+use Rattle.domain_controller.specs.Machine.{Desk, answer_judged, by_heard, controller_server, status_of}
+use Rattle.controller_calls.specs.Calls.{asked_of}
+use Rattle.controller_calls.specs.declared.calls.JudgedCall.{JudgedCall}
+use Rattle.controller_calls.proofs.DoneLaws.{texts_kept}
+use Rattle.step_notes.proofs.Controllers.ReplySendLaws.{IsSentAsPassed, passed_sends}
 use Rattle.domain_controller.specs.State.{State as ControllerState}
 use Rattle.domain_controller.specs.Step.{StepPart, by_event, first_desk, first_state, halted, start_turn, state_after, step_of, step_on}
 use Rattle.controller_calls.specs.declared.line.Line.{Line}
 use Rattle.domain_controller.specs.declared.state.Running.{Running}
 use Rattle.domain_controller.specs.declared.state.Talk.{Talk}
-use Rattle.step_notes.specs.ControllerNotes.{Answered, Where, answer_on, has_passed, judged_in, units_at, units_by, units_of_controller}
+use Rattle.step_notes.specs.ControllerNotes.{Answered, Where, answer_on, has_passed, judged_in, judging_of, new_actions, units_at, units_by, units_of_controller}
 use Rattle.step_notes.specs.Judged.{IsJudgedRight, IsNextOn}
-use Rattle.step_notes.specs.Records.{Judging, Network, given_in}
+use Rattle.step_notes.specs.Records.{Judging, given_in}
+use Rattle.controller_calls.specs.declared.calls.JudgedCall.TheVariants.{Network}
 use Rattle.step_notes.specs.ReplySends.{done_on, verdict_passed}
 use Rattle.world_moves.specs.declared.moves.Move.{Move}
 use Rattle.world_moves.specs.declared.plan.Plan.{Plan}
 use Rattle.world_moves.specs.declared.state.State.{State}
 use Rattle.world_moves.specs.World.{first_controllers, first_world}
-use Rattle.domain_world.specs.Claims.Grants.{GrantsWhoMayLogOn, IsGrantedRightly, IsPlannedTable, IsToBeGranted}
+use Rattle.domain_world.specs.Claims.Grants.{GrantsWhoMayLogOn, IsGrantedRightly, IsToBeGranted, users_of}
 use Rattle.domain_world.specs.Past.{Coming, answers_of, at_controller, judged_of, note_controller, numbers_on, past}
 use Rattle.step_notes.proofs.Controllers.GrantVerdictLaws.{IsServedGrant, granted_status, served_grant}
 use Rattle.step_notes.proofs.Controllers.JudgedCallLaws.{if_network, status_done}
-use Rattle.step_notes.proofs.Controllers.JudgedStepLaws.{told_first, same_status}
+use Rattle.step_notes.proofs.Controllers.JudgedStepLaws.{told_kept, same_status}
 use Rattle.domain_world.proofs.Challenges.MessageOnceLaws.{set_cases}
 use Rattle.domain_world.proofs.Frames.FrameLaws.{run_stays}
 use Rattle.domain_world.proofs.Frames.ControllerFrameLaws.{AmongControllers, ControllersFact, KeepsControllers, controllers_written}
 use Rattle.domain_world.proofs.Frames.EndNoteLaws.{judged_so, judgings_of}
 use Rattle.domain_world.proofs.Judgements.JudgedLaws.{AreRight, HoldsIf, IsServedBy, answers_hold, are_if_taken, heard_holds, judged_hold, judged_rightly, onto_hold}
 use Rattle.step_notes.proofs.ServedLaws.{served_such}
-use Rattle.outside.specs.declared.action.Action.TheVariants as action
 use Rattle.outside.specs.declared.action.Judged.TheVariants as judged
 use Rattle.outside.specs.declared.event.Event.TheVariants as event
 use Rattle.channel_events.proofs.ListLaws.{all_weaker}
 
--- ---- a Logon call: its status is that of its verdict
+-- ---- a call: its status is that of what it comes to
 
 -- where the call passed, it was told with that status
 abbrev pub HasStatus : Option Judged → ℕ → Type 0
 HasStatus how status = has_passed how ≡ true → how ≡ Some (judged.Passed status)
 
--- what is told by the actions behind those before
-abbrev pub told_by : List Action → Desk → Option Judged
-told_by old after = judged_in (drop (length old) after.work.actions)
+-- where the call passed, it was told with the status of what it came to on the channel that it is checked on
+abbrev pub HasItsStatus : Judging → Type 0
+HasItsStatus j = (channel : SecureChannelState) → j.checks ≡ Some channel → HasStatus j.how (done_on j channel).status
 
-not_passed : (how : Judged) (status : ℕ) → is_passed how ≡ false → HasStatus (Some how) status
-not_passed how status none passed = absurd (let never : false ≡ true = sym none ∙ passed in cc)
+some_is : {T : Type 0} (one other : T) → Some one ≡ Some other → one ≡ other
+some_is one other is = cc
 
-refused_status : (old : List Action) (how : Judged) (other : Action) (status : ℕ) → is_passed how ≡ false →
-    HasStatus (judged_in (drop (length old) ((old ++ action.Judged how ∷ []) ++ other ∷ []))) status
-refused_status old how other status none = subst (λ (told : Option Judged). HasStatus told status) (sym (told_first old how other)) (not_passed how status none)
-
-module _ (name : List ℕ) (now : ℕ) (line : Line) (info : NetworkInfo) (validation : ℕ) where
-  return_status : (returned : Option (List ℕ)) (key : List ℕ) (d : Desk) →
-      HasStatus (told_by d.work.actions (judge_return returned key name now line info validation d)) (status_of (judge_info d.table name now info validation).verdict)
-  return_status None key d = refused_status d.work.actions judged.Barred _ (status_of (judge_info d.table name now info validation).verdict) refl
-  return_status (Some credential) key d = λ passed. told_first d.work.actions (judged.Passed (status_of (judge_info d.table name now info validation).verdict)) _
-
-  channel_status : (found : Option SecureChannelState) (computer : List ℕ) (given : Authenticator) (d : Desk) →
-      HasStatus (told_by d.work.actions (judge_channel found computer given name now line info validation d)) (status_of (judge_info d.table name now info validation).verdict)
-  channel_status None computer given d = refused_status d.work.actions judged.NoChannel _ (status_of (judge_info d.table name now info validation).verdict) refl
-  channel_status (Some channel) computer given d =
-      return_status (return_by (passes_on channel given) channel given) (key_of_channel channel)
-      (desk d.table (put_channel computer (channel_by (passes_on channel given) channel given) d.work))
-
-  pub call_status : (computer : Option (List ℕ)) (given : Option Authenticator) (d : Desk) →
-      HasStatus (told_by d.work.actions (answer_logon computer given name now line info validation d)) (status_of (judge_info d.table name now info validation).verdict)
-  call_status None given d = refused_status d.work.actions judged.NoChannel _ (status_of (judge_info d.table name now info validation).verdict) refl
-  call_status (Some computer) None d = refused_status d.work.actions judged.NoChannel _ (status_of (judge_info d.table name now info validation).verdict) refl
-  call_status (Some computer) (Some given) d =
-      channel_status (lookup same_name computer d.work.computers.channels) computer given (desk d.table (take_channel computer d.work))
+pub call_status : (w : Where) (line : Line) (c : JudgedCall) (d : Desk) → HasItsStatus (judging_of w line c d (Some (answer_judged c w.name w.moment line d)))
+call_status w line c d channel stands passed =
+    let j : Judging = judging_of w line c d (Some (answer_judged c w.name w.moment line d)) in
+    let sent : IsSentAsPassed j line (new_actions (Some (answer_judged c w.name w.moment line d)) d) = passed_sends w line c d passed in
+    subst (λ (one : SecureChannelState). j.how ≡ Some (judged.Passed (done_on j one).status)) (some_is sent.next.channel channel (sym sent.next.stands ∙ stands))
+    (ap judged_in sent.actions ∙ told_kept _ _ _ (texts_kept (asked_of c) (done_on j sent.next.channel)))
 
 -- ---- the units of a stream
 
--- a unit that was served, where these accounts differed in counts alone from those before it
+-- a unit that was served, where these accounts differed in counts and hashes alone from those before it
 abbrev pub IsServedFrom : List ℕ → ℕ → ℕ → AccountTable → ServedUnit Desk Talk → Type 0
-IsServedFrom name now link table unit = DifferInCounts table unit.work.table × IsServedBy (controller_server name now link) unit
+IsServedFrom name now link table unit = DifferInStates table unit.work.table × IsServedBy (controller_server name now link) unit
 
-units_served : (name : List ℕ) (now link : ℕ) (table : AccountTable) (units : List (List ℕ)) (d : Desk) (talk : Talk) (left : List (List ℕ)) → DifferInCounts table d.table →
+units_served : (name : List ℕ) (now link : ℕ) (table : AccountTable) (units : List (List ℕ)) (d : Desk) (talk : Talk) (left : List (List ℕ)) → DifferInStates table d.table →
     AllByRecursion (IsServedFrom name now link table) (served_units (controller_server name now link) units d talk left)
 units_served name now link table units d talk left is =
-    served_such (controller_server name now link) (PartCounts table) (IsServedFrom name now link table)
+    served_such (controller_server name now link) (PartDiffers table) (IsServedFrom name now link table)
     (λ bytes d talk left is. (
       (is, refl),
       part-differs table d.table (by_heard (hear link bytes talk) link name now d left) is (heard-differs (hear link bytes talk) link name now d left),
@@ -107,9 +89,9 @@ units_served name now link table units d talk left is =
 
 -- ---- a step of a controller
 
--- it has its accounts, but for their counts, and its name
+-- it has its accounts, but for their counts and hashes, and its name
 abbrev pub KeepsPlan : ControllerState → ControllerState → Type 0
-KeepsPlan c new = DifferInCounts c.table new.table × (new.name ≡ c.name)
+KeepsPlan c new = DifferInStates c.table new.table × (new.name ≡ c.name)
 
 part_named : (part : StepPart) (c : ControllerState) (left : List (List ℕ)) →
     (step_by (λ after. after.0.work.actions) (λ after. state_after c after) (halted c) left (then_part part (λ after rest. start_turn after rest))).state.name ≡ c.name
@@ -121,29 +103,25 @@ running_named None c what now left = refl
 running_named (Some running) c what now left = part_named (by_event what c.name now (first_desk c.table running) running.links left) c left
 
 step_keeps : (c : ControllerState) (what : Event) (now : ℕ) (left : List (List ℕ)) → KeepsPlan c (step_of c what now left).state
-step_keeps c what now left = (counts_by_verdict.counts c what now left, running_named c.running c what now left)
+step_keeps c what now left = (counts_by_verdict.states c what now left, running_named c.running c what now left)
 
 -- ---- what a controller is by its plan, and what it judges
 
--- these are the accounts, but for their counts, and the name of that controller of the plan
+-- these are the accounts, but for their counts and hashes, and the name of that controller of the plan
 pub record IsPlanned (plan : Plan) (controller : ℕ) (table : AccountTable) (name : List ℕ) : Type 0 where
-  pub table_is : IsPlannedTable plan controller table
+  pub planned : AccountTable
+  pub is : slice_get plan.tables controller ≡ Some planned
+  pub states : DifferInStates planned table
   pub name_is : slice_get plan.controllers controller ≡ Some name
 
-planned_later : (plan : Plan) (controller : ℕ) (table other : AccountTable) (name : List ℕ) → IsPlanned plan controller table name → DifferInCounts table other →
+planned_later : (plan : Plan) (controller : ℕ) (table other : AccountTable) (name : List ℕ) → IsPlanned plan controller table name → DifferInStates table other →
     IsPlanned plan controller other name
 planned_later plan controller table other name planned differ = record {
-  table_is = record {
-    planned = planned.table_is.planned;
-    is = planned.table_is.is;
-    counts = differs-again planned.table_is.planned table other planned.table_is.counts differ;
-  };
+  planned = planned.planned;
+  is = planned.is;
+  states = states-again planned.planned table other planned.states differ;
   name_is = planned.name_is;
 }
-
--- where the call passed, it was told with the status of what it came to on the channel that it is checked on
-abbrev pub HasItsStatus : Judging → Type 0
-HasItsStatus j = (channel : SecureChannelState) → j.checks ≡ Some channel → HasStatus j.how (done_on j channel).status
 
 -- besides, it was judged by the accounts of the plan
 abbrev pub IsByPlan : Plan → Judging → Type 0
@@ -155,14 +133,14 @@ unit_by_plan plan w link table planned unit served =
     heard_holds (IsByPlan plan) (hear link unit.bytes unit.talk) w link unit.work unit.left unit.part
     (λ line c. (
       planned_later plan w.controller table unit.work.table w.name planned served.0,
-      (λ channel stands. call_status w.name w.moment line c.info c.validation c.computer c.authenticator unit.work),
+      call_status w line c unit.work,
     ))
     served.1
 
 at_served : (found : Option (LinkState Talk)) (number : ℕ) (piece : List ℕ) (c : ControllerState) (running : Running) (now : ℕ) (left : List (List ℕ)) →
     AllByRecursion (IsServedFrom c.name now number c.table) (units_at found number piece c running now left)
 at_served None number piece c running now left = tt
-at_served (Some link) number piece c running now left = units_served c.name now number c.table (cut_stream (link.rest ++ piece)).units (first_desk c.table running) link.talk left (differs-none c.table)
+at_served (Some link) number piece c running now left = units_served c.name now number c.table (cut_stream (link.rest ++ piece)).units (first_desk c.table running) link.talk left (states-none c.table)
 
 by_served : (running : Option Running) (number : ℕ) (piece : List ℕ) (c : ControllerState) (now : ℕ) (left : List (List ℕ)) →
     AllByRecursion (IsServedFrom c.name now number c.table) (units_by running number piece c now left)
@@ -219,7 +197,7 @@ stand_on plan = record {
       stands.judged)
       stands;
   anew = λ judgings c at controllers chances is stands.
-      controller_put plan judgings judgings controllers at c (first_state c.table c.name) is (differs-none c.table, refl) stands.judged stands;
+      controller_put plan judgings judgings controllers at c (first_state c.table c.name) is (states-none c.table, refl) stands.judged stands;
 }
 
 -- ---- at first
@@ -236,7 +214,7 @@ first_stands : (plan : Plan) → StandsByPlan plan [] (first_world plan).state.e
 first_stands plan = record {
   judged = tt;
   each = λ at c there. let both = first_planned plan.tables plan.controllers at c there in
-      record { table_is = record { planned = c.table; is = both.0; counts = differs-none c.table }; name_is = both.1 };
+      record { planned = c.table; is = both.0; states = states-none c.table; name_is = both.1 };
 }
 
 -- ---- each is granted rightly
@@ -255,16 +233,21 @@ is_granted_so j c asks told right meets =
     ∙ ap (λ (status : ℕ). Some (judged.Passed status))
     (status_done j c meets.next.channel asks ∙ granted_status j.table j.name j.moment c.info c.validation meets.level meets.may meets.verifies)
 
-all_rightly : (plan : Plan) (judgings : List Judging) → AllByRecursion (IsByPlan plan) judgings → AreRight judgings → AllByRecursion (λ (j : Judging). IsGrantedRightly plan j) judgings
-all_rightly plan [] planned right = tt
-all_rightly plan (j ∷ judgings) planned right = (
+-- users have the hashes that the plan gives them
+abbrev pub HasUsers : Plan → Judging → Type 0
+HasUsers plan j = (planned : AccountTable) → slice_get plan.tables j.controller ≡ Some planned → users_of j.table.accounts ≡ users_of planned.accounts
+
+all_rightly : (plan : Plan) (judgings : List Judging) → AllByRecursion (IsByPlan plan) judgings → AreRight judgings → AllByRecursion (HasUsers plan) judgings →
+    AllByRecursion (λ (j : Judging). IsGrantedRightly plan j) judgings
+all_rightly plan [] planned right users = tt
+all_rightly plan (j ∷ judgings) planned right users = (
   record {
     granted = if_network (λ (c : LogonCall). (j.how ≡ Some (judged.Passed 0)) ↔ IsToBeGranted j c) j.asked
         (λ c asks. (to_be_granted j c asks planned.0.1 right.0, is_granted_so j c asks planned.0.1 right.0));
-    table = planned.0.0.table_is;
+    table = record { planned = planned.0.0.planned; is = planned.0.0.is; states = planned.0.0.states; users = users.0 planned.0.0.planned planned.0.0.is };
     name = planned.0.0.name_is;
   },
-  all_rightly plan judgings planned.1 right.1,
+  all_rightly plan judgings planned.1 right.1 users.1,
 )
 
 -- after all moves of a run
@@ -279,8 +262,9 @@ each_status plan moves =
     (stand_after plan moves).judged
 
 -- in every run a controller grants a Logon call exactly where it is to be granted, by the accounts of the plan
-pub grants_who_may : (plan : Plan) (moves : List Move) → GrantsWhoMayLogOn (past plan moves)
-grants_who_may plan moves =
+pub grants_who_may : (plan : Plan) (moves : List Move) → AllByRecursion (HasUsers plan) (past plan moves).book.judged → GrantsWhoMayLogOn (past plan moves)
+grants_who_may plan moves users =
     all_rightly plan (past plan moves).book.judged
     (stand_after plan moves).judged
     (judged_rightly plan moves)
+    users

@@ -1,4 +1,4 @@
--- Each Logon call that a controller heard in a run was judged by its channel's sequence.
+-- Each call on a secure channel that a controller heard in a run was judged by its channel's sequence.
 -- It serves `Proved.grants`, `Proved.credentials`, `Proved.asked` and 8 more.
 use Rattle.std.proofs.Common.{◌≡◌, ℕ, Bool, true, false, List, [], ◌∷◌, ◌++◌, map, Option, Some, None, Result, Ok, Err, refl, sym, subst}
 use Rattle.std.specs.List.{AllByRecursion}
@@ -7,13 +7,12 @@ use Rattle.authenticators.specs.Channels.{ChannelIdentity}
 use Rattle.outside.specs.declared.action.Action.{Action}
 use Rattle.outside.specs.declared.action.StepRefused.{StepRefused}
 use Rattle.outside.specs.declared.event.Event.TheVariants as event
-use Rattle.logon_stubs.specs.declared.calls.Call.TheVariants as call
-use Rattle.logon_stubs.specs.declared.calls.LogonCall.{LogonCall}
+use Rattle.controller_calls.specs.declared.calls.ControllerCall.TheVariants as call
 use Rattle.end_links.specs.Links.{LinkState}
 use Rattle.end_links.specs.Serving.{Server, ServedPart, ServedUnit, served_units}
 use Rattle.rpc_units.specs.Stream.{cut_stream}
 use Rattle.domain_controller.specs.Hearing.{hear}
-use Rattle.domain_controller.specs.Machine.{Desk, answer_logon, by_heard, controller_server}
+use Rattle.domain_controller.specs.Machine.{Desk, answer_judged, by_heard, controller_server}
 use Rattle.domain_controller.specs.State.{State as ControllerState}
 use Rattle.domain_controller.specs.Step.{first_desk, step_of}
 use Rattle.domain_controller.specs.declared.hearing.Heard.{Heard}
@@ -21,16 +20,17 @@ use Rattle.domain_controller.specs.declared.hearing.Heard.TheVariants as heard
 use Rattle.controller_calls.specs.declared.line.Line.{Line}
 use Rattle.domain_controller.specs.declared.state.Running.{Running}
 use Rattle.domain_controller.specs.declared.state.Talk.{Talk}
-use Rattle.step_notes.specs.ControllerNotes.{Answered, Where, answer_on, channel_in, has_passed, heard_answer, judging_by, judging_of, logon_answer, opened_by, opening, passing, units_at, units_by, units_of_controller, checked_on}
+use Rattle.step_notes.specs.ControllerNotes.{Answered, Where, answer_on, channel_in, has_passed, heard_answer, judging_by, judging_of, judged_answer, opened_by, opening, passing, units_at, units_by, units_of_controller, checked_on}
 use Rattle.step_notes.specs.Judged.{IsJudgedRight}
-use Rattle.step_notes.specs.Records.{Book, Judging, computer_named, Network}
+use Rattle.step_notes.specs.Records.{Book, Judging, computer_named, given_in}
+use Rattle.controller_calls.specs.declared.calls.JudgedCall.{JudgedCall}
 use Rattle.step_notes.specs.Served.{units_if_taken, work_after}
 use Rattle.world_moves.specs.declared.links.EndId.{EndId}
 use Rattle.world_moves.specs.declared.moves.Move.{Move}
 use Rattle.world_moves.specs.declared.plan.Plan.{Plan}
 use Rattle.world_moves.specs.declared.state.State.{State}
 use Rattle.domain_world.specs.Past.{Coming, answers_of, at_controller, first_of, judged_of, later_of, note_at, note_controller, numbers_on, onto, past, with_reply}
-use Rattle.step_notes.proofs.Controllers.JudgedStepLaws.{by_names, told_right, checked_named}
+use Rattle.step_notes.proofs.Controllers.JudgedStepLaws.{told_call, told_right, checked_named}
 use Rattle.step_notes.proofs.ServedLaws.{served_such}
 use Rattle.domain_world.proofs.Frames.BookFrameLaws.{book_holds}
 use Rattle.domain_world.proofs.Frames.EndNoteLaws.{book_by, judged_so}
@@ -59,10 +59,10 @@ module _ (Fits : Judging → Type 0) where
   opening_holds None w number = tt
   opening_holds (Some channel) w number = tt
 
--- a fact that holds of each Logon call that the controller answers
+-- a fact that holds of each call on a secure channel that the controller answers
 abbrev pub HoldsOfCalls : (Judging → Type 0) → Where → Desk → Type 0
 HoldsOfCalls Fits w d =
-    (line : Line) (c : LogonCall) → Fits (judging_of w line (Network c) d (Some (answer_logon c.computer c.authenticator w.name w.moment line c.info c.validation d)))
+    (line : Line) (c : JudgedCall) → Fits (judging_of w line c d (Some (answer_judged c w.name w.moment line d)))
 
 pub heard_holds : (Fits : Judging → Type 0) (what : Heard) (w : Where) (link : ℕ) (d : Desk) (left : List (List ℕ)) (part : ServedPart Desk Talk) → HoldsOfCalls Fits w d →
     part ≡ by_heard what link w.name w.moment d left → HoldsIf Fits (heard_answer what w d (work_after part)).judging
@@ -71,18 +71,17 @@ heard_holds Fits (heard.Answer bytes talk) w link d left part each is = tt
 heard_holds Fits (heard.Waits talk) w link d left part each is = tt
 heard_holds Fits (heard.Asked line (call.Challenge c) talk) w link d left part each is = tt
 heard_holds Fits (heard.Asked line (call.Authenticate c) talk) w link d left part each is = opening_holds Fits (opened_by w.controller c d) w line.call
-heard_holds Fits (heard.Asked line (call.Logoff c) talk) w link d left part each is = tt
-heard_holds Fits (heard.Asked line (call.Logon c) talk) w link d left part each is =
-    let j : Judging = judging_of w line (Network c) d (Some (answer_logon c.computer c.authenticator w.name w.moment line c.info c.validation d)) in
-    subst (λ (p : ServedPart Desk Talk). HoldsIf Fits (logon_answer (judging_of w line (Network c) d (work_after p))).judging) (sym is)
+heard_holds Fits (heard.Asked line (call.Judged c) talk) w link d left part each is =
+    let j : Judging = judging_of w line c d (Some (answer_judged c w.name w.moment line d)) in
+    subst (λ (p : ServedPart Desk Talk). HoldsIf Fits (judged_answer (judging_of w line c d (work_after p))).judging) (sym is)
     (judging_holds Fits (has_passed j.how) j (each line c))
 
 pub calls_right : (w : Where) (d : Desk) → HoldsOfCalls IsJudgedRight w d
 calls_right w d line c =
-    let after : Desk = answer_logon c.computer c.authenticator w.name w.moment line c.info c.validation d in
+    let after : Desk = answer_judged c w.name w.moment line d in
     record {
-      right = told_right d.work.actions after.work.actions (checked_on c.computer d.work.computers) c.authenticator (by_names c.computer c.authenticator c w.name w.moment line d);
-      named = checked_named c.computer d.work.computers;
+      right = told_right d.work.actions after.work.actions (checked_on (computer_named c) d.work.computers) (given_in c) line (told_call c w.name w.moment line d);
+      named = checked_named (computer_named c) d.work.computers;
     }
 
 unit_right : (w : Where) (link : ℕ) (unit : ServedUnit Desk Talk) → IsServedBy (controller_server w.name w.moment link) unit → HoldsIf IsJudgedRight (answer_on link w unit).judging

@@ -11,17 +11,20 @@ use Rattle.wire_base.proofs.NameLaws.{IsSameness-same_name, same_name-Decides}
 use Rattle.ntlm_flags.specs.Flags.{has_flag}
 use Rattle.channel_keys.specs.Flags.{rc4_flag}
 use Rattle.authenticators.specs.Channels.{ChannelIdentity, SameChannel}
-use Rattle.authenticators.specs.SecureChannels.{SecureChannelState, channel_by, channel_of, key_of_channel, passes_on, return_by}
+use Rattle.authenticators.specs.SecureChannels.{SecureChannelState, channel_by, channel_of, passes_on, return_by}
+use Rattle.outside.specs.declared.action.Judged.TheVariants as judged
 use Rattle.outside.specs.Drawing.{IsRest}
 use Rattle.outside.proofs.DrawLaws.{IsRest-later, IsRest-refl, IsRest-trans}
 use Rattle.logon_stubs.specs.declared.calls.AuthCall.{AuthCall}
 use Rattle.logon_stubs.specs.declared.calls.ChallengeCall.{ChallengeCall}
-use Rattle.logon_stubs.specs.declared.calls.Call.TheVariants as call
-use Rattle.logon_stubs.specs.declared.info.NetworkInfo.{NetworkInfo}
+use Rattle.controller_calls.specs.declared.calls.ControllerCall.TheVariants as call
 use Rattle.account_table.specs.LookUps.{knows_in}
 use Rattle.account_table.specs.declared.account.Account.{Account}
 use Rattle.end_links.specs.Serving.{ServedPart}
-use Rattle.domain_controller.specs.Machine.{Desk, account_for, answer_authenticate, answer_challenge, answer_logon, by_heard, channel_for, desk, draw_challenge, judge_account, judge_channel, judge_offer, judge_pair, open_channel, put_channel, put_pair_if, take_channel, take_pair}
+use Rattle.domain_controller.specs.Machine.{Desk, account_for, answer_authenticate, answer_challenge, answer_judged, answer_named, answer_on, answers_to, by_heard, channel_for, desk, draw_challenge, judge_account, judge_offer, judge_pair, open_channel, put_channel, put_pair_if, refuse_asked, take_channel, take_pair}
+use Rattle.controller_calls.specs.Calls.{asked_of}
+use Rattle.controller_calls.specs.declared.calls.Asked.{Asked}
+use Rattle.controller_calls.proofs.DoneLaws.{KeepsPairs, refused_keeps, return_keeps}
 use Rattle.domain_controller.specs.declared.hearing.Heard.{Heard}
 use Rattle.domain_controller.specs.declared.hearing.Heard.TheVariants as heard
 use Rattle.domain_controller.specs.declared.state.Talk.{Talk}
@@ -31,11 +34,11 @@ use Rattle.controller_calls.specs.declared.state.Computers.{Computers}
 use Rattle.controller_calls.specs.declared.state.Work.{Work}
 use Rattle.step_notes.specs.ControllerNotes.{Where, accepting, channel_in, has_passed, heard_answer, identity_by, judging_by, judging_of, opened_by, opening, passing}
 use Rattle.step_notes.specs.KeptNotes.{Accepts, IsKeptBy, KeepsNoMore, WaitsAnew, WaitsIfKnown, keeps_in, waits_in}
-use Rattle.step_notes.specs.Records.{ChannelAccepted, Judging, Network, computer_named}
+use Rattle.step_notes.specs.Records.{ChannelAccepted, Judging, computer_named, given_in}
 use Rattle.step_notes.specs.Served.{work_after}
 use Rattle.domain_world.specs.Claims.Openings.{IsLastAccepted, IsUnused, is_opened_for, last_accepted, newer_if}
 use Rattle.channel_events.proofs.ListLaws.{all_weaker, no_some, not_both, pairs_first, some_is}
-use Rattle.step_notes.proofs.Controllers.ComputerLaws.{lookup_named, return_computers}
+use Rattle.step_notes.proofs.Controllers.ComputerLaws.{lookup_named}
 use Rattle.step_notes.proofs.Controllers.KeptNoteLaws.{calls_are_kept}
 use Rattle.domain_world.proofs.Judgements.SeedLaws.{AreApart, IsSpent}
 use Rattle.domain_world.proofs.Judgements.SeedStepLaws.{apart_behind, spent_rest}
@@ -293,19 +296,28 @@ account_map : (account : Option Account) (pair : Option ChallengePair) (line : L
 account_map None pair line c work map = map
 account_map (Some account) pair line c work map = offer_map (has_flag c.flags rc4_flag) pair account line c work map
 
-found_map : (found : Option SecureChannelState) (computer : List ℕ) (given : Authenticator) (name : List ℕ) (now : ℕ) (line : Line) (info : NetworkInfo) (validation : ℕ) (d : Desk) →
-    IsMap same_name d.work.computers.pending → IsMap same_name (judge_channel found computer given name now line info validation (desk d.table (take_channel computer d.work))).work.computers.pending
-found_map None computer given name now line info validation d map = map
-found_map (Some channel) computer given name now line info validation d map =
+-- what leaves the challenges leaves one entry a computer
+same_map : (before after : Computers) → KeepsPairs before after → IsMap same_name before.pending → IsMap same_name after.pending
+same_map before after same map = subst (λ (pending : List (List ℕ × ChallengePair)). IsMap same_name pending) (sym same.pending) map
+
+found_map : (found : Option SecureChannelState) (computer : List ℕ) (given : Authenticator) (what : Asked) (name : List ℕ) (now : ℕ) (line : Line) (d : Desk) → IsMap same_name d.work.computers.pending →
+    IsMap same_name (answer_on found computer given (answers_to what name now line) (desk d.table (take_channel computer d.work))).work.computers.pending
+found_map None computer given what name now line d map =
+    same_map (take_channel computer d.work).computers (refuse_asked what judged.NoChannel line (take_channel computer d.work)).computers
+    (refused_keeps what judged.NoChannel line (take_channel computer d.work)) map
+found_map (Some channel) computer given what name now line d map =
     let passes : Bool = passes_on channel given in
     let back : Desk = desk d.table (put_channel computer (channel_by passes channel given) (take_channel computer d.work)) in
-    subst (λ (x : Computers). IsMap same_name x.pending) (sym (return_computers (return_by passes channel given) (key_of_channel channel) name now line info validation back)) map
+    same_map back.work.computers _ (return_keeps what (return_by passes channel given) computer channel name now line back) map
 
-logon_map : (computer : Option (List ℕ)) (given : Option Authenticator) (name : List ℕ) (now : ℕ) (line : Line) (info : NetworkInfo) (validation : ℕ) (d : Desk) →
-    IsMap same_name d.work.computers.pending → IsMap same_name (answer_logon computer given name now line info validation d).work.computers.pending
-logon_map None given name now line info validation d map = map
-logon_map (Some computer) None name now line info validation d map = map
-logon_map (Some computer) (Some given) name now line info validation d map = found_map (lookup same_name computer d.work.computers.channels) computer given name now line info validation d map
+named_map : (computer : Option (List ℕ)) (given : Option Authenticator) (what : Asked) (name : List ℕ) (now : ℕ) (line : Line) (d : Desk) → IsMap same_name d.work.computers.pending →
+    IsMap same_name (answer_named computer given (answers_to what name now line) d).work.computers.pending
+named_map None given what name now line d map =
+    same_map d.work.computers (refuse_asked what judged.NoChannel line d.work).computers (refused_keeps what judged.NoChannel line d.work) map
+named_map (Some computer) None what name now line d map =
+    same_map d.work.computers (refuse_asked what judged.NoChannel line d.work).computers (refused_keeps what judged.NoChannel line d.work) map
+named_map (Some computer) (Some given) what name now line d map =
+    found_map (lookup same_name computer d.work.computers.channels) computer given what name now line d map
 
 -- ---- a unit
 
@@ -350,11 +362,10 @@ module _ (accepted : List ChannelAccepted) (w : Where) (d : Desk) where
       (calls_are_kept.authenticate w.controller d.table line c d.work kept.map)
       (account_map (account_for d.table c) (lookup same_name c.computer d.work.computers.pending) line c (take_pair c.computer d.work)
       (IsMap-take_out same_name c.computer d.work.computers.pending kept.map)) order kept
-  heard_goes (heard.Asked line (call.Logoff c) talk) link number left order kept = stays accepted left w.controller d.work.computers order kept
-  heard_goes (heard.Asked line (call.Logon c) talk) link number left order kept =
-      let after : Desk = answer_logon c.computer c.authenticator w.name w.moment line c.info c.validation d in
-      let j : Judging = judging_of w line (Network c) d (Some after) in
+  heard_goes (heard.Asked line (call.Judged c) talk) link number left order kept =
+      let after : Desk = answer_judged c w.name w.moment line d in
+      let j : Judging = judging_of w line c d (Some after) in
       subst (λ (o : Option ChannelAccepted). PartGoes accepted (with_accepted o number accepted) left w.controller (λ name. waits_in d.work.computers name)
-      (by_heard (heard.Asked line (call.Logon c) talk) link w.name w.moment d left)) (sym (judging_none (has_passed j.how) j))
-      (no_more_goes accepted left w.controller d.work.computers after.work.computers (calls_are_kept.logon w.controller c.computer c.authenticator w.name w.moment line c.info c.validation d)
-      (logon_map c.computer c.authenticator w.name w.moment line c.info c.validation d kept.map) order kept)
+      (by_heard (heard.Asked line (call.Judged c) talk) link w.name w.moment d left)) (sym (judging_none (has_passed j.how) j))
+      (no_more_goes accepted left w.controller d.work.computers after.work.computers (calls_are_kept.judged w.controller c w.name w.moment line d)
+      (named_map (computer_named c) (given_in c) (asked_of c) w.name w.moment line d kept.map) order kept)

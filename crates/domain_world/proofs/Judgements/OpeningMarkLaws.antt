@@ -3,7 +3,7 @@
 use Rattle.std.proofs.Common.{◌≡◌, ℕ, ◌≤◌, Bool, true, false, List, [], ◌∷◌, ◌++◌, length, map, Option, Some, None, refl, sym, ap, subst, ◌∙◌, arith}
 use Rattle.std.specs.List.{AllByRecursion}
 use Rattle.authenticators.specs.Channels.{ChannelIdentity}
-use Rattle.logon_stubs.specs.declared.calls.Call.TheVariants as call
+use Rattle.controller_calls.specs.declared.calls.ControllerCall.TheVariants as call
 use Rattle.end_links.specs.Serving.{ServedUnit}
 use Rattle.domain_controller.specs.Hearing.{hear}
 use Rattle.domain_controller.specs.Machine.{Desk}
@@ -13,7 +13,7 @@ use Rattle.domain_controller.specs.declared.state.Talk.{Talk}
 use Rattle.channel_events.specs.Marks.{Mark, Opened}
 use Rattle.step_notes.specs.ControllerNotes.{Answered, Where, answer_on, channel_in, has_passed, heard_answer, judging_by, judging_of, opened_by, opened_mark, opening, passing}
 use Rattle.step_notes.specs.Marking.{answered_marks, mark_if}
-use Rattle.step_notes.specs.Records.{ChannelAccepted, InUnit, Judging, Network, Source, computer_named, unit_in}
+use Rattle.step_notes.specs.Records.{ChannelAccepted, InUnit, Judging, Source, computer_named, unit_in}
 use Rattle.step_notes.specs.Served.{work_after}
 use Rattle.domain_world.specs.Past.{accepted_of, first_of, later_of, onto, replied_with}
 use Rattle.domain_world.proofs.Frames.MarkNumberLaws.{AtNumbers, at_later}
@@ -50,9 +50,8 @@ heard_so (heard.Answer bytes talk) w d after = tt
 heard_so (heard.Waits talk) w d after = tt
 heard_so (heard.Asked line (call.Challenge c) talk) w d after = tt
 heard_so (heard.Asked line (call.Authenticate c) talk) w d after = opening_so (opened_by w.controller c d) w line.call
-heard_so (heard.Asked line (call.Logon c) talk) w d after =
-    judging_so w.source (has_passed (judging_of w line (Network c) d after).how) (judging_of w line (Network c) d after)
-heard_so (heard.Asked line (call.Logoff c) talk) w d after = tt
+heard_so (heard.Asked line (call.Judged c) talk) w d after =
+    judging_so w.source (has_passed (judging_of w line c d after).how) (judging_of w line c d after)
 
 pub accepts_so : (w : Where) (link : ℕ) (units : List (ServedUnit Desk Talk)) → AllByRecursion (AcceptsSo w.source) (map (answer_on link w) units)
 accepts_so w link [] = tt

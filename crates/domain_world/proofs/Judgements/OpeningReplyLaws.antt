@@ -3,7 +3,7 @@
 use Rattle.std.proofs.Common.{◌≡◌, ℕ, zero, suc, ◌+◌, Bool, true, false, List, [], ◌∷◌, ◌++◌, length, map, Option, Some, None, inl, refl, sym, subst, slice_get}
 use Rattle.std.specs.List.{AllByRecursion}
 use Rattle.authenticators.specs.Channels.{ChannelIdentity}
-use Rattle.logon_stubs.specs.declared.calls.Call.TheVariants as call
+use Rattle.controller_calls.specs.declared.calls.ControllerCall.TheVariants as call
 use Rattle.outside.specs.declared.event.Event.TheVariants as event
 use Rattle.end_links.specs.Serving.{ServedUnit}
 use Rattle.domain_controller.specs.Hearing.{hear}
@@ -15,7 +15,7 @@ use Rattle.channel_events.specs.Marks.{Mark, OneOf, Plain, Opening, Opened, Call
 use Rattle.step_notes.specs.ControllerNotes.{Answered, Where, accepting, answer_on, channel_in, has_passed, heard_answer, judging_by, judging_of, opened_by, opened_mark, opening, passing, reply_mark, units_of_controller}
 use Rattle.step_notes.specs.Marking.{answered_marks, mark_if}
 use Rattle.step_notes.specs.MemberNotes.{turn_units}
-use Rattle.step_notes.specs.Records.{Book, ChannelAccepted, InUnit, Judging, Network, Outside, Source, computer_named, unit_in}
+use Rattle.step_notes.specs.Records.{Book, ChannelAccepted, InUnit, Judging, Outside, Source, computer_named, unit_in}
 use Rattle.step_notes.specs.Served.{work_after}
 use Rattle.world_moves.specs.declared.bag.BagUnit.{BagUnit}
 use Rattle.world_moves.specs.declared.links.EndId.{EndId}
@@ -81,9 +81,8 @@ heard_so (heard.Answer bytes talk) w d after = tt
 heard_so (heard.Waits talk) w d after = tt
 heard_so (heard.Asked line (call.Challenge c) talk) w d after = tt
 heard_so (heard.Asked line (call.Authenticate c) talk) w d after = opening_so (opened_by w.controller c d) w line.call
-heard_so (heard.Asked line (call.Logon c) talk) w d after =
-    judging_so (has_passed (judging_of w line (Network c) d after).how) (judging_of w line (Network c) d after)
-heard_so (heard.Asked line (call.Logoff c) talk) w d after = tt
+heard_so (heard.Asked line (call.Judged c) talk) w d after =
+    judging_so (has_passed (judging_of w line c d after).how) (judging_of w line c d after)
 
 answers_so : (w : Where) (link : ℕ) (units : List (ServedUnit Desk Talk)) → AllByRecursion (λ (one : Answered). IfOpened one.mark one.accepted) (map (answer_on link w) units)
 answers_so w link [] = tt

@@ -298,7 +298,7 @@ abbrev pub Follows : List ChannelAccepted → ControllersFact
 Follows accepted controllers chances = OpeningsFollow accepted chances.left controllers
 
 -- a controller that is made anew keeps nothing of computers
-fresh_opened : (accepted : List ChannelAccepted) (left : List (List ℕ)) (controller : ℕ) → AreOpened accepted left controller (record { pending = []; channels = [] })
+fresh_opened : (accepted : List ChannelAccepted) (left : List (List ℕ)) (controller : ℕ) → AreOpened accepted left controller (record { pending = []; channels = []; sessions = [] })
 fresh_opened accepted left controller = record {
   map = λ i j d lt within. absurd (omega (arith, within));
   waiting = λ name server waits. absurd (no_some server waits);
@@ -327,7 +327,7 @@ follow_on = record {
 
 -- ---- at first
 
-each_fresh : (P : ControllerState → Type 0) → ((table : AccountTable) (name : List ℕ) → P (first_state table name)) → (tables : List AccountTable) (names : List (List ℕ)) (at : ℕ) (c : ControllerState) →
+pub each_fresh : (P : ControllerState → Type 0) → ((table : AccountTable) (name : List ℕ) → P (first_state table name)) → (tables : List AccountTable) (names : List (List ℕ)) (at : ℕ) (c : ControllerState) →
     slice_get (first_controllers tables names) at ≡ Some c → P c
 each_fresh P one [] names at c there = absurd cc
 each_fresh P one (table ∷ tables) [] at c there = absurd cc

@@ -3,7 +3,7 @@
 use Rattle.std.proofs.Common.{◌≡◌, ℕ, Bool, true, false, List, [], ◌∷◌, ◌++◌, map, Option, Some, None, refl, ap₂, ◌∙◌}
 use Rattle.std.specs.List.{AllByRecursion}
 use Rattle.authenticators.specs.Channels.{ChannelIdentity}
-use Rattle.logon_stubs.specs.declared.calls.Call.TheVariants as call
+use Rattle.controller_calls.specs.declared.calls.ControllerCall.TheVariants as call
 use Rattle.end_links.specs.Serving.{ServedUnit}
 use Rattle.domain_controller.specs.Hearing.{hear}
 use Rattle.domain_controller.specs.Machine.{Desk}
@@ -17,7 +17,7 @@ use Rattle.channel_turns.specs.declared.state.TurnTalk.{TurnTalk}
 use Rattle.step_notes.specs.ControllerNotes.{Answered, Where, answer_on, channel_in, has_passed, heard_answer, judging_by, judging_of, opened_by, opening, passing, units_of_controller}
 use Rattle.step_notes.specs.Marking.{clashes}
 use Rattle.step_notes.specs.MemberNotes.{turn_units}
-use Rattle.step_notes.specs.Records.{Book, ChannelAccepted, Judging, Network, Sent, Source, computer_named, unit_in}
+use Rattle.step_notes.specs.Records.{Book, ChannelAccepted, Judging, Sent, Source, computer_named, unit_in}
 use Rattle.step_notes.specs.Served.{work_after}
 use Rattle.world_moves.specs.declared.links.EndId.{EndId}
 use Rattle.world_moves.specs.declared.moves.Move.{Move}
@@ -75,9 +75,8 @@ heard_noted (heard.Answer bytes talk) w d after = tt
 heard_noted (heard.Waits talk) w d after = tt
 heard_noted (heard.Asked line (call.Challenge c) talk) w d after = tt
 heard_noted (heard.Asked line (call.Authenticate c) talk) w d after = opening_noted (opened_by w.controller c d) w line.call
-heard_noted (heard.Asked line (call.Logon c) talk) w d after =
-    judging_noted w.source (has_passed (judging_of w line (Network c) d after).how) (judging_of w line (Network c) d after)
-heard_noted (heard.Asked line (call.Logoff c) talk) w d after = tt
+heard_noted (heard.Asked line (call.Judged c) talk) w d after =
+    judging_noted w.source (has_passed (judging_of w line c d after).how) (judging_of w line c d after)
 
 answers_noted : (link : ℕ) (w : Where) (units : List (ServedUnit Desk Talk)) → AllByRecursion (IsNoted w.source) (map (answer_on link w) units)
 answers_noted link w [] = tt

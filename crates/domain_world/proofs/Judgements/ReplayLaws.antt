@@ -45,7 +45,7 @@ abbrev pub Follows : List Judging → ControllersFact
 Follows judgings controllers chances = SeedsFollow judgings chances.left controllers
 
 -- a controller that is made anew keeps nothing of computers
-fresh_kept : (judgings : List Judging) (left : List (List ℕ)) (controller : ℕ) → AreKept judgings left controller (record { pending = []; channels = [] })
+fresh_kept : (judgings : List Judging) (left : List (List ℕ)) (controller : ℕ) → AreKept judgings left controller (record { pending = []; channels = []; sessions = [] })
 fresh_kept judgings left controller = record {
   map = λ i j d lt within. absurd (omega (arith, within));
   each = λ name. record { channels = λ c there. absurd cc; pairs = λ pair waits. absurd cc; differ = λ c pair there waits. absurd cc };

@@ -3,8 +3,8 @@
 use Rattle.std.proofs.Common.{◌≡◌, ℕ, ◌≤◌, Bool, true, false, List, [], ◌∷◌, ◌++◌, length, map, Option, Some, None, refl, sym, ap, subst, ◌∙◌, arith}
 use Rattle.std.specs.List.{AllByRecursion}
 use Rattle.authenticators.specs.Channels.{ChannelIdentity}
-use Rattle.logon_stubs.specs.declared.calls.Call.TheVariants as call
 use Rattle.end_links.specs.Serving.{ServedUnit}
+use Rattle.controller_calls.specs.declared.calls.ControllerCall.TheVariants as call
 use Rattle.domain_controller.specs.Hearing.{hear}
 use Rattle.domain_controller.specs.Machine.{Desk}
 use Rattle.domain_controller.specs.declared.hearing.Heard.{Heard}
@@ -14,7 +14,7 @@ use Rattle.channel_events.specs.Marks.{Mark, ReplyTo}
 use Rattle.step_notes.specs.ControllerNotes.{Answered, Where, answer_on, channel_in, has_passed, heard_answer, judging_by, judging_of, opened_by, opening, passing, reply_mark}
 use Rattle.step_notes.specs.Judged.{channel_if, passed_channel}
 use Rattle.step_notes.specs.Marking.{answered_marks, mark_if}
-use Rattle.step_notes.specs.Records.{InUnit, Judging, Network, Source, computer_named, unit_in}
+use Rattle.step_notes.specs.Records.{InUnit, Judging, Source, computer_named, unit_in}
 use Rattle.step_notes.specs.Served.{work_after}
 use Rattle.domain_world.specs.Past.{first_of, judged_of, later_of, with_reply}
 use Rattle.channel_events.proofs.ListLaws.{no_some, some_is}
@@ -63,9 +63,8 @@ heard_so (heard.Answer bytes talk) w d after = tt
 heard_so (heard.Waits talk) w d after = tt
 heard_so (heard.Asked line (call.Challenge c) talk) w d after = tt
 heard_so (heard.Asked line (call.Authenticate c) talk) w d after = opening_so w.source (opened_by w.controller c d) w line.call
-heard_so (heard.Asked line (call.Logon c) talk) w d after =
-    judging_so (has_passed (judging_of w line (Network c) d after).how) (judging_of w line (Network c) d after) refl
-heard_so (heard.Asked line (call.Logoff c) talk) w d after = tt
+heard_so (heard.Asked line (call.Judged c) talk) w d after =
+    judging_so (has_passed (judging_of w line c d after).how) (judging_of w line c d after) refl
 
 pub answers_so : (w : Where) (link : ℕ) (units : List (ServedUnit Desk Talk)) → AllByRecursion (AnswersSo w.source) (map (answer_on link w) units)
 answers_so w link [] = tt

@@ -13,18 +13,17 @@ use Rattle.channel_keys.specs.Credentials.{cred_of}
 use Rattle.channel_keys.specs.Flags.{rc4_flag}
 use Rattle.channel_keys.proofs.CredLaws.{IsBlock-cred_of}
 use Rattle.authenticators.specs.Channels.{ChannelIdentity}
-use Rattle.authenticators.specs.Sequences.{add_to}
+use Rattle.authenticators.specs.Sequences.{add_to, return_of}
 use Rattle.authenticators.specs.SecureChannels.{SecureChannelState, channel_by, key_of_channel, passes_on, return_by, channel_of}
 use Rattle.authenticators.proofs.SeedLaws.{add_to-add_to, add_to-zero}
+use Rattle.outside.specs.declared.action.Action.{Action}
 use Rattle.outside.specs.declared.action.Judged.{Judged}
 use Rattle.outside.specs.declared.action.Judged.TheVariants as judged
 use Rattle.logon_stubs.specs.declared.calls.AuthCall.{AuthCall}
-use Rattle.logon_stubs.specs.declared.calls.LogonCall.{LogonCall}
-use Rattle.logon_stubs.specs.declared.info.NetworkInfo.{NetworkInfo}
 use Rattle.account_table.specs.declared.account.Account.{Account}
 use Rattle.channel_events.proofs.SameLaws.{itself}
 use Rattle.domain_controller.specs.Laws.{KeepsComputer}
-use Rattle.domain_controller.specs.Machine.{Desk, answer_logon, channel_for, desk, judge_account, judge_channel, judge_offer, judge_pair, judge_return, open_channel, put_channel, put_pair_if, take_channel, take_pair}
+use Rattle.domain_controller.specs.Machine.{Desk, answer_named, answer_on, answer_return, answers_to, channel_for, desk, judge_account, judge_offer, judge_pair, open_channel, refuse_asked, put_channel, put_pair_if, take_channel, take_pair}
 use Rattle.controller_calls.specs.declared.line.Line.{Line}
 use Rattle.controller_calls.specs.declared.state.Computers.{Computers}
 use Rattle.controller_calls.specs.declared.state.ChallengePair.{ChallengePair}
@@ -33,10 +32,14 @@ use Rattle.step_notes.specs.ControllerNotes.{Where, channel_in, checked_on, has_
 use Rattle.step_notes.specs.ControllerNotes as notes
 use Rattle.step_notes.specs.Judged.{channel_if, passed_channel}
 use Rattle.step_notes.specs.Marking.{is_channel}
-use Rattle.step_notes.specs.Records.{Judging, Network, computer_named, given_in, timestamp_in}
+use Rattle.step_notes.specs.Records.{Judging, computer_named, given_in, timestamp_in}
+use Rattle.controller_calls.specs.Calls.{asked_of}
+use Rattle.controller_calls.specs.declared.calls.Asked.{Asked}
+use Rattle.controller_calls.specs.declared.calls.JudgedCall.{JudgedCall}
+use Rattle.controller_calls.proofs.DoneLaws.{KeepsPairs, asked_done, asked_refused, refused_keeps, return_keeps, texts_kept}
 use Rattle.domain_world.specs.Claims.{moved_if, moved_on, passed_on, judged_timestamp}
-use Rattle.step_notes.proofs.Controllers.ComputerLaws.{lookup_named, return_computers, taken_none}
-use Rattle.step_notes.proofs.Controllers.JudgedStepLaws.{told_first}
+use Rattle.step_notes.proofs.Controllers.ComputerLaws.{lookup_named, taken_none}
+use Rattle.step_notes.proofs.Controllers.JudgedStepLaws.{dropped, told_kept}
 use Rattle.domain_world.proofs.Judgements.MovedLaws.{IsFound, moved_past, moved_same, not_passed, passed_in}
 
 -- ---- what is known
@@ -395,16 +398,17 @@ module _ (judgings : List Judging) (left : List (List ℕ)) (j : Judging) (compu
       }
 
 -- the call as it is judged
-abbrev pub judged_as : Option Judged → Option ℕ → Where → Line → LogonCall → Desk → Judging
+abbrev pub judged_as : Option Judged → Option ℕ → Where → Line → JudgedCall → Desk → Judging
 judged_as how number w line c d = record {
   at = w.at;
   controller = w.controller;
   name = w.name;
   source = w.source;
   number = line.call;
-  asked = Network c;
-  checks = checked_on c.computer d.work.computers;
+  asked = c;
+  checks = checked_on (computer_named c) d.work.computers;
   table = d.table;
+  sessions = d.work.computers.sessions;
   moment = w.moment;
   how = how;
   reply = number;
@@ -414,47 +418,62 @@ judged_as how number w line c d = record {
 abbrev pub told_in : Desk → Desk → Option Judged
 told_in before after = judged_in (drop (length before.work.actions) after.work.actions)
 
-how_passes : (passes : Bool) (key : List ℕ) (channel : SecureChannelState) (given : Authenticator) (name : List ℕ) (now : ℕ) (line : Line) (info : NetworkInfo) (validation : ℕ) (d : Desk) →
-    has_passed (told_in d (judge_return (return_by passes channel given) key name now line info validation d)) ≡ passes
-how_passes true key channel given name now line info validation d = ap has_passed (told_first d.work.actions (judged.Passed _) _)
-how_passes false key channel given name now line info validation d = ap has_passed (told_first d.work.actions judged.Barred _)
+refused_told : (what : Asked) (how : Judged) (line : Line) (work : Work) → judged_in (drop (length work.actions) (refuse_asked what how line work).actions) ≡ Some how
+refused_told what how line work =
+    ap (λ (all : List Action). judged_in (drop (length work.actions) all)) (asked_refused what how line work).actions
+    ∙ ap judged_in (dropped work.actions _)
+
+how_passes : (passes : Bool) (what : Asked) (computer : List ℕ) (channel : SecureChannelState) (given : Authenticator) (name : List ℕ) (now : ℕ) (line : Line) (d : Desk) →
+    has_passed (told_in d (answer_return (return_by passes channel given) (answers_to what name now line).refused ((answers_to what name now line).passed computer channel) d)) ≡ passes
+how_passes true what computer channel given name now line d =
+    ap has_passed
+    (ap (λ (all : List Action). judged_in (drop (length d.work.actions) all))
+    (asked_done what name now line computer (key_of_channel channel) (return_of (key_of_channel channel) channel.seed given.timestamp) d).actions
+    ∙ ap judged_in (dropped d.work.actions _)
+    ∙ told_kept _ _ _ (texts_kept what _))
+how_passes false what computer channel given name now line d = ap has_passed (refused_told what judged.Barred line d.work)
 
 none_is : {T : Type 0} (value : T) → None ≡ Some value → ⊥
 none_is value is = absurd cc
 
-module _ (judgings : List Judging) (left : List (List ℕ)) (number : Option ℕ) (w : Where) (line : Line) (c : LogonCall) (name : List ℕ) (now : ℕ) (info : NetworkInfo) (validation : ℕ) where
-  channel_judged : (found : Option SecureChannelState) (how : Option Judged) (computer : List ℕ) (given : Authenticator) (d : Desk) → c.computer ≡ Some computer → c.authenticator ≡ Some given →
+module _ (judgings : List Judging) (left : List (List ℕ)) (number : Option ℕ) (w : Where) (line : Line) (c : JudgedCall) (name : List ℕ) (now : ℕ) where
+  channel_judged : (found : Option SecureChannelState) (how : Option Judged) (computer : List ℕ) (given : Authenticator) (d : Desk) → computer_named c ≡ Some computer → given_in c ≡ Some given →
       lookup same_name computer d.work.computers.channels ≡ found →
-      how ≡ told_in d (judge_channel found computer given name now line info validation (desk d.table (take_channel computer d.work))) → AreKept judgings left w.controller d.work.computers →
-      AreKept (judged_as how number w line c d ∷ judgings) left w.controller (judge_channel found computer given name now line info validation (desk d.table (take_channel computer d.work))).work.computers
+      how ≡ told_in d (answer_on found computer given (answers_to (asked_of c) name now line) (desk d.table (take_channel computer d.work))) → AreKept judgings left w.controller d.work.computers →
+      AreKept (judged_as how number w line c d ∷ judgings) left w.controller
+      (answer_on found computer given (answers_to (asked_of c) name now line) (desk d.table (take_channel computer d.work))).work.computers
   channel_judged None how computer given d named there stands told kept =
       let j : Judging = judged_as how number w line c d in
+      let same : KeepsPairs (take_channel computer d.work).computers (refuse_asked (asked_of c) judged.NoChannel line (take_channel computer d.work)).computers =
+      refused_keeps (asked_of c) judged.NoChannel line (take_channel computer d.work) in
       none_moved judgings left j d.work.computers refl kept (λ channel passed.
       let found = passed_in j channel passed in
       none_is found.state (sym stands ∙ sym (ap (λ (name : Option (List ℕ)). checked_on name d.work.computers) named) ∙ found.stands))
-      (take_channel computer d.work).computers refl (taken_none computer d.work.computers.channels stands)
+      (refuse_asked (asked_of c) judged.NoChannel line (take_channel computer d.work)).computers same.pending
+      (same.channels ∙ taken_none computer d.work.computers.channels stands)
   channel_judged (Some channel) how computer given d named there stands told kept =
       let j : Judging = judged_as how number w line c d in
       let passes : Bool = passes_on channel given in
       let put_back : Desk = desk d.table (put_channel computer (channel_by passes channel given) (take_channel computer d.work)) in
-      let after : Desk = judge_return (return_by passes channel given) (key_of_channel channel) name now line info validation put_back in
-      let same : after.work.computers ≡ put_back.work.computers = return_computers (return_by passes channel given) (key_of_channel channel) name now line info validation put_back in
+      let after : Desk = answer_return (return_by passes channel given) (answers_to (asked_of c) name now line).refused ((answers_to (asked_of c) name now line).passed computer channel) put_back in
+      let same : KeepsPairs put_back.work.computers after.work.computers = return_keeps (asked_of c) (return_by passes channel given) computer channel name now line put_back in
       moved_kept judgings left j d.work.computers refl kept passes computer given channel after.work.computers
-      (ap has_passed told ∙ how_passes passes (key_of_channel channel) channel given name now line info validation put_back) named there stands
-      (ap Computers.pending same) (ap Computers.channels same)
+      (ap has_passed told ∙ how_passes passes (asked_of c) computer channel given name now line put_back) named there stands same.pending same.channels
 
-  pub logon_kept : (computer : Option (List ℕ)) (given : Option Authenticator) (how : Option Judged) (d : Desk) → c.computer ≡ computer → c.authenticator ≡ given →
-      how ≡ told_in d (answer_logon computer given name now line info validation d) → AreKept judgings left w.controller d.work.computers →
-      AreKept (judged_as how number w line c d ∷ judgings) left w.controller (answer_logon computer given name now line info validation d).work.computers
+  pub logon_kept : (computer : Option (List ℕ)) (given : Option Authenticator) (how : Option Judged) (d : Desk) → computer_named c ≡ computer → given_in c ≡ given →
+      how ≡ told_in d (answer_named computer given (answers_to (asked_of c) name now line) d) → AreKept judgings left w.controller d.work.computers →
+      AreKept (judged_as how number w line c d ∷ judgings) left w.controller (answer_named computer given (answers_to (asked_of c) name now line) d).work.computers
   logon_kept None given how d named there told kept =
       let j : Judging = judged_as how number w line c d in
+      let same : KeepsPairs d.work.computers (refuse_asked (asked_of c) judged.NoChannel line d.work).computers = refused_keeps (asked_of c) judged.NoChannel line d.work in
       none_moved judgings left j d.work.computers refl kept (λ channel passed.
       let found = passed_in j channel passed in none_is found.name (sym named ∙ found.named))
-      d.work.computers refl refl
+      (refuse_asked (asked_of c) judged.NoChannel line d.work).computers same.pending same.channels
   logon_kept (Some computer) None how d named there told kept =
       let j : Judging = judged_as how number w line c d in
+      let same : KeepsPairs d.work.computers (refuse_asked (asked_of c) judged.NoChannel line d.work).computers = refused_keeps (asked_of c) judged.NoChannel line d.work in
       none_moved judgings left j d.work.computers refl kept
-      (λ channel passed. not_passed (has_passed how) j channel (ap has_passed (told ∙ told_first d.work.actions judged.NoChannel _)) passed)
-      d.work.computers refl refl
+      (λ channel passed. not_passed (has_passed how) j channel (ap has_passed (told ∙ refused_told (asked_of c) judged.NoChannel line d.work)) passed)
+      (refuse_asked (asked_of c) judged.NoChannel line d.work).computers same.pending same.channels
   logon_kept (Some computer) (Some given) how d named there told kept =
       channel_judged (lookup same_name computer d.work.computers.channels) how computer given d named there refl told kept

@@ -15,7 +15,7 @@ use Rattle.account_table.specs.LookUps.{knows_in}
 use Rattle.end_links.specs.Links.{LinkState}
 use Rattle.end_links.specs.Serving.{ServedPart, served_cut, ServedUnit, served_units}
 use Rattle.domain_controller.specs.Hearing.{hear}
-use Rattle.domain_controller.specs.Machine.{Desk, account_for, answer_logon, by_heard, controller_server, draw_challenge}
+use Rattle.domain_controller.specs.Machine.{Desk, account_for, answer_judged, by_heard, controller_server, draw_challenge}
 use Rattle.domain_controller.specs.State.{State as ControllerState}
 use Rattle.domain_controller.specs.Step.{LinkMap, first_desk, halted, state_after, step_of, step_on}
 use Rattle.domain_controller.specs.declared.hearing.Heard.{Heard}
@@ -24,7 +24,7 @@ use Rattle.controller_calls.specs.declared.state.Computers.{Computers}
 use Rattle.domain_controller.specs.declared.state.Running.{Running}
 use Rattle.domain_controller.specs.declared.state.Talk.{Talk}
 use Rattle.step_notes.specs.ControllerNotes.{Answered, Where, answer_on, channel_in, has_passed, heard_answer, judged_in, judging_by, judging_of, new_actions, opened_by, opening, passing, units_at, units_by}
-use Rattle.step_notes.specs.Records.{Judging, Network, Source, computer_named}
+use Rattle.step_notes.specs.Records.{Judging, Source, computer_named, given_in}
 use Rattle.step_notes.specs.Served.{units_if_taken, work_after}
 use Rattle.domain_world.specs.Claims.{moved_on}
 use Rattle.domain_world.specs.Past.{first_of, judged_of, later_of, onto, with_reply}
@@ -34,7 +34,7 @@ use Rattle.domain_world.proofs.Judgements.SeedLaws.{AreApart, AreKept, AreUnhear
 use Rattle.domain_world.proofs.Judgements.ToldLaws.{standing_at, step_after, step_link}
 use Rattle.domain_world.proofs.Frames.NoBytesLaws.{DoesNothingElse, IsNoBytes, KeepsComputers, does_nothing_else}
 use Rattle.outside.specs.declared.event.Event.TheVariants as event
-use Rattle.logon_stubs.specs.declared.calls.Call.TheVariants as call
+use Rattle.controller_calls.specs.declared.calls.ControllerCall.TheVariants as call
 use Rattle.domain_controller.specs.declared.hearing.Heard.TheVariants as heard
 
 -- ---- fewer challenges are left
@@ -140,15 +140,14 @@ module _ (judgings : List Judging) (w : Where) (d : Desk) where
       (sym (opening_none (opened_by w.controller c d) w line.call))
       (stays judgings left w.controller _ order
       (account_opened judgings left w.controller (account_for d.table c) (lookup same_name c.computer d.work.computers.pending) line c d.work refl kept))
-  heard_goes (heard.Asked line (call.Logoff c) talk) link number left order kept = stays judgings left w.controller d.work.computers order kept
-  heard_goes (heard.Asked line (call.Logon c) talk) link number left order kept =
-      let after : Desk = answer_logon c.computer c.authenticator w.name w.moment line c.info c.validation d in
+  heard_goes (heard.Asked line (call.Judged c) talk) link number left order kept =
+      let after : Desk = answer_judged c w.name w.moment line d in
       let how = judged_in (new_actions (Some after) d) in
       let j : Judging = judged_as how number w line c d in
-      subst (λ (o : Option Judging). PartGoes judgings (with_judging o number judgings) left w.controller (by_heard (heard.Asked line (call.Logon c) talk) link w.name w.moment d left))
-      (sym (judging_some (has_passed how) (judging_of w line (Network c) d (Some after)))) (record {
+      subst (λ (o : Option Judging). PartGoes judgings (with_judging o number judgings) left w.controller (by_heard (heard.Asked line (call.Judged c) talk) link w.name w.moment d left))
+      (sym (judging_some (has_passed how) (judging_of w line c d (Some after)))) (record {
         order = judged_order judgings left j d.work.computers refl kept order;
-        kept = logon_kept judgings left number w line c w.name w.moment c.info c.validation c.computer c.authenticator how d refl refl refl kept;
+        kept = logon_kept judgings left number w line c w.name w.moment (computer_named c) (given_in c) how d refl refl refl kept;
         fewer = IsRest-refl left;
         others = others_unmoved judgings left j d.work.computers refl kept;
       })

@@ -6,17 +6,15 @@ use Rattle.wire_base.specs.Maps.{lookup, same_number, take_out}
 use Rattle.outside.specs.Machine.{step_by, then_part}
 use Rattle.outside.specs.declared.event.Event.TheVariants as event
 use Rattle.rpc_units.specs.Stream.{Cut, cut_stream}
-use Rattle.logon_stubs.specs.declared.calls.Call.{Call}
-use Rattle.logon_stubs.specs.declared.calls.Call.TheVariants as call
+use Rattle.controller_calls.specs.declared.calls.ControllerCall.TheVariants as call
 use Rattle.logon_stubs.specs.declared.calls.ChallengeCall.{ChallengeCall}
-use Rattle.logon_stubs.specs.declared.calls.LogonCall.{LogonCall}
 use Rattle.authenticators.specs.Channels.{ChannelIdentity}
 use Rattle.authenticators.specs.SecureChannels.{SecureChannelState}
 use Rattle.account_table.specs.AccountTable.{AccountTable}
 use Rattle.end_links.specs.Links.{LinkState}
 use Rattle.end_links.specs.Serving.{ServedPart, served_cut, ServedUnit, served_units}
 use Rattle.domain_controller.specs.Hearing.{hear}
-use Rattle.domain_controller.specs.Machine.{Desk, answer_logon, by_heard, controller_server, draw_challenge}
+use Rattle.domain_controller.specs.Machine.{Desk, answer_judged, by_heard, controller_server, draw_challenge}
 use Rattle.domain_controller.specs.State.{State as ControllerState}
 use Rattle.domain_controller.specs.Step.{LinkMap, StepPart, after_units, by_event, first_desk, first_state, halted, serve_on, start_turn, state_after, step_of, step_on}
 use Rattle.domain_controller.specs.declared.hearing.Heard.{Heard}
@@ -24,10 +22,13 @@ use Rattle.domain_controller.specs.declared.hearing.Heard.TheVariants as heard
 use Rattle.controller_calls.specs.declared.line.Line.{Line}
 use Rattle.domain_controller.specs.declared.state.Running.{Running}
 use Rattle.domain_controller.specs.declared.state.Talk.{Talk}
-use Rattle.domain_controller.proofs.CountLaws.{counts_by_verdict}
-use Rattle.step_notes.specs.ControllerNotes.{Answered, Where, answer_on, channel_in, has_passed, heard_answer, judging_by, judging_of, logon_answer, opened_by, opening, passing, units_at, units_by, checked_on}
+use Rattle.domain_controller.specs.Laws.{IsNext}
+use Rattle.step_notes.specs.ControllerNotes.{Answered, Where, answer_on, channel_in, has_passed, heard_answer, judging_by, judging_of, judged_answer, opened_by, opening, passing, units_at, units_by, checked_on}
 use Rattle.step_notes.specs.Judged.{IsJudgedRight, IsNextOn}
-use Rattle.step_notes.specs.Records.{Book, Judging, computer_named, Network}
+use Rattle.step_notes.specs.Records.{Book, Judging, computer_named, given_in}
+use Rattle.controller_calls.specs.declared.calls.JudgedCall.{JudgedCall}
+use Rattle.controller_calls.specs.declared.calls.ControllerCall.{ControllerCall}
+use Rattle.controller_calls.proofs.DoneLaws.{does_what_passes}
 use Rattle.step_notes.specs.Served.{units_if_taken, work_after}
 use Rattle.world_moves.specs.declared.moves.Move.{Move}
 use Rattle.world_moves.specs.declared.plan.Plan.{Plan}
@@ -77,27 +78,29 @@ pub record Answers (controller : ℕ) (before : AccountTable) (one : Answered) (
   pub leaves : HasTable (left_of before one.judging) part
 
 module _ (w : Where) (d : Desk) where
-  logon_left : (passed : Bool) (line : Line) (c : LogonCall) → has_passed (judging_of w line (Network c) d (Some (answer_logon c.computer c.authenticator w.name w.moment line c.info c.validation d))).how ≡ passed →
-      (answer_logon c.computer c.authenticator w.name w.moment line c.info c.validation d).table
-      ≡ left_if passed (judging_of w line (Network c) d (Some (answer_logon c.computer c.authenticator w.name w.moment line c.info c.validation d)))
+  logon_left : (passed : Bool) (line : Line) (c : JudgedCall) → has_passed (judging_of w line c d (Some (answer_judged c w.name w.moment line d))).how ≡ passed →
+      (answer_judged c w.name w.moment line d).table
+      ≡ left_if passed (judging_of w line c d (Some (answer_judged c w.name w.moment line d)))
   logon_left true line c is =
-      let right : IsJudgedRight (judging_of w line (Network c) d (Some (answer_logon c.computer c.authenticator w.name w.moment line c.info c.validation d))) = calls_right w d line c in
-      let next : IsNextOn (checked_on c.computer d.work.computers) c.authenticator = right.right.passed.0 is in
-      counts_by_verdict.next c w.name w.moment line d (next_of c.computer d.work.computers c.authenticator next)
-      ∙ ap (λ (found : Option SecureChannelState). left_on found (judging_of w line (Network c) d (Some (answer_logon c.computer c.authenticator w.name w.moment line c.info c.validation d)))) (sym next.stands)
+      let j : Judging = judging_of w line c d (Some (answer_judged c w.name w.moment line d)) in
+      let right : IsJudgedRight j = calls_right w d line c in
+      let next : IsNext d.work.computers (computer_named c) (given_in c) = next_of (computer_named c) d.work.computers (given_in c) (right.right.passed.0 is) in
+      let checked : IsNextOn (checked_on (computer_named c) d.work.computers) (given_in c) = on_next (computer_named c) d.work.computers (given_in c) next in
+      (does_what_passes.passed c w.name w.moment line d next).table ∙ ap (λ (found : Option SecureChannelState). left_on found j) (sym checked.stands)
   logon_left false line c is =
-      let right : IsJudgedRight (judging_of w line (Network c) d (Some (answer_logon c.computer c.authenticator w.name w.moment line c.info c.validation d))) = calls_right w d line c in
-      counts_by_verdict.other c w.name w.moment line d (λ next. absurd (let never : false ≡ true = sym is ∙ right.right.passed.1 (on_next c.computer d.work.computers c.authenticator next) in cc))
+      let right : IsJudgedRight (judging_of w line c d (Some (answer_judged c w.name w.moment line d))) = calls_right w d line c in
+      (does_what_passes.refused c w.name w.moment line d
+      (λ next. absurd (let never : false ≡ true = sym is ∙ right.right.passed.1 (on_next (computer_named c) d.work.computers (given_in c) next) in cc))).table
 
   passing_judging : (channel : Option ChannelIdentity) (j : Judging) → (passing channel j).judging ≡ Some j
   passing_judging None j = refl
   passing_judging (Some channel) j = refl
 
-  logon_judging : (passed : Bool) (j : Judging) → (judging_by passed j).judging ≡ Some j
+  pub logon_judging : (passed : Bool) (j : Judging) → (judging_by passed j).judging ≡ Some j
   logon_judging false j = refl
   logon_judging true j = passing_judging (channel_in j.controller (computer_named j.asked) j.checks) j
 
-  opening_judging : (channel : Option ChannelIdentity) (number : ℕ) → (opening channel w number).judging ≡ None
+  pub opening_judging : (channel : Option ChannelIdentity) (number : ℕ) → (opening channel w number).judging ≡ None
   opening_judging None number = refl
   opening_judging (Some channel) number = refl
 
@@ -105,7 +108,7 @@ module _ (w : Where) (d : Desk) where
   draws_table [] line c talk = tt
   draws_table (server ∷ left) line c talk = refl
 
-  call_answers : (c : Call) (line : Line) (talk : Talk) (left : List (List ℕ)) (link : ℕ) →
+  call_answers : (c : ControllerCall) (line : Line) (talk : Talk) (left : List (List ℕ)) (link : ℕ) →
       Answers w.controller d.table (heard_answer (heard.Asked line c talk) w d (work_after (by_heard (heard.Asked line c talk) link w.name w.moment d left)))
       (by_heard (heard.Asked line c talk) link w.name w.moment d left)
   call_answers (call.Challenge c) line talk left link = record { by = tt; leaves = draws_table left line c talk }
@@ -115,10 +118,9 @@ module _ (w : Where) (d : Desk) where
         by = subst (λ (judging : Option Judging). IsBy w.controller d.table judging) (sym none) tt;
         leaves = ap (λ (judging : Option Judging). left_of d.table judging) (sym none);
       }
-  call_answers (call.Logoff c) line talk left link = record { by = tt; leaves = refl }
-  call_answers (call.Logon c) line talk left link =
-      let j : Judging = judging_of w line (Network c) d (Some (answer_logon c.computer c.authenticator w.name w.moment line c.info c.validation d)) in
-      let is : (logon_answer j).judging ≡ Some j = logon_judging (has_passed j.how) j in
+  call_answers (call.Judged c) line talk left link =
+      let j : Judging = judging_of w line c d (Some (answer_judged c w.name w.moment line d)) in
+      let is : (judged_answer j).judging ≡ Some j = logon_judging (has_passed j.how) j in
       record {
         by = subst (λ (judging : Option Judging). IsBy w.controller d.table judging) (sym is) (refl, refl);
         leaves = logon_left (has_passed j.how) line c refl ∙ ap (λ (judging : Option Judging). left_of d.table judging) (sym is);

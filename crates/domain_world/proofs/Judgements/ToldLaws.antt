@@ -16,7 +16,6 @@ use Rattle.outside.specs.declared.action.CloseCause.{CloseCause}
 use Rattle.outside.specs.declared.action.Judged.{Judged}
 use Rattle.outside.specs.declared.event.Event.{Event}
 use Rattle.outside.specs.Machine.{Stepped, step_by, then_part}
-use Rattle.rpc_units.specs.Numbers.{nca_op_rng_error}
 use Rattle.rpc_units.specs.Stream.{cut_stream, Cut}
 use Rattle.logon_stubs.specs.declared.calls.AuthCall.{AuthCall}
 use Rattle.logon_stubs.specs.declared.calls.ChallengeCall.{ChallengeCall}
@@ -26,7 +25,7 @@ use Rattle.account_table.specs.LookUps.{knows_in}
 use Rattle.end_links.specs.Links.{LinkState}
 use Rattle.end_links.specs.Serving.{ServedPart, served_cut, ServedUnit, served_units}
 use Rattle.domain_controller.specs.Hearing.{hear}
-use Rattle.domain_controller.specs.Machine.{Desk, account_for, answer_logon, by_heard, channel_for, controller_server, draw_challenge, judge_account, judge_offer, judge_pair, open_channel, put_pair_if, send_fault, send_reply, take_pair}
+use Rattle.domain_controller.specs.Machine.{Desk, account_for, answer_judged, by_heard, channel_for, controller_server, draw_challenge, judge_account, judge_offer, judge_pair, open_channel, put_pair_if, send_reply, take_pair}
 use Rattle.domain_controller.specs.Laws.{judges_call}
 use Rattle.domain_controller.specs.State.{State as ControllerState}
 use Rattle.domain_controller.specs.Step.{LinkMap, StepPart, after_units, first_desk, halted, serve_on, start_turn, state_after, step_of, step_on}
@@ -40,7 +39,8 @@ use Rattle.controller_calls.specs.declared.state.Work.{Work}
 use Rattle.step_notes.specs.ControllerNotes.{Answered, Where, answer_on, channel_in, has_passed, heard_answer, judging_by, judging_of, opened_by, opening, passing, units_at, units_by}
 use Rattle.step_notes.specs.Judged.{IsJudgedRight, IsRightOf}
 use Rattle.step_notes.specs.MemberNotes.{turn_units}
-use Rattle.step_notes.specs.Records.{Book, JudgementTold, Judging, Network, Source, computer_named, given_in, unit_in}
+use Rattle.step_notes.specs.Records.{Book, JudgementTold, Judging, Source, computer_named, given_in, unit_in}
+use Rattle.controller_calls.specs.Passing.{IsKeep}
 use Rattle.step_notes.specs.Served.{units_if_taken, work_after}
 use Rattle.world_moves.specs.declared.links.EndId.{EndId}
 use Rattle.world_moves.specs.declared.links.EndId.TheVariants.{Controller, Member, Client}
@@ -53,7 +53,7 @@ use Rattle.world_moves.specs.Links.{acceptor_of}
 use Rattle.world_moves.specs.Moving.{begun, with_link}
 use Rattle.domain_world.specs.Claims.{AreRightlyTold, AreTheirJudgements, PassesTheNextCredential, judgements_of_calls}
 use Rattle.domain_world.specs.Past.{Coming, answers_of, controller_of, first_of, judged_of, judgement_by, judgements_in, later_of, note_at, note_client, note_controller, note_member, note_messages, numbers_on, onto, past, with_reply}
-use Rattle.step_notes.proofs.Controllers.JudgedStepLaws.{Told, by_names, how_is}
+use Rattle.step_notes.proofs.Controllers.JudgedStepLaws.{Told, how_is, told_call}
 use Rattle.domain_world.proofs.Judgements.JudgedLaws.{AreRight, judged_rightly}
 use Rattle.domain_world.proofs.Frames.TurnFrameLaws.{turns_judgements}
 use Rattle.domain_world.proofs.Frames.EndFrameLaws.{EndFact, KeepsEnds, ends_after}
@@ -66,7 +66,7 @@ use Rattle.outside.specs.declared.action.Action.TheVariants as action
 use Rattle.outside.specs.declared.action.CloseCause.TheVariants as close
 use Rattle.outside.specs.declared.action.Judged.TheVariants as judged
 use Rattle.outside.specs.declared.event.Event.TheVariants as event
-use Rattle.logon_stubs.specs.declared.calls.Call.TheVariants as call
+use Rattle.controller_calls.specs.declared.calls.ControllerCall.TheVariants as call
 use Rattle.logon_stubs.specs.declared.calls.Reply.TheVariants as reply
 use Rattle.domain_controller.specs.declared.hearing.Heard.TheVariants as heard
 use Rattle.world_moves.specs.Acting as acting
@@ -117,9 +117,23 @@ sends w actions link bytes = one_silent w actions (action.Send link bytes) refl
 closes : (w : Where) (actions : List Action) (link : ℕ) (cause : CloseCause) → acted w (actions ++ action.Close link cause ∷ []) ≡ acted w actions
 closes w actions link cause = one_silent w actions (action.Close link cause) refl
 
-judges : (w : Where) (actions : List Action) (how : Judged) (link : ℕ) (answer : List ℕ) →
-    acted w ((actions ++ action.Judged how ∷ []) ++ action.Send link answer ∷ []) ≡ acted w actions ++ telling_by w.at w.controller (Some how)
-judges w actions how link answer = sends w (actions ++ action.Judged how ∷ []) link answer ∙ acted_append w actions (action.Judged how ∷ [])
+-- texts that are kept tell nothing
+kept_silent : (w : Where) (kept : List Action) → AllByRecursion IsKeep kept → acted w kept ≡ []
+kept_silent w [] are = refl
+kept_silent w (action.Keep text ∷ kept) are = kept_silent w kept are.1
+kept_silent w (action.Send at more ∷ kept) are = absurd are.0
+kept_silent w (action.Dial peer ∷ kept) are = absurd are.0
+kept_silent w (action.Close at cause ∷ kept) are = absurd are.0
+kept_silent w (action.Told at outcome ∷ kept) are = absurd are.0
+kept_silent w (action.Judged other ∷ kept) are = absurd are.0
+
+judges : (w : Where) (actions kept : List Action) (how : Judged) (link : ℕ) (answer : List ℕ) → AllByRecursion IsKeep kept →
+    acted w (actions ++ (kept ++ action.Judged how ∷ action.Send link answer ∷ [])) ≡ acted w actions ++ telling_by w.at w.controller (Some how)
+judges w actions kept how link answer are =
+    acted_append w actions (kept ++ action.Judged how ∷ action.Send link answer ∷ [])
+    ∙ ap (λ rest. acted w actions ++ rest)
+    (acted_append w kept (action.Judged how ∷ action.Send link answer ∷ [])
+    ∙ ap (λ (front : List JudgementTold). front ++ acted w (action.Judged how ∷ action.Send link answer ∷ [])) (kept_silent w kept are))
 
 -- ---- a unit
 
@@ -137,9 +151,6 @@ no_more told base same = same ∙ sym (append-nil base)
 
 reply_sent : (w : Where) (work : Work) (line : Line) (answer : Reply) → acted w (send_reply work line answer).actions ≡ acted w work.actions
 reply_sent w work line answer = sends w work.actions _ _
-
-fault_sent : (w : Where) (work : Work) (line : Line) (status : ℕ) → acted w (send_fault work line status).actions ≡ acted w work.actions
-fault_sent w work line status = sends w work.actions _ _
 
 drawn_told : (left : List (List ℕ)) (w : Where) (line : Line) (c : ChallengeCall) (talk : Talk) (d : Desk) → Follows w (acted w d.work.actions ++ []) (draw_challenge left line c talk d)
 drawn_told [] w line c talk d = tt
@@ -190,14 +201,13 @@ heard_told (heard.Asked line (call.Authenticate c) talk) w link d left =
     account_told (account_for d.table c) (lookup same_name c.computer d.work.computers.pending) w line c (take_pair c.computer d.work)
     ∙ sym (append-nil (acted w d.work.actions))
     ∙ ap (λ rest. acted w d.work.actions ++ rest) (sym (opening_silent (opened_by w.controller c d) w line.call))
-heard_told (heard.Asked line (call.Logoff c) talk) w link d left = no_more _ (acted w d.work.actions) (fault_sent w d.work line nca_op_rng_error)
-heard_told (heard.Asked line (call.Logon c) talk) w link d left =
-    let after : Desk = answer_logon c.computer c.authenticator w.name w.moment line c.info c.validation d in
-    let j : Judging = judging_of w line (Network c) d (Some after) in
-    let told : Told d.work.actions after.work.actions j.checks c.authenticator = by_names c.computer c.authenticator c w.name w.moment line d in
+heard_told (heard.Asked line (call.Judged c) talk) w link d left =
+    let after : Desk = answer_judged c w.name w.moment line d in
+    let j : Judging = judging_of w line c d (Some after) in
+    let told : Told line d.work.actions after.work.actions j.checks (given_in c) = told_call c w.name w.moment line d in
     ap (acted w) told.is
-    ∙ judges w d.work.actions told.how told.link told.answer
-    ∙ ap (λ how. acted w d.work.actions ++ telling_by w.at w.controller how) (sym (how_is d.work.actions after.work.actions j.checks c.authenticator told))
+    ∙ judges w d.work.actions told.kept told.how line.link told.answer told.are_kept
+    ∙ ap (λ how. acted w d.work.actions ++ telling_by w.at w.controller how) (sym (how_is d.work.actions after.work.actions j.checks (given_in c) line told))
     ∙ ap (λ rest. acted w d.work.actions ++ rest) (sym (judging_told (has_passed j.how) j))
 
 -- ---- the units of a stream

@@ -3,8 +3,7 @@
 use Rattle.std.proofs.Common.{◌≡◌, ℕ, Bool, true, false, ◌||◌, not, List, [], ◌∷◌, ◌++◌, map, Option, Some, None, slice_get, refl, ap, ap₂, ◌∙◌}
 use Rattle.std.specs.List.{AllByRecursion}
 use Rattle.authenticators.specs.Channels.{ChannelIdentity}
-use Rattle.logon_stubs.specs.declared.calls.Call.{Call}
-use Rattle.logon_stubs.specs.declared.calls.Call.TheVariants as call
+use Rattle.controller_calls.specs.declared.calls.ControllerCall.TheVariants as call
 use Rattle.end_links.specs.Serving.{ServedUnit}
 use Rattle.domain_controller.specs.Hearing.{hear}
 use Rattle.domain_controller.specs.Machine.{Desk}
@@ -20,7 +19,8 @@ use Rattle.step_notes.specs.ControllerNotes.{Answered, Where, answer_on, call_an
 use Rattle.step_notes.specs.Judged.{channel_if, passed_channel}
 use Rattle.step_notes.specs.Marking.{clashes, is_channel, sent_channel}
 use Rattle.step_notes.specs.MemberNotes.{turn_units}
-use Rattle.step_notes.specs.Records.{Book, Judging, Network, Sent, Source, computer_named, unit_in}
+use Rattle.step_notes.specs.Records.{Book, Judging, Sent, Source, computer_named, unit_in}
+use Rattle.controller_calls.specs.declared.calls.ControllerCall.{ControllerCall}
 use Rattle.step_notes.specs.Served.{work_after}
 use Rattle.world_moves.specs.declared.links.EndId.{EndId}
 use Rattle.world_moves.specs.declared.moves.Move.{Move}
@@ -86,11 +86,10 @@ opening_noted : (channel : Option ChannelIdentity) (w : Where) (number : ℕ) �
 opening_noted None w number = tt
 opening_noted (Some channel) w number = tt
 
-call_noted : (c : Call) (line : Line) (w : Where) (before : Desk) (after : Option Desk) → IsNoted w.source (call_answer c line w before after)
+call_noted : (c : ControllerCall) (line : Line) (w : Where) (before : Desk) (after : Option Desk) → IsNoted w.source (call_answer c line w before after)
 call_noted (call.Challenge c) line w before after = tt
 call_noted (call.Authenticate c) line w before after = opening_noted (opened_by w.controller c before) w line.call
-call_noted (call.Logon c) line w before after = judging_noted (has_passed (judging_of w line (Network c) before after).how) (judging_of w line (Network c) before after) refl
-call_noted (call.Logoff c) line w before after = tt
+call_noted (call.Judged c) line w before after = judging_noted (has_passed (judging_of w line c before after).how) (judging_of w line c before after) refl
 
 heard_noted : (what : Heard) (w : Where) (before : Desk) (after : Option Desk) → IsNoted w.source (heard_answer what w before after)
 heard_noted (heard.Close cause) w before after = tt

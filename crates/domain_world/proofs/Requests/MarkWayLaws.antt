@@ -3,8 +3,7 @@
 use Rattle.std.proofs.Common.{◌≡◌, ℕ, zero, suc, ◌==◌, ◌&&◌, not, Bool, true, false, List, [], ◌∷◌, ◌++◌, map, Option, Some, None, refl, sym, ◌∙◌, subst, slice_get}
 use Rattle.std.specs.List.{AllByRecursion}
 use Rattle.authenticators.specs.Channels.{ChannelIdentity}
-use Rattle.logon_stubs.specs.declared.calls.Call.{Call}
-use Rattle.logon_stubs.specs.declared.calls.Call.TheVariants as call
+use Rattle.controller_calls.specs.declared.calls.ControllerCall.TheVariants as call
 use Rattle.end_links.specs.Serving.{ServedUnit}
 use Rattle.channel_client.specs.Effects.{step_in}
 use Rattle.channel_client.specs.Machine.{Taking}
@@ -28,7 +27,8 @@ use Rattle.channel_events.specs.Marks.{Mark, Plain}
 use Rattle.step_notes.specs.ControllerNotes.{Where, answer_on, call_answer, channel_in, has_passed, heard_answer, judging_by, judging_of, opened_by, opened_mark, opening, passing, reply_mark, units_of_controller}
 use Rattle.step_notes.specs.Marking.{answered_marks, mark_if, turn_marks}
 use Rattle.step_notes.specs.MemberNotes.{asked_note, taken_note, taking_at, taking_note, turn_note, turn_units}
-use Rattle.step_notes.specs.Records.{Book, Judging, Network, computer_named, unit_in}
+use Rattle.step_notes.specs.Records.{Book, Judging, computer_named, unit_in}
+use Rattle.controller_calls.specs.declared.calls.ControllerCall.{ControllerCall}
 use Rattle.step_notes.specs.Served.{work_after}
 use Rattle.world_moves.specs.declared.bag.BagUnit.{BagUnit}
 use Rattle.world_moves.specs.declared.moves.Move.{Move}
@@ -91,11 +91,10 @@ judging_way : (passed : Bool) (j : Judging) → IsReply (judging_by passed j).ma
 judging_way false j = tt
 judging_way true j = passing_way (channel_in j.controller (computer_named j.asked) j.checks) j
 
-call_way : (c : Call) (line : Line) (w : Where) (before : Desk) (after : Option Desk) → IsReply (call_answer c line w before after).mark
+call_way : (c : ControllerCall) (line : Line) (w : Where) (before : Desk) (after : Option Desk) → IsReply (call_answer c line w before after).mark
 call_way (call.Challenge c) line w before after = tt
 call_way (call.Authenticate c) line w before after = opening_way (opened_by w.controller c before) w line.call
-call_way (call.Logon c) line w before after = judging_way (has_passed (judging_of w line (Network c) before after).how) (judging_of w line (Network c) before after)
-call_way (call.Logoff c) line w before after = tt
+call_way (call.Judged c) line w before after = judging_way (has_passed (judging_of w line c before after).how) (judging_of w line c before after)
 
 heard_way : (what : Heard) (w : Where) (before : Desk) (after : Option Desk) → IsReply (heard_answer what w before after).mark
 heard_way (heard.Close cause) w before after = tt

@@ -16,7 +16,8 @@ use Rattle.member_server.specs.Turns.{ending_of}
 use Rattle.channel_events.specs.Marks.{Mark, OneOf, Plain, Opening, Opened, Calling, ReplyTo}
 use Rattle.step_notes.specs.Judged.{passed_channel}
 use Rattle.step_notes.specs.Marking.{clashes}
-use Rattle.step_notes.specs.Records.{ChallengeSent, IfNetwork, InUnit, Judging, MessageMade, MessageTaken, Network, OutcomeTold, Sent, unit_in}
+use Rattle.step_notes.specs.Records.{ChallengeSent, IfNetwork, InUnit, Judging, MessageMade, MessageTaken, OutcomeTold, Sent, unit_in}
+use Rattle.controller_calls.specs.declared.calls.JudgedCall.TheVariants.{Network}
 use Rattle.step_notes.specs.ReplySends.{IsReplyOfCall, verdict_passed}
 use Rattle.world_moves.specs.declared.bag.BagUnit.{BagUnit}
 use Rattle.world_moves.specs.Counting.{is_in}

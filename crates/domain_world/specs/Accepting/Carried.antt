@@ -7,21 +7,21 @@ use Rattle.wire_base.specs.declared.authenticator.Authenticator.{Authenticator}
 use Rattle.authenticators.specs.Channels.{ChannelIdentity, SameChannel}
 use Rattle.rpc_units.specs.Calls.{IsHeard}
 use Rattle.rpc_units.specs.Joining.{stub_of}
-use Rattle.rpc_units.specs.declared.unit.Body.{Body}
-use Rattle.rpc_units.specs.declared.unit.Body.TheVariants.{Request}
 use Rattle.rpc_units.specs.declared.unit.Unit.{Unit as RpcUnit}
 use Rattle.logon_stubs.specs.Calls.{call_of, opnum_of_call, reply_of}
 use Rattle.logon_stubs.specs.Writing.{written_call}
-use Rattle.logon_stubs.specs.declared.calls.Call.{Call}
-use Rattle.logon_stubs.specs.declared.calls.Call.TheVariants as call
+use Rattle.logon_stubs.specs.declared.calls.Call.TheVariants as netlogon
+use Rattle.controller_calls.specs.declared.calls.ControllerCall.{ControllerCall}
+use Rattle.controller_calls.specs.declared.calls.ControllerCall.TheVariants as call
+pub use Rattle.step_notes.specs.HeardWhole.{call_carried, call_read}
 use Rattle.logon_stubs.specs.declared.calls.LogonCall.{LogonCall}
 use Rattle.logon_stubs.specs.declared.calls.LogonReply.{LogonReply}
 use Rattle.logon_stubs.specs.declared.calls.Reply.TheVariants as reply
-use Rattle.logon_stubs.specs.declared.refused.StubRefused.{StubRefused}
 use Rattle.end_links.specs.Sending.{request_of}
 use Rattle.channel_events.specs.Marks.{Mark, OneOf, Plain, Opening, Opened, Calling, ReplyTo}
 use Rattle.step_notes.specs.Marking.{sent_channel}
-use Rattle.step_notes.specs.Records.{CallTaken, InUnit, JudgedCall, Judging, MessageTaken, Network, OfMember, RequesterId, Sent}
+use Rattle.step_notes.specs.Records.{CallTaken, InUnit, Judging, MessageTaken, OfMember, RequesterId, Sent}
+use Rattle.controller_calls.specs.declared.calls.JudgedCall.{JudgedCall}
 use Rattle.world_moves.specs.declared.bag.BagUnit.{BagUnit}
 use Rattle.domain_world.specs.Accepting.Answered.{AnswersAreToCalls, CallsAskForMessages, MarksHaveTheirWay, PassesAreUnclashed, UnitsAreHeardAlike}
 use Rattle.domain_world.specs.Claims.{HasController, info_asked}
@@ -30,18 +30,9 @@ use Rattle.domain_world.specs.Past.{Past, plain_form}
 
 -- ---- what a whole unit carries
 
--- the call, if it carries one
-abbrev pub call_read : Result Call StubRefused → Option Call
-call_read (Err why) = None
-call_read (Ok c) = Some c
-
-abbrev pub call_carried : Body → Option Call
-call_carried (Request hint context opnum stub) = call_read (call_of opnum stub)
-call_carried _ = None
-
--- a call that is judged, as it is read
-abbrev pub call_judged : JudgedCall → Call
-call_judged (Network c) = call.Logon c
+-- a call that is judged, as a controller serves it
+abbrev pub call_judged : JudgedCall → ControllerCall
+call_judged asked = call.Judged asked
 
 -- the bytes are those of one whole unit
 pub record IsWholeUnit (bytes : List ℕ) : Type 0 where
@@ -53,7 +44,8 @@ pub record IsWholeUnit (bytes : List ℕ) : Type 0 where
 abbrev pub IsNotJudged : RpcUnit → Type 0
 IsNotJudged unit = (asked : JudgedCall) → call_carried unit.body ≡ Some (call_judged asked) → ⊥
 
--- it can be read as the reply to a call that is judged, with an authenticator: to a Logon call, which is the only kind
+-- it can be read as the reply to a call that is judged, with an authenticator: to a Logon call, which is the only one
+-- that a member asks
 pub record IsReadAsAnswer (unit : RpcUnit) : Type 0 where
   pub read : LogonReply
   pub given : Authenticator
@@ -107,8 +99,8 @@ pub record IsCalledFor (past : Past) (message : MessageTaken) (n : ℕ) : Type 0
   pub number : ℕ
   pub logon : LogonCall
   pub frames : List RpcUnit
-  pub heard : IsHeard (plain_form past.book.sent n carrier) frames (request_of number 0 (opnum_of_call (call.Logon logon)) (written_call (call.Logon logon)))
-  pub again : call_of (opnum_of_call (call.Logon logon)) (written_call (call.Logon logon)) ≡ Ok (call.Logon logon)
+  pub heard : IsHeard (plain_form past.book.sent n carrier) frames (request_of number 0 (opnum_of_call (netlogon.Logon logon)) (written_call (netlogon.Logon logon)))
+  pub again : call_of (opnum_of_call (netlogon.Logon logon)) (written_call (netlogon.Logon logon)) ≡ Ok (netlogon.Logon logon)
   pub info : logon.info ≡ record (info_asked message) { logon_id = message.place }
   pub level : logon.validation ≡ 3
 

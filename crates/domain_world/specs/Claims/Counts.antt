@@ -1,4 +1,4 @@
--- How often a Logon call raises an account's count of bad passwords (this project's own choice).
+-- How often a call raises an account's count of bad passwords (this project's own choice).
 use Rattle.std.specs.Prelude.{ℕ, ◌≡◌, ◌<◌, true, Some, slice_get}
 use Rattle.account_table.specs.declared.account.Account.{Account}
 use Rattle.step_notes.specs.ControllerNotes.{has_passed}
@@ -16,7 +16,7 @@ pub record RaisesCount (j : Judging) : Type 0 where
   pub is : slice_get (left_by j).accounts place ≡ Some after
   pub grew : before.bad_count < after.bad_count
 
--- Each Logon call that an end made raises a count at most once: of the judgings of calls that one unit of the bag
+-- Each call that an end made raises a count at most once: of the judgings of calls that one unit of the bag
 -- carried, at most one does. A copy of its bytes that a stranger hands in is another call.
 abbrev pub EachCallRaisesOnce : Past → Type 0
 EachCallRaisesOnce past =

@@ -1,5 +1,6 @@
--- How the accounts of a controller change in a run: by the verdicts on the Logon calls that passed there, one after
--- another, and by nothing else (MS-NRPC 3.5.4.5.3; that counts of bad passwords are kept is this project's own choice).
+-- How the accounts of a controller change in a run: by what the calls come to that passed there, one after another, and
+-- by nothing else (MS-NRPC 3.5.4.4.6, 3.5.4.5.3; that counts of bad passwords are kept is this project's own choice).
+-- A logon may change a count, and a NetrServerPasswordSet the hash of a machine's account or a trust's.
 -- So nobody is locked out but by calls that passed, and a restart of a controller leaves its accounts as they are.
 use Rattle.std.specs.Prelude.{ℕ, ◌≡◌, ◌==◌, Bool, true, false, List, [], ◌∷◌, Option, Some, None, slice_get}
 use Rattle.authenticators.specs.SecureChannels.{SecureChannelState}

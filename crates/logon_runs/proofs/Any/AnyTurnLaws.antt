@@ -73,7 +73,7 @@ use Rattle.logon_runs.proofs.Any.JudgingLaws.{IsLogonJudged, info_in, logon_judg
 -- ---- what a controller keeps after a step
 
 abbrev computers_by : Option Running → Computers
-computers_by None = record { pending = []; channels = [] }
+computers_by None = record { pending = []; channels = []; sessions = [] }
 computers_by (Some running) = running.computers
 
 -- the same step leaves the same

@@ -64,11 +64,11 @@ controller_same one other is = cc
 
 -- what a controller keeps of computers
 computers_by : Option Running → Computers
-computers_by None = record { pending = []; channels = [] }
+computers_by None = record { pending = []; channels = []; sessions = [] }
 computers_by (Some running) = running.computers
 
 computers_in : Option ControllerState → Computers
-computers_in None = record { pending = []; channels = [] }
+computers_in None = record { pending = []; channels = []; sessions = [] }
 computers_in (Some c) = computers_by c.running
 
 pub computers_same : (found : Option ControllerState) (table other_table : AccountTable) (name other_name : List ℕ) (computers other : Computers) →

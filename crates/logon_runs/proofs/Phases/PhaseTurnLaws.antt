@@ -124,6 +124,7 @@ abbrev with_stands : Coming → List ℕ → List ℕ → Computers → Computer
 with_stands p client server computers = record {
   pending = take_out same_name p.meeting.caller.computer computers.pending;
   channels = put same_name p.meeting.caller.computer (stands_at p client server) computers.channels;
+  sessions = computers.sessions;
 }
 
 second_answered : (p : Coming) (s : State) (a : Asked) (who : WhoAsked p a) (v : TurnAt) (client server : List ℕ) (left : List (List ℕ)) (moment : ℕ) → IsKnown p →

@@ -84,6 +84,7 @@ abbrev pub with_channel : Meeting → Account → List ℕ → List ℕ → Comp
 with_channel g machine client server computers = record {
   pending = take_out same_name g.caller.computer computers.pending;
   channels = put same_name g.caller.computer (channel_as g machine client server) computers.channels;
+  sessions = computers.sessions;
 }
 
 -- the controller's computers once the channel stands there

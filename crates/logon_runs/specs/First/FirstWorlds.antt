@@ -93,7 +93,7 @@ first_asked plan = asked_at (draw plan 0) (draw plan 1) (draw plan 2) (draw plan
 
 -- what a controller keeps of computers at first
 abbrev pub no_computers : Computers
-no_computers = record { pending = []; channels = [] }
+no_computers = record { pending = []; channels = []; sessions = [] }
 
 -- before the first link
 abbrev pub first_meeting : (plan : Plan) (client member controller : ℕ) → CanComeIn plan client member controller → Meeting

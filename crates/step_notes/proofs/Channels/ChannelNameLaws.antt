@@ -51,7 +51,13 @@ use Rattle.channel_client.specs.declared.state.Standing.TheVariants as standing
 use Rattle.channel_client.specs.declared.state.Step.TheVariants as step
 use Rattle.channel_client.specs.declared.state.Waiting.{Waiting}
 use Rattle.domain_controller.specs.Hearing.{hear as hear_unit}
-use Rattle.domain_controller.specs.Machine.{Desk, account_for, answer_authenticate, answer_challenge, answer_logon, by_call, by_heard, channel_for, desk, draw_challenge, grant_flags, judge_account, judge_channel, judge_offer, judge_pair, judge_return as return_logon, open_channel, put_channel, put_pair_if, send_reply, take_channel, take_pair}
+use Rattle.domain_controller.specs.Machine.{Desk, account_for, answer_authenticate, answer_challenge, answer_named, answer_on, answers_to, by_call, by_heard, channel_for, desk, draw_challenge, grant_flags, judge_account, judge_offer, judge_pair, open_channel, put_channel, put_pair_if, send_reply, take_channel, take_pair}
+use Rattle.controller_calls.specs.Calls.{asked_of, given_in}
+use Rattle.controller_calls.specs.declared.calls.Asked.{Asked}
+use Rattle.controller_calls.specs.declared.calls.ControllerCall.{ControllerCall}
+use Rattle.controller_calls.specs.declared.calls.ControllerCall.TheVariants as served
+use Rattle.controller_calls.proofs.DoneLaws.{refused_keeps, return_keeps}
+use Rattle.outside.specs.declared.action.Judged.TheVariants as judged
 use Rattle.domain_controller.specs.declared.hearing.Heard.{Heard}
 use Rattle.domain_controller.specs.declared.hearing.Heard.TheVariants as heard
 use Rattle.controller_calls.specs.declared.line.Line.{Line}
@@ -552,7 +558,7 @@ auth_has controller line c d channel has other =
     account_has (account_for d.table c) (lookup same_name c.computer d.work.computers.pending) controller line c (take_pair c.computer d.work) channel
     (same_channels d.work.computers _ channel refl has) other
 
--- ---- a Logon call leaves it
+-- ---- a call on a secure channel leaves it
 
 tests_alike : (one other key : List ℕ) → same_name one other ≡ true → same_name one key ≡ same_name other key
 tests_alike one other key is =
@@ -576,53 +582,49 @@ moved_named : (passes : Bool) (controller : ℕ) (computer : List ℕ) (state : 
 moved_named false controller computer state given = refl
 moved_named true controller computer state given = refl
 
-returned_same : (credential : Option (List ℕ)) (key name : List ℕ) (now : ℕ) (line : Line) (info : NetworkInfo) (validation : ℕ) (d : Desk) →
-    (return_logon credential key name now line info validation d).work.computers ≡ d.work.computers
-returned_same None key name now line info validation d = refl
-returned_same (Some credential) key name now line info validation d = refl
-
 -- the channel of another computer
-other_has : (found : Option SecureChannelState) (computer : List ℕ) (given : Authenticator) (name : List ℕ) (now : ℕ) (line : Line) (info : NetworkInfo) (validation : ℕ) (d : Desk) (channel : ChannelIdentity) →
-    same_name computer channel.computer ≡ false → HasChannel d.work.computers channel → HasChannel (judge_channel found computer given name now line info validation d).work.computers channel
-other_has None computer given name now line info validation d channel differs has = same_channels d.work.computers _ channel refl has
-other_has (Some state) computer given name now line info validation d channel differs has =
+other_has : (found : Option SecureChannelState) (computer : List ℕ) (given : Authenticator) (what : Asked) (name : List ℕ) (now : ℕ) (line : Line) (d : Desk) (channel : ChannelIdentity) →
+    same_name computer channel.computer ≡ false → HasChannel d.work.computers channel → HasChannel (answer_on found computer given (answers_to what name now line) d).work.computers channel
+other_has None computer given what name now line d channel differs has =
+    same_channels d.work.computers _ channel (refused_keeps what judged.NoChannel line d.work).channels has
+other_has (Some state) computer given what name now line d channel differs has =
     let moved : SecureChannelState = channel_by (passes_on state given) state given in
     let later : Desk = desk d.table (put_channel computer moved d.work) in
-    let same = returned_same (return_by (passes_on state given) state given) (key_of_channel state) name now line info validation later in
+    let same = return_keeps what (return_by (passes_on state given) state given) computer state name now line later in
     record {
       state = has.state;
-      kept = ap (λ (c : Computers). lookup same_name channel.computer c.channels) same
+      kept = ap (λ (channels : List (List ℕ × SecureChannelState)). lookup same_name channel.computer channels) same.channels
           ∙ put_others same_name computer channel.computer moved d.work.computers.channels IsSameness-same_name differs ∙ has.kept;
       is = has.is;
     }
 
 -- the channel itself, which was taken out
-own_has : (state : SecureChannelState) (computer : List ℕ) (given : Authenticator) (name : List ℕ) (now : ℕ) (line : Line) (info : NetworkInfo) (validation : ℕ) (d : Desk) (channel : ChannelIdentity) →
+own_has : (state : SecureChannelState) (computer : List ℕ) (given : Authenticator) (what : Asked) (name : List ℕ) (now : ℕ) (line : Line) (d : Desk) (channel : ChannelIdentity) →
     same_name computer channel.computer ≡ true → channel_of channel.controller channel.computer state ≡ channel →
-    HasChannel (judge_channel (Some state) computer given name now line info validation d).work.computers channel
-own_has state computer given name now line info validation d channel same is =
+    HasChannel (answer_on (Some state) computer given (answers_to what name now line) d).work.computers channel
+own_has state computer given what name now line d channel same is =
     let moved : SecureChannelState = channel_by (passes_on state given) state given in
     let later : Desk = desk d.table (put_channel computer moved d.work) in
-    let kept = returned_same (return_by (passes_on state given) state given) (key_of_channel state) name now line info validation later in
+    let kept = return_keeps what (return_by (passes_on state given) state given) computer state name now line later in
     record {
       state = moved;
-      kept = ap (λ (c : Computers). lookup same_name channel.computer c.channels) kept
+      kept = ap (λ (channels : List (List ℕ × SecureChannelState)). lookup same_name channel.computer channels) kept.channels
           ∙ sym (found_alike computer channel.computer (put same_name computer moved d.work.computers.channels) same)
           ∙ lookup-put_same same_name computer moved d.work.computers.channels (IsSameness-same_name.reflexive computer);
       is = moved_named (passes_on state given) channel.controller channel.computer state given ∙ is;
     }
 
-named_has : (computer : List ℕ) (given : Authenticator) (name : List ℕ) (now : ℕ) (line : Line) (info : NetworkInfo) (validation : ℕ) (d : Desk) (channel : ChannelIdentity) → HasChannel d.work.computers channel →
-    HasChannel (answer_logon (Some computer) (Some given) name now line info validation d).work.computers channel
-named_has computer given name now line info validation d channel has =
+named_has : (computer : List ℕ) (given : Authenticator) (what : Asked) (name : List ℕ) (now : ℕ) (line : Line) (d : Desk) (channel : ChannelIdentity) → HasChannel d.work.computers channel →
+    HasChannel (answer_named (Some computer) (Some given) (answers_to what name now line) d).work.computers channel
+named_has computer given what name now line d channel has =
     let after_taking : Desk = desk d.table (take_channel computer d.work) in
     elim (cases_Bool (same_name computer channel.computer)) [
       | inl same ↦
-          subst (λ (found : Option SecureChannelState). HasChannel (judge_channel found computer given name now line info validation after_taking).work.computers channel)
+          subst (λ (found : Option SecureChannelState). HasChannel (answer_on found computer given (answers_to what name now line) after_taking).work.computers channel)
           (sym (found_alike computer channel.computer d.work.computers.channels same ∙ has.kept))
-          (own_has has.state computer given name now line info validation after_taking channel same has.is)
+          (own_has has.state computer given what name now line after_taking channel same has.is)
       | inr differs ↦
-          other_has (lookup same_name computer d.work.computers.channels) computer given name now line info validation after_taking channel differs
+          other_has (lookup same_name computer d.work.computers.channels) computer given what name now line after_taking channel differs
           (record {
             state = has.state;
             kept = taken_others same_name computer channel.computer d.work.computers.channels IsSameness-same_name differs ∙ has.kept;
@@ -630,20 +632,19 @@ named_has computer given name now line info validation d channel has =
           })
     ]
 
-logon_has : (computer : Option (List ℕ)) (given : Option Authenticator) (name : List ℕ) (now : ℕ) (line : Line) (info : NetworkInfo) (validation : ℕ) (d : Desk) (channel : ChannelIdentity) → HasChannel d.work.computers channel →
-    HasChannel (answer_logon computer given name now line info validation d).work.computers channel
-logon_has None given name now line info validation d channel has = same_channels d.work.computers _ channel refl has
-logon_has (Some computer) None name now line info validation d channel has = same_channels d.work.computers _ channel refl has
-logon_has (Some computer) (Some given) name now line info validation d channel has = named_has computer given name now line info validation d channel has
+judged_has : (computer : Option (List ℕ)) (given : Option Authenticator) (what : Asked) (name : List ℕ) (now : ℕ) (line : Line) (d : Desk) (channel : ChannelIdentity) → HasChannel d.work.computers channel →
+    HasChannel (answer_named computer given (answers_to what name now line) d).work.computers channel
+judged_has None given what name now line d channel has = same_channels d.work.computers _ channel (refused_keeps what judged.NoChannel line d.work).channels has
+judged_has (Some computer) None what name now line d channel has = same_channels d.work.computers _ channel (refused_keeps what judged.NoChannel line d.work).channels has
+judged_has (Some computer) (Some given) what name now line d channel has = named_has computer given what name now line d channel has
 
 -- ---- a unit leaves it
 
-call_has : (c : Call) (controller : ℕ) (line : Line) (talk : Talk) (name : List ℕ) (now : ℕ) (d : Desk) (left : List (List ℕ)) (channel : ChannelIdentity) → HasChannel d.work.computers channel →
+call_has : (c : ControllerCall) (controller : ℕ) (line : Line) (talk : Talk) (name : List ℕ) (now : ℕ) (d : Desk) (left : List (List ℕ)) (channel : ChannelIdentity) → HasChannel d.work.computers channel →
     IsOfOther channel.computer (opened_call controller c d) → PartHas channel (by_call c line talk name now d left)
-call_has (call.Challenge c) controller line talk name now d left channel has other = draw_has left line c talk d channel has
-call_has (call.Authenticate c) controller line talk name now d left channel has other = auth_has controller line c d channel has other
-call_has (call.Logon c) controller line talk name now d left channel has other = logon_has c.computer c.authenticator name now line c.info c.validation d channel has
-call_has (call.Logoff c) controller line talk name now d left channel has other = same_channels d.work.computers _ channel refl has
+call_has (served.Challenge c) controller line talk name now d left channel has other = draw_has left line c talk d channel has
+call_has (served.Authenticate c) controller line talk name now d left channel has other = auth_has controller line c d channel has other
+call_has (served.Judged c) controller line talk name now d left channel has other = judged_has (computer_named c) (given_in c) (asked_of c) name now line d channel has
 
 heard_has : (what : Heard) (controller link : ℕ) (name : List ℕ) (now : ℕ) (d : Desk) (left : List (List ℕ)) (channel : ChannelIdentity) → HasChannel d.work.computers channel →
     IsOfOther channel.computer (opened_unit controller what d) → PartHas channel (by_heard what link name now d left)

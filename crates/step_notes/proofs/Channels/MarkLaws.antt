@@ -1,16 +1,16 @@
 -- Each unit that goes out on a link of a secure channel has its mark.
 -- It serves `units_have_their_marks`.
-use Rattle.std.proofs.Common.{◌≡◌, ℕ, Bool, true, false, List, [], ◌∷◌, ◌++◌, map, Option, Some, None, Result, Ok, Err, refl, sym, ap, ◌∙◌, subst, bytes_eq}
+use Rattle.std.specs.List.{AllByRecursion}
+use Rattle.std.proofs.Common.{◌≡◌, ◌==◌, ℕ, Bool, true, false, List, [], ◌∷◌, ◌++◌, map, Option, Some, None, Result, Ok, Err, refl, sym, ap, ◌∙◌, subst, bytes_eq}
 use Rattle.std.proofs.lemmas.List.{append_assoc, append-nil, flat_map_more}
 use Rattle.std.proofs.lemmas.List.Concat.{flat_map-append}
 use Rattle.wire_base.specs.Maps.{lookup, same_number, take_out}
 use Rattle.wire_base.specs.Names.{same_name}
-use Rattle.wire_base.specs.declared.authenticator.Authenticator.{Authenticator}
 use Rattle.ntlm_flags.specs.Flags.{has_flag}
 use Rattle.channel_keys.specs.Credentials.{cred_of}
 use Rattle.channel_keys.specs.Flags.{rc4_flag}
 use Rattle.authenticators.specs.Channels.{ChannelIdentity}
-use Rattle.authenticators.specs.SecureChannels.{SecureChannelState, channel_by, key_of_channel, passes_on, return_by}
+use Rattle.authenticators.specs.SecureChannels.{SecureChannelState, key_of_channel}
 use Rattle.outside.specs.declared.action.Action.{Action}
 use Rattle.outside.specs.declared.action.Action.TheVariants as action
 use Rattle.outside.specs.declared.action.Judged.{Judged}
@@ -29,11 +29,13 @@ use Rattle.rpc_units.specs.Stream.{Cut, cut_stream}
 use Rattle.logon_stubs.specs.Calls.{call_of}
 use Rattle.logon_stubs.specs.declared.calls.AuthCall.{AuthCall}
 use Rattle.logon_stubs.specs.declared.calls.Call.{Call}
-use Rattle.logon_stubs.specs.declared.calls.Call.TheVariants as call
+use Rattle.logon_stubs.specs.declared.calls.Call.TheVariants as netlogon
+use Rattle.controller_calls.specs.declared.calls.ControllerCall.TheVariants as call
 use Rattle.logon_stubs.specs.declared.calls.ChallengeCall.{ChallengeCall}
 use Rattle.logon_stubs.specs.declared.calls.Reply.{Reply}
 use Rattle.logon_stubs.specs.declared.info.NetworkInfo.{NetworkInfo}
 use Rattle.logon_stubs.specs.declared.refused.StubRefused.{StubRefused}
+use Rattle.logon_stubs.specs.declared.refused.StubRefused.TheVariants as refused
 use Rattle.account_table.specs.LookUps.{knows_in}
 use Rattle.account_table.specs.declared.account.Account.{Account}
 use Rattle.end_links.specs.Agreed.{Agreed, accepts}
@@ -49,8 +51,8 @@ use Rattle.channel_client.specs.declared.state.Standing.{Standing}
 use Rattle.channel_client.specs.declared.state.Standing.TheVariants as standing
 use Rattle.channel_client.specs.declared.state.Step.{Step}
 use Rattle.channel_client.specs.declared.state.Step.TheVariants as step
-use Rattle.domain_controller.specs.Hearing.{hear, hear_bound, hear_context, hear_fresh, hear_joined, hear_on, hear_opnum, hear_read, hear_stub, hear_whole, bound_talk, is_served}
-use Rattle.domain_controller.specs.Machine.{Desk, account_for, answer_logon, by_call, by_heard, channel_for, controller_server, desk, draw_challenge, judge_account, judge_channel, judge_offer, judge_pair, judge_return, open_channel, put_channel, put_pair_if, send_reply, take_channel, take_pair}
+use Rattle.domain_controller.specs.Hearing.{hear, hear_arm, hear_bound, hear_context, hear_fresh, hear_interactive, hear_joined, hear_netlogon, hear_number, hear_on, hear_opnum, hear_read, hear_refused, hear_set, hear_stub, hear_whole, bound_talk, is_served}
+use Rattle.domain_controller.specs.Machine.{Desk, account_for, answer_judged, by_call, by_heard, channel_for, controller_server, draw_challenge, judge_account, judge_offer, judge_pair, open_channel, put_pair_if, send_reply, take_pair}
 use Rattle.domain_controller.specs.State.{State as ControllerState}
 use Rattle.domain_controller.specs.Step.{LinkMap, StepPart, after_units, first_desk, halted, serve_on, start_turn, state_after, step_on}
 use Rattle.domain_controller.specs.declared.hearing.Heard.{Heard}
@@ -64,10 +66,19 @@ use Rattle.member_server.specs.Turns.{AtTurn, TurnServed, do_taken, turn_by_join
 use Rattle.channel_turns.specs.declared.state.TurnTalk.{TurnTalk}
 use Rattle.channel_events.specs.Marks.{Mark}
 use Rattle.step_notes.specs.ChannelNames.{IsMarkedBy, UnitsHaveTheirMarks, link_sent, links_sent, turn_served}
-use Rattle.step_notes.specs.ControllerNotes.{Answered, Where, answer_on, call_answer, channel_in, has_passed, heard_answer, judging_by, judging_of, opened_by, opening, passing, units_at, units_by}
+use Rattle.step_notes.specs.ControllerNotes.{Answered, Where, answer_on, call_answer, channel_in, checked_on, has_passed, heard_answer, judging_by, judging_of, opened_by, opening, passing, units_at, units_by}
 use Rattle.step_notes.specs.Marking.{answered_marks, mark_if}
 use Rattle.step_notes.specs.MemberNotes.{asked_note, taken_note, taking_joined, taking_note, taking_read, turn_note}
-use Rattle.step_notes.specs.Records.{Judging, Network, computer_named}
+use Rattle.step_notes.specs.Records.{Judging, computer_named, given_in}
+use Rattle.controller_calls.specs.declared.calls.JudgedCall.{JudgedCall}
+use Rattle.controller_calls.specs.declared.calls.ControllerCall.{ControllerCall}
+use Rattle.controller_calls.specs.Passing.{IsKeep}
+use Rattle.interactive_logon.specs.declared.calls.InteractiveCall.{InteractiveCall}
+use Rattle.interactive_logon.specs.Calls.{interactive_of, is_logon}
+use Rattle.secret_change.specs.declared.calls.SetCall.{SetCall}
+use Rattle.secret_change.specs.declared.refused.SetRefused.{SetRefused}
+use Rattle.secret_change.specs.Calls.{set_call_of, set_opnum}
+use Rattle.step_notes.proofs.Controllers.JudgedStepLaws.{Told, told_call}
 use Rattle.step_notes.specs.Served.{talk_after, units_if_taken, work_after}
 use Rattle.step_notes.proofs.ServedLaws.{StaysNoted, served_mapped}
 
@@ -94,13 +105,41 @@ IsOn link (heard.Answer bytes talk) = Unit {0}
 IsOn link (heard.Waits talk) = Unit {0}
 IsOn link (heard.Asked line c talk) = line.link ≡ link
 
-stub_on : (read : Result Call StubRefused) (link : ℕ) (line : Line) (talk : Talk) → line.link ≡ link → IsOn link (hear_stub read line talk)
-stub_on (Err why) link line talk on = tt
-stub_on (Ok c) link line talk on = on
+netlogon_on : (c : Call) (link : ℕ) (line : Line) (talk : Talk) → line.link ≡ link → IsOn link (hear_netlogon c line talk)
+netlogon_on (netlogon.Challenge c) link line talk on = on
+netlogon_on (netlogon.Authenticate c) link line talk on = on
+netlogon_on (netlogon.Logon c) link line talk on = on
+netlogon_on (netlogon.Logoff c) link line talk on = on
+
+interactive_on : (read : Result InteractiveCall StubRefused) (logs_on : Bool) (link : ℕ) (line : Line) (talk : Talk) → line.link ≡ link → IsOn link (hear_interactive read logs_on line talk)
+interactive_on (Err why) logs_on link line talk on = tt
+interactive_on (Ok c) logs_on link line talk on = on
+
+arm_on : (is_interactive : Bool) (opnum : ℕ) (stub : List ℕ) (link : ℕ) (line : Line) (talk : Talk) → line.link ≡ link → IsOn link (hear_arm is_interactive opnum stub line talk)
+arm_on false opnum stub link line talk on = tt
+arm_on true opnum stub link line talk on = interactive_on (interactive_of opnum stub) (is_logon opnum) link line talk on
+
+refused_on : (why : StubRefused) (opnum : ℕ) (stub : List ℕ) (link : ℕ) (line : Line) (talk : Talk) → line.link ≡ link → IsOn link (hear_refused why opnum stub line talk)
+refused_on (refused.BadArm arm) opnum stub link line talk on = arm_on (arm == 1) opnum stub link line talk on
+refused_on (refused.NoSuchCall other) opnum stub link line talk on = tt
+refused_on (refused.BadStub place) opnum stub link line talk on = tt
+refused_on refused.Memory opnum stub link line talk on = tt
+
+stub_on : (read : Result Call StubRefused) (opnum : ℕ) (stub : List ℕ) (link : ℕ) (line : Line) (talk : Talk) → line.link ≡ link → IsOn link (hear_stub read opnum stub line talk)
+stub_on (Err why) opnum stub link line talk on = refused_on why opnum stub link line talk on
+stub_on (Ok c) opnum stub link line talk on = netlogon_on c link line talk on
+
+set_on : (read : Result SetCall SetRefused) (link : ℕ) (line : Line) (talk : Talk) → line.link ≡ link → IsOn link (hear_set read line talk)
+set_on (Err why) link line talk on = tt
+set_on (Ok c) link line talk on = on
+
+number_on : (is_set : Bool) (opnum : ℕ) (stub : List ℕ) (link : ℕ) (line : Line) (talk : Talk) → line.link ≡ link → IsOn link (hear_number is_set opnum stub line talk)
+number_on false opnum stub link line talk on = stub_on (call_of opnum stub) opnum stub link line talk on
+number_on true opnum stub link line talk on = set_on (set_call_of stub) link line talk on
 
 opnum_on : (served : Bool) (opnum : ℕ) (stub : List ℕ) (link : ℕ) (line : Line) (talk : Talk) → line.link ≡ link → IsOn link (hear_opnum served opnum stub line talk)
 opnum_on false opnum stub link line talk on = tt
-opnum_on true opnum stub link line talk on = stub_on (call_of opnum stub) link line talk on
+opnum_on true opnum stub link line talk on = number_on (opnum == set_opnum) opnum stub link line talk on
 
 context_on : (accepted : Bool) (opnum : ℕ) (stub : List ℕ) (link : ℕ) (line : Line) (talk : Talk) → line.link ≡ link → IsOn link (hear_context accepted opnum stub line talk)
 context_on false opnum stub link line talk on = tt
@@ -184,30 +223,27 @@ account_one : (account : Option Account) (pair : Option ChallengePair) (line : L
 account_one None pair line c work = one_more work.actions line.link _
 account_one (Some account) pair line c work = offer_one (has_flag c.flags rc4_flag) pair account line c work
 
-return_one : (credential : Option (List ℕ)) (key name : List ℕ) (now : ℕ) (line : Line) (info : NetworkInfo) (validation : ℕ) (d : Desk) →
-    links_sent (judge_return credential key name now line info validation d).work.actions ≡ links_sent d.work.actions ++ line.link ∷ []
-return_one None key name now line info validation d = judged_more d.work.actions _ line.link _
-return_one (Some credential) key name now line info validation d = judged_more d.work.actions _ line.link _
+-- behind texts that are kept one send stands
+kept_link : (kept : List Action) (how : Judged) (link : ℕ) (bytes : List ℕ) → AllByRecursion IsKeep kept → links_sent (kept ++ action.Judged how ∷ action.Send link bytes ∷ []) ≡ link ∷ []
+kept_link [] how link bytes are = refl
+kept_link (action.Keep text ∷ kept) how link bytes are = kept_link kept how link bytes are.1
+kept_link (action.Send at more ∷ kept) how link bytes are = absurd are.0
+kept_link (action.Dial peer ∷ kept) how link bytes are = absurd are.0
+kept_link (action.Close at cause ∷ kept) how link bytes are = absurd are.0
+kept_link (action.Told at outcome ∷ kept) how link bytes are = absurd are.0
+kept_link (action.Judged other ∷ kept) how link bytes are = absurd are.0
 
-channel_one : (found : Option SecureChannelState) (computer : List ℕ) (given : Authenticator) (name : List ℕ) (now : ℕ) (line : Line) (info : NetworkInfo) (validation : ℕ) (d : Desk) →
-    links_sent (judge_channel found computer given name now line info validation d).work.actions ≡ links_sent d.work.actions ++ line.link ∷ []
-channel_one None computer given name now line info validation d = judged_more d.work.actions _ line.link _
-channel_one (Some channel) computer given name now line info validation d =
-    return_one (return_by (passes_on channel given) channel given) (key_of_channel channel) name now line info validation
-    (desk d.table (put_channel computer (channel_by (passes_on channel given) channel given) d.work))
+judged_one : (c : JudgedCall) (name : List ℕ) (now : ℕ) (line : Line) (d : Desk) → links_sent (answer_judged c name now line d).work.actions ≡ links_sent d.work.actions ++ line.link ∷ []
+judged_one c name now line d =
+    let told : Told line d.work.actions (answer_judged c name now line d).work.actions (checked_on (computer_named c) d.work.computers) (given_in c) = told_call c name now line d in
+    ap links_sent told.is
+    ∙ flat_map-append link_sent d.work.actions (told.kept ++ action.Judged told.how ∷ action.Send line.link told.answer ∷ [])
+    ∙ ap (λ (links : List ℕ). links_sent d.work.actions ++ links) (kept_link told.kept told.how line.link told.answer told.are_kept)
 
-logon_one : (computer : Option (List ℕ)) (given : Option Authenticator) (name : List ℕ) (now : ℕ) (line : Line) (info : NetworkInfo) (validation : ℕ) (d : Desk) →
-    links_sent (answer_logon computer given name now line info validation d).work.actions ≡ links_sent d.work.actions ++ line.link ∷ []
-logon_one None given name now line info validation d = judged_more d.work.actions _ line.link _
-logon_one (Some computer) None name now line info validation d = judged_more d.work.actions _ line.link _
-logon_one (Some computer) (Some given) name now line info validation d =
-    channel_one (lookup same_name computer d.work.computers.channels) computer given name now line info validation (desk d.table (take_channel computer d.work))
-
-call_one : (c : Call) (line : Line) (talk : Talk) (name : List ℕ) (now : ℕ) (d : Desk) (left : List (List ℕ)) → SendsOne d.work.actions line.link (by_call c line talk name now d left)
+call_one : (c : ControllerCall) (line : Line) (talk : Talk) (name : List ℕ) (now : ℕ) (d : Desk) (left : List (List ℕ)) → SendsOne d.work.actions line.link (by_call c line talk name now d left)
 call_one (call.Challenge c) line talk name now d left = draw_one left line c talk d
 call_one (call.Authenticate c) line talk name now d left = account_one (account_for d.table c) (lookup same_name c.computer d.work.computers.pending) line c (take_pair c.computer d.work)
-call_one (call.Logon c) line talk name now d left = logon_one c.computer c.authenticator name now line c.info c.validation d
-call_one (call.Logoff c) line talk name now d left = one_more d.work.actions line.link _
+call_one (call.Judged c) line talk name now d left = judged_one c name now line d
 
 -- ---- and has one mark
 
@@ -223,11 +259,10 @@ judging_sends : (passed : Bool) (j : Judging) → (judging_by passed j).sends �
 judging_sends false j = refl
 judging_sends true j = passing_sends (channel_in j.controller (computer_named j.asked) j.checks) j
 
-call_sends : (c : Call) (line : Line) (w : Where) (before : Desk) (after : Option Desk) → (call_answer c line w before after).sends ≡ true
+call_sends : (c : ControllerCall) (line : Line) (w : Where) (before : Desk) (after : Option Desk) → (call_answer c line w before after).sends ≡ true
 call_sends (call.Challenge c) line w before after = refl
 call_sends (call.Authenticate c) line w before after = opening_sends (opened_by w.controller c before) w line.call
-call_sends (call.Logon c) line w before after = judging_sends (has_passed (judging_of w line (Network c) before after).how) (judging_of w line (Network c) before after)
-call_sends (call.Logoff c) line w before after = refl
+call_sends (call.Judged c) line w before after = judging_sends (has_passed (judging_of w line c before after).how) (judging_of w line c before after)
 
 -- the link, once for each mark
 abbrev pub once_each : ℕ → List Mark → List ℕ

@@ -4,9 +4,6 @@ use Rattle.std.proofs.Common.{◌≡◌, Bool, true, false, refl, sym, ℕ, List
 use Rattle.wire_base.specs.Maps.{has_key, lookup, take_out}
 use Rattle.wire_base.specs.Names.{same_name}
 use Rattle.wire_base.proofs.NameLaws.{IsSameness-same_name}
-use Rattle.logon_stubs.specs.declared.info.NetworkInfo.{NetworkInfo}
-use Rattle.domain_controller.specs.Machine.{Desk, judge_return}
-use Rattle.controller_calls.specs.declared.line.Line.{Line}
 
 -- ---- tests
 
@@ -28,12 +25,7 @@ lookup_named one other (entry ∷ entries) same =
     ap (λ (hit : Bool). if hit then Some entry.1 else lookup same_name other entries) key
     ∙ ap (λ found. if same_name one entry.0 then Some entry.1 else found) (lookup_named one other entries same)
 
--- ---- a Logon call is judged
-
-pub return_computers : (returned : Option (List ℕ)) (key name : List ℕ) (now : ℕ) (line : Line) (info : NetworkInfo) (validation : ℕ) (d : Desk) →
-    (judge_return returned key name now line info validation d).work.computers ≡ d.work.computers
-return_computers None key name now line info validation d = refl
-return_computers (Some credential) key name now line info validation d = refl
+-- ---- an entry is taken out
 
 -- a name that isn't there isn't taken out
 not_there : {V : Type 0} (hit : Bool) (entry : List ℕ × V) (entries rest : List (List ℕ × V)) (found : Option V) → (if hit then Some entry.1 else found) ≡ None →

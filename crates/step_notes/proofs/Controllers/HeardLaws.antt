@@ -1,6 +1,6 @@
 -- What a controller hears in the bytes of one whole unit.
 -- It serves `controllers_hear_whole`.
-use Rattle.std.proofs.Common.{◌≡◌, ◌⊎◌, ℕ, Bool, true, false, not, ◌&&◌, List, [], ◌∷◌, map, inl, inr, Option, Some, None, Result, Ok, Err, refl, sym, ap, ap₂, subst, ◌∙◌, nat_le}
+use Rattle.std.proofs.Common.{◌≡◌, ◌==◌, ◌⊎◌, ℕ, Bool, true, false, not, ◌&&◌, List, [], ◌∷◌, map, inl, inr, Option, Some, None, Result, Ok, Err, refl, sym, ap, ap₂, subst, ◌∙◌, nat_le}
 use Rattle.std.specs.List.{AllByRecursion}
 use Rattle.rpc_units.specs.Joining.{AddsTo, answer_by, answer_of, grown, in_place, joined_by, joined_of, kept_by, open_after, same_call, stub_len}
 use Rattle.rpc_units.specs.Reading.{unit_of}
@@ -15,15 +15,23 @@ use Rattle.end_links.specs.Agreed.{Agreed, accepts}
 use Rattle.end_links.specs.Serving.{Server, ServedPart, served_by, served_cut, then_open, then_talk, ServedUnit, served_units, units_on, units_then}
 use Rattle.logon_stubs.specs.Calls.{call_of}
 use Rattle.logon_stubs.specs.declared.calls.Call.{Call}
-use Rattle.logon_stubs.specs.declared.calls.Call.TheVariants as call
+use Rattle.logon_stubs.specs.declared.calls.Call.TheVariants as netlogon
 use Rattle.logon_stubs.specs.declared.refused.StubRefused.{StubRefused}
-use Rattle.domain_controller.specs.Hearing.{bound_talk, hear, hear_bound, hear_context, hear_fresh, hear_joined, hear_on, hear_opnum, hear_read, hear_stub, hear_whole, is_served}
+use Rattle.logon_stubs.specs.declared.refused.StubRefused.TheVariants as refused
+use Rattle.interactive_logon.specs.declared.calls.InteractiveCall.{InteractiveCall}
+use Rattle.interactive_logon.specs.Calls.{interactive_of, is_logon}
+use Rattle.secret_change.specs.declared.calls.SetCall.{SetCall}
+use Rattle.secret_change.specs.declared.refused.SetRefused.{SetRefused}
+use Rattle.secret_change.specs.Calls.{set_call_of, set_opnum}
+use Rattle.controller_calls.specs.declared.calls.ControllerCall.{ControllerCall}
+use Rattle.controller_calls.specs.declared.calls.ControllerCall.TheVariants as call
+use Rattle.domain_controller.specs.Hearing.{bound_talk, hear, hear_arm, hear_bound, hear_context, hear_fresh, hear_interactive, hear_joined, hear_netlogon, hear_number, hear_on, hear_opnum, hear_read, hear_refused, hear_set, hear_stub, hear_whole, is_served, served_call}
 use Rattle.domain_controller.specs.Machine.{Desk, by_call, by_heard, controller_server, draw_challenge}
 use Rattle.domain_controller.specs.declared.hearing.Heard.{Heard}
 use Rattle.domain_controller.specs.declared.hearing.Heard.TheVariants as heard
 use Rattle.controller_calls.specs.declared.line.Line.{Line}
 use Rattle.domain_controller.specs.declared.state.Talk.{Talk}
-use Rattle.step_notes.specs.HeardWhole.{ControllersHearWhole, IsCallOf, LeavesNothingOpen, call_carried, call_read}
+use Rattle.step_notes.specs.HeardWhole.{ControllersHearWhole, IsCallOf, LeavesNothingOpen, arm_read, call_carried, call_read, interactive_read, number_read, refused_read, request_read, set_read}
 
 -- ---- joining
 
@@ -86,16 +94,49 @@ module _ (whole : RpcUnit) (link : ℕ) (agreed : Agreed) (after : Option RpcUni
   bound_so : Said after (bound_talk after agreed)
   bound_so = inl (agreed, refl)
 
-  stub_comes : (read : Result Call StubRefused) (line : Line) → line.call ≡ whole.call → (call_read read ≡ call_carried whole.body) → Comes whole after true (hear_stub read line (bound_talk after agreed))
-  stub_comes (Err why) line number is = bound_so
-  stub_comes (Ok c) line number is = (refl, bound_so, number, sym is)
+  netlogon_comes : (c : Call) (line : Line) → line.call ≡ whole.call → Some (served_call c) ≡ call_carried whole.body → Comes whole after true (hear_netlogon c line (bound_talk after agreed))
+  netlogon_comes (netlogon.Challenge c) line number is = (refl, bound_so, number, sym is)
+  netlogon_comes (netlogon.Authenticate c) line number is = (refl, bound_so, number, sym is)
+  netlogon_comes (netlogon.Logon c) line number is = (refl, bound_so, number, sym is)
+  netlogon_comes (netlogon.Logoff c) line number is = (refl, bound_so, number, sym is)
 
-  opnum_comes : (served : Bool) (opnum : ℕ) (stub : List ℕ) (line : Line) → line.call ≡ whole.call → call_read (call_of opnum stub) ≡ call_carried whole.body →
+  interactive_comes : (read : Result InteractiveCall StubRefused) (logs_on : Bool) (line : Line) → line.call ≡ whole.call → interactive_read read logs_on ≡ call_carried whole.body →
+      Comes whole after true (hear_interactive read logs_on line (bound_talk after agreed))
+  interactive_comes (Err why) logs_on line number is = bound_so
+  interactive_comes (Ok c) logs_on line number is = (refl, bound_so, number, sym is)
+
+  arm_comes : (is_interactive : Bool) (opnum : ℕ) (stub : List ℕ) (line : Line) → line.call ≡ whole.call → arm_read is_interactive opnum stub ≡ call_carried whole.body →
+      Comes whole after true (hear_arm is_interactive opnum stub line (bound_talk after agreed))
+  arm_comes false opnum stub line number is = bound_so
+  arm_comes true opnum stub line number is = interactive_comes (interactive_of opnum stub) (is_logon opnum) line number is
+
+  refused_comes : (why : StubRefused) (opnum : ℕ) (stub : List ℕ) (line : Line) → line.call ≡ whole.call → refused_read why opnum stub ≡ call_carried whole.body →
+      Comes whole after true (hear_refused why opnum stub line (bound_talk after agreed))
+  refused_comes (refused.BadArm arm) opnum stub line number is = arm_comes (arm == 1) opnum stub line number is
+  refused_comes (refused.NoSuchCall other) opnum stub line number is = bound_so
+  refused_comes (refused.BadStub place) opnum stub line number is = bound_so
+  refused_comes refused.Memory opnum stub line number is = bound_so
+
+  stub_comes : (read : Result Call StubRefused) (opnum : ℕ) (stub : List ℕ) (line : Line) → line.call ≡ whole.call → call_read read opnum stub ≡ call_carried whole.body →
+      Comes whole after true (hear_stub read opnum stub line (bound_talk after agreed))
+  stub_comes (Err why) opnum stub line number is = refused_comes why opnum stub line number is
+  stub_comes (Ok c) opnum stub line number is = netlogon_comes c line number is
+
+  set_comes : (read : Result SetCall SetRefused) (line : Line) → line.call ≡ whole.call → set_read read ≡ call_carried whole.body → Comes whole after true (hear_set read line (bound_talk after agreed))
+  set_comes (Err why) line number is = bound_so
+  set_comes (Ok c) line number is = (refl, bound_so, number, sym is)
+
+  number_comes : (is_set : Bool) (opnum : ℕ) (stub : List ℕ) (line : Line) → line.call ≡ whole.call → number_read is_set opnum stub ≡ call_carried whole.body →
+      Comes whole after true (hear_number is_set opnum stub line (bound_talk after agreed))
+  number_comes false opnum stub line number is = stub_comes (call_of opnum stub) opnum stub line number is
+  number_comes true opnum stub line number is = set_comes (set_call_of stub) line number is
+
+  opnum_comes : (served : Bool) (opnum : ℕ) (stub : List ℕ) (line : Line) → line.call ≡ whole.call → request_read opnum stub ≡ call_carried whole.body →
       Comes whole after true (hear_opnum served opnum stub line (bound_talk after agreed))
   opnum_comes false opnum stub line number is = bound_so
-  opnum_comes true opnum stub line number is = stub_comes (call_of opnum stub) line number is
+  opnum_comes true opnum stub line number is = number_comes (opnum == set_opnum) opnum stub line number is
 
-  context_comes : (accepted : Bool) (opnum : ℕ) (stub : List ℕ) (line : Line) → line.call ≡ whole.call → call_read (call_of opnum stub) ≡ call_carried whole.body →
+  context_comes : (accepted : Bool) (opnum : ℕ) (stub : List ℕ) (line : Line) → line.call ≡ whole.call → request_read opnum stub ≡ call_carried whole.body →
       Comes whole after true (hear_context accepted opnum stub line (bound_talk after agreed))
   context_comes false opnum stub line number is = bound_so
   context_comes true opnum stub line number is = opnum_comes (is_served opnum) opnum stub line number is
@@ -215,12 +256,11 @@ draw_said : (left : List (List ℕ)) (line : Line) (c : _) (talk : Talk) (d : De
 draw_said [] line c talk d after said = tt
 draw_said (server ∷ left) line c talk d after said = said
 
-call_said : (c : Call) (line : Line) (talk : Talk) (name : List ℕ) (now : ℕ) (d : Desk) (left : List (List ℕ)) (after : Option RpcUnit) → Said after talk →
+call_said : (c : ControllerCall) (line : Line) (talk : Talk) (name : List ℕ) (now : ℕ) (d : Desk) (left : List (List ℕ)) (after : Option RpcUnit) → Said after talk →
     SaidPart after (by_call c line talk name now d left)
 call_said (call.Challenge c) line talk name now d left after said = draw_said left line c talk d after said
 call_said (call.Authenticate c) line talk name now d left after said = said
-call_said (call.Logon c) line talk name now d left after said = said
-call_said (call.Logoff c) line talk name now d left after said = said
+call_said (call.Judged c) line talk name now d left after said = said
 
 unit_said : (what : Heard) (whole : RpcUnit) (after : Option RpcUnit) (last : Bool) (link : ℕ) (name : List ℕ) (now : ℕ) (d : Desk) (left : List (List ℕ)) → Comes whole after last what →
     SaidPart after (by_heard what link name now d left)

@@ -1,13 +1,12 @@
 -- For the law `passed_replies_are_read`: a walk over the units of a piece, of which each leaves the ranges
 -- (`SendsAreWhole` of domain_controller).
-use Rattle.std.proofs.Common.{◌≡◌, ◌≤◌, ◌<◌, ◌^◌, ◌++◌, ℕ, Bool, true, false, List, length, map, Option, Some, None, Result, Ok, Err, refl, sym, ap, ◌∙◌, subst}
+use Rattle.std.proofs.Common.{arith, [], ◌∷◌, ◌==◌, ◌≡◌, ◌≤◌, ◌<◌, ◌^◌, ◌++◌, ℕ, Bool, true, false, List, length, map, Option, Some, None, Result, Ok, Err, refl, sym, ap, ◌∙◌, subst}
 use Rattle.std.specs.List.{AllByRecursion}
 use Rattle.wire_base.specs.Maps.{lookup, same_number}
 use Rattle.wire_base.specs.Names.{IsName}
 use Rattle.wire_base.specs.declared.authenticator.Authenticator.{Authenticator}
 use Rattle.authenticators.specs.Channels.{ChannelIdentity}
 use Rattle.authenticators.specs.SecureChannels.{SecureChannelState, key_of_channel}
-use Rattle.authenticators.specs.Sequences.{return_of}
 use Rattle.outside.specs.declared.action.Action.{Action}
 use Rattle.outside.specs.declared.action.StepRefused.{StepRefused}
 use Rattle.rpc_units.specs.declared.unit.Unit.{Unit as RpcUnit}
@@ -21,7 +20,21 @@ use Rattle.logon_stubs.specs.Writing.{written_reply}
 use Rattle.end_links.specs.Links.{LinkState}
 use Rattle.end_links.specs.Sending.{response_of}
 use Rattle.end_links.specs.Serving.{ServedUnit, served_units}
-use Rattle.controller_calls.specs.Calls.{done_by}
+use Rattle.authenticators.specs.Sequences.{next_seed, return_of}
+use Rattle.authenticators.proofs.BlockLaws.{cred_block}
+use Rattle.logon_stubs.specs.Ranges.{IsBlock}
+use Rattle.logon_stubs.specs.Status.{no_trust_sam_account}
+use Rattle.interactive_logon.specs.Sessions.{session_limit}
+use Rattle.interactive_logon.specs.declared.sessions.Session.{Session}
+use Rattle.secret_change.specs.Calls.{written_set_reply}
+use Rattle.secret_change.specs.Hiding.{show_of}
+use Rattle.secret_change.proofs.SetLaws.{reply_stub as set_stub}
+use Rattle.account_table.specs.AccountTable.{AccountTable}
+use Rattle.account_table.specs.LookUps.{machine_in}
+use Rattle.controller_calls.specs.Doing.{done_by, reply_stub, returned_with, set_so}
+use Rattle.controller_calls.specs.Interactive.{admitted, judge_interactive}
+use Rattle.controller_calls.specs.Logons.{IsServedLevel}
+use Rattle.domain_controller.proofs.WholeParts.{Fits, admitted_has, interactive_fit, interactive_served, logoff_few, passed_few}
 use Rattle.domain_controller.specs.Hearing.{hear}
 use Rattle.domain_controller.specs.Machine.{Desk, controller_server}
 use Rattle.domain_controller.specs.ReadBack.{IsReadBack}
@@ -35,13 +48,15 @@ use Rattle.domain_controller.proofs.ReadBackLaws.{replies_are_read_back}
 use Rattle.domain_controller.proofs.WholeLaws.{found_link, sends_are_whole}
 use Rattle.step_notes.specs.ControllerNotes.{Answered, Where, answer_on, channel_in, has_passed, heard_answer, judging_by, judging_of, opened_by, opening, passing, units_at, units_by, units_of_controller}
 use Rattle.step_notes.specs.JudgedInRange.{HasLevel, IsJudgedInRange, IsReadAsMade, PassedRepliesAreRead}
-use Rattle.step_notes.specs.Records.{JudgedCall, Judging, Network, Source, computer_named}
-use Rattle.step_notes.specs.ReplySends.{IsItsReply, reply_passed, reply_stub, standing_at, stub_passed}
+use Rattle.step_notes.specs.Records.{Judging, Source, computer_named}
+use Rattle.step_notes.specs.ReplySends.{IsItsReply, reply_passed, standing_at, stub_passed}
+use Rattle.controller_calls.specs.declared.calls.JudgedCall.{JudgedCall}
+use Rattle.controller_calls.specs.declared.calls.JudgedCall.TheVariants.{Network, Interactive, Logoff, NetworkLogoff, Set}
 use Rattle.step_notes.specs.Served.{units_if_taken, work_after}
 use Rattle.step_notes.proofs.Controllers.JudgedCallLaws.{if_network, of_network}
 use Rattle.step_notes.proofs.ServedLaws.{all_mapped, served_such}
 use Rattle.outside.specs.declared.event.Event.TheVariants as event
-use Rattle.logon_stubs.specs.declared.calls.Call.TheVariants as call
+use Rattle.controller_calls.specs.declared.calls.ControllerCall.TheVariants as call
 use Rattle.domain_controller.specs.declared.hearing.Heard.TheVariants as heard
 
 -- ---- a unit
@@ -67,10 +82,9 @@ answer_fits (heard.Answer bytes talk) w before after name moment table = tt
 answer_fits (heard.Waits talk) w before after name moment table = tt
 answer_fits (heard.Asked line (call.Challenge c) talk) w before after name moment table = tt
 answer_fits (heard.Asked line (call.Authenticate c) talk) w before after name moment table = opening_fits (opened_by w.controller c before) w line.call
-answer_fits (heard.Asked line (call.Logon c) talk) w before after name moment table =
-    let j : Judging = judging_of w line (Network c) before after in
+answer_fits (heard.Asked line (call.Judged c) talk) w before after name moment table =
+    let j : Judging = judging_of w line c before after in
     judging_fits (has_passed j.how) j (record { table = table; name = name; moment = moment })
-answer_fits (heard.Asked line (call.Logoff c) talk) w before after name moment table = tt
 
 -- ---- the units of a piece
 
@@ -120,7 +134,36 @@ judgings_in_range c at controller source link piece now left is moment eight =
 stub_is : (j : Judging) (c : LogonCall) (channel : SecureChannelState) (given : Authenticator) → j.asked ≡ Network c → stub_passed j channel given ≡ written_reply (reply_passed j c channel given)
 stub_is j c channel given is =
     let key : List ℕ = key_of_channel channel in
-    ap (λ (asked : JudgedCall). reply_stub asked key (return_of key channel.seed given.timestamp) (done_by asked channel j.name j.table j.moment)) is
+    ap (λ (asked : JudgedCall). reply_stub asked key (return_of key channel.seed given.timestamp) (done_by asked channel j.name j.table j.moment j.sessions)) is
+
+-- the stub of a reply has room in one piece of a link, whatever is asked
+few_set : (place : Option ℕ) (hash credential : List ℕ) (table : AccountTable) (sessions : List Session) → IsBlock 8 credential →
+    length (written_set_reply (record { returned = returned_with credential; status = (set_so place hash table sessions).status })) ≤ 28015
+few_set None hash credential table sessions block =
+    omega (arith, (set_stub (record { returned = returned_with credential; status = no_trust_sam_account }) (record { returned = record { credential = block; timestamp = omega arith }; status = omega arith })).short)
+few_set (Some place) hash credential table sessions block =
+    omega (arith, (set_stub (record { returned = returned_with credential; status = 0 }) (record { returned = record { credential = block; timestamp = omega arith }; status = omega arith })).short)
+
+module _ (channel : SecureChannelState) (given : Authenticator) (name : List ℕ) (table : AccountTable) (now : ℕ) (sessions : List Session) (range : InRangeTable table) (is_name : IsName name)
+    (moment : now < 2 ^ 64) where
+  abbrev key : List ℕ
+  key = key_of_channel channel
+
+  abbrev credential : List ℕ
+  credential = return_of key channel.seed given.timestamp
+
+  few_of : (asked : JudgedCall) → HasLevel asked → length (reply_stub asked key credential (done_by asked channel name table now sessions)) ≤ 28015
+  few_of (Network c) small = (replies_are_read_back.passed table name now c.info c.validation key channel.seed given.timestamp range is_name moment small).few
+  few_of (Interactive c) small =
+      let full : Bool = length sessions == session_limit in
+      let judgement = judge_interactive table name now c.info c.validation key in
+      (passed_few (admitted full judgement.verdict) c.validation key credential (cred_block key (next_seed channel.seed given.timestamp))
+      (admitted_has full judgement.verdict Fits (interactive_fit table name now range is_name moment c.info c.validation key))
+      (admitted_has full judgement.verdict (λ granted. IsServedLevel c.validation) (interactive_served table name now c.info c.validation key))).few
+  few_of (Logoff c) small = (logoff_few (Some (returned_with credential)) _ (cred_block key (next_seed channel.seed given.timestamp))).few
+  few_of (NetworkLogoff c) small = (logoff_few (Some (returned_with credential)) _ (cred_block key (next_seed channel.seed given.timestamp))).few
+  few_of (Set c) small =
+      few_set (machine_in table.accounts c.account c.channel c.computer) (show_of key c.hidden) credential table sessions (cred_block key (next_seed channel.seed given.timestamp))
 
 module _ (j : Judging) (bytes : List ℕ) (is : IsItsReply j bytes) (frames : List RpcUnit) (unit : RpcUnit) (range : IsJudgedInRange j) (heard : IsHeard bytes frames unit) where
   abbrev stub : List ℕ
@@ -130,12 +173,9 @@ module _ (j : Judging) (bytes : List ℕ) (is : IsItsReply j bytes) (frames : Li
   back_of c small =
       replies_are_read_back.passed j.table j.name j.moment c.info c.validation (key_of_channel is.next.channel) is.next.channel.seed is.next.given.timestamp range.table range.name range.moment small
 
-  few_bytes : (asked : JudgedCall) → j.asked ≡ asked → HasLevel asked → length stub ≤ 28015
-  few_bytes (Network c) asks small = subst (λ (s : List ℕ). length s ≤ 28015) (sym (stub_is j c is.next.channel is.next.given asks)) (back_of c small).few
-
   reply_read : HasLevel j.asked → IsReadAsMade j bytes is unit
   reply_read small = record {
-    unit_is = replies_are_read_back.alone j.number is.context is.limit stub frames unit (few_bytes j.asked refl small) (subst (λ (b : List ℕ). IsHeard b frames unit) is.frames heard);
+    unit_is = replies_are_read_back.alone j.number is.context is.limit stub frames unit (few_of is.next.channel is.next.given j.name j.table j.moment j.sessions range.table range.name range.moment j.asked small) (subst (λ (b : List ℕ). IsHeard b frames unit) is.frames heard);
     read = if_network (λ (c : LogonCall). reply_of 2 (stub_of unit.body) ≡ Ok (reply_passed j c is.next.channel is.next.given)) j.asked
         (λ c asks.
         replies_are_read_back.reads j.number is.context is.limit (reply_passed j c is.next.channel is.next.given) frames unit

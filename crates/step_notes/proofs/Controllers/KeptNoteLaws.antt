@@ -14,10 +14,13 @@ use Rattle.channel_keys.specs.Flags.{rc4_flag}
 use Rattle.authenticators.specs.Channels.{ChannelIdentity, SameChannel}
 use Rattle.authenticators.specs.SecureChannels.{SecureChannelState, channel_by, key_of_channel, passes_on, return_by, channel_of}
 use Rattle.logon_stubs.specs.declared.calls.AuthCall.{AuthCall}
-use Rattle.logon_stubs.specs.declared.info.NetworkInfo.{NetworkInfo}
 use Rattle.account_table.specs.LookUps.{knows_in}
 use Rattle.account_table.specs.declared.account.Account.{Account}
-use Rattle.domain_controller.specs.Machine.{Desk, account_for, answer_logon, channel_for, desk, judge_account, judge_channel, judge_offer, judge_pair, open_channel, put_channel, put_pair_if, take_channel, take_pair}
+use Rattle.domain_controller.specs.Machine.{Desk, account_for, answer_named, answer_on, answers_to, channel_for, desk, judge_account, judge_offer, judge_pair, open_channel, put_channel, put_pair_if, refuse_asked, take_channel, take_pair}
+use Rattle.controller_calls.specs.Calls.{asked_of, computer_named, given_in}
+use Rattle.controller_calls.specs.declared.calls.Asked.{Asked}
+use Rattle.controller_calls.proofs.DoneLaws.{KeepsPairs, refused_keeps, return_keeps}
+use Rattle.outside.specs.declared.action.Judged.TheVariants as judged
 use Rattle.controller_calls.specs.declared.line.Line.{Line}
 use Rattle.controller_calls.specs.declared.state.Computers.{Computers}
 use Rattle.controller_calls.specs.declared.state.ChallengePair.{ChallengePair}
@@ -25,7 +28,7 @@ use Rattle.controller_calls.specs.declared.state.Work.{Work}
 use Rattle.step_notes.specs.ControllerNotes.{identity_by, opened_account, opened_if, opened_offer, opened_pair}
 use Rattle.step_notes.specs.KeptNotes.{Accepts, CallsAreKept, IsKeptBy, KeepsNoMore, WaitsIfKnown, server_in, waits_in}
 use Rattle.channel_events.proofs.ListLaws.{no_some, not_both, some_is}
-use Rattle.step_notes.proofs.Controllers.ComputerLaws.{lookup_named, return_computers, taken_none}
+use Rattle.step_notes.proofs.Controllers.ComputerLaws.{lookup_named, taken_none}
 
 -- ---- maps by names
 
@@ -165,18 +168,26 @@ found_back key name old new entries there =
           )
     ]
 
-found_kept : (found : Option SecureChannelState) (controller : ℕ) (computer : List ℕ) (given : Authenticator) (name : List ℕ) (now : ℕ) (line : Line) (info : NetworkInfo) (validation : ℕ) (d : Desk) →
+-- what leaves the challenges and the channels keeps no more
+alike_kept : (controller : ℕ) (before between later : Computers) → KeepsNoMore controller before between → KeepsPairs between later → KeepsNoMore controller before later
+alike_kept controller before between later more same = record {
+  waits = λ name challenge at. more.waits name challenge (ap (λ (pending : List (List ℕ × ChallengePair)). server_in (lookup same_name name pending)) (sym same.pending) ∙ at);
+  keeps = λ name c at. more.keeps name c (ap (λ (channels : List (List ℕ × SecureChannelState)). identity_by controller name (lookup same_name name channels)) (sym same.channels) ∙ at);
+}
+
+found_kept : (found : Option SecureChannelState) (controller : ℕ) (computer : List ℕ) (given : Authenticator) (what : Asked) (name : List ℕ) (now : ℕ) (line : Line) (d : Desk) →
     lookup same_name computer d.work.computers.channels ≡ found →
-    KeepsNoMore controller d.work.computers (judge_channel found computer given name now line info validation (desk d.table (take_channel computer d.work))).work.computers
-found_kept None controller computer given name now line info validation d stands =
-    no_more controller d.work.computers (take_channel computer d.work).computers
-    (ap (λ (channels : List (List ℕ × SecureChannelState)). record d.work.computers { channels = channels }) (taken_none computer d.work.computers.channels stands))
-found_kept (Some channel) controller computer given name now line info validation d stands =
+    KeepsNoMore controller d.work.computers (answer_on found computer given (answers_to what name now line) (desk d.table (take_channel computer d.work))).work.computers
+found_kept None controller computer given what name now line d stands =
+    alike_kept controller d.work.computers (take_channel computer d.work).computers (refuse_asked what judged.NoChannel line (take_channel computer d.work)).computers
+    (no_more controller d.work.computers (take_channel computer d.work).computers
+    (ap (λ (channels : List (List ℕ × SecureChannelState)). record d.work.computers { channels = channels }) (taken_none computer d.work.computers.channels stands)))
+    (refused_keeps what judged.NoChannel line (take_channel computer d.work))
+found_kept (Some channel) controller computer given what name now line d stands =
     let passes : Bool = passes_on channel given in
     let moved : SecureChannelState = channel_by passes channel given in
     let back : Desk = desk d.table (put_channel computer moved (take_channel computer d.work)) in
-    subst (λ (x : Computers). KeepsNoMore controller d.work.computers x)
-    (sym (return_computers (return_by passes channel given) (key_of_channel channel) name now line info validation back))
+    alike_kept controller d.work.computers back.work.computers _
     (record {
       waits = λ other challenge at. at;
       keeps = λ other c at. elim (found_back computer other channel moved d.work.computers.channels stands) [
@@ -188,13 +199,16 @@ found_kept (Some channel) controller computer given name now line info validatio
         | inr same ↦ sym (ap (identity_by controller other) same) ∙ at
       ];
     })
+    (return_keeps what (return_by passes channel given) computer channel name now line back)
 
-logon_kept : (computer : Option (List ℕ)) (given : Option Authenticator) (controller : ℕ) (name : List ℕ) (now : ℕ) (line : Line) (info : NetworkInfo) (validation : ℕ) (d : Desk) →
-    KeepsNoMore controller d.work.computers (answer_logon computer given name now line info validation d).work.computers
-logon_kept None given controller name now line info validation d = no_more controller d.work.computers d.work.computers refl
-logon_kept (Some computer) None controller name now line info validation d = no_more controller d.work.computers d.work.computers refl
-logon_kept (Some computer) (Some given) controller name now line info validation d =
-    found_kept (lookup same_name computer d.work.computers.channels) controller computer given name now line info validation d refl
+named_kept : (computer : Option (List ℕ)) (given : Option Authenticator) (what : Asked) (controller : ℕ) (name : List ℕ) (now : ℕ) (line : Line) (d : Desk) →
+    KeepsNoMore controller d.work.computers (answer_named computer given (answers_to what name now line) d).work.computers
+named_kept None given what controller name now line d =
+    alike_kept controller d.work.computers d.work.computers _ (no_more controller d.work.computers d.work.computers refl) (refused_keeps what judged.NoChannel line d.work)
+named_kept (Some computer) None what controller name now line d =
+    alike_kept controller d.work.computers d.work.computers _ (no_more controller d.work.computers d.work.computers refl) (refused_keeps what judged.NoChannel line d.work)
+named_kept (Some computer) (Some given) what controller name now line d =
+    found_kept (lookup same_name computer d.work.computers.channels) controller computer given what name now line d refl
 
 pub calls_are_kept : CallsAreKept
 calls_are_kept = record {
@@ -203,5 +217,5 @@ calls_are_kept = record {
   authenticate = λ controller table line c work map.
       opening_kept (opened_account (account_for table c) (lookup same_name c.computer work.computers.pending) c) controller c.computer work _ map
       (account_opened (account_for table c) (lookup same_name c.computer work.computers.pending) line c (take_pair c.computer work));
-  logon = λ controller computer given name now line info validation d. logon_kept computer given controller name now line info validation d;
+  judged = λ controller c name now line d. named_kept (computer_named c) (given_in c) (asked_of c) controller name now line d;
 }

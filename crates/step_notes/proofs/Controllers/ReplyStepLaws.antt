@@ -17,13 +17,12 @@ use Rattle.outside.specs.Machine.{step_by, then_part}
 use Rattle.rpc_units.specs.Stream.{cut_stream, Cut}
 use Rattle.logon_stubs.specs.declared.calls.AuthCall.{AuthCall}
 use Rattle.logon_stubs.specs.declared.calls.ChallengeCall.{ChallengeCall}
-use Rattle.logon_stubs.specs.declared.calls.LogonCall.{LogonCall}
 use Rattle.account_table.specs.LookUps.{knows_in}
 use Rattle.account_table.specs.declared.account.Account.{Account}
 use Rattle.end_links.specs.Links.{LinkState}
 use Rattle.end_links.specs.Serving.{ServedPart, served_cut, ServedUnit, served_units}
 use Rattle.domain_controller.specs.Hearing.{hear}
-use Rattle.domain_controller.specs.Machine.{Desk, account_for, answer_challenge, answer_logon, by_heard, channel_for, controller_server, draw_challenge, judge_account, judge_offer, judge_pair, open_channel, put_pair_if, take_pair}
+use Rattle.domain_controller.specs.Machine.{Desk, account_for, answer_challenge, answer_judged, by_heard, channel_for, controller_server, draw_challenge, judge_account, judge_offer, judge_pair, open_channel, put_pair_if, take_pair}
 use Rattle.domain_controller.specs.State.{State as ControllerState}
 use Rattle.domain_controller.specs.Step.{LinkMap, StepPart, after_units, first_desk, halted, serve_on, start_turn, state_after, step_on}
 use Rattle.domain_controller.specs.declared.hearing.Heard.{Heard}
@@ -33,18 +32,23 @@ use Rattle.domain_controller.specs.declared.state.Running.{Running}
 use Rattle.domain_controller.specs.declared.state.Talk.{Talk}
 use Rattle.controller_calls.specs.declared.state.Work.{Work}
 use Rattle.step_notes.specs.ChannelNames.{sends_in, sent_by}
-use Rattle.step_notes.specs.ControllerNotes.{Answered, Where, answer_on, channel_in, identity_by, has_passed, heard_answer, judged_in, judging_by, judging_of, logon_answer, new_actions, opened_account, opened_if, opened_mark, opened_offer, opened_pair, opening, passing, plain, reply_mark, units_at, units_by}
+use Rattle.step_notes.specs.ControllerNotes.{Answered, Where, answer_on, channel_in, identity_by, has_passed, heard_answer, judged_in, judging_by, judging_of, judged_answer, new_actions, opened_account, opened_if, opened_mark, opened_offer, opened_pair, opening, passing, plain, reply_mark, units_at, units_by}
 use Rattle.step_notes.specs.Judged.{channel_if}
-use Rattle.step_notes.specs.Records.{InUnit, Judging, Network, Outside, Source, computer_named, unit_in}
-use Rattle.step_notes.specs.ReplySends.{AreSentFor, CarriesReply, IsItsReply, IsOpeningReply, IsSentIf, RepliesAreSentAsJudged, standing_at}
+use Rattle.step_notes.specs.Records.{InUnit, Judging, Outside, Source, computer_named, unit_in, given_in}
+use Rattle.step_notes.specs.ReplySends.{AreSentFor, CarriesReply, IsItsReply, IsOpeningReply, IsSentIf, RepliesAreSentAsJudged, standing_at, done_on}
+use Rattle.controller_calls.specs.declared.calls.JudgedCall.{JudgedCall}
 use Rattle.step_notes.specs.Served.{units_if_taken, work_after}
-use Rattle.step_notes.proofs.Controllers.JudgedStepLaws.{Told, by_names}
-use Rattle.step_notes.proofs.Controllers.ReplySendLaws.{IsSentAsPassed, dropped, passed_sends}
+use Rattle.step_notes.proofs.Controllers.JudgedStepLaws.{Told, dropped, told_call, told_kept}
+use Rattle.step_notes.proofs.Controllers.ReplySendLaws.{IsSentAsPassed, passed_sends}
+use Rattle.controller_calls.specs.Calls.{asked_of}
+use Rattle.controller_calls.specs.Passing.{IsKeep}
+use Rattle.controller_calls.proofs.DoneLaws.{texts_kept}
+use Rattle.std.specs.List.{AllByRecursion}
 use Rattle.step_notes.proofs.ServedLaws.{StaysNoted, served_mapped}
 use Rattle.outside.specs.declared.action.Action.TheVariants as action
 use Rattle.outside.specs.declared.action.CloseCause.TheVariants as close
 use Rattle.outside.specs.declared.event.Event.TheVariants as event
-use Rattle.logon_stubs.specs.declared.calls.Call.TheVariants as call
+use Rattle.controller_calls.specs.declared.calls.ControllerCall.TheVariants as call
 use Rattle.domain_controller.specs.declared.hearing.Heard.TheVariants as heard
 
 -- ---- what is sent
@@ -140,7 +144,7 @@ account_one : (account : Option Account) (pair : Option ChallengePair) (line : L
 account_one None pair line c work = sends_opening None work.actions line.link _ tt
 account_one (Some account) pair line c work = offer_one (has_flag c.flags rc4_flag) pair account line c work
 
--- and isn't marked as a reply to a Logon call
+-- and isn't marked as a reply to a call on a secure channel
 
 opened_carries : (unit : Option ℕ) (channel : ChannelIdentity) (number : ℕ) (bytes : List ℕ) → IsOpeningReply bytes → CarriesReply (opened_mark unit channel number) None bytes
 opened_carries None channel number bytes opens = tt
@@ -151,7 +155,17 @@ opening_sent : (opened : Option SecureChannelState) (w : Where) (computer : List
 opening_sent None w computer number bytes opens = (tt, tt)
 opening_sent (Some channel) w computer number bytes opens = (opened_carries (unit_in w.source) (channel_of w.controller computer channel) number bytes opens, tt)
 
--- ---- a Logon call
+-- ---- a call on a secure channel
+
+-- behind texts that are kept one send stands
+kept_sends : (kept : List Action) (how : Judged) (link : ℕ) (bytes : List ℕ) → AllByRecursion IsKeep kept → sends_in (kept ++ action.Judged how ∷ action.Send link bytes ∷ []) ≡ bytes ∷ []
+kept_sends [] how link bytes are = refl
+kept_sends (action.Keep text ∷ kept) how link bytes are = kept_sends kept how link bytes are.1
+kept_sends (action.Send at more ∷ kept) how link bytes are = absurd are.0
+kept_sends (action.Dial peer ∷ kept) how link bytes are = absurd are.0
+kept_sends (action.Close at cause ∷ kept) how link bytes are = absurd are.0
+kept_sends (action.Told at outcome ∷ kept) how link bytes are = absurd are.0
+kept_sends (action.Judged other ∷ kept) how link bytes are = absurd are.0
 
 reply_carries : (source : Source) (channel : ChannelIdentity) (j : Judging) (bytes : List ℕ) → j.source ≡ source → channel_if true j ≡ Some channel → has_passed j.how ≡ true → IsItsReply j bytes →
     CarriesReply (reply_mark (unit_in source) channel j.number) (Some j) bytes
@@ -167,31 +181,33 @@ judging_sent : (passed : Bool) (j : Judging) (bytes : List ℕ) → has_passed j
 judging_sent false j bytes is carries = (tt, tt)
 judging_sent true j bytes is carries = passing_sent (channel_in j.controller (computer_named j.asked) j.checks) j bytes refl is (carries is)
 
-same_sent : (how other : Judged) (link at : ℕ) (bytes more : List ℕ) → action.Judged how ∷ action.Send link bytes ∷ [] ≡ action.Judged other ∷ action.Send at more ∷ [] → bytes ≡ more
-same_sent how other link at bytes more is = cc
+-- the reply is the one send behind the judgement
+same_sent : (kept other : List Action) (how more : Judged) (link at : ℕ) (bytes sent : List ℕ) → AllByRecursion IsKeep kept → AllByRecursion IsKeep other →
+    kept ++ action.Judged how ∷ action.Send link bytes ∷ [] ≡ other ++ action.Judged more ∷ action.Send at sent ∷ [] → bytes ≡ sent
+same_sent kept other how more link at bytes sent are too is =
+    let one : bytes ∷ [] ≡ sent ∷ [] = sym (kept_sends kept how link bytes are) ∙ ap sends_in is ∙ kept_sends other more at sent too in cc
 
-logon_sent : (w : Where) (line : Line) (c : LogonCall) (d : Desk) →
-    IsSentBeside d.work.actions (logon_answer (judging_of w line (Network c) d (Some (answer_logon c.computer c.authenticator w.name w.moment line c.info c.validation d))) ∷ [])
-    (answer_logon c.computer c.authenticator w.name w.moment line c.info c.validation d).work.actions
-logon_sent w line c d =
-    let after : Desk = answer_logon c.computer c.authenticator w.name w.moment line c.info c.validation d in
-    let j : Judging = judging_of w line (Network c) d (Some after) in
-    let told : Told d.work.actions after.work.actions j.checks c.authenticator = by_names c.computer c.authenticator c w.name w.moment line d in
-    let two : new_actions (Some after) d ≡ action.Judged told.how ∷ action.Send told.link told.answer ∷ [] =
-    ap (λ (all : List Action). drop (length d.work.actions) all) told.is ∙ dropped d.work.actions (action.Judged told.how) (action.Send told.link told.answer) in
+call_sent : (w : Where) (line : Line) (c : JudgedCall) (d : Desk) →
+    IsSentBeside d.work.actions (judged_answer (judging_of w line c d (Some (answer_judged c w.name w.moment line d))) ∷ []) (answer_judged c w.name w.moment line d).work.actions
+call_sent w line c d =
+    let after : Desk = answer_judged c w.name w.moment line d in
+    let j : Judging = judging_of w line c d (Some after) in
+    let told : Told line d.work.actions after.work.actions j.checks (given_in c) = told_call c w.name w.moment line d in
+    let tail : List Action = told.kept ++ action.Judged told.how ∷ action.Send line.link told.answer ∷ [] in
+    let new : new_actions (Some after) d ≡ tail = ap (λ (all : List Action). drop (length d.work.actions) all) told.is ∙ dropped d.work.actions tail in
     record {
       new = told.answer ∷ [];
       is = ap sends_in told.is
-          ∙ one_more (d.work.actions ++ action.Judged told.how ∷ []) told.link told.answer
-          ∙ ap (λ (sent : List (List ℕ)). sent ++ told.answer ∷ []) (none_more d.work.actions (action.Judged told.how) refl);
+          ∙ flat_map-append sent_by d.work.actions tail
+          ∙ ap (λ (sent : List (List ℕ)). sends_in d.work.actions ++ sent) (kept_sends told.kept told.how line.link told.answer told.are_kept);
       each = judging_sent (has_passed j.how) j told.answer refl (λ passed.
-          let sent : IsSentAsPassed j c line (new_actions (Some after) d) = passed_sends w line c d passed in
+          let sent : IsSentAsPassed j line (new_actions (Some after) d) = passed_sends w line c d passed in
           record {
             next = sent.next;
-            how = ap judged_in sent.actions;
+            how = ap judged_in sent.actions ∙ told_kept _ _ _ (texts_kept (asked_of c) (done_on j sent.next.channel));
             context = line.context;
             limit = line.limit;
-            frames = same_sent told.how _ told.link _ told.answer _ (sym two ∙ sent.actions);
+            frames = same_sent told.kept _ told.how _ line.link _ told.answer _ told.are_kept (texts_kept (asked_of c) (done_on j sent.next.channel)) (sym new ∙ sent.actions);
           });
     }
 
@@ -208,8 +224,7 @@ heard_sent (heard.Asked line (call.Authenticate c) talk) w link d left =
     let one : SendsOpening opened d.work.actions (judge_account (account_for d.table c) (lookup same_name c.computer d.work.computers.pending) line c (take_pair c.computer d.work)).actions =
     account_one (account_for d.table c) (lookup same_name c.computer d.work.computers.pending) line c (take_pair c.computer d.work) in
     record { new = one.bytes ∷ []; is = one.is; each = opening_sent opened w c.computer line.call one.bytes one.opens }
-heard_sent (heard.Asked line (call.Logon c) talk) w link d left = logon_sent w line c d
-heard_sent (heard.Asked line (call.Logoff c) talk) w link d left = record { new = _; is = one_more d.work.actions line.link _; each = (tt, tt) }
+heard_sent (heard.Asked line (call.Judged c) talk) w link d left = call_sent w line c d
 
 -- ---- the units of a stream
 

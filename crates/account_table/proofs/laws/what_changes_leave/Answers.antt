@@ -1,5 +1,5 @@
 -- Each clause is a law of `proofs/ChangeLaws`.
-use Rattle.account_table.proofs.ChangeLaws.{with_changes-none, with_changes-append, with_changes-differs, with_changes-counts}
+use Rattle.account_table.proofs.ChangeLaws.{with_changes-none, with_changes-append, with_changes-differs, with_changes-states, states-again, counts-states, machines-left}
 use Rattle.account_table.proofs.laws.what_changes_leave.Goals as goal
 
 pub returns-clause-none : goal.returns-clause-none
@@ -11,5 +11,14 @@ returns-clause-joined c = with_changes-append
 pub returns-clause-differ : goal.returns-clause-differ
 returns-clause-differ c = with_changes-differs
 
+pub returns-clause-again : goal.returns-clause-again
+returns-clause-again c = states-again
+
 pub returns-clause-counts : goal.returns-clause-counts
-returns-clause-counts c = with_changes-counts
+returns-clause-counts c = counts-states
+
+pub returns-clause-states : goal.returns-clause-states
+returns-clause-states c = with_changes-states
+
+pub returns-clause-machines : goal.returns-clause-machines
+returns-clause-machines c = machines-left

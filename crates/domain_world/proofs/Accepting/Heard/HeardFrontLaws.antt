@@ -1,6 +1,6 @@
 -- What stands in front of bytes is what is heard of them: of a request's frames, whatever their size, a whole unit has
 -- the request's number and its opnum; and of a reply's frames it is no call. It serves `marked_units_are_whole`.
-use Rattle.std.proofs.Common.{◌≡◌, ℕ, zero, suc, ◌<◌, ◌^◌, Bool, true, false, List, [], ◌∷◌, ◌++◌, drop, take, length, map, nat_le, Some, None, Ok, refl, sym, ap, subst, ◌∙◌, arith, if◌then◌else◌}
+use Rattle.std.proofs.Common.{◌≡◌, ℕ, zero, suc, ◌<◌, ◌^◌, Bool, true, false, List, [], ◌∷◌, ◌++◌, drop, take, length, map, nat_le, Some, None, refl, sym, ap, subst, ◌∙◌, arith, if◌then◌else◌}
 use Rattle.std.specs.Int.{w16, w32}
 use Rattle.std.specs.List.{AllByRecursion, flat_map}
 use Rattle.std.proofs.lemmas.List.{append_assoc}
@@ -17,16 +17,15 @@ use Rattle.rpc_units.specs.Writing.{HasNumbers, IsInRange, written, written_star
 use Rattle.rpc_units.proofs.CutStreamLaws.{cut_is_stream}
 use Rattle.rpc_units.proofs.JoiningLaws.{IsJoined-AddsTo}
 use Rattle.rpc_units.proofs.RangeLaws.{read_fits}
-use Rattle.logon_stubs.specs.Calls.{IsCall, call_of}
-use Rattle.logon_stubs.specs.declared.calls.Call.{Call}
-use Rattle.logon_stubs.specs.declared.calls.Call.TheVariants as call
-use Rattle.logon_stubs.specs.declared.calls.LogonCall.{LogonCall}
-use Rattle.logon_stubs.proofs.CallLaws.{call_of-IsCall}
+use Rattle.controller_calls.specs.declared.calls.ControllerCall.{ControllerCall}
+use Rattle.controller_calls.specs.declared.calls.JudgedCall.{JudgedCall}
+use Rattle.step_notes.proofs.Controllers.ReadCallLaws.{opening_unjudged}
+use Rattle.controller_calls.specs.declared.calls.ControllerCall.TheVariants as call
 use Rattle.end_links.specs.Sending.{frames_of, joined_frames, request_of, response_of}
 use Rattle.end_links.proofs.BoundLaws.{frames_joined}
 use Rattle.end_links.proofs.WholeLaws.{cut_bytes}
 use Rattle.step_notes.specs.HeardWhole.{call_carried}
-use Rattle.domain_world.proofs.Accepting.Heard.HeardUnitLaws.{AreReadAs, call_is, first_read}
+use Rattle.domain_world.proofs.Accepting.Heard.HeardUnitLaws.{AreReadAs, first_read}
 
 -- ---- the first frame
 
@@ -144,16 +143,12 @@ of_request number opnum limit stub bytes frames unit small known are is heard =
 
 -- ---- what it carries
 
--- a request that opens a channel carries no Logon call
-pub opens_no_logon : (unit : RpcUnit) (c : LogonCall) → AreBytes (stub_of unit.body) → IsRequestBody 15 unit.body → call_carried unit.body ≡ Some (call.Logon c) → ⊥
-unfolding IsCall
-opens_no_logon unit c are body carries =
-    let read : call_of 15 body.stub ≡ Ok (call.Logon c) =
-    call_is (call_of 15 body.stub) (call.Logon c) (sym (ap call_carried body.is) ∙ carries) in
-    let never : 15 ≡ 2 = (call_of-IsCall 15 body.stub (call.Logon c) (subst AreBytes (ap stub_of body.is) are) read).0 in
-    omega (arith, never)
+-- a request that opens a channel carries no call on one
+pub opens_no_logon : (unit : RpcUnit) (asked : JudgedCall) → AreBytes (stub_of unit.body) → IsRequestBody 15 unit.body → call_carried unit.body ≡ Some (call.Judged asked) → ⊥
+opens_no_logon unit asked are body carries =
+    opening_unjudged body.stub asked (subst AreBytes (ap stub_of body.is) are) (sym (ap call_carried body.is) ∙ carries)
 
 -- nor does a reply carry any call
-pub reply_no_call : (unit : RpcUnit) (number context : ℕ) (stub : List ℕ) (c : Call) → unit ≡ response_of number context stub → call_carried unit.body ≡ Some c → ⊥
+pub reply_no_call : (unit : RpcUnit) (number context : ℕ) (stub : List ℕ) (c : ControllerCall) → unit ≡ response_of number context stub → call_carried unit.body ≡ Some c → ⊥
 reply_no_call unit number context stub c is carries =
     let never : None ≡ Some c = sym (ap (λ (u : RpcUnit). call_carried u.body) is) ∙ carries in cc

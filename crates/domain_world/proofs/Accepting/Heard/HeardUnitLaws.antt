@@ -1,6 +1,6 @@
 -- What is known of the whole unit that bytes are: its stub has bytes, and the level that a Logon call asks for has 16
 -- bits. It serves `calls_are_judged_as_carried`, `replies_are_read_back` and `marked_units_are_whole`.
-use Rattle.std.proofs.Common.{◌≡◌, ℕ, ◌-◌, ◌<◌, ◌^◌, List, [], ◌∷◌, ◌++◌, drop, map, Some, Result, Ok, Err, sym, subst}
+use Rattle.std.proofs.Common.{◌≡◌, ◌==◌, ℕ, ◌-◌, ◌<◌, ◌^◌, List, [], ◌∷◌, ◌++◌, drop, map, Some, Result, Ok, Err, sym, subst}
 use Rattle.std.specs.List.{AllByRecursion}
 use Rattle.wire_base.specs.Numbers.{AreBytes}
 use Rattle.wire_base.proofs.NumberLaws.{AreBytes-append, AreBytes-drop, AreBytes-nil, AreBytes-take}
@@ -18,14 +18,15 @@ use Rattle.rpc_units.specs.Stream.{Cut}
 use Rattle.rpc_units.specs.Writing.{written}
 use Rattle.rpc_units.proofs.GrammarLaws.{IsUnit-unit_of}
 use Rattle.rpc_units.proofs.JoiningLaws.{IsJoined-AddsTo}
-use Rattle.logon_stubs.specs.Calls.{call_of}
-use Rattle.logon_stubs.specs.declared.calls.Call.{Call}
-use Rattle.logon_stubs.specs.declared.calls.Call.TheVariants as call
+use Rattle.logon_stubs.specs.declared.calls.Call.TheVariants as netlogon
+use Rattle.controller_calls.specs.declared.calls.ControllerCall.TheVariants as call
+use Rattle.controller_calls.specs.declared.calls.JudgedCall.TheVariants.{Network}
+use Rattle.secret_change.specs.Calls.{set_opnum}
 use Rattle.logon_stubs.specs.declared.calls.LogonCall.{LogonCall}
-use Rattle.logon_stubs.specs.declared.refused.StubRefused.{StubRefused}
 use Rattle.logon_stubs.proofs.GivenLaws.{call_of-InRange}
 use Rattle.end_links.proofs.WholeLaws.{cut_bytes}
-use Rattle.step_notes.specs.HeardWhole.{call_carried, call_read}
+use Rattle.step_notes.specs.HeardWhole.{call_carried}
+use Rattle.step_notes.proofs.Controllers.ReadCallLaws.{network_read}
 
 -- ---- the stub of a whole unit has bytes
 
@@ -79,12 +80,8 @@ heard_stub bytes frames unit are heard =
 
 -- ---- the level that a Logon call asks for
 
-pub call_is : (found : Result Call StubRefused) (c : Call) → call_read found ≡ Some c → found ≡ Ok c
-call_is (Err why) c is = absurd (let never = is in cc)
-call_is (Ok other) c is = cc
-
-carried_level : (b : Body) (c : LogonCall) → AreBytes (stub_of b) → call_carried b ≡ Some (call.Logon c) → c.validation < 2 ^ 16
-carried_level (Request hint context opnum stub) c are is = (call_of-InRange opnum stub (call.Logon c) are (call_is (call_of opnum stub) (call.Logon c) is)).validation
+carried_level : (b : Body) (c : LogonCall) → AreBytes (stub_of b) → call_carried b ≡ Some (call.Judged (Network c)) → c.validation < 2 ^ 16
+carried_level (Request hint context opnum stub) c are is = (call_of-InRange opnum stub (netlogon.Logon c) are (network_read (opnum == set_opnum) opnum stub c is)).validation
 carried_level (Response hint context stub) c are is = absurd (let never = is in cc)
 carried_level (Bind send receive group contexts) c are is = absurd (let never = is in cc)
 carried_level (BindAck send receive group results) c are is = absurd (let never = is in cc)
@@ -94,5 +91,5 @@ carried_level (Fault hint context status) c are is = absurd (let never = is in c
 
 -- it has 16 bits, where the call came in bytes
 pub heard_level : (bytes : List ℕ) (frames : List RpcUnit) (unit : RpcUnit) (c : LogonCall) → AreBytes bytes → IsHeard bytes frames unit →
-    call_carried unit.body ≡ Some (call.Logon c) → c.validation < 2 ^ 16
+    call_carried unit.body ≡ Some (call.Judged (Network c)) → c.validation < 2 ^ 16
 heard_level bytes frames unit c are heard is = carried_level unit.body c (heard_stub bytes frames unit are heard) is

@@ -6,16 +6,11 @@ use Rattle.std.specs.List.{AllByRecursion}
 use Rattle.wire_base.specs.Maps.{lookup, same_number}
 use Rattle.wire_base.specs.Numbers.{AreBytes}
 use Rattle.outside.specs.declared.action.Action.{Action}
-use Rattle.rpc_units.specs.declared.unit.Body.{Body}
-use Rattle.rpc_units.specs.declared.unit.Body.TheVariants.{Bind, BindAck, BindNak, Auth3, Request, Response, Fault}
 use Rattle.rpc_units.specs.declared.unit.Unit.{Unit as RpcUnit}
 use Rattle.rpc_units.specs.Calls.{IsHeard}
 use Rattle.rpc_units.specs.Stream.{cut_stream}
-use Rattle.logon_stubs.specs.Calls.{call_of}
-use Rattle.logon_stubs.specs.declared.calls.Call.{Call}
-use Rattle.logon_stubs.specs.declared.calls.Call.TheVariants as call
+use Rattle.controller_calls.specs.declared.calls.ControllerCall.TheVariants as call
 use Rattle.logon_stubs.specs.declared.calls.LogonCall.{LogonCall}
-use Rattle.logon_stubs.specs.declared.refused.StubRefused.{StubRefused}
 use Rattle.end_links.specs.Links.{LinkState}
 use Rattle.end_links.specs.Whole.{IsWholeSend}
 use Rattle.end_links.specs.Serving.{ServedUnit, served_units}
@@ -29,9 +24,10 @@ use Rattle.controller_calls.specs.declared.line.Line.{Line}
 use Rattle.domain_controller.specs.declared.state.Running.{Running}
 use Rattle.domain_controller.specs.declared.state.Talk.{Talk}
 use Rattle.step_notes.specs.ControllerNotes.{Where, has_passed, heard_answer, judging_of, opened_by, units_at, units_by}
-use Rattle.step_notes.specs.HeardWhole.{IsCallOf, call_carried as carried_there, call_read as read_there}
+use Rattle.step_notes.specs.HeardWhole.{IsCallOf}
 use Rattle.step_notes.specs.JudgedInRange.{HasLevel, IsJudgedInRange}
-use Rattle.step_notes.specs.Records.{InUnit, JudgedCall, Judging, Network, Source, unit_in}
+use Rattle.step_notes.specs.Records.{InUnit, Judging, Source, unit_in}
+use Rattle.controller_calls.specs.declared.calls.JudgedCall.{JudgedCall}
 use Rattle.step_notes.proofs.Controllers.HeardLaws.{controllers_hear}
 use Rattle.step_notes.proofs.Controllers.JudgedCallLaws.{if_network}
 use Rattle.world_moves.specs.declared.bag.BagUnit.{BagUnit}
@@ -45,7 +41,7 @@ use Rattle.world_moves.specs.Acting.{perform_quietly, unit_on}
 use Rattle.world_moves.specs.Bag.{settle_at}
 use Rattle.world_moves.specs.Links.{is_own, kind_of}
 use Rattle.world_moves.proofs.QuietLaws.{units_by as sent_by}
-use Rattle.domain_world.specs.Accepting.Carried.{IsWholeUnit, call_carried, call_read, call_judged}
+use Rattle.domain_world.specs.Accepting.Carried.{IsWholeUnit, call_carried, call_judged}
 use Rattle.domain_world.specs.Accepting.Runs.{IsOfMember}
 use Rattle.domain_world.specs.Past.{Coming}
 use Rattle.channel_events.proofs.ListLaws.{at_end, got_append, some_is}
@@ -191,8 +187,7 @@ HeardSo So (heard.Answer bytes talk) = Unit {0}
 HeardSo So (heard.Waits talk) = Unit {0}
 HeardSo So (heard.Asked line (call.Challenge c) talk) = Unit {0}
 HeardSo So (heard.Asked line (call.Authenticate c) talk) = Unit {0}
-HeardSo So (heard.Asked line (call.Logon c) talk) = So line.call (Network c)
-HeardSo So (heard.Asked line (call.Logoff c) talk) = Unit {0}
+HeardSo So (heard.Asked line (call.Judged asked) talk) = So line.call asked
 
 heard_all : (So : ℕ → JudgedCall → Type 0) (what : HeardUnit) → ((number : ℕ) (asked : JudgedCall) → So number asked) → HeardSo So what
 heard_all So (heard.Close cause) all = tt
@@ -200,18 +195,16 @@ heard_all So (heard.Answer bytes talk) all = tt
 heard_all So (heard.Waits talk) all = tt
 heard_all So (heard.Asked line (call.Challenge c) talk) all = tt
 heard_all So (heard.Asked line (call.Authenticate c) talk) all = tt
-heard_all So (heard.Asked line (call.Logon c) talk) all = all line.call (Network c)
-heard_all So (heard.Asked line (call.Logoff c) talk) all = tt
+heard_all So (heard.Asked line (call.Judged asked) talk) all = all line.call asked
 
 heard_of : (So : ℕ → JudgedCall → Type 0) (unit : RpcUnit) (what : HeardUnit) →
-    ((number : ℕ) (asked : JudgedCall) → number ≡ unit.call → carried_there unit.body ≡ Some (call_judged asked) → So number asked) → IsCallOf unit what → HeardSo So what
+    ((number : ℕ) (asked : JudgedCall) → number ≡ unit.call → call_carried unit.body ≡ Some (call_judged asked) → So number asked) → IsCallOf unit what → HeardSo So what
 heard_of So unit (heard.Close cause) so is = tt
 heard_of So unit (heard.Answer bytes talk) so is = tt
 heard_of So unit (heard.Waits talk) so is = tt
 heard_of So unit (heard.Asked line (call.Challenge c) talk) so is = tt
 heard_of So unit (heard.Asked line (call.Authenticate c) talk) so is = tt
-heard_of So unit (heard.Asked line (call.Logon c) talk) so is = so line.call (Network c) is.0 is.1
-heard_of So unit (heard.Asked line (call.Logoff c) talk) so is = tt
+heard_of So unit (heard.Asked line (call.Judged asked) talk) so is = so line.call asked is.0 is.1
 
 pub answer_holds : (Fits : Judging → Type 0) (So : ℕ → JudgedCall → Type 0) (what : HeardUnit) (w : Where) (d : Desk) (after : Option Desk) →
     ((line : Line) (asked : JudgedCall) → So line.call asked → Fits (judging_of w line asked d after)) → HeardSo So what → HoldsIf Fits (heard_answer what w d after).judging
@@ -220,9 +213,8 @@ answer_holds Fits So (heard.Answer bytes talk) w d after fits is = tt
 answer_holds Fits So (heard.Waits talk) w d after fits is = tt
 answer_holds Fits So (heard.Asked line (call.Challenge c) talk) w d after fits is = tt
 answer_holds Fits So (heard.Asked line (call.Authenticate c) talk) w d after fits is = opening_holds Fits (opened_by w.controller c d) w line.call
-answer_holds Fits So (heard.Asked line (call.Logon c) talk) w d after fits is =
-    judging_holds Fits (has_passed (judging_of w line (Network c) d after).how) (judging_of w line (Network c) d after) (fits line (Network c) is)
-answer_holds Fits So (heard.Asked line (call.Logoff c) talk) w d after fits is = tt
+answer_holds Fits So (heard.Asked line (call.Judged asked) talk) w d after fits is =
+    judging_holds Fits (has_passed (judging_of w line asked d after).how) (judging_of w line asked d after) (fits line asked is)
 
 -- of all units that are served
 abbrev pub AllHeardSo : (ℕ → JudgedCall → Type 0) → ℕ → List (ServedUnit Desk Talk) → Type 0
@@ -233,28 +225,14 @@ any_heard So link [] all = tt
 any_heard So link (served ∷ units) all = (heard_all So (hear_unit link served.bytes served.talk) all, any_heard So link units all)
 
 each_heard : (So : ℕ → JudgedCall → Type 0) (link : ℕ) (unit : RpcUnit) (units : List (ServedUnit Desk Talk)) →
-    ((number : ℕ) (asked : JudgedCall) → number ≡ unit.call → carried_there unit.body ≡ Some (call_judged asked) → So number asked) →
+    ((number : ℕ) (asked : JudgedCall) → number ≡ unit.call → call_carried unit.body ≡ Some (call_judged asked) → So number asked) →
     AllByRecursion (λ (served : ServedUnit Desk Talk). IsCallOf unit (hear_unit link served.bytes served.talk)) units → AllHeardSo So link units
 each_heard So link unit [] so all = tt
 each_heard So link unit (served ∷ units) so all = (heard_of So unit (hear_unit link served.bytes served.talk) so all.0, each_heard So link unit units so all.1)
 
--- one name for two of it
-same_read : (found : Result Call StubRefused) → read_there found ≡ call_read found
-same_read (Err why) = refl
-same_read (Ok c) = refl
-
-pub same_carried : (b : Body) → carried_there b ≡ call_carried b
-same_carried (Request hint context opnum stub) = same_read (call_of opnum stub)
-same_carried (Response hint context stub) = refl
-same_carried (Bind send receive group contexts) = refl
-same_carried (BindAck send receive group results) = refl
-same_carried (BindNak reason) = refl
-same_carried Auth3 = refl
-same_carried (Fault hint context status) = refl
-
 -- the call of a whole unit of the bag is carried by it
 pub unit_so : (s : State) (number : ℕ) (w : Coming) (piece : List ℕ) (is : IsWholeCarried s number w piece) → w.source ≡ InUnit number → AreBytes piece → (n : ℕ) (asked : JudgedCall) →
-    n ≡ is.send.unit.call → carried_there is.send.unit.body ≡ Some (call_judged asked) → CarriedIf s.bag w.source n asked
+    n ≡ is.send.unit.call → call_carried is.send.unit.body ≡ Some (call_judged asked) → CarriedIf s.bag w.source n asked
 unit_so s number w piece is came bytes n asked numbered carries other there =
     let same : number ≡ other = some_is number other (ap unit_in (sym came ∙ there)) in
     subst (λ (m : ℕ). IsCarriedCall s.bag n asked m) same (record {
@@ -262,7 +240,7 @@ unit_so s number w piece is came bytes n asked numbered carries other there =
       there = is.there;
       whole = record { frames = is.send.frames; unit = is.send.unit; heard = is.send.heard };
       number_is = numbered;
-      carried = sym (same_carried is.send.unit.body) ∙ carries;
+      carried = carries;
       level = if_network (λ (c : LogonCall). c.validation < 2 ^ 16) asked
           (λ c kind.
           heard_level is.unit.bytes is.send.frames is.send.unit c (subst AreBytes (sym is.same) bytes) is.send.heard
@@ -270,7 +248,7 @@ unit_so s number w piece is came bytes n asked numbered carries other there =
     })
 
 module _ (c : ControllerState) (s : State) (w : Coming) (piece : List ℕ) (number : ℕ) (is : IsWholeCarried s number w piece)
-    (So : ℕ → JudgedCall → Type 0) (so : (n : ℕ) (asked : JudgedCall) → n ≡ is.send.unit.call → carried_there is.send.unit.body ≡ Some (call_judged asked) → So n asked) where
+    (So : ℕ → JudgedCall → Type 0) (so : (n : ℕ) (asked : JudgedCall) → n ≡ is.send.unit.call → call_carried is.send.unit.body ≡ Some (call_judged asked) → So n asked) where
   link_so : (found : Option (LinkState Talk)) (running : Running) →
       ((link : LinkState Talk) → found ≡ Some link → ListensWell (IsOfMember s.links) (IsMade s.links) w.link link) →
       AllHeardSo So w.link (units_at found w.link piece c running s.moment s.chances.left)

@@ -82,7 +82,7 @@ pub record IsRequestSent (number opnum : ℕ) (bytes : List ℕ) : Type 0 where
 -- the call of a turn on a channel: a Logon call that has the timestamp, and is read as it was written
 abbrev pub IsStampedCall : Call → ℕ → Type 0
 IsStampedCall (call.Logon c) timestamp = (timestamp_in c.authenticator ≡ timestamp) × (call_of 2 (written_call (call.Logon c)) ≡ Ok (call.Logon c))
-IsStampedCall (call.Logoff c) timestamp = Unit {0}
+IsStampedCall (call.Logoff c) timestamp = (timestamp_in c.authenticator ≡ timestamp) × (call_of 3 (written_call (call.Logoff c)) ≡ Ok (call.Logoff c))
 IsStampedCall (call.Challenge c) timestamp = ⊥
 IsStampedCall (call.Authenticate c) timestamp = ⊥
 
@@ -167,7 +167,8 @@ IsOut (taken.Dropped place cause) bytes = Unit {0}
 stamped_call : (turn : Option Pending) (number place : ℕ) (c : Call) → turn ≡ bound_at number place c → question.Logon ≡ question_of c → HasRoom c → IsStampedCall c (timestamp_bound (step_in turn))
 stamped_call turn number place (call.Logon c) is asks room =
     (sym (ap (λ (t : Option Pending). timestamp_bound (step_in t)) is), call_of-written_call (call.Logon c) room.writes room.range)
-stamped_call turn number place (call.Logoff c) is asks room = tt
+stamped_call turn number place (call.Logoff c) is asks room =
+    (sym (ap (λ (t : Option Pending). timestamp_bound (step_in t)) is), call_of-written_call (call.Logoff c) room.writes room.range)
 stamped_call turn number place (call.Challenge c) is asks room = absurd (let never = asks in cc)
 stamped_call turn number place (call.Authenticate c) is asks room = absurd (let never = asks in cc)
 

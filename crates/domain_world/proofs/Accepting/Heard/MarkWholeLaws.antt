@@ -33,7 +33,7 @@ use Rattle.domain_world.proofs.Accepting.CarriedLaws.{one_whole}
 use Rattle.channel_events.specs.Marks.{Mark, Plain, Opening, Opened, Calling, ReplyTo}
 use Rattle.step_notes.specs.JudgedInRange.{IsReadAsMade}
 use Rattle.step_notes.specs.MemberNotes.{turn_units}
-use Rattle.step_notes.specs.Records.{Book, Judging, Network, Sent, unit_in}
+use Rattle.step_notes.specs.Records.{Book, Judging, Sent, unit_in}
 use Rattle.step_notes.specs.ReplySends.{IsOpeningReply, IsReplyOfCall}
 use Rattle.step_notes.proofs.Controllers.JudgedInRangeLaws.{replies_are_read}
 use Rattle.world_moves.specs.declared.bag.BagUnit.{BagUnit}
@@ -57,7 +57,7 @@ use Rattle.channel_events.proofs.ListLaws.{got_append, got_nothing, some_is}
 use Rattle.domain_world.proofs.Accepting.Heard.HeardFrontLaws.{IsOfRequest, of_request, opens_no_logon, reply_no_call}
 use Rattle.domain_world.proofs.Accepting.Heard.HeardUnitLaws.{heard_stub}
 use Rattle.domain_world.proofs.Accepting.Heard.JudgedRunLaws.{judged_stand}
-use Rattle.domain_world.proofs.Accepting.Heard.JudgedUnitLaws.{IsCarriedCall, IsJudgedWell, JudgedStand, route_of, same_carried}
+use Rattle.domain_world.proofs.Accepting.Heard.JudgedUnitLaws.{IsCarriedCall, IsJudgedWell, JudgedStand, route_of}
 use Rattle.domain_world.proofs.Accepting.LetInStepLaws.{IsDialledBy}
 use Rattle.domain_world.proofs.Accepting.Heard.MarkSentLaws.{CarriesMark, IsRequestSent, SendsIf, controller_sends, member_sends}
 use Rattle.domain_world.proofs.Accepting.ListPlaceLaws.{Placed, all_at, placed}
@@ -228,13 +228,13 @@ marks_keep = record {
 
 -- it carries no call that is judged, nor an answer to one
 opening_no_call : (number : ℕ) (bytes : List ℕ) (frames : List RpcUnit) (unit : RpcUnit) → AreBytes bytes → IsHeard bytes frames unit → IsRequestSent number 15 bytes → IsNotJudged unit
-opening_no_call number bytes frames unit are heard sent (Network c) carries =
+opening_no_call number bytes frames unit are heard sent asked carries =
     let of : IsOfRequest number 15 unit = of_request number 15 sent.limit sent.stub bytes frames unit sent.small sent.known are sent.is heard in
-    opens_no_logon unit c (heard_stub bytes frames unit are heard) of.body (same_carried unit.body ∙ carries)
+    opens_no_logon unit asked (heard_stub bytes frames unit are heard) of.body carries
 
 reply_not_judged : (unit : RpcUnit) (number context : ℕ) (stub : List ℕ) → unit ≡ heard_reply number context stub → IsNotJudged unit
 reply_not_judged unit number context stub is asked carries =
-    reply_no_call unit (number % 2 ^ 32) (context % 2 ^ 16) stub (call_judged asked) is (same_carried unit.body ∙ carries)
+    reply_no_call unit (number % 2 ^ 32) (context % 2 ^ 16) stub (call_judged asked) is carries
 
 opened_is : (bytes : List ℕ) (frames : List RpcUnit) (unit : RpcUnit) (opens : IsOpeningReply bytes) → IsHeard bytes frames unit →
     unit ≡ heard_reply opens.number opens.context (written_reply (opened_reply (cred_of opens.key opens.server) opens.offered))

@@ -5,7 +5,6 @@ use Rattle.std.specs.List.{AllByRecursion}
 use Rattle.std.proofs.lemmas.List.{length-set}
 use Rattle.authenticators.specs.Channels.{ChannelIdentity}
 use Rattle.authenticators.specs.SecureChannels.{SecureChannelState}
-use Rattle.logon_stubs.specs.declared.calls.Call.{Call}
 use Rattle.end_links.specs.Serving.{ServedUnit}
 use Rattle.domain_controller.specs.Hearing.{hear}
 use Rattle.domain_controller.specs.Machine.{Desk}
@@ -17,7 +16,8 @@ use Rattle.channel_events.specs.Marks.{Mark, Plain, Opening, Opened, Calling, Re
 use Rattle.channel_events.proofs.ListLaws.{all_weaker, got_nothing, some_is}
 use Rattle.step_notes.specs.ControllerNotes.{Where, answer_on, call_answer, identity_by, channel_in, has_passed, heard_answer, judging_by, judging_of, opened_by, opened_mark, opening, passing, reply_mark, units_of_controller}
 use Rattle.step_notes.specs.Marking.{answered_marks, mark_channel, turn_marks}
-use Rattle.step_notes.specs.Records.{Book, Judging, Network, computer_named, unit_in}
+use Rattle.step_notes.specs.Records.{Book, Judging, computer_named, unit_in}
+use Rattle.controller_calls.specs.declared.calls.ControllerCall.{ControllerCall}
 use Rattle.step_notes.specs.Served.{work_after}
 use Rattle.world_moves.specs.declared.bag.BagUnit.{BagUnit}
 use Rattle.world_moves.specs.declared.moves.Move.{Move}
@@ -31,7 +31,7 @@ use Rattle.domain_world.proofs.Accepting.Turns.TurnQuietLaws.{step_same}
 use Rattle.domain_world.proofs.Frames.BagFrameLaws.{IsOfUnit, MarksStay, UnitFact, run_stays_marked}
 use Rattle.domain_world.proofs.Frames.FrameLaws.{Fact, StaysWritten, run_stays}
 use Rattle.domain_world.proofs.Requests.MarkWayLaws.{IsRequest, all_at, if_marked, marks_have_their_way, turns_way}
-use Rattle.logon_stubs.specs.declared.calls.Call.TheVariants as call
+use Rattle.controller_calls.specs.declared.calls.ControllerCall.TheVariants as call
 use Rattle.domain_controller.specs.declared.hearing.Heard.TheVariants as heard
 
 got_within : {T : Type 0} (items : List T) (k : ℕ) (item : T) → slice_get items k ≡ Some item → k < length items
@@ -82,11 +82,10 @@ module _ (count : ℕ) where
   judging_known false j few = tt
   judging_known true j few = passing_known (channel_in j.controller (computer_named j.asked) j.checks) j (in_known j.controller (computer_named j.asked) j.checks few)
 
-  call_known : (c : Call) (line : Line) (w : Where) (before : Desk) (after : Option Desk) → w.controller < count → IsKnownMark (call_answer c line w before after).mark
+  call_known : (c : ControllerCall) (line : Line) (w : Where) (before : Desk) (after : Option Desk) → w.controller < count → IsKnownMark (call_answer c line w before after).mark
   call_known (call.Challenge c) line w before after few = tt
   call_known (call.Authenticate c) line w before after few = opening_known (opened_by w.controller c before) w line.call (by_known w.controller c.computer _ few)
-  call_known (call.Logon c) line w before after few = judging_known (has_passed (judging_of w line (Network c) before after).how) (judging_of w line (Network c) before after) few
-  call_known (call.Logoff c) line w before after few = tt
+  call_known (call.Judged c) line w before after few = judging_known (has_passed (judging_of w line c before after).how) (judging_of w line c before after) few
 
   heard_known : (what : Heard) (w : Where) (before : Desk) (after : Option Desk) → w.controller < count → IsKnownMark (heard_answer what w before after).mark
   heard_known (heard.Close cause) w before after few = tt

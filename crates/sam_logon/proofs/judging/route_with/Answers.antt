@@ -1,6 +1,6 @@
 use Rattle.std.proofs.Common.{sym, ◌∙◌}
-use Rattle.account_table.proofs.ChangeLaws.{routes-stay, with_changes-differs}
+use Rattle.account_table.proofs.ChangeLaws.{routes-left, with_changes-differs}
 use Rattle.sam_logon.proofs.judging.route_with.Goals as goal
 
 pub returns : goal.returns
-returns c = c.route.ensures ∙ sym (routes-stay c.args.table.now _ (with_changes-differs c.args.changes.now c.args.table.now) c.args.domain.now)
+returns c = c.route.ensures ∙ sym (routes-left c.args.table.now _ (with_changes-differs c.args.changes.now c.args.table.now) c.args.domain.now)

@@ -1,0 +1,116 @@
+-- Interactive logons that were written down by hand, and the sessions that a controller has behind them: of which what
+-- is claimed of both holds, and of which it doesn't (this project's own choice).
+use Rattle.std.specs.Prelude.{ℕ, ◌≡◌, List, [], ◌∷◌, replicate, Option, Some, None, codes}
+use Rattle.rc4_stream.specs.Rc4.{applied}
+use Rattle.authenticators.specs.SecureChannels.{key_of_channel}
+use Rattle.outside.specs.declared.action.Judged.TheVariants as judged
+use Rattle.logon_stubs.specs.Status.{insufficient_resources, wrong_password}
+use Rattle.interactive_logon.specs.declared.calls.InteractiveCall.{InteractiveCall}
+use Rattle.interactive_logon.specs.declared.calls.InteractiveInfo.{InteractiveInfo}
+use Rattle.interactive_logon.specs.declared.sessions.Session.{Session}
+use Rattle.interactive_logon.specs.Sessions.{session_limit, session_of}
+use Rattle.controller_calls.specs.declared.calls.JudgedCall.TheVariants.{Interactive}
+use Rattle.domain_controller.specs.State.{State as ControllerState}
+use Rattle.domain_controller.specs.declared.state.Running.{Running as ControllerRunning}
+use Rattle.step_notes.specs.Records.{Judging, blank}
+use Rattle.world_moves.specs.World.{World}
+use Rattle.domain_world.specs.Claims.{info_asked}
+use Rattle.domain_world.specs.Claims.Grants.{GrantsWhoseHashIsStored}
+use Rattle.domain_world.specs.Claims.Sessions.{ControllerRenewed, SessionsFollow, sessions_behind}
+use Rattle.domain_world.specs.Past.{Past}
+use Rattle.claim_examples.specs.ClaimExamples.{judged_as, keeping_controller, message, next_call, next_logon, run_in, small_channel, small_computers, small_hash, small_world}
+use Rattle.claim_examples.specs.GrantExamples.{judged_all}
+
+-- ---- which are granted
+
+-- ann logs on at FILE1, which shows this hash under the key of its channel
+abbrev pub hash_info : List ℕ → InteractiveInfo
+hash_info hash = record {
+  domain = (info_asked message).domain;
+  control = 0;
+  logon_id = 5;
+  user = (info_asked message).user;
+  workstation = (info_asked message).workstation;
+  lm = replicate 16 0;
+  nt = applied (key_of_channel (small_channel [])) 0 hash;
+}
+
+abbrev pub hash_logon : List ℕ → InteractiveCall
+hash_logon hash = record {
+  server = None;
+  computer = Some (codes "FILE1");
+  authenticator = next_logon.authenticator;
+  returned = None;
+  info = hash_info hash;
+  validation = 3;
+}
+
+-- and it was granted
+abbrev pub hash_call : List ℕ → Judging
+hash_call hash = record next_call { asked = Interactive (hash_logon hash) }
+
+-- her hash, but for its first byte
+abbrev pub other_hash : List ℕ
+other_hash = 8 ∷ replicate 15 7
+
+-- so many sessions stood then
+abbrev pub with_sessions : ℕ → Judging → Judging
+with_sessions count j = record j { sessions = replicate count (session_of (codes "FILE1") [] 0) }
+
+-- Grants by hash: of ann's logon, whose hash is hers, also as the last session that may stand; and where 10,000 stand,
+-- or her hash differs in a byte, where it is refused.
+pub record OfHashGrants : Type 0 where
+  pub meets : GrantsWhoseHashIsStored (judged_all (hash_call small_hash ∷ []))
+  pub last : GrantsWhoseHashIsStored (judged_all (with_sessions 9999 (hash_call small_hash) ∷ []))
+  pub full : GrantsWhoseHashIsStored (judged_all (judged_as (judged.Passed insufficient_resources) (with_sessions session_limit (hash_call small_hash)) ∷ []))
+  pub refused : GrantsWhoseHashIsStored (judged_all (judged_as (judged.Passed wrong_password) (hash_call other_hash) ∷ []))
+  -- not where it was granted so, or with no channel, nor where it was refused though all is right
+  pub fails_full : GrantsWhoseHashIsStored (judged_all (with_sessions session_limit (hash_call small_hash) ∷ [])) → ⊥
+  pub fails_hash : GrantsWhoseHashIsStored (judged_all (hash_call other_hash ∷ [])) → ⊥
+  pub fails_next : GrantsWhoseHashIsStored (judged_all (record (hash_call small_hash) { checks = None } ∷ [])) → ⊥
+  pub fails_refused : GrantsWhoseHashIsStored (judged_all (judged_as (judged.Passed wrong_password) (hash_call small_hash) ∷ [])) → ⊥
+
+-- ---- which sessions stand
+
+-- PDC runs with these sessions
+abbrev pub running_with : List Session → ControllerRunning
+running_with sessions = record { computers = record (small_computers []) { sessions = sessions }; links = [] }
+
+abbrev pub controller_with : List Session → ControllerState
+controller_with sessions = record (keeping_controller []) { running = Some (running_with sessions) }
+
+abbrev pub world_with : List Session → World
+world_with sessions =
+    let w : World = small_world in
+    record w { state = record w.state { ends = record w.state.ends { controllers = controller_with sessions ∷ [] } } }
+
+-- and judged these calls, the newest first
+abbrev pub run_with : List Session → List Judging → Past
+run_with sessions calls = run_in (world_with sessions) (record blank { judged = calls })
+
+-- her session
+abbrev pub ann_session : List Session
+ann_session = session_of (codes "FILE1") (info_asked message).user 5 ∷ []
+
+-- her logon, which came at the move behind the sixth; and one that was barred later, by these sessions
+abbrev pub ann_call : Judging
+ann_call = hash_call small_hash
+
+abbrev pub barred_by : List Session → Judging
+barred_by sessions = record (judged_as judged.Barred ann_call) { at = 8; sessions = sessions }
+
+-- PDC was made anew by the last of so many moves
+abbrev pub renewed_by : ℕ → List ControllerRenewed
+renewed_by moves = record { moves = moves; controller = 0 } ∷ []
+
+-- Sessions: her logon opens hers, which then stands; behind a later restart none does. Not where it is lost without
+-- one, or kept over one, nor where a later call was judged as if there were none.
+pub record OfSessions : Type 0 where
+  pub opens : sessions_behind ann_call ≡ ann_session
+  pub meets : SessionsFollow (run_with ann_session (ann_call ∷ [])) []
+  pub earlier : SessionsFollow (run_with ann_session (ann_call ∷ [])) (renewed_by 6)
+  pub later : SessionsFollow (run_with [] (ann_call ∷ [])) (renewed_by 7)
+  pub again : SessionsFollow (run_with ann_session (barred_by ann_session ∷ ann_call ∷ [])) []
+  pub fails_lost : SessionsFollow (run_with [] (ann_call ∷ [])) [] → ⊥
+  pub fails_kept : SessionsFollow (run_with ann_session (ann_call ∷ [])) (renewed_by 7) → ⊥
+  pub fails_judged : SessionsFollow (run_with ann_session (barred_by [] ∷ ann_call ∷ [])) [] → ⊥
