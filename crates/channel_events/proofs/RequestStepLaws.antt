@@ -1,6 +1,6 @@
 -- Each step of an end that asks is one of the events that keep calls apart.
 -- It serves `requesters_keep_calls_apart`.
-use Rattle.std.proofs.Common.{◌≡◌, ◌⊎◌, ℕ, ◌+◌, ◌≤◌, ◌==◌, Bool, true, false, List, [], ◌∷◌, ◌++◌, inl, inr, Option, Some, None, refl, sym, ap, arith}
+use Rattle.std.proofs.Common.{◌≡◌, ◌⊎◌, ℕ, ◌+◌, ◌≤◌, ◌==◌, Bool, true, false, List, [], ◌∷◌, ◌++◌, inl, inr, Option, Some, None, refl, sym, ap, subst, ◌∙◌, arith}
 use Rattle.std.proofs.lemmas.Bool.Decides.{Decides-eqb}
 use Rattle.authenticators.specs.Channels.{ChannelIdentity}
 use Rattle.channel_client.specs.Effects.{Answers, Begins, Calls, Changes, Counts, Drops, Effect, HasEffect, Moves, Opens, Stays, View, effect_begun, effect_heard, effect_judged, effect_next, effect_start, view_of}
@@ -15,7 +15,7 @@ use Rattle.channel_client.specs.declared.state.Standing.{Standing}
 use Rattle.channel_client.specs.declared.state.Standing.TheVariants as standing
 use Rattle.channel_client.specs.declared.state.Waiting.{Waiting}
 use Rattle.channel_client.proofs.EffectLaws.{steps_have_effects}
-use Rattle.channel_events.specs.Marks.{Calling}
+use Rattle.channel_events.specs.Marks.{Calling, Opening}
 use Rattle.channel_events.specs.RequestSteps.{AfterTaking, IsFreshIf, IsSeen, IsSeenAfter, RequestersKeepCallsApart, drawn_if, seen_if, with_seen}
 use Rattle.channel_events.specs.Requests.{AreSeenBut, IsCalm, Requests, Steps, after_step, used_by}
 use Rattle.channel_events.proofs.ListLaws.{some_is}
@@ -68,6 +68,18 @@ module _ (r : Requests ℕ) (who controller : ℕ) (s t : Requester) (seen : IsS
     apart = calls_stay_apart.calls r c number timestamp (step_of r who controller (Calls c number) s t seen has.0) seen.apart;
   }
 
+  open_seen : HasEffect controller Counts s t → (c : ChannelIdentity) (u : View) → r.views who ≡ Some u → u.opening ≡ Some c.client →
+      IsSeenAfter (with_seen who (view_of controller t) 1 (record r { marks = r.marks ++ Opening c u.call ∷ [] })) who controller t
+  unfolding step_of
+  open_seen has c u there under_way =
+      let same : view_of controller s ≡ u = some_is (view_of controller s) u (sym seen.at ∙ there) in
+      subst (λ (x : View). IsSeenAfter (with_seen who (view_of controller t) 1 (record r { marks = r.marks ++ Opening c x.call ∷ [] })) who controller t) same
+      (record {
+        at = itself_is r who (view_of controller t);
+        coherent = has.1;
+        apart = calls_stay_apart.opens r c (step_of r who controller Counts s t seen has.0) (ap (λ (x : View). x.opening) same ∙ under_way) seen.apart;
+      })
+
   judged_seen : (j : Judgement) (computer : List ℕ) (number : ℕ) → HasEffect controller (effect_judged controller j computer number) s t →
       AfterTaking (effect_judged controller j computer number) r who controller t
   judged_seen (judgement.Half client server) computer number has = calm_seen r who controller 1 Stays s t seen tt (omega arith) has
@@ -77,8 +89,8 @@ module _ (r : Requests ℕ) (who controller : ℕ) (s t : Requester) (seen : IsS
 
   next_seen : (how : Standing) (computer : List ℕ) (next : ℕ) → HasEffect controller (effect_next controller how computer next) s t →
       AfterTaking (effect_next controller how computer next) r who controller t
-  next_seen standing.Nothing computer next has = calm_seen r who controller 1 Counts s t seen tt (omega arith) has
-  next_seen (standing.Half client server) computer next has = calm_seen r who controller 1 Counts s t seen tt (omega arith) has
+  next_seen standing.Nothing computer next has = (calm_seen r who controller 1 Counts s t seen tt (omega arith) has, λ c u. open_seen has c u)
+  next_seen (standing.Half client server) computer next has = (calm_seen r who controller 1 Counts s t seen tt (omega arith) has, λ c u. open_seen has c u)
   next_seen (standing.Open o) computer next has = λ timestamp. call_seen _ next timestamp has
 
   heard_seen : (h : Hearing) → HasEffect controller (effect_heard controller h s) s t → AfterTaking (effect_heard controller h s) r who controller t

@@ -3,10 +3,11 @@
 use Rattle.std.specs.Prelude.{ℕ, ◌≡◌, ◌+◌, ◌<◌, ◌^◌, ◌==◌, Bool, true, false, List, [], ◌∷◌, ◌++◌, Option, Some}
 use Rattle.rpc_units.specs.declared.unit.Unit.{Unit as RpcUnit}
 use Rattle.logon_stubs.specs.declared.info.NetworkInfo.{NetworkInfo}
-use Rattle.channel_client.specs.Effects.{Effect, Calls, IsCoherent, View, effect_of_take, view_of}
+use Rattle.authenticators.specs.Channels.{ChannelIdentity}
+use Rattle.channel_client.specs.Effects.{Effect, Calls, Counts, IsCoherent, View, effect_of_take, view_of}
 use Rattle.channel_client.specs.Machine.{ask_of, can_start, lose_of, needs_challenge, start_of, take_of}
 use Rattle.channel_client.specs.State.{Requester}
-use Rattle.channel_events.specs.Marks.{Calling}
+use Rattle.channel_events.specs.Marks.{Calling, Opening}
 use Rattle.channel_events.specs.Requests.{CallsAreApart, IsDrawn, Requests}
 
 -- the requester of that number is seen so
@@ -30,10 +31,15 @@ pub record IsSeenAfter (r : Requests ℕ) (who controller : ℕ) (s : Requester)
   pub coherent : IsCoherent s
   pub apart : CallsAreApart r
 
--- the marks of a unit that is taken: of a call that goes out, with some timestamp, and of nothing else
+-- the marks of a unit that is taken: of a call that goes out, with some timestamp, of an opening that is under way,
+-- where it goes out, and of nothing else
 abbrev pub AfterTaking : Effect → Requests ℕ → ℕ → ℕ → Requester → Type 0
 AfterTaking (Calls c number) r who controller s =
     (timestamp : ℕ) → IsSeenAfter (with_seen who (view_of controller s) 1 (record r { marks = r.marks ++ Calling c number timestamp ∷ [] })) who controller s
+AfterTaking Counts r who controller s =
+    IsSeenAfter (with_seen who (view_of controller s) 1 r) who controller s
+    × ((c : ChannelIdentity) (u : View) → r.views who ≡ Some u → u.opening ≡ Some c.client →
+    IsSeenAfter (with_seen who (view_of controller s) 1 (record r { marks = r.marks ++ Opening c u.call ∷ [] })) who controller s)
 AfterTaking _ r who controller s = IsSeenAfter (with_seen who (view_of controller s) 1 r) who controller s
 
 -- whether a challenge is drawn for a turn that starts

@@ -1,10 +1,10 @@
--- The calls that were made on secure channels, and what those hold who make them, of any run whose draws differ, also
--- one in which a credential passed on a unit made for another channel (MS-NRPC 3.1.4.1, 3.1.4.5). It names no machine
--- and no controller. So no two calls on a channel have one number, and an answer is to one call.
+-- The openings and the calls that were made on secure channels, and what those hold who make them, of any run whose
+-- draws differ, also one in which a credential passed on a unit made for another channel (MS-NRPC 3.1.4.1, 3.1.4.5). It
+-- names no machine and no controller. So no two requests on a channel have one number, and an answer is to one of them.
 use Rattle.std.specs.Prelude.{ℕ, ◌≡◌, ◌+◌, ◌<◌, ◌≤◌, ◌^◌, ◌⊎◌, List, [], ◌∷◌, ◌++◌, Option, Some, None, slice_get}
 use Rattle.authenticators.specs.Channels.{ChannelIdentity}
 use Rattle.channel_client.specs.Effects.{Changes, Effect, Stays, Counts, Begins, Opens, Moves, Calls, Answers, Drops, View}
-use Rattle.channel_events.specs.Marks.{Mark, Calling, OneOf}
+use Rattle.channel_events.specs.Marks.{Mark, Calling, OneOf, Opening}
 
 -- a requester that has used no number and holds nothing
 abbrev pub fresh_view : View
@@ -28,21 +28,34 @@ pub record Requests (Who : Type 0) : Type 0 where
 abbrev pub IsDrawn : List ℕ → List (List ℕ) → Type 0
 IsDrawn challenge drawn = OneOf (λ (one : List ℕ). one ≡ challenge) drawn
 
+-- what was made for the channel as a request of that number: as its opening, or as a call on it
+abbrev pub IsRequest : ChannelIdentity → ℕ → Mark → Type 0
+IsRequest c number (Opening d other) = (d ≡ c) × (other ≡ number)
+IsRequest c number (Calling d other timestamp) = (d ≡ c) × (other ≡ number)
+IsRequest c number _ = ⊥
+
+-- so was the unit of that place
+pub record IsAsked (marks : List Mark) (unit : ℕ) (c : ChannelIdentity) (number : ℕ) : Type 0 where
+  pub mark : Mark
+  pub asks : IsRequest c number mark
+  pub there : slice_get marks unit ≡ Some mark
+
 pub record CallsAreApart {Who : Type 0} (r : Requests Who) : Type 0 where
-  -- a call was made on a channel whose client's challenge was drawn, and so was each challenge that a requester holds
-  pub made_before : (unit number timestamp : ℕ) (c : ChannelIdentity) → slice_get r.marks unit ≡ Some (Calling c number timestamp) → IsDrawn c.client r.drawn
+  -- a request was made for a channel whose client's challenge was drawn, and so was each challenge that a requester
+  -- holds
+  pub made_before : (unit number : ℕ) (c : ChannelIdentity) → IsAsked r.marks unit c number → IsDrawn c.client r.drawn
   pub held_before : (i : Who) (v : View) (challenge : List ℕ) → r.views i ≡ Some v → Holds v challenge → IsDrawn challenge r.drawn
   -- no two requesters hold one
   pub apart : (i j : Who) (u v : View) (challenge : List ℕ) → r.views i ≡ Some u → r.views j ≡ Some v → Holds u challenge → Holds v challenge → i ≡ j
   -- for a channel that is only being opened no call was made yet
   pub opening : (i : Who) (v : View) (unit number timestamp : ℕ) (c : ChannelIdentity) → r.views i ≡ Some v → v.opening ≡ Some c.client →
       slice_get r.marks unit ≡ Some (Calling c number timestamp) → ⊥
-  -- a call made with a challenge that a requester holds has a number below its next one
-  pub numbers : (i : Who) (v : View) (unit number timestamp : ℕ) (c : ChannelIdentity) → r.views i ≡ Some v → Holds v c.client →
-      slice_get r.marks unit ≡ Some (Calling c number timestamp) → number < v.call
-  -- the calls made with a client's challenge have different numbers
-  pub distinct : (unit other number timestamp later : ℕ) (c d : ChannelIdentity) → slice_get r.marks unit ≡ Some (Calling c number timestamp) →
-      slice_get r.marks other ≡ Some (Calling d number later) → c.client ≡ d.client → unit ≡ other
+  -- a request made with a challenge that a requester holds has a number below its next one
+  pub numbers : (i : Who) (v : View) (unit number : ℕ) (c : ChannelIdentity) → r.views i ≡ Some v → Holds v c.client → IsAsked r.marks unit c number →
+      number < v.call
+  -- the requests made with a client's challenge have different numbers, openings and calls alike
+  pub distinct : (unit other number : ℕ) (c d : ChannelIdentity) → IsAsked r.marks unit c number → IsAsked r.marks other d number → c.client ≡ d.client →
+      unit ≡ other
   -- a requester's next number is at most one above the count of uses: so no number comes round within a run
   pub calls : (i : Who) (v : View) → r.views i ≡ Some v → v.call ≤ r.uses + 1
 
@@ -74,10 +87,11 @@ used_by (Calls c number) = 1
 used_by (Answers c number) = 0
 used_by Drops = 0
 
--- a unit that is no call
-abbrev pub IsNoCall : Mark → Type 0
-IsNoCall (Calling c number timestamp) = ⊥
-IsNoCall _ = Unit {0}
+-- a unit that opens no channel and is no call
+abbrev pub IsNoRequest : Mark → Type 0
+IsNoRequest (Opening c number) = ⊥
+IsNoRequest (Calling c number timestamp) = ⊥
+IsNoRequest _ = Unit {0}
 
 -- a step of a requester; no number comes round
 pub record Steps {Who : Type 0} (r : Requests Who) (effect : Effect) : Type 0 where
@@ -95,15 +109,17 @@ abbrev pub after_step : {Who : Type 0} → (r : Requests Who) → Effect → (Wh
 after_step r effect views = record r { views = views; uses = r.uses + used_by effect }
 
 -- The facts stay true through each event: a step of a requester that is calm, one that begins an opening with a
--- challenge that is drawn then, one by which a call goes out, a requester that is made anew or seen no more, a draw,
--- and any other unit.
+-- challenge that is drawn then, one by which the opening that is under way goes out, one by which a call does, a
+-- requester that is made anew or seen no more, a draw, and any other unit.
 pub record CallsStayApart (Who : Type 0) : Type 0 where
   pub calm : (r : Requests Who) (effect : Effect) (e : Steps r effect) → IsCalm effect → CallsAreApart r → CallsAreApart (after_step r effect e.views)
   pub begins : (r : Requests Who) (client : List ℕ) (e : Steps r (Begins client)) → (IsDrawn client r.drawn → ⊥) → CallsAreApart r →
       CallsAreApart (after_step (record r { drawn = r.drawn ++ client ∷ [] }) (Begins client) e.views)
+  pub opens : (r : Requests Who) (c : ChannelIdentity) (e : Steps r Counts) → e.before.opening ≡ Some c.client → CallsAreApart r →
+      CallsAreApart (after_step (record r { marks = r.marks ++ Opening c e.before.call ∷ [] }) Counts e.views)
   pub calls : (r : Requests Who) (c : ChannelIdentity) (number timestamp : ℕ) (e : Steps r (Calls c number)) → CallsAreApart r →
       CallsAreApart (after_step (record r { marks = r.marks ++ Calling c number timestamp ∷ [] }) (Calls c number) e.views)
   pub renewed : (r : Requests Who) (who : Who) (views : Who → Option View) → AreSeenBut r.views views who fresh_view → CallsAreApart r →
       CallsAreApart (record r { views = views })
   pub draws : (r : Requests Who) (challenge : List ℕ) → CallsAreApart r → CallsAreApart (record r { drawn = r.drawn ++ challenge ∷ [] })
-  pub unit : (r : Requests Who) (mark : Mark) → IsNoCall mark → CallsAreApart r → CallsAreApart (record r { marks = r.marks ++ mark ∷ [] })
+  pub unit : (r : Requests Who) (mark : Mark) → IsNoRequest mark → CallsAreApart r → CallsAreApart (record r { marks = r.marks ++ mark ∷ [] })

@@ -7,6 +7,7 @@ pub mod NearMissLaws
 pub mod OpeningExampleLaws
 pub mod OwnChallengeExampleLaws
 pub mod ReplyExampleLaws
+pub mod RequestExampleLaws
 pub mod Runs
 pub mod SequenceLaws
 pub mod SequenceMissLaws

@@ -157,7 +157,7 @@ pub of_opened_replies : OfOpenedReplies
 of_opened_replies = record {
   meets = record { replies = replies_small; unclashed = λ none. (ap not (itself small_name), tt) };
   meets_marks = (
-    (λ n came. record { reply = 1; is = refl; sent = sent_at 4 (Opened small_name 2 0); there = refl; mark = ap (λ (k : ℕ). Opened small_name 2 k) (the_unit n came) }),
+    (λ n came. record { reply = 1; is = refl; sent = sent_at 4 (Opened small_name 2 0); there = refl; mark = ap (λ (k : ℕ). Opened small_name 2 k) (the_unit n came); step = refl }),
     tt,
   );
   outside = ((λ n came. absurd (let never : Outside ≡ InUnit n = came in cc)), tt);
@@ -165,6 +165,13 @@ of_opened_replies = record {
   fails_number = λ claim. absurd (omega (arith, one_number 3 2 0 (marked_so (Opened small_name 3 0) answered_opening refl refl claim)));
   fails_request = λ claim. absurd (omega (arith, one_unit 2 7 0 (marked_so (Opened small_name 2 7) answered_opening refl refl claim)));
   fails_unanswered = λ claim. let its = claim.0 0 refl in no_some its.reply its.is;
+  fails_step = λ claim.
+      let its : IsMarkedAsOpened (marked_as (Opened small_name 2 0) (record answered_opening { at = 3 })) (record answered_opening { at = 3 }) 0 = claim.0 0 refl in
+      let here : 1 ≡ its.reply = some_is 1 its.reply its.is in
+      let there : Some (sent_at 4 (Opened small_name 2 0)) ≡ Some its.sent =
+      ap (λ (k : ℕ). slice_get (marked_as (Opened small_name 2 0) answered_opening).book.sent k) here ∙ its.there in
+      let step : 4 ≡ 3 = ap (λ (s : Sent). s.at) (some_is (sent_at 4 (Opened small_name 2 0)) its.sent there) ∙ its.step in
+      absurd (omega (arith, step));
   fails_other_number = λ claim. elim (claim.replies 1 (sent_at 4 (Opened small_name 3 0)) refl) [
     | inl its ↦ absurd (omega (arith, its.call))
     | inr none ↦ none

@@ -6,10 +6,6 @@ pub mod ClearSuccessLaws
 pub mod ExampleKeyLaws
 pub mod JudgedOnLaws
 pub mod LogonTrailLaws
-pub mod NotedLaws
-pub mod NotedOnLaws
 pub mod SharedChannelLaws
-pub mod TakenOnceLaws
 pub mod ToldLaws
 pub mod TurnTrailLaws
-pub mod UnitComesLaws

@@ -9,6 +9,7 @@ pub mod NearMisses
 pub mod OpeningExamples
 pub mod OwnChallengeExamples
 pub mod ReplyExamples
+pub mod RequestExamples
 pub mod SequenceMisses
 pub mod SessionExamples
 pub mod SuccessMisses

@@ -59,9 +59,9 @@ pub record OfOpenings : Type 0 where
 
 -- ---- its reply
 
--- its call came in unit 0, and unit 1 carries the reply
+-- its call came in unit 0 after four moves, and unit 1 carries the reply
 abbrev pub answered_opening : ChannelAccepted
-answered_opening = record small_accepted { source = InUnit 0; reply = Some 1 }
+answered_opening = record small_accepted { at = 4; source = InUnit 0; reply = Some 1 }
 
 -- this was accepted, and unit 1 has this mark
 abbrev pub marked_as : Mark → ChannelAccepted → Past
@@ -69,9 +69,9 @@ marked_as mark one =
     small_run (record blank { sent = sent_at 3 (Opening small_name 2) ∷ sent_at 4 mark ∷ []; accepted = one ∷ [] })
 
 -- The reply to an opening is marked so: not where its mark is none, or has another number or unit, nor where no unit
--- carries it. Nothing is asked of an opening that came from outside. A unit with such a mark is that reply: not where
--- the mark has another number, nor where another unit carries the reply. Without a clash the call came in a unit that
--- was made for the channel.
+-- carries it, or one that was sent at another step. Nothing is asked of an opening that came from outside. A unit with
+-- such a mark is that reply: not where the mark has another number, nor where another unit carries the reply. Without a
+-- clash the call came in a unit that was made for the channel.
 pub record OfOpenedReplies : Type 0 where
   pub meets : RepliesAnswerOpenings (marked_as (Opened small_name 2 0) answered_opening)
   pub meets_marks : OpeningsAreMarked (marked_as (Opened small_name 2 0) answered_opening)
@@ -80,6 +80,7 @@ pub record OfOpenedReplies : Type 0 where
   pub fails_number : OpeningsAreMarked (marked_as (Opened small_name 3 0) answered_opening) → ⊥
   pub fails_request : OpeningsAreMarked (marked_as (Opened small_name 2 7) answered_opening) → ⊥
   pub fails_unanswered : OpeningsAreMarked (marked_as (Opened small_name 2 0) (record answered_opening { reply = None })) → ⊥
+  pub fails_step : OpeningsAreMarked (marked_as (Opened small_name 2 0) (record answered_opening { at = 3 })) → ⊥
   pub fails_other_number : RepliesAnswerOpenings (marked_as (Opened small_name 3 0) answered_opening) → ⊥
   pub fails_other_unit : RepliesAnswerOpenings (marked_as (Opened small_name 2 0) (record answered_opening { reply = Some 0 })) → ⊥
   pub fails_clash : RepliesAnswerOpenings (marked_as Plain (record answered_opening { source = InUnit 1 })) → ⊥

@@ -57,8 +57,8 @@ other_hash = 8 ∷ replicate 15 7
 abbrev pub with_sessions : ℕ → Judging → Judging
 with_sessions count j = record j { sessions = replicate count (session_of (codes "FILE1") [] 0) }
 
--- Grants by hash: of ann's logon, whose hash is hers, also as the last session that may stand; and where 10,000 stand,
--- or her hash differs in a byte, where it is refused.
+-- Grants by hash: ann's logon with her hash is granted, also as the last session that may stand. It is refused where
+-- 10,000 stand, or where the hash differs from hers in a byte.
 pub record OfHashGrants : Type 0 where
   pub meets : GrantsWhoseHashIsStored (judged_all (hash_call small_hash ∷ []))
   pub last : GrantsWhoseHashIsStored (judged_all (with_sessions 9999 (hash_call small_hash) ∷ []))
@@ -103,8 +103,8 @@ barred_by sessions = record (judged_as judged.Barred ann_call) { at = 8; session
 abbrev pub renewed_by : ℕ → List ControllerRenewed
 renewed_by moves = record { moves = moves; controller = 0 } ∷ []
 
--- Sessions: her logon opens hers, which then stands; behind a later restart none does. Not where it is lost without
--- one, or kept over one, nor where a later call was judged as if there were none.
+-- Sessions: ann's logon opens hers, which then stands; behind a later restart none does. It isn't so where the session
+-- is lost without a restart, or kept over one, nor where a later call was judged as if none stood.
 pub record OfSessions : Type 0 where
   pub opens : sessions_behind ann_call ≡ ann_session
   pub meets : SessionsFollow (run_with ann_session (ann_call ∷ [])) []

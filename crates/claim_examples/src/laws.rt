@@ -10,6 +10,7 @@ ghost use Rattle.claim_examples.specs.NearMisses.{NearMissesTellApart};
 ghost use Rattle.claim_examples.specs.OpeningExamples.{OfOpenedReplies, OfOpenings};
 ghost use Rattle.claim_examples.specs.OwnChallengeExamples.{OfOwnChallenges};
 ghost use Rattle.claim_examples.specs.ReplyExamples.{OfReplies};
+ghost use Rattle.claim_examples.specs.RequestExamples.{OfAnsweredCalls, OfOpeningAnswers, OfRequestNumbers};
 ghost use Rattle.claim_examples.specs.SequenceMisses.{SequencesTellApart};
 ghost use Rattle.claim_examples.specs.SessionExamples.{OfHashGrants, OfSessions};
 ghost use Rattle.claim_examples.specs.SuccessMisses.{SuccessTellsApart};
@@ -50,6 +51,16 @@ pub fn openings_tell_apart()
     ensures replies { OfOpenedReplies }
 {}
 
+/// What is claimed of requests is met by small runs, and not by others, each of which differs from one that meets it in
+/// one thing: of the numbers that openings and calls have, of the call that a message has whose answer was taken, and
+/// of which opening a reply is to.
+#[tactic(auto, using(crate::proofs::RequestExampleLaws::of_request_numbers, crate::proofs::RequestExampleLaws::of_answered_calls, crate::proofs::RequestExampleLaws::of_opening_answers))]
+pub fn requests_tell_apart()
+    ensures numbers { OfRequestNumbers }
+    ensures calls { OfAnsweredCalls }
+    ensures openings { OfOpeningAnswers }
+{}
+
 /// What `Proved.messages` says isn't true of everything that could be written down of a run: a small run meets it, and
 /// others, each with one part changed, don't.
 #[tactic(auto, using(crate::proofs::OwnChallengeExampleLaws::of_own_challenges))]
@@ -72,8 +83,8 @@ pub fn sequences_tell_apart()
     ensures { SequencesTellApart }
 {}
 
-/// The claims on interactive logons and on sessions are met by small runs in which one is granted, and opens a
-/// session, and not by others: with 10,000 sessions, with a hash that differs in a byte, or where sessions are lost, or
+/// The claims on interactive logons and on sessions are met by small runs in which one is granted, and opens a session.
+/// Others don't meet them: with 10,000 sessions, with a hash that differs in a byte, or where sessions are lost, or
 /// kept over a restart.
 #[tactic(auto, using(crate::proofs::SessionExampleLaws::of_hash_grants, crate::proofs::SessionExampleLaws::of_sessions))]
 pub fn sessions_tell_apart()

@@ -7,23 +7,25 @@ use Rattle.domain_world.specs.Headline.{Proved}
 use Rattle.domain_world.specs.Past.{past}
 use Rattle.domain_world.proofs.Accepting.AnsweredRunLaws.{short_responses}
 use Rattle.domain_world.proofs.Accepting.LetInLaws.{lets_in_who_asked}
-use Rattle.domain_world.proofs.Accepting.MarkRunLaws.{calls_marked, openings_marked, replies_marked}
+use Rattle.domain_world.proofs.Accepting.MarkRunLaws.{answers_have_calls, calls_marked, openings_marked, replies_marked}
 use Rattle.domain_world.proofs.Accepting.Messages.ClientKeptLaws.{clients_written}
 use Rattle.domain_world.proofs.Accepting.Messages.ClientMadeLaws.{messages_of_clients}
 use Rattle.domain_world.proofs.Accepting.Messages.MessageMadeLaws.{messages_made}
 use Rattle.domain_world.proofs.Accepting.Messages.MessageTakenLaws.{messages_taken}
-use Rattle.domain_world.proofs.Accepting.ScheduleLaws.{units_heard}
+use Rattle.domain_world.proofs.Accepting.ScheduleLaws.{schedules_number, units_heard}
 use Rattle.domain_world.proofs.Accepting.ShortResponseLaws.{short_let_in}
 use Rattle.domain_world.proofs.Accepting.UnitLaws.{runs_heard}
 use Rattle.domain_world.proofs.Challenges.MessageApartLaws.{messages_apart}
 use Rattle.domain_world.proofs.Challenges.MessageOnceLaws.{messages_once}
 use Rattle.domain_world.proofs.Challenges.OwnChallengeLaws.{messages_own}
 use Rattle.domain_world.proofs.Challenges.WrittenDownLaws.{members_written_down}
+use Rattle.domain_world.proofs.Clear.ClearWalkLaws.{none_clashes}
 use Rattle.domain_world.proofs.Completeness.SuccessLaws.{each_succeeds}
 use Rattle.domain_world.proofs.Frames.BagFrameLaws.{each_marked}
 use Rattle.domain_world.proofs.Frames.DrawnRunLaws.{draws_are_blocks, draws_differ}
 use Rattle.domain_world.proofs.Judgements.AloneLaws.{tells_of_calls}
 use Rattle.domain_world.proofs.Judgements.GrantLaws.{grants_who_may}
+use Rattle.domain_world.proofs.Judgements.OpeningAnswerLaws.{replies_to_openings}
 use Rattle.domain_world.proofs.Judgements.OpeningReplyLaws.{replies_answer_openings}
 use Rattle.domain_world.proofs.Judgements.OpeningRunLaws.{openings_in_order}
 use Rattle.domain_world.proofs.Judgements.ReplayLaws.{replays_by_sum}
@@ -50,6 +52,8 @@ all_proved plan moves = record {
   apart = messages_apart plan moves;
   openings = openings_in_order plan moves;
   opened = replies_answer_openings plan moves;
+  opened_by = λ schedule calm. replies_to_openings plan moves schedule calm;
+  numbers = λ schedule. schedules_number plan moves schedule;
   credentials = passes_the_next plan moves;
   alone = tells_of_calls plan moves;
   replays = replays_by_sum plan moves;
@@ -84,8 +88,10 @@ all_proved plan moves = record {
   called = λ schedule clear. turns_are_called plan moves schedule clear;
   marked = each_marked plan moves;
   ways = marks_have_their_way plan moves;
+  have_calls = answers_have_calls plan moves;
   call_marks = calls_marked plan moves;
   reply_marks = replies_marked plan moves;
   opened_marks = openings_marked plan moves;
   complete = each_succeeds plan moves;
+  one_by_one = none_clashes plan moves;
 }

@@ -3,6 +3,7 @@ pub mod AloneLaws
 pub mod GrantLaws
 pub mod JudgedLaws
 pub mod MovedLaws
+pub mod OpeningAnswerLaws
 pub mod OpeningLaws
 pub mod OpeningMarkLaws
 pub mod OpeningReplyLaws

@@ -1,5 +1,6 @@
 pub mod Accepting
 pub mod Challenges
+pub mod Clear
 pub mod Completeness
 pub mod DrivingLaws
 pub mod Frames

@@ -1,4 +1,5 @@
 -- What holds in every run of what members ask for, which way it goes, and that calls stay apart.
+pub mod AnsweredCallLaws
 pub mod ByRequesterLaws
 pub mod CallComesLaws
 pub mod CallFrameLaws

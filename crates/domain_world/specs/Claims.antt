@@ -15,10 +15,12 @@ pub mod LetIn
 pub mod MarkedUnits
 pub mod NamedLinks
 pub mod Names
+pub mod OneByOne
 pub mod OpeningReplies
 pub mod Openings
 pub mod OwnChallenges
 pub mod Replies
+pub mod RequestNumbers
 pub mod Sessions
 pub mod SharedSequences
 pub mod Tables

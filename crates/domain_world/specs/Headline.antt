@@ -13,12 +13,14 @@ use Rattle.domain_world.specs.Claims.Completeness.{EachSucceeds}
 use Rattle.domain_world.specs.Claims.Counts.{EachCallRaisesOnce}
 use Rattle.domain_world.specs.Claims.Grants.{GrantsWhoMayLogOn, GrantsWhoseHashIsStored}
 use Rattle.domain_world.specs.Claims.LetIn.{LetsInWhoAsked}
-use Rattle.domain_world.specs.Claims.MarkedUnits.{CallsAreMarked, EachUnitIsMarked, RepliesAreMarked}
+use Rattle.domain_world.specs.Claims.MarkedUnits.{AnswersHaveCalls, CallsAreMarked, EachUnitIsMarked, RepliesAreMarked}
 use Rattle.domain_world.specs.Claims.Names.{LetsInByName}
-use Rattle.domain_world.specs.Claims.OpeningReplies.{OpeningsAreMarked, RepliesAnswerOpenings}
+use Rattle.domain_world.specs.Claims.OneByOne.{NoneClashes}
+use Rattle.domain_world.specs.Claims.OpeningReplies.{OpeningsAreMarked, RepliesAnswerOpenings, RepliesAreToOpenings}
 use Rattle.domain_world.specs.Claims.Openings.{OpeningsAreInOrder}
 use Rattle.domain_world.specs.Claims.OwnChallenges.{MessagesHaveOwnChallenges}
 use Rattle.domain_world.specs.Claims.Replies.{RepliesCarryTheirJudgement}
+use Rattle.domain_world.specs.Claims.RequestNumbers.{RequestsHaveNumbers}
 use Rattle.domain_world.specs.Claims.Sessions.{SessionsFollow, renewals}
 use Rattle.domain_world.specs.Claims.SharedSequences.{OneTurnIsOut, SequencesAreOwn, SequencesAreShared}
 use Rattle.domain_world.specs.Claims.Tables.{TablesFollowVerdicts}
@@ -28,9 +30,9 @@ use Rattle.domain_world.specs.Past.{past}
 -- What holds of the run of every list of moves from any plan: `claims_hold_of_runs`, and the clause of `drive`. What
 -- members accept, how often a count is raised, what the ends of a channel share, and which calls turns made, is of
 -- schedules that are clear: in them no credential passed on a unit made for another channel or for none, and no seed
--- came round. Of the others `unclashed`, and a part of `opened`, ask that no credential clashed. `names` and
--- `answered` ask for a schedule besides, and `as_made`, `call_marks`, `reply_marks` and `opened_marks` for a schedule
--- alone.
+-- came round. Of the others `unclashed`, and a part of `opened`, ask that no credential clashed. `names`, `answered`
+-- and `opened_by` ask for a schedule besides, and `as_made`, `numbers`, `have_calls`, `call_marks`, `reply_marks` and
+-- `opened_marks` for a schedule alone.
 pub record Proved (plan : Plan) (moves : List Move) : Type 0 where
   -- challenges, and the messages that are made for them
   pub challenges : ChallengesServeOnce (past plan moves)
@@ -40,6 +42,10 @@ pub record Proved (plan : Plan) (moves : List Move) : Type 0 where
   -- which channels controllers accept and keep, and by which replies
   pub openings : OpeningsAreInOrder (past plan moves)
   pub opened : RepliesAnswerOpenings (past plan moves)
+  -- each reply that accepts an opening is to one of its channel, with its number, accepted at the step that sent it
+  pub opened_by : IsSchedule plan moves → (past plan moves).book.clash ≡ false → RepliesAreToOpenings (past plan moves)
+  -- openings and calls on a channel have different numbers
+  pub numbers : IsSchedule plan moves → RequestsHaveNumbers (past plan moves)
   -- what controllers judge, grant and answer
   pub credentials : PassesTheNextCredential (past plan moves)
   pub alone : TellsOfCallsAlone (past plan moves)
@@ -81,13 +87,15 @@ pub record Proved (plan : Plan) (moves : List Move) : Type 0 where
   -- the units of the bag, and which way they go
   pub marked : EachUnitIsMarked (past plan moves)
   pub ways : MarksHaveTheirWay (past plan moves)
-  -- the call of each message is marked as one, and the reply to a call that passed, or to an opening that was accepted,
-  -- as that
+  -- A message whose answer was taken has a call, and the call of each message is marked as one. The reply to a call
+  -- that passed, or to an opening that was accepted, is marked as that.
+  pub have_calls : IsSchedule plan moves → AnswersHaveCalls (past plan moves)
   pub call_marks : IsSchedule plan moves → CallsAreMarked (past plan moves)
   pub reply_marks : IsSchedule plan moves → RepliesAreMarked (past plan moves)
   pub opened_marks : IsSchedule plan moves → OpeningsAreMarked (past plan moves)
-  -- logons that come one at a time succeed
+  -- logons that come one at a time succeed, and where each does no credential clashes
   pub complete : EachSucceeds (past plan moves) moves
+  pub one_by_one : NoneClashes (past plan moves) moves
 
 -- What is claimed of each schedule: a plan of which a world can be made, with the forms of its types, and at most
 -- 100,000 moves that it can make.

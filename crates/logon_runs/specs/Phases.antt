@@ -388,14 +388,31 @@ pub record IsReady (p : Coming) (s : State) : Type 0 where
 abbrev pub ComesTo : Coming → State → Type 0
 ComesTo p s = IsUnderWay p s ⊎ IsOver p s
 
--- how far a logon is: not judged; judged, of what the client answered and on the channel that stood so; or told by the
--- member
+-- How far a logon is: not judged. Then the call that opens the channel is out, with these challenges, or its reply is;
+-- or the logon's own call is, on the channel that stood so. Or it was judged, of what the client answered and on that
+-- channel, or told by the member.
 pub data Progress : Type 0 where
   NotYet : Progress
+  IsOpening : (client server : List ℕ) → Progress
+  WasOpened : (client server : List ℕ) → Progress
+  IsAsking : (o : SecureChannelState) → Progress
   WasJudged : (a : Asked) (o : SecureChannelState) → Progress
   WasTold : (a : Asked) → Progress
 
+-- once a turn's call is out, and once its reply is
+abbrev pub progress_called : Aim → Progress
+progress_called (First client) = NotYet
+progress_called (Second client server) = IsOpening client server
+progress_called (Third o c timestamp) = IsAsking o
+
+abbrev pub progress_answered : Asked → Aim → Progress
+progress_answered a (First client) = NotYet
+progress_answered a (Second client server) = WasOpened client server
+progress_answered a (Third o c timestamp) = WasJudged a o
+
 abbrev pub progress_of : {p : Coming} → LogonPhase p → Progress
+progress_of (Calls a who v aim) = progress_called aim
+progress_of (Proved a who v client server) = WasOpened client server
 progress_of (Granted a who v o c timestamp judged_at accounts) = WasJudged a o
 progress_of (Named a e on one other back) = WasTold a
 progress_of (Echoes a e on one asks) = WasTold a
@@ -404,7 +421,9 @@ progress_of _ = NotYet
 
 -- once a unit came, and after any move
 abbrev pub progress_onward : {p : Coming} → LogonPhase p → Progress
-progress_onward (Calls a who v (Third o c timestamp)) = WasJudged a o
+progress_onward (Acked a who v aim) = progress_called aim
+progress_onward (Calls a who v aim) = progress_answered a aim
+progress_onward (Proved a who v client server) = NotYet
 progress_onward (Granted a who v o c timestamp judged_at accounts) = WasTold a
 progress_onward phase = progress_of phase
 

@@ -23,6 +23,10 @@ same_bytes bytes = (bytes_eq-Decides bytes bytes).1 refl
 opened_step : (caller : Caller) (client server : List ℕ) (account : Account) → account.hash ≡ caller.secret →
     IsInStep (fresh_channel caller.secret client server offered_flags) (channel_for account (pair_of client server) (auth_value caller client server))
 opened_step caller client server account is = record {
+  secret = is;
+  client = refl;
+  server = refl;
+  flags = refl;
   key = ap (λ (secret : List ℕ). key_of secret client server offered_flags) is;
   seed = ap (λ (secret : List ℕ). cred_of (key_of secret client server offered_flags) client) is;
 }
@@ -61,5 +65,12 @@ calls_are_answered = record {
       (desk d.table (put_channel caller.computer (channel_by p c given) out.work))) talk left) (passes_step o c timestamp is)
       ∙ ap₂ (λ (key seed : List ℕ). goes_on (with_judgement (judge_info d.table name now info level_asked) line level_asked key (return_of key seed timestamp)
       (put_channel caller.computer (moved c timestamp) out.work)) talk left) is.key is.seed;
-  stays = λ o c timestamp is. record { key = is.key; seed = ap (λ (seed : List ℕ). next_seed seed timestamp) is.seed };
+  stays = λ o c timestamp is. record {
+    secret = is.secret;
+    client = is.client;
+    server = is.server;
+    flags = is.flags;
+    key = is.key;
+    seed = ap (λ (seed : List ℕ). next_seed seed timestamp) is.seed;
+  };
 }

@@ -20,8 +20,13 @@ use Rattle.domain_controller.specs.declared.state.Talk.{Talk}
 
 -- ---- both ends of a channel
 
--- the controller keeps the channel that the computer keeps: the challenges, the key and the seed are one
+-- the controller keeps the channel that the computer keeps: the secret, the challenges, the flags, the key and the seed
+-- are one
 pub record IsInStep (o c : SecureChannelState) : Type 0 where
+  pub secret : c.secret ≡ o.secret
+  pub client : c.client ≡ o.client
+  pub server : c.server ≡ o.server
+  pub flags : c.flags ≡ o.flags
   pub key : key_of_channel c ≡ key_of_channel o
   pub seed : c.seed ≡ o.seed
 

@@ -37,7 +37,7 @@ use Rattle.end_links.specs.Sending.{request_of}
 use Rattle.end_links.specs.Serving.{ServedPart, served_by, then_open, then_talk, ServedUnit, served_units, units_then}
 use Rattle.end_links.specs.Serving as served
 use Rattle.logon_client.specs.Answering.{answer_of, auth3_by, auth3_unit, bytes_if, drawn_for, is_enough}
-use Rattle.logon_client.specs.Machine.{actions_after, after_stream, answers_by, answers_part, asks, by_piece, client_server, closed_with, done, echo_bytes, echo_number, echo_opnum, fails, halted, hear, hear_ack, hear_body, hear_body_opened, hear_call, hear_challenge, hear_echo, hear_echo_by, hear_flags, hear_fragment, hear_joined, hear_name, hear_name_by, hear_opened, hear_pairs, hear_reply, hear_response, hear_result, hear_secured, hear_trailer, hear_unit, hear_unit_opened, fault_outcome, outcome_of, asks_echo, serve_heard, standing_by, state_after, step_of, terms_of, told, who_number, who_opnum, work_of}
+use Rattle.logon_client.specs.Machine.{actions_after, after_stream, answers_by, answers_part, asks, by_piece, client_server, closed_with, done, echo_bytes, echo_number, echo_opnum, fails, halted, hear, hear_ack, hear_body, hear_body_opened, hear_call, hear_challenge, hear_echo, hear_echo_by, hear_flags, hear_fragment, hear_joined, hear_name, hear_name_by, hear_opened, hear_pairs, hear_reply, hear_response, hear_result, hear_secured, hear_trailer, hear_unit, hear_unit_opened, fault_outcome, asks_echo, serve_heard, standing_by, state_after, step_of, terms_of, told, who_number, who_opnum, work_of}
 use Rattle.unit_security.specs.Levels.{is_sealed}
 use Rattle.logon_client.specs.Plans.{offer_of}
 use Rattle.unit_security.specs.declared.securing.Secured.{Secured}

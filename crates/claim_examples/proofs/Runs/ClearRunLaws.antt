@@ -93,7 +93,7 @@ use Rattle.logon_runs.proofs.Seen.StepOnLaws.{by_step}
 use Rattle.claim_examples.specs.ClearRuns.{FirstLogonsAreClear, HasSharedChannel, IsLetIn, LetsInClearly}
 use Rattle.claim_examples.proofs.Runs.LogonTrailLaws.{FineSo, logon_trail}
 use Rattle.claim_examples.proofs.Runs.JudgedOnLaws.{HearsNoCall, OnlyTravels, travels_still}
-use Rattle.claim_examples.proofs.Runs.NotedLaws.{Fine, Leads, Trail, then_on, world_at}
+use Rattle.domain_world.proofs.Clear.NotedLaws.{Fine, Leads, Trail, then_on, world_at}
 use Rattle.domain_world.proofs.Completeness.UnitNotedLaws.{Came, comes_so}
 use Rattle.domain_world.proofs.Frames.MemberPlanLaws.{found_but_secret}
 use Rattle.domain_world.proofs.Accepting.LetInLaws.{lets_in_who_asked}
@@ -101,7 +101,7 @@ use Rattle.claim_examples.proofs.SequenceLaws.{one_apart}
 use Rattle.claim_examples.proofs.Runs.SharedChannelLaws.{shared_channel}
 use Rattle.claim_examples.proofs.Runs.ToldLaws.{LetsIn, lets_in, stays_told}
 use Rattle.claim_examples.proofs.Runs.TurnTrailLaws.{challenge_trail, names_stay, opening_trail}
-use Rattle.claim_examples.proofs.Runs.UnitComesLaws.{Names, client_comes, connect_fine, dial_leads, meeting_leads, start_fine}
+use Rattle.domain_world.proofs.Clear.UnitComesLaws.{Names, client_comes, connect_fine, dial_leads, meeting_leads, start_fine}
 
 -- ---- lists of moves behind others
 

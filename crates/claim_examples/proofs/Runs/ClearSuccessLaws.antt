@@ -1,7 +1,7 @@
 -- The client of the example can succeed: her account may log on in each state of the run; and she does, since no key of
 -- the run travels as zeros.
 -- It serves `ann_can_succeed`.
-use Rattle.std.proofs.Common.{◌≡◌, ℕ, ◌≤◌, arith, false, List, [], length, Option, Some, refl, sym, subst, inl, inr}
+use Rattle.std.proofs.Common.{◌≡◌, ℕ, ◌≤◌, arith, true, false, List, [], length, Option, Some, refl, sym, subst, inl, inr}
 use Rattle.std.specs.Prelude.{◌==◌, codes, IsSomeAnd}
 use Rattle.wire_base.specs.Names.{SameName, same_name}
 use Rattle.wire_base.specs.Names as names
@@ -40,8 +40,10 @@ use Rattle.logon_runs.proofs.First.ExampleLogonLaws.{an_example_logs_on, ann_can
 use Rattle.logon_runs.proofs.First.FirstLogonRunLaws.{joined_still}
 use Rattle.logon_runs.proofs.First.FirstWorldLaws.{comes_first, first_shows, first_worlds_run}
 use Rattle.logon_runs.proofs.Seen.LinkSceneLaws.{meetings_are_seen}
+use Rattle.domain_world.specs.Claims.OneByOne.{EachCanSucceed}
+use Rattle.domain_world.proofs.Clear.ClearWalkLaws.{none_clashes}
 use Rattle.domain_world.proofs.Completeness.SuccessLaws.{each_succeeds}
-use Rattle.claim_examples.specs.ClearSuccess.{AnnCanSucceed}
+use Rattle.claim_examples.specs.ClearSuccess.{AnnCanSucceed, ann_clashed, ann_run}
 use Rattle.claim_examples.proofs.Runs.ClearRunLaws.{NoKeyIsLost, ann_once, ann_plain, ann_quiet, keys_arrive}
 use Rattle.claim_examples.proofs.Runs.ExampleKeyLaws.{ann_key_arrives}
 use Rattle.claim_examples.proofs.SequenceLaws.{one_apart}
@@ -208,10 +210,19 @@ ann_arrives =
     (λ c never own. never) (kept how))
     (keys_arrive ann_plan 0 0 0 ann_can an_example_logs_on.schedule.start an_example_logs_on.schedule.forms 0 refl (λ signed. absurd cc) ann_key_arrives)
 
+ann_each : EachCanSucceed ann_run ann_moves
+ann_each = ((ann_can_so, ann_arrives), tt)
+
+ann_comes_so : ComesOneAtATime ann_clashed ann_moves
+ann_comes_so = record { schedule = ann_comes.schedule; plain = ann_comes.plain; once = ann_comes.once; quiet = ann_comes.quiet }
+
 pub ann_can_succeed : AnnCanSucceed
 ann_can_succeed = record {
   can = ann_can_so;
   comes = ann_comes;
   arrives = ann_arrives;
   succeeds = (each_succeeds ann_plan ann_moves ann_comes).0 ann_can_so ann_arrives;
+  each = ann_each;
+  unclashed = none_clashes ann_plan ann_moves;
+  fails_clash = λ claim. let is : true ≡ false = claim ann_comes_so ann_each in absurd (let x = is in cc);
 }

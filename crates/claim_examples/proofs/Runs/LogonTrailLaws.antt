@@ -59,10 +59,10 @@ use Rattle.ntlm_responses.specs.Verification.{base_key_of}
 use Rattle.logon_runs.proofs.RunLaws.{between_still}
 use Rattle.domain_world.proofs.Completeness.HeardOnceLaws.{turn_line}
 use Rattle.claim_examples.proofs.Runs.JudgedOnLaws.{OnlyTravels, none_travels, travels_so}
-use Rattle.claim_examples.proofs.Runs.NotedLaws.{Fine, Trail, world_at}
-use Rattle.claim_examples.proofs.Runs.NotedOnLaws.{waits_marked}
+use Rattle.domain_world.proofs.Clear.NotedLaws.{Fine, Trail, world_at}
+use Rattle.domain_world.proofs.Clear.NotedOnLaws.{waits_marked}
 use Rattle.claim_examples.proofs.Runs.TurnTrailLaws.{replied_names, turn_trail}
-use Rattle.claim_examples.proofs.Runs.UnitComesLaws.{Called, FineAnd, Names, answer_in_turn, call_comes, channel_in_turn, desk_in_turn, judged_bag, reply_leads, reply_waits, where_in_turn}
+use Rattle.domain_world.proofs.Clear.UnitComesLaws.{Called, FineAnd, Names, answer_in_turn, call_comes, channel_in_turn, desk_in_turn, judged_bag, reply_leads, reply_waits, where_in_turn}
 
 -- fine, and that holds
 pub record FineSo (s : State) (count : ℕ) (Holds : Book → Type 0) (b : Book) : Type 0 where

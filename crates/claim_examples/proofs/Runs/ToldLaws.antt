@@ -24,7 +24,7 @@ use Rattle.logon_runs.specs.Scenes.{HasFirst, Scene, Shows}
 use Rattle.logon_runs.specs.Seen.WaitingUnits.{Comes}
 use Rattle.logon_runs.proofs.Seen.SceneLaws.{first_comes}
 use Rattle.logon_runs.proofs.Seen.WaitingLaws.{waiting_comes}
-use Rattle.claim_examples.proofs.Runs.NotedLaws.{world_at}
+use Rattle.domain_world.proofs.Clear.NotedLaws.{world_at}
 use Rattle.domain_world.proofs.Completeness.UnitNotedLaws.{Came, coming, state_then}
 use Rattle.domain_world.proofs.Frames.EndNoteLaws.{bytes_told}
 

@@ -49,9 +49,9 @@ use Rattle.logon_runs.specs.Seen.Staying.{HasSameEnds}
 use Rattle.logon_runs.specs.Seen.TurnScenes.{IsBetween, Turn}
 use Rattle.logon_runs.proofs.Seen.StayingLaws.{both_same, connects_same, goes_same, reach_still}
 use Rattle.domain_world.proofs.Completeness.HeardOnceLaws.{turn_line}
-use Rattle.claim_examples.proofs.Runs.NotedLaws.{Fine, Leads, Trail, no_more_moves, then_on}
-use Rattle.claim_examples.proofs.Runs.NotedOnLaws.{waits_marked}
-use Rattle.claim_examples.proofs.Runs.UnitComesLaws.{Called, FineAnd, Names, ack_leads, answer_in_turn, bind_leads, call_comes, channel_in_turn, connect_fine, desk_in_turn, replied_bag, reply_leads, reply_waits, where_in_turn}
+use Rattle.domain_world.proofs.Clear.NotedLaws.{Fine, Leads, Trail, no_more_moves, then_on}
+use Rattle.domain_world.proofs.Clear.NotedOnLaws.{waits_marked}
+use Rattle.domain_world.proofs.Clear.UnitComesLaws.{Called, FineAnd, Names, ack_leads, answer_in_turn, bind_leads, call_comes, channel_in_turn, connect_fine, desk_in_turn, replied_bag, reply_leads, reply_waits, where_in_turn}
 
 -- ---- the plans stay
 

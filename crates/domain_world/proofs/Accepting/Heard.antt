@@ -6,4 +6,5 @@ pub mod JudgedRunLaws
 pub mod JudgedUnitLaws
 pub mod MarkSentLaws
 pub mod MarkWholeLaws
+pub mod OpeningCarriedLaws
 pub mod ReadBackLaws

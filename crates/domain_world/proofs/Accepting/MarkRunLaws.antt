@@ -38,7 +38,7 @@ use Rattle.world_moves.specs.MemberPlans.{AreAlikeButSecrets}
 use Rattle.world_moves.specs.Moving.{begun, renewed, with_link}
 use Rattle.world_moves.specs.World.{first_world}
 use Rattle.domain_world.specs.Claims.{IsLinkOf}
-use Rattle.domain_world.specs.Claims.MarkedUnits.{CallsAreMarked, IsMarkedAsCall, IsMarkedAsReply, RepliesAreMarked}
+use Rattle.domain_world.specs.Claims.MarkedUnits.{AnswersHaveCalls, CallsAreMarked, IsMarkedAsCall, IsMarkedAsReply, RepliesAreMarked}
 use Rattle.domain_world.specs.Claims.OpeningReplies.{IsMarkedAsOpened, OpeningsAreMarked}
 use Rattle.domain_world.specs.Claims.OwnChallenges.{HasOwnChallenge}
 use Rattle.domain_world.specs.Past.{Coming, Past, accepted_of, answers_of, at_controller, at_member, controller_of, controller_of_plan, judged_of, marks_of, note_at, note_client, note_controller, note_given, note_member, note_messages, numbers_on, past, sent_at}
@@ -47,11 +47,13 @@ use Rattle.domain_world.proofs.Accepting.AnsweredLaws.{StandsFor, channel_there}
 use Rattle.domain_world.proofs.Accepting.Heard.JudgedRunLaws.{judged_first, judged_keeps}
 use Rattle.domain_world.proofs.Accepting.Heard.JudgedUnitLaws.{AreOwn, JudgedFact}
 use Rattle.domain_world.proofs.Accepting.LetInStepLaws.{IsAcceptedBy, IsDialledBy}
+use Rattle.domain_world.proofs.Accepting.ListPlaceLaws.{Placed, all_at, all_by_place, apart_same, placed}
 use Rattle.domain_world.proofs.Accepting.Quiet.QuietRunLaws.{has_bytes, quiet_first}
 use Rattle.domain_world.proofs.Accepting.Quiet.QuietStepLaws.{QuietFact, QuietState}
 use Rattle.domain_world.proofs.Accepting.Turns.TurnFactLaws.{SameEnds}
 use Rattle.domain_world.proofs.Accepting.Turns.TurnQuietLaws.{renew_same, same_ends, step_same}
 use Rattle.domain_world.proofs.Accepting.Turns.TurnRunLaws.{Known, KnownAction, drawn_differ, known_keep}
+use Rattle.domain_world.proofs.Challenges.MessageApartLaws.{messages_apart}
 use Rattle.domain_world.proofs.Challenges.OwnChallengeLaws.{messages_own}
 use Rattle.domain_world.proofs.Frames.AllLaws.{all_join}
 use Rattle.domain_world.proofs.Frames.BagFrameLaws.{IsServer}
@@ -59,7 +61,7 @@ use Rattle.domain_world.proofs.Frames.ComingLaws.{CameFrom, IsPieceOf}
 use Rattle.domain_world.proofs.Frames.DrawnRunLaws.{draws_differ, given_all}
 use Rattle.domain_world.proofs.Frames.EndNoteLaws.{accepted_so, acted_by, judged_so}
 use Rattle.domain_world.proofs.Frames.FrontLaws.{controller_front, controller_way}
-use Rattle.domain_world.proofs.Frames.MarkNumberLaws.{AtNumbers, IsGiven, IsMarkedAs, given_marked, marks_numbered, numbers_enough, numbers_so}
+use Rattle.domain_world.proofs.Frames.MarkNumberLaws.{AtNumbers, IsGiven, IsMarkedAs, IsMarkedAt, given_at, given_marked, marks_numbered, numbers_enough, numbers_so}
 use Rattle.domain_world.proofs.Frames.MemberPlanLaws.{controllers_alike}
 use Rattle.domain_world.proofs.Frames.OpenMadeLaws.{IsAtSide}
 use Rattle.domain_world.proofs.Frames.StepFrameLaws.{AnyAction, BothFacts, BothFine, HasHeard, HoldsAfterRun, Keeps, RunFact, WhileFew, all_any, join, run_keeps, while_few, with_side}
@@ -67,7 +69,8 @@ use Rattle.domain_world.proofs.Frames.TurnFrameLaws.{turns_sent}
 use Rattle.domain_world.proofs.Judgements.JudgedLaws.{judged_rightly, onto_hold}
 use Rattle.domain_world.proofs.Judgements.OpeningMarkLaws.{HasAnswer, accepts_so, all_answered, answer_so, onto_all}
 use Rattle.domain_world.proofs.Judgements.ReplyMarkLaws.{HasReply, answers_replied, answers_so, reply_so}
-use Rattle.domain_world.proofs.Requests.CallFrameLaws.{first_calls}
+use Rattle.domain_world.proofs.Requests.AnsweredCallLaws.{IfAnswered, IsCalledOn}
+use Rattle.domain_world.proofs.Requests.CallFrameLaws.{first_calls, schedules_called}
 use Rattle.domain_world.proofs.Requests.CallHoldsLaws.{CallsHold, controller_same}
 use Rattle.domain_world.proofs.Requests.CallMarkLaws.{IsCallMark, turns_marked}
 use Rattle.domain_world.proofs.Requests.CallStepLaws.{most_steps}
@@ -94,7 +97,7 @@ record IsCallOn (plan : Plan) (links : List Route) (sent : List Sent) (link n : 
 record MarksStand (plan : Plan) (links : List Route) (b : Book) : Type 0 where
   calls : AllGood (IsCallOn plan links b.sent) b.messages
   replies : AllByRecursion (HasReply (IsMarkedAs b.sent)) b.judged
-  opened : AllByRecursion (HasAnswer (IsMarkedAs b.sent)) b.accepted
+  opened : AllByRecursion (HasAnswer (IsMarkedAt b.sent)) b.accepted
 
 -- what it rests on: what is under way is whole, units went between ends of the world, and what is known of calls
 record MarkSide (n : ℕ) (s : State) (b : Book) : Type 0 where
@@ -129,6 +132,9 @@ GrowTo sent more = (n : ℕ) (one : Sent) → slice_get sent n ≡ Some one → 
 marked_still : (sent more : List Sent) → GrowTo sent more → (n : ℕ) (mark : Mark) → IsMarkedAs sent n mark → IsMarkedAs more n mark
 marked_still sent more grow n mark it = record { one = it.one; there = grow n it.one it.there; is = it.is }
 
+marked_at_still : (sent more : List Sent) → GrowTo sent more → (moves n : ℕ) (mark : Mark) → IsMarkedAt sent moves n mark → IsMarkedAt more moves n mark
+marked_at_still sent more grow moves n mark it = record { one = it.one; there = grow n it.one it.there; is = it.is; step = it.step }
+
 call_still : (plan : Plan) (links after : List Route) (sent more : List Sent) → ((k link : ℕ) → IsAcceptedBy links k link → IsAcceptedBy after k link) → GrowTo sent more →
     (link n : ℕ) → IsCallOn plan links sent link n → IsCallOn plan after more link n
 call_still plan links after sent more onward grow link n it = record {
@@ -143,9 +149,10 @@ replies_still : (sent more : List Sent) (judged : List Judging) → GrowTo sent 
 replies_still sent more judged grow all =
     all_weaker (HasReply (IsMarkedAs sent)) (HasReply (IsMarkedAs more)) judged (λ j has. reply_so (IsMarkedAs sent) (IsMarkedAs more) (λ n mark it. marked_still sent more grow n mark it) j has) all
 
-opened_still : (sent more : List Sent) (accepted : List ChannelAccepted) → GrowTo sent more → AllByRecursion (HasAnswer (IsMarkedAs sent)) accepted → AllByRecursion (HasAnswer (IsMarkedAs more)) accepted
+opened_still : (sent more : List Sent) (accepted : List ChannelAccepted) → GrowTo sent more → AllByRecursion (HasAnswer (IsMarkedAt sent)) accepted → AllByRecursion (HasAnswer (IsMarkedAt more)) accepted
 opened_still sent more accepted grow all =
-    all_weaker (HasAnswer (IsMarkedAs sent)) (HasAnswer (IsMarkedAs more)) accepted (λ one has. answer_so (IsMarkedAs sent) (IsMarkedAs more) (λ n mark it. marked_still sent more grow n mark it) one has) all
+    all_weaker (HasAnswer (IsMarkedAt sent)) (HasAnswer (IsMarkedAt more)) accepted
+    (λ one has. answer_so (IsMarkedAt sent) (IsMarkedAt more) (λ moves n mark it. marked_at_still sent more grow moves n mark it) one has) all
 
 -- where no message, no call and no opening is written down
 stand_on : (plan : Plan) (links after : List Route) (b d : Book) → ((k link : ℕ) → IsAcceptedBy links k link → IsAcceptedBy after k link) → GrowTo b.sent d.sent →
@@ -154,7 +161,7 @@ stand_on plan links after b d onward grow messages judged accepted stand = recor
   calls = subst (λ (all : List MessageTaken). AllGood (IsCallOn plan after d.sent) all) (sym messages)
       (good_so (IsCallOn plan links b.sent) (IsCallOn plan after d.sent) (λ link n it. call_still plan links after b.sent d.sent onward grow link n it) b.messages stand.calls);
   replies = subst (λ (all : List Judging). AllByRecursion (HasReply (IsMarkedAs d.sent)) all) (sym judged) (replies_still b.sent d.sent b.judged grow stand.replies);
-  opened = subst (λ (all : List ChannelAccepted). AllByRecursion (HasAnswer (IsMarkedAs d.sent)) all) (sym accepted) (opened_still b.sent d.sent b.accepted grow stand.opened);
+  opened = subst (λ (all : List ChannelAccepted). AllByRecursion (HasAnswer (IsMarkedAt d.sent)) all) (sym accepted) (opened_still b.sent d.sent b.accepted grow stand.opened);
 }
 
 accepted_more : (links : List Route) (route : Route) (k link : ℕ) → IsAcceptedBy links k link → IsAcceptedBy (links ++ route ∷ []) k link
@@ -178,6 +185,9 @@ module _ (plan : Plan) (c : ControllerState) (at : ℕ) (w : Coming) (piece : Li
       let numbered : AtNumbers (IsMarkedAs sent) marks numbers =
       numbers_so (IsGiven given (length s.bag)) (IsMarkedAs sent) (λ n mark it. given_marked b.sent (length s.bag) w.at given n mark even it) marks numbers
       (marks_numbered w.link true (drop (length s.bag) after.bag) marks (length s.bag)) in
+      let numbered_at : AtNumbers (IsMarkedAt sent w.at) marks numbers =
+      numbers_so (IsGiven given (length s.bag)) (IsMarkedAt sent w.at) (λ n mark it. given_at b.sent (length s.bag) w.at given n mark even it) marks numbers
+      (marks_numbered w.link true (drop (length s.bag) after.bag) marks (length s.bag)) in
       let enough : (n : ℕ) → w.source ≡ InUnit n → length marks ≤ length numbers = λ n source.
       (let piece_of : IsPieceOf s n w piece = subst (λ (from : Source). CameFrom from s w piece) source came in
       let same : piece_of.route ≡ side.route = some_is piece_of.route side.route (sym piece_of.made ∙ side.made) in
@@ -191,8 +201,8 @@ module _ (plan : Plan) (c : ControllerState) (at : ℕ) (w : Coming) (piece : Li
         replies = onto_hold (HasReply (IsMarkedAs sent)) (judged_of answers numbers) b.judged
             (answers_replied (IsMarkedAs sent) w.source answers numbers (answers_so (at_controller at c w s) w.link (units_of_controller c w.link piece s.moment s.chances.left)) numbered enough)
             (replies_still b.sent sent b.judged grow stand.replies);
-        opened = onto_all (HasAnswer (IsMarkedAs sent)) (accepted_of answers numbers) b.accepted
-            (all_answered (IsMarkedAs sent) w.source answers numbers (accepts_so (at_controller at c w s) w.link (units_of_controller c w.link piece s.moment s.chances.left)) numbered enough)
+        opened = onto_all (HasAnswer (IsMarkedAt sent)) (accepted_of answers numbers) b.accepted
+            (all_answered (IsMarkedAt sent) w.at w.source answers numbers (accepts_so (at_controller at c w s) w.link (units_of_controller c w.link piece s.moment s.chances.left)) numbered_at enough)
             (opened_still b.sent sent b.accepted grow stand.opened);
       }
 
@@ -255,8 +265,8 @@ module _ (plan : Plan) (m : MemberState) (at : ℕ) (w : Coming) (piece : List �
         calls = subst (λ (all : List Sent). AllGood (IsCallOn plan s.links all) now.messages) (sym sends) calls;
         replies = subst (λ (all : List Sent). AllByRecursion (HasReply (IsMarkedAs all)) now.judged) (sym sends)
             (subst (λ (judged : List Judging). AllByRecursion (HasReply (IsMarkedAs sent)) judged) (sym (judged_so.members m at w piece s after b)) (replies_still b.sent sent b.judged grow stand.replies));
-        opened = subst (λ (all : List Sent). AllByRecursion (HasAnswer (IsMarkedAs all)) now.accepted) (sym sends)
-            (subst (λ (accepted : List ChannelAccepted). AllByRecursion (HasAnswer (IsMarkedAs sent)) accepted) (sym (accepted_so.members m at w piece s after b))
+        opened = subst (λ (all : List Sent). AllByRecursion (HasAnswer (IsMarkedAt all)) now.accepted) (sym sends)
+            (subst (λ (accepted : List ChannelAccepted). AllByRecursion (HasAnswer (IsMarkedAt sent)) accepted) (sym (accepted_so.members m at w piece s after b))
             (opened_still b.sent sent b.accepted grow stand.opened));
       }
 
@@ -379,6 +389,17 @@ calls_marked plan moves schedule =
       controller = it.call.named ∙ ap (λ (k : ℕ). own_controller plan k) member ∙ sym (named_own plan p.world.state message.member holds.0 holds.1);
     }) holds.2.calls (messages_own plan moves (draws_differ plan moves)).each
 
+-- and a message whose answer was taken has a call: no other message came on its link
+pub answers_have_calls : OfSchedules (λ plan moves. AnswersHaveCalls (past plan moves))
+answers_have_calls plan moves schedule =
+    let messages : List MessageTaken = (past plan moves).book.messages in
+    all_by_place (λ (message : MessageTaken). (u : ℕ) → message.reply ≡ Some u → (n : ℕ) × (message.call ≡ Some n)) messages (λ k message there u reply.
+    let found : Placed (IsCalledOn message.link) messages =
+    placed (IsCalledOn message.link) messages (all_at (IfAnswered messages) messages k message (schedules_called plan moves schedule) there u reply) in
+    let same : found.item ≡ message =
+    apart_same (λ (one : MessageTaken). one.link) messages (messages_apart plan moves) found.place k found.item message found.there there found.is.0 in
+    (found.is.1, ap (λ (one : MessageTaken). one.call) (sym same) ∙ found.is.2))
+
 -- and so is the reply to each call that passed, and came in a unit of the bag
 pub replies_marked : OfSchedules (λ plan moves. RepliesAreMarked (past plan moves))
 replies_marked plan moves schedule =
@@ -395,8 +416,8 @@ replies_marked plan moves schedule =
 pub openings_marked : OfSchedules (λ plan moves. OpeningsAreMarked (past plan moves))
 openings_marked plan moves schedule =
     let p : Past = past plan moves in
-    all_weaker (HasAnswer (IsMarkedAs p.book.sent)) (λ (one : ChannelAccepted). (n : ℕ) → one.source ≡ InUnit n → IsMarkedAsOpened p one n) p.book.accepted
+    all_weaker (HasAnswer (IsMarkedAt p.book.sent)) (λ (one : ChannelAccepted). (n : ℕ) → one.source ≡ InUnit n → IsMarkedAsOpened p one n) p.book.accepted
     (λ one has n came.
     let it = has n came in
-    let marked : IsMarkedAs p.book.sent it.0 (Opened one.channel one.number n) = it.2 in
-    record { reply = it.0; is = it.1; sent = marked.one; there = marked.there; mark = marked.is }) (marks_hold plan moves schedule).2.opened
+    let marked : IsMarkedAt p.book.sent one.at it.0 (Opened one.channel one.number n) = it.2 in
+    record { reply = it.0; is = it.1; sent = marked.one; there = marked.there; mark = marked.is; step = marked.step }) (marks_hold plan moves schedule).2.opened

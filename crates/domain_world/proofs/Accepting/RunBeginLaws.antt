@@ -85,12 +85,12 @@ holds_nothing v challenge blank holds = blank_holds challenge (subst (λ (w : Vi
 
 pub first_apart : (plan : Plan) → CallsAreApart (first_requests plan)
 first_apart plan = record {
-  made_before = λ unit number timestamp c there. absurd (got_nothing unit _ there);
+  made_before = λ unit number c asked. absurd (got_nothing unit asked.mark asked.there);
   held_before = λ i v challenge at holds. absurd (holds_nothing v challenge (first_seen plan.members _ i v at) holds);
   apart = λ i j u v challenge at also holds too. absurd (holds_nothing u challenge (first_seen plan.members _ i u at) holds);
   opening = λ i v unit number timestamp c at opening there. absurd (got_nothing unit _ there);
-  numbers = λ i v unit number timestamp c at holds there. absurd (got_nothing unit _ there);
-  distinct = λ unit other number timestamp later c d there also same. absurd (got_nothing unit _ there);
+  numbers = λ i v unit number c at holds asked. absurd (got_nothing unit asked.mark asked.there);
+  distinct = λ unit other number c d asked also same. absurd (got_nothing unit asked.mark asked.there);
   calls = λ i v at. let is : blank_view ≡ v = first_seen plan.members _ i v at in omega (arith, ap (λ (w : View). w.call) is);
 }
 

@@ -1,8 +1,9 @@
 -- Of every schedule all that the claims on answers rest on, gathered.
--- It serves `schedules_are_heard`.
+-- It serves `schedules_are_heard` and `Proved.numbers`.
 use Rattle.domain_world.specs.Accepting.ReadBack.{TurnsAreHeard}
 use Rattle.domain_world.specs.Accepting.Runs.{RunsStandSo}
 use Rattle.domain_world.specs.Accepting.Units.{UnitsAreHeard}
+use Rattle.domain_world.specs.Claims.RequestNumbers.{RequestsHaveNumbers}
 use Rattle.domain_world.specs.Past.{past}
 use Rattle.domain_world.specs.Schedules.{OfSchedules}
 use Rattle.domain_world.proofs.Accepting.Heard.JudgedRunLaws.{judged_as_carried, replies_back}
@@ -10,7 +11,7 @@ use Rattle.domain_world.proofs.Accepting.Heard.MarkWholeLaws.{marked_whole}
 use Rattle.domain_world.proofs.Accepting.Messages.MessageMadeLaws.{messages_made}
 use Rattle.domain_world.proofs.Accepting.Messages.MessageTakenLaws.{messages_taken}
 use Rattle.domain_world.proofs.Accepting.Turns.TurnRunLaws.{turns_run}
-use Rattle.domain_world.proofs.Accepting.UnitLaws.{runs_heard}
+use Rattle.domain_world.proofs.Accepting.UnitLaws.{requests_numbered, runs_heard}
 use Rattle.domain_world.proofs.Frames.DrawnRunLaws.{draws_differ}
 use Rattle.domain_world.proofs.Requests.CallFrameLaws.{schedules_stand}
 use Rattle.domain_world.proofs.Requests.CalledRunLaws.{schedules_call}
@@ -31,3 +32,9 @@ units_heard plan moves schedule =
       made = messages_made plan moves schedule;
       taken = messages_taken plan moves;
     }
+
+-- and no two requests on a channel have one number
+pub schedules_number : OfSchedules (λ plan moves. RequestsHaveNumbers (past plan moves))
+schedules_number plan moves schedule =
+    let stands : RunsStandSo plan moves = schedules_stand plan moves schedule (draws_differ plan moves) in
+    requests_numbered (past plan moves) stands.requests stands.shows.marks stands.apart

@@ -1,8 +1,8 @@
 -- Where each unit is heard whole a run's claims on answers hold.
 -- It serves `runs_are_heard`.
-use Rattle.std.proofs.Common.{◌≡◌, ℕ, zero, suc, List, [], ◌∷◌, map, Some, slice_get, ap, ◌∙◌}
+use Rattle.std.proofs.Common.{◌≡◌, ℕ, zero, suc, List, [], ◌∷◌, map, Some, slice_get, refl, sym, ap, subst, ◌∙◌}
 use Rattle.channel_events.specs.Marks.{Mark}
-use Rattle.channel_events.specs.Requests.{CallsAreApart, Requests}
+use Rattle.channel_events.specs.Requests.{CallsAreApart, IsRequest, Requests}
 use Rattle.step_notes.specs.Records.{RequesterId, Sent}
 use Rattle.world_moves.specs.declared.moves.Move.{Move}
 use Rattle.world_moves.specs.declared.plan.Plan.{Plan}
@@ -10,6 +10,7 @@ use Rattle.world_moves.specs.Draws.{DrawsDiffer}
 use Rattle.domain_world.specs.Accepting.Answered.{AnswersAreHeard}
 use Rattle.domain_world.specs.Accepting.Carried.{CallsHaveNumbers}
 use Rattle.domain_world.specs.Accepting.Units.{HasMarksOf, RunsAreHeard, UnitsAreHeard}
+use Rattle.domain_world.specs.Claims.RequestNumbers.{RequestsHaveNumbers}
 use Rattle.domain_world.specs.Past.{Past, past}
 use Rattle.channel_events.proofs.ListLaws.{got_nothing, some_is}
 use Rattle.domain_world.proofs.Accepting.AnsweredLaws.{accepts_all, accepts_only, keys_agree, raises_once}
@@ -28,12 +29,16 @@ got_mapped f [] k item there = absurd (got_nothing k item there)
 got_mapped f (one ∷ items) zero item there = ap (λ (found : _). Some (f found)) (some_is one item there)
 got_mapped f (one ∷ items) (suc k) item there = got_mapped f items k item there
 
+-- no two requests on a channel have one number, where requesters keep them apart
+pub requests_numbered : (past : Past) (r : Requests RequesterId) → HasMarksOf past r → CallsAreApart r → RequestsHaveNumbers past
+requests_numbered past r marks apart n m number c d one other there also asks asks_too same =
+    let marked : (k : ℕ) (sent : Sent) → slice_get past.book.sent k ≡ Some sent → slice_get r.marks k ≡ Some sent.mark =
+    λ k sent at. ap (λ (all : List Mark). slice_get all k) marks ∙ got_mapped (λ (s : Sent). s.mark) past.book.sent k sent at in
+    apart.distinct n m number c d (record { mark = one.mark; asks = asks; there = marked n one there }) (record { mark = other.mark; asks = asks_too; there = marked m other also }) same
+
 calls_numbered : (past : Past) (r : Requests RequesterId) → HasMarksOf past r → CallsAreApart r → CallsHaveNumbers past
 calls_numbered past r marks apart n m number timestamp later c d one other there also mark mark_too same =
-    apart.distinct n m number timestamp later c d
-    (ap (λ (all : List Mark). slice_get all n) marks ∙ got_mapped (λ (s : Sent). s.mark) past.book.sent n one there ∙ ap Some mark)
-    (ap (λ (all : List Mark). slice_get all m) marks ∙ got_mapped (λ (s : Sent). s.mark) past.book.sent m other also ∙ ap Some mark_too)
-    same
+    requests_numbered past r marks apart n m number c d one other there also (subst (IsRequest c number) (sym mark) (refl, refl)) (subst (IsRequest d number) (sym mark_too) (refl, refl)) same
 
 pub heard_in : (plan : Plan) (moves : List Move) → UnitsAreHeard (past plan moves) → DrawsDiffer (past plan moves).world → AnswersAreHeard (past plan moves)
 heard_in plan moves heard differ =

@@ -112,7 +112,7 @@ module _ (p : LogonComing) (a : Asked) (v : TurnAt) (o c : SecureChannelState) (
   abbrev then_so : Option Desk
   then_so = work_after (by_call (served_call (call_for p a (Third o c timestamp))) line (bound_talk None turn_agreed) p.name moment before left)
 
-  passed_so : judged_in (new_actions then_so before) ≡ Some (judged.Passed 0)
+  pub passed_so : judged_in (new_actions then_so before) ≡ Some (judged.Passed 0)
   passed_so =
       ap (λ (part : ServedPart Desk Talk). judged_in (new_actions (work_after part) before))
       (calls_are_answered.judges p.meeting.caller o c info timestamp line (bound_talk None turn_agreed) p.name moment before left aimed.1 aimed.2)

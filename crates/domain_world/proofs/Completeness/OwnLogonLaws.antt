@@ -24,7 +24,7 @@ use Rattle.world_moves.specs.World.{World}
 use Rattle.logon_steps.specs.Calling.{TravelsAsZeros as KeyTravels}
 use Rattle.logon_steps.specs.Granting.{base_key}
 use Rattle.logon_runs.specs.GrantsTold.{TellsIn}
-use Rattle.logon_runs.specs.Phases.{Aim, ArrivesAt, Coming, First, Fits, HasUser, IsKnown, LogonPhase, MayLogOnAt, NotYet, Progress, Second, Third, TurnAt, WasJudged, WasTold, WhoAsked, key_at, own, progress_of, progress_onward, scene_of}
+use Rattle.logon_runs.specs.Phases.{Aim, ArrivesAt, Coming, First, Fits, HasUser, IsAsking, IsKnown, IsOpening, LogonPhase, MayLogOnAt, NotYet, Progress, Second, Third, TurnAt, WasJudged, WasOpened, WasTold, WhoAsked, key_at, own, progress_called, progress_of, progress_onward, scene_of}
 use Rattle.logon_runs.specs.Phases.{Acked, Answers, Binds, BindsBefore, BindsHeld, Calls, Challenged, Dials, DialsBefore, DialsHeld, Echoed, Echoes, Granted, Halved, Named, Proved}
 use Rattle.logon_runs.specs.Runs.{Asked, message_for}
 use Rattle.logon_runs.specs.Scenes.{Shows}
@@ -46,11 +46,17 @@ IsTold p a told = (told.link ≡ (own p).link) × (told.member ≡ p.meeting.at_
 -- of a logon that is so far
 abbrev pub IsWritten : Coming → Progress → Book → Type 0
 IsWritten p NotYet b = Unit {0}
+IsWritten p (IsOpening client server) b = Unit {0}
+IsWritten p (WasOpened client server) b = Unit {0}
+IsWritten p (IsAsking o) b = Unit {0}
 IsWritten p (WasJudged a o) b = OneOf (IsGrant p (key_of_channel o) (base_key p.meeting.task (message_for (own p) a))) b.judged
 IsWritten p (WasTold a) b = OneOf (IsTold p a) b.told
 
 pub written_stays : (p : Coming) (far : Progress) (what : Move) (w : World) (b : Book) → IsPlaced w.state → IsWritten p far b → IsWritten p far (note w what b)
 written_stays p NotYet what w b placed is = tt
+written_stays p (IsOpening client server) what w b placed is = tt
+written_stays p (WasOpened client server) what w b placed is = tt
+written_stays p (IsAsking o) what w b placed is = tt
 written_stays p (WasJudged a o) what w b placed is = judged_stays (IsGrant p (key_of_channel o) (base_key p.meeting.task (message_for (own p) a))) (what ∷ []) w b placed is
 written_stays p (WasTold a) what w b placed is = told_stays (IsTold p a) (what ∷ []) w b placed is
 
@@ -94,6 +100,11 @@ module _ (p : Coming) (w : World) (b : Book) (known : IsKnown p) (user : HasUser
   call_written a who v (Second client server) left moment fits shows = tt
   call_written a who v (Third o c timestamp) left moment fits shows = grant_noted p w b a who v o c timestamp left moment known user may fits shows
 
+  called_written : (aim : Aim) → IsWritten p (progress_called aim) (note w move.Onward b)
+  called_written (First client) = tt
+  called_written (Second client server) = tt
+  called_written (Third o c timestamp) = tt
+
   granted_written : (a : Asked) (who : WhoAsked p a) (v : TurnAt) (o c : SecureChannelState) (timestamp judged_at : ℕ) (accounts : AccountTable) (left : List (List ℕ)) (moment : ℕ) →
       Fits p (Granted a who v o c timestamp judged_at accounts) → Shows w.state (scene_of p (Granted a who v o c timestamp judged_at accounts) left moment) →
       IsWritten p (WasJudged a o) b → OneOf (IsTold p a) (note w move.Onward b).told
@@ -113,7 +124,7 @@ module _ (p : Coming) (w : World) (b : Book) (known : IsKnown p) (user : HasUser
   onward_written (DialsHeld a who v aim) left moment fits shows is = tt
   onward_written (BindsBefore a who v aim) left moment fits shows is = tt
   onward_written (BindsHeld a who v aim) left moment fits shows is = tt
-  onward_written (Acked a who v aim) left moment fits shows is = tt
+  onward_written (Acked a who v aim) left moment fits shows is = called_written aim
   onward_written (Calls a who v aim) left moment fits shows is = call_written a who v aim left moment fits shows
   onward_written (Halved a who v client server) left moment fits shows is = tt
   onward_written (Proved a who v client server) left moment fits shows is = tt

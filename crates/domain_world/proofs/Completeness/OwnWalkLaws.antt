@@ -49,7 +49,7 @@ call_still p a who v (First client) what still = tt
 call_still p a who v (Second client server) what still = tt
 call_still p a who v (Third o c timestamp) what still = if_other (is_onward what) (KeyArrives (own p) a o) still
 
-still_arrives : (p : Coming) (phase : LogonPhase p) (what : Move) → is_onward what ≡ false → ArrivesAt p phase what
+pub still_arrives : (p : Coming) (phase : LogonPhase p) (what : Move) → is_onward what ≡ false → ArrivesAt p phase what
 still_arrives p Dials what still = tt
 still_arrives p Binds what still = tt
 still_arrives p (Challenged challenge) what still = tt
@@ -151,7 +151,7 @@ pub record OwnEnds (p : Coming) (moves : List Move) (w : World) (b : Book) : Typ
   pub told : OneOf (IsTold p asked) (book moves w b).told
   pub joined : slice_get (run moves w).state.links (own p).link ≡ Some (ToMember p.meeting.at_client p.meeting.at_member)
 
-may_at : (p : Coming) (s : State) → MayLogOnIn p.meeting.at_controller (info_planned p.meeting.task) s → MayLogOnAt p s
+pub may_at : (p : Coming) (s : State) → MayLogOnIn p.meeting.at_controller (info_planned p.meeting.task) s → MayLogOnAt p s
 may_at p s may =
     subst (λ (info : NetworkInfo). IsSomeAnd (slice_get s.ends.controllers p.meeting.at_controller) (λ (c : ControllerState). MayLogOn c.table info s.moment)) (info_same p.meeting.task) may
 
@@ -168,7 +168,7 @@ module _ (plan : Plan) (is : IsPlan plan) (forms : HasForms plan) (servers : Has
         (ap (λ (links : List Route). slice_get links (own p).link) over.0.shows.links ∙ over.0.fits.joined_so);
   }
 
-  ready_so : (moves : ℕ) (w : World) → IsReached p w.state → w.state.moment < 2 ^ 64 → HasEnough (suc moves) w.state.chances.left → IsReady p w.state
+  pub ready_so : (moves : ℕ) (w : World) → IsReached p w.state → w.state.moment < 2 ^ 64 → HasEnough (suc moves) w.state.chances.left → IsReady p w.state
   ready_so moves w reached below enough = record { reached = reached; draws = three_from w.state.chances.left enough.blocks (omega (arith, enough.many)); below = below }
 
   -- what is left to do after a move

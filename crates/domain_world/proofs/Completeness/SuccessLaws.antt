@@ -45,7 +45,7 @@ use Rattle.domain_world.proofs.Completeness.PlainLaws.{by_plain, later_starts, w
 -- ---- a logon that starts isn't judged yet
 
 -- no unit waits then
-not_yet : (p : Coming) (s : State) (phase : LogonPhase p) (left : List (List ℕ)) (moment : ℕ) → Shows s (scene_of p phase left moment) → waiting s.bag ≡ [] → progress_of phase ≡ NotYet
+pub not_yet : (p : Coming) (s : State) (phase : LogonPhase p) (left : List (List ℕ)) (moment : ℕ) → Shows s (scene_of p phase left moment) → waiting s.bag ≡ [] → progress_of phase ≡ NotYet
 not_yet p s Dials left moment shows none = refl
 not_yet p s Binds left moment shows none = refl
 not_yet p s (Challenged challenge) left moment shows none = refl
@@ -55,9 +55,9 @@ not_yet p s (DialsHeld a who v aim) left moment shows none = refl
 not_yet p s (BindsBefore a who v aim) left moment shows none = refl
 not_yet p s (BindsHeld a who v aim) left moment shows none = refl
 not_yet p s (Acked a who v aim) left moment shows none = refl
-not_yet p s (Calls a who v aim) left moment shows none = refl
+not_yet p s (Calls a who v aim) left moment shows none = absurd (one_waits (waiting s.bag) _ [] shows.units none)
 not_yet p s (Halved a who v client server) left moment shows none = refl
-not_yet p s (Proved a who v client server) left moment shows none = refl
+not_yet p s (Proved a who v client server) left moment shows none = absurd (one_waits (waiting s.bag) _ [] shows.units none)
 not_yet p s (Granted a who v o c timestamp judged_at accounts) left moment shows none = absurd (one_waits (waiting s.bag) _ [] shows.units none)
 not_yet p s (Named a e on one other back) left moment shows none = absurd (one_waits (waiting s.bag) _ [] shows.units none)
 not_yet p s (Echoes a e on one asks) left moment shows none = absurd (one_waits (waiting s.bag) _ [] shows.units none)
@@ -232,7 +232,7 @@ all_given C Holds Need [] need each = tt
 all_given C Holds Need (client ∷ items) need each = ((λ can. (each (need client can)).0 can), all_given C Holds Need items need (λ has. (each has).1))
 
 -- at first there are challenges for all moves
-first_enough : (plan : Plan) (moves : ℕ) → moves ≤ 100000 → HasEnough moves (first_world plan).state.chances.left
+pub first_enough : (plan : Plan) (moves : ℕ) → moves ≤ 100000 → HasEnough moves (first_world plan).state.chances.left
 first_enough plan moves few = record {
   many = omega (arith, few, length-challenges_from plan.seed 0 0 (most_draws - 0));
   blocks = first_left_blocks plan;

@@ -103,6 +103,25 @@ given_marked old count at given n mark even it =
       is = refl;
     }
 
+-- the unit is written down with that mark, and was sent after so many moves
+pub record IsMarkedAt (sent : List Sent) (moves n : ℕ) (mark : Mark) : Type 0 where
+  pub one : Sent
+  pub there : slice_get sent n ≡ Some one
+  pub is : one.mark ≡ mark
+  pub step : one.at ≡ moves
+
+pub given_at : (old : List Sent) (count at : ℕ) (given : List Mark) (n : ℕ) (mark : Mark) → length old ≡ count → IsGiven given count n mark →
+    IsMarkedAt (old ++ map (sent_at at) given) at n mark
+given_at old count at given n mark even it =
+    let here : length old + it.place ≡ n = omega (arith, even, it.is) in
+    record {
+      one = sent_at at mark;
+      there = subst (λ (k : ℕ). slice_get (old ++ map (sent_at at) given) k ≡ Some (sent_at at mark)) here
+          (got_later old (map (sent_at at) given) it.place (sent_at at mark) (got_mapped (sent_at at) given it.place mark it.there));
+      is = refl;
+      step = refl;
+    }
+
 -- ---- an end that sends once for each mark
 
 first_counts : (hit : Bool) (first : ℕ) (numbers : List ℕ) → hit ≡ true → length (if hit then first ∷ numbers else numbers) ≡ suc (length numbers)

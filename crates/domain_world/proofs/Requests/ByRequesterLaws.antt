@@ -20,7 +20,7 @@ by_requester_apart r apart = record {
   held_before = λ i v challenge at holds. apart.held_before (member_of i) v challenge at holds;
   apart = λ i j u v challenge at also holds too. same_members i j (apart.apart (member_of i) (member_of j) u v challenge at also holds too);
   opening = λ i v unit number timestamp c at opening there. apart.opening (member_of i) v unit number timestamp c at opening there;
-  numbers = λ i v unit number timestamp c at holds there. apart.numbers (member_of i) v unit number timestamp c at holds there;
+  numbers = λ i v unit number c at holds asked. apart.numbers (member_of i) v unit number c at holds asked;
   distinct = apart.distinct;
   calls = λ i v at. apart.calls (member_of i) v at;
 }

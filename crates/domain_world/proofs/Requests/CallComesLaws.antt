@@ -1,5 +1,5 @@
 -- Bytes that come at an end keep what is known of calls. It serves `runs_stand_so`.
-use Rattle.std.proofs.Common.{◌≡◌, ℕ, ◌+◌, ◌*◌, ◌==◌, ◌&&◌, Bool, true, false, List, [], ◌∷◌, ◌++◌, drop, length, map, Option, Some, None, Result, Ok, Err, slice_get, refl, sym, ap, ◌∙◌, subst, arith}
+use Rattle.std.proofs.Common.{◌≡◌, ℕ, ◌+◌, ◌*◌, ◌==◌, ◌&&◌, Bool, true, false, List, [], ◌∷◌, ◌++◌, drop, length, map, inl, inr, Option, Some, None, Result, Ok, Err, slice_get, refl, sym, ap, ◌∙◌, subst, arith}
 use Rattle.std.specs.Prelude.{flat_map}
 use Rattle.std.specs.List.{AllByRecursion}
 use Rattle.std.proofs.lemmas.Bool.Decides.{Decides-eqb}
@@ -11,8 +11,9 @@ use Rattle.rpc_units.specs.Calls.{IsHeard}
 use Rattle.rpc_units.specs.declared.unit.Unit.{Unit as RpcUnit}
 use Rattle.end_links.specs.Links.{LinkState}
 use Rattle.end_links.specs.Serving.{ServedUnit}
+use Rattle.channel_client.specs.Machine.{take_of}
 use Rattle.channel_events.specs.Marks.{Calling, Mark, Opened, Opening, Plain, ReplyTo}
-use Rattle.channel_events.specs.Requests.{CallsAreApart, IsNoCall}
+use Rattle.channel_events.specs.Requests.{CallsAreApart, IsNoRequest}
 use Rattle.channel_events.proofs.ListLaws.{all_weaker, got_append, one_weaker}
 use Rattle.domain_controller.specs.State.{State as ControllerState}
 use Rattle.member_server.specs.Machine.{actions_in, at_turn, event_part, halted_state, state_in, step_of, work_of}
@@ -41,14 +42,16 @@ use Rattle.world_moves.specs.Ends.{EndStep, actions_by, controller_step, member_
 use Rattle.domain_world.specs.Accepting.Answered.{IsItsWay}
 use Rattle.domain_world.specs.Past.{Coming, answers_of, at_controller, at_member, controller_of, first_of, marks_of, note_controller, note_messages, note_turns, numbers_on, sent_at}
 use Rattle.domain_world.proofs.Accepting.LetInStepLaws.{IsAcceptedBy, IsDialledBy}
+use Rattle.domain_world.proofs.Accepting.Turns.TurnNotedLaws.{units_new}
+use Rattle.domain_world.proofs.Requests.AnsweredCallLaws.{AreCalled, IsCalledOn, answer_called, called_more, calls_go_out, noted_called}
 use Rattle.domain_world.proofs.Requests.CallHoldsLaws.{CallsHold, differ_front, marks_append, marks_in, marks_sent, member_changed, sent_more, views_at}
 use Rattle.domain_world.proofs.Requests.CallStepLaws.{KeptSo, coherent_if, controller_hears}
-use Rattle.domain_world.proofs.Requests.LooserLaws.{IsPlaced, NoCalls}
+use Rattle.domain_world.proofs.Requests.LooserLaws.{IsPlaced, NoRequests}
 use Rattle.domain_world.proofs.Requests.MarkWayLaws.{answers_way}
 use Rattle.domain_world.proofs.Requests.NewMessageLaws.{new_accepted}
 use Rattle.domain_world.proofs.Requests.OutStepLaws.{IsOf, IsOther, IsOutIn, MemberHolds, StaysKnown, heard_not, other_holds}
 use Rattle.domain_world.proofs.Requests.StepApartLaws.{HearsNone, other_apart, requests_after, seen_member, whole_apart}
-use Rattle.domain_world.proofs.Requests.WholeNotedLaws.{IsFirstNew, SendsFirst, no_calls_marked, none_marked, note_for, placed_first, placed_part, sent_as, sent_first, sent_marks, whole_first, whole_messages, whole_units}
+use Rattle.domain_world.proofs.Requests.WholeNotedLaws.{IsFirstNew, SendsFirst, no_requests_marked, none_marked, note_for, placed_first, placed_part, sent_as, sent_first, sent_marks, whole_first, whole_messages, whole_units}
 use Rattle.domain_world.proofs.Requests.WholeOutLaws.{AreAccepted, IsSentAs, noted, noted_accepted, others_known, out_more, whole_holds}
 use Rattle.domain_world.proofs.Frames.TurnFrameLaws.{turns_sent}
 use Rattle.domain_world.proofs.Frames.AllLaws.{all_join}
@@ -63,28 +66,28 @@ KeptAfter n s step b = KeptSo n s.member_plans step.ends step.chances.drawn s.li
 
 -- ---- at a controller
 
-pub reply_no_call : (mark : Mark) → IsItsWay true mark → IsNoCall mark
-reply_no_call Plain way = tt
-reply_no_call (Opening c number) way = tt
-reply_no_call (Opened c number request) way = tt
-reply_no_call (ReplyTo c number request) way = tt
-reply_no_call (Calling c number timestamp) way = let x = way in cc
+pub reply_no_request : (mark : Mark) → IsItsWay true mark → IsNoRequest mark
+reply_no_request Plain way = tt
+reply_no_request (Opening c number) way = let x = way in cc
+reply_no_request (Opened c number request) way = tt
+reply_no_request (ReplyTo c number request) way = tt
+reply_no_request (Calling c number timestamp) way = let x = way in cc
 
-pub no_calls_sent : (at : ℕ) (marks : List Mark) → NoCalls marks → NoCalls (marks_in (map (sent_at at) marks))
-no_calls_sent at marks none = subst (λ (all : List Mark). NoCalls all) (sym (marks_sent at marks)) none
+pub no_requests_sent : (at : ℕ) (marks : List Mark) → NoRequests marks → NoRequests (marks_in (map (sent_at at) marks))
+no_requests_sent at marks none = subst (λ (all : List Mark). NoRequests all) (sym (marks_sent at marks)) none
 
--- none of what a controller sends is a call
+-- none of what a controller sends is a request
 pub controller_comes : (n : ℕ) (c : ControllerState) (at : ℕ) (w : Coming) (piece : List ℕ) (s after : State) (b : Book) → KeptIn n s b →
     KeptAfter (n + 1) s (controller_step (Some c) at (event.Bytes w.link piece) s.moment s.ends s.chances) (note_controller (Some c) at w piece s after b)
 controller_comes n c at w piece s after b kept few differ =
     let step : EndStep = controller_step (Some c) at (event.Bytes w.link piece) s.moment s.ends s.chances in
     let new : List BagUnit = drop (length s.bag) after.bag in
     let marks : List Mark = answered_marks (answers_of at c w piece s) in
-    let none : AllByRecursion IsNoCall marks =
-    all_weaker (λ (mark : Mark). IsItsWay true mark) IsNoCall marks reply_no_call
+    let none : AllByRecursion IsNoRequest marks =
+    all_weaker (λ (mark : Mark). IsItsWay true mark) IsNoRequest marks reply_no_request
     (answers_way w.link (at_controller at c w s) (units_of_controller c w.link piece s.moment s.chances.left)) in
     sent_more (n + 1) s.member_plans step.ends step.chances.drawn s.links b.sent (map (sent_at w.at) (marks_of w.link true new marks)) b.messages
-    (no_calls_sent w.at (marks_of w.link true new marks) (no_calls_marked w.link true new marks none))
+    (no_requests_sent w.at (marks_of w.link true new marks) (no_requests_marked w.link true new marks none))
     (controller_hears n s.member_plans s.ends s.links b.sent b.messages c at (event.Bytes w.link piece) s.moment s.chances kept few differ)
 
 -- ---- at a member, on another link than that of its turn
@@ -177,7 +180,7 @@ module _ (n at : ℕ) (w : Coming) (piece : List ℕ) (s after : State) (b : Boo
       let new : List BagUnit = drop (length s.bag) after.bag in
       let step : EndStep = member_step (Some m) at (event.Bytes w.link piece) s.moment s.ends s.chances in
       sent_more (n + 1) s.member_plans step.ends step.chances.drawn s.links b.sent (map (sent_at w.at) (marks_of w.link false new [])) (b.messages ++ news m)
-      (no_calls_sent w.at (marks_of w.link false new []) (none_marked w.link false new))
+      (no_requests_sent w.at (marks_of w.link false new []) (none_marked w.link false new))
       (member_changed s.member_plans s.ends at (step_of m (event.Bytes w.link piece) s.moment s.chances.left).state n (n + 1) (2 * n + 1) s.chances.drawn (s.chances.drawn ++ drawn) s.links b.sent b.sent
       b.messages (b.messages ++ news m) (omega arith) holds
       (other_apart (views_at s.member_plans s.ends) at its m.running (event.Bytes w.link piece) s.moment s.chances.left (marks_in b.sent) s.chances.drawn (2 * n)
@@ -185,7 +188,8 @@ module _ (n at : ℕ) (w : Coming) (piece : List ℕ) (s after : State) (b : Boo
       (other_holds s.links b.sent b.messages its here m.running piece s.moment s.chances.left other own)
       (λ k differs. messages_more s.links b.sent b.sent b.messages (news m) k (λ j unit there. there))
       (all_join (λ (message : MessageTaken). IsAcceptedBy s.links message.member message.link) b.messages (news m) holds.accepted
-      (new_accepted s.links here m piece s.moment s.chances.left own.accepts))))
+      (new_accepted s.links here m piece s.moment s.chances.left own.accepts))
+      (called_more b.messages (news m) (units_new here (link_units m w.link piece s.moment s.chances.left)) holds.answered)))
 
   -- ---- on the link of its turn
 
@@ -327,6 +331,16 @@ module _ (n at : ℕ) (w : Coming) (piece : List ℕ) (s after : State) (b : Boo
       accepted_after (Err why) accepted = accepted
       accepted_after (Ok part) accepted = noted_accepted s.links note running.logons (unit_in w.source) (first_of numbers) all_messages accepted
 
+      answered_after : (part : Result (Part DialWork) StepRefused) → stepped ≡ part → AreCalled all_messages → MemberHolds s.links b.sent b.messages its at (Some running) → AreCalled (noted_by part)
+      answered_after (Err why) is called own = called
+      answered_after (Ok part) is called own =
+          noted_called note running.logons (unit_in w.source) (first_of numbers) all_messages
+          (elim (calls_go_out (take_of running.logons.channel whole.unit).taken its running.logons.channel (take_of running.logons.channel whole.unit).state) [
+            | inl none ↦ inl none
+            | inr sends ↦ (let sent_so : IsSentAs note (first_of numbers) sent = request_sent part is sends in inr (sent_so.request, sent_so.numbered))
+          ])
+          (λ link there. one_before (IsCalledOn link) b.messages (news m) (answer_called b.sent b.messages its at running whole.unit own.out link there)) called
+
       -- the whole unit is taken
       pub whole_comes : slice_get s.ends.members at ≡ Some m → KeptIn n s b → NotedBy m (turn_units m w.link piece s.moment left)
       whole_comes is kept few differ =
@@ -352,4 +366,5 @@ module _ (n at : ℕ) (w : Coming) (piece : List ℕ) (s after : State) (b : Boo
           (subst (λ (all : List Mark).
           CallsAreApart (requests_after (views_at s.member_plans s.ends) at its (step_of m (event.Bytes w.link piece) s.moment left).state.running all (s.chances.drawn ++ drawn) (2 * n + 2)))
           (sym now_marks) apart)
-          (own_after stepped refl own) (λ k differs. others_after stepped k differs accepted own) (accepted_after stepped accepted)))
+          (own_after stepped refl own) (λ k differs. others_after stepped k differs accepted own) (accepted_after stepped accepted)
+          (answered_after stepped refl (called_more b.messages (news m) (units_new here (link_units m w.link piece s.moment left)) holds.answered) own)))

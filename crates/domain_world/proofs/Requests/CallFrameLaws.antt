@@ -9,8 +9,8 @@ use Rattle.outside.specs.declared.event.Event.{Event}
 use Rattle.outside.specs.declared.event.Event.TheVariants as event
 use Rattle.channel_client.specs.declared.state.Pending.{Pending}
 use Rattle.channel_events.specs.Marks.{Plain}
-use Rattle.channel_events.specs.Requests.{CallsAreApart, Requests}
-use Rattle.channel_events.proofs.ListLaws.{one_weaker}
+use Rattle.channel_events.specs.Requests.{CallsAreApart, IsRequest, Requests}
+use Rattle.channel_events.proofs.ListLaws.{got_nothing, one_weaker, some_is}
 use Rattle.domain_controller.specs.Step.{first_state}
 use Rattle.logon_client.specs.Machine.{begin_of, fresh_client}
 use Rattle.member_server.specs.Machine.{fresh_member, step_of}
@@ -54,10 +54,12 @@ use Rattle.domain_world.proofs.Frames.BagFrameLaws.{IsServer}
 use Rattle.domain_world.proofs.Frames.ComingLaws.{CameFrom, CameInUnit, IsPieceOf, came_in_unit}
 use Rattle.domain_world.proofs.Frames.MarkPlaceLaws.{got_map}
 use Rattle.domain_world.proofs.Frames.StepFrameLaws.{AnyAction, ActionFact, BothFacts, BothFine, HoldsAfterRun, Keeps, NoFact, RunFact, join, run_keeps, with_side}
+use Rattle.domain_world.proofs.Frames.DrawnRunLaws.{draws_differ}
+use Rattle.domain_world.proofs.Requests.AnsweredCallLaws.{AreCalled}
 use Rattle.domain_world.proofs.Requests.CallComesLaws.{IsWhole, KeptAfter, KeptIn, controller_comes, other_comes, whole_comes}
 use Rattle.domain_world.proofs.Requests.CallHoldsLaws.{CallsHold, differ_front, link_more, marks_in, requests_at, sent_more}
 use Rattle.domain_world.proofs.Requests.CallStepLaws.{KeptSo, client_anew, client_hears, controller_anew, controller_hears, member_anew, member_hears, none_so}
-use Rattle.domain_world.proofs.Requests.LooserLaws.{NoCalls}
+use Rattle.domain_world.proofs.Requests.LooserLaws.{NoRequests}
 use Rattle.domain_world.proofs.Requests.OutStepLaws.{IsOther, IsOutIn, MemberHolds, OutFor, none_out}
 use Rattle.domain_world.proofs.Frames.PlacedLaws.{HasBytes}
 use Rattle.domain_world.proofs.Frames.EndNoteLaws.{acted_by, stepped}
@@ -118,12 +120,11 @@ any_fine : (end : EndId) (links : List Route) (actions : List Action) → AllByR
 any_fine end links [] = tt
 any_fine end links (what ∷ actions) = (tt, any_fine end links actions)
 
--- units that were made for nothing are no calls
-pub plain_calls : (at count : ℕ) → NoCalls (marks_in (replicate count (sent_at at Plain)))
-plain_calls at zero zero number timestamp c there = let x = there in cc
-plain_calls at zero (suc k) number timestamp c there = let x = there in cc
-plain_calls at (suc count) zero number timestamp c there = let x = there in cc
-plain_calls at (suc count) (suc k) number timestamp c there = plain_calls at count k number timestamp c there
+-- units that were made for nothing are no requests
+pub plain_calls : (at count : ℕ) → NoRequests (marks_in (replicate count (sent_at at Plain)))
+plain_calls at zero k number c mark asks there = got_nothing k mark there
+plain_calls at (suc count) zero number c mark asks there = subst (IsRequest c number) (sym (some_is Plain mark there)) asks
+plain_calls at (suc count) (suc k) number c mark asks there = plain_calls at count k number c mark asks there
 
 hears_so : (n : ℕ) (end : EndId) (what : Event) (s : State) (b : Book) → Meets end s.links what → KeptIn n s b → KeptIn (n + 1) (hear end what s).state b
 hears_so n end what s b meets kept =
@@ -234,6 +235,7 @@ first_calls plan = λ few differ. record {
       let found = got_map fresh_member plan.members k m there in
       subst (λ (x : MemberState). MemberHolds [] [] [] (controller_of k (first_world plan).state) k x.running) found.2 (fresh_holds (controller_of k (first_world plan).state) k found.0);
   accepted = tt;
+  answered = tt;
 }
 
 -- ---- after a run
@@ -307,3 +309,12 @@ pub schedules_stand : OfSchedules (λ plan moves. DrawsDiffer (past plan moves).
 schedules_stand plan moves schedule differ =
     stand_so QuietFact QuietAction (λ n s given b quiet. is_quiet s quiet) quiet_keeps plan moves (quiet_first plan schedule.start schedule.forms) (has_bytes plan moves schedule)
     schedule differ
+
+-- and where the answer of a message was taken, there is a call on its link
+pub schedules_called : OfSchedules (λ plan moves. AreCalled (past plan moves).book.messages)
+schedules_called plan moves schedule =
+    let both : Keeps NoFact (BothFacts QuietFact CallsKept) (BothFine QuietAction AnyAction) =
+    join QuietFact CallsKept QuietAction AnyAction quiet_keeps (with_side QuietSide QuietFact CallsKept AnyAction (λ n s given b quiet. is_quiet s quiet) calls_keep) in
+    let after : HoldsAfterRun (BothFacts QuietFact CallsKept) plan moves =
+    run_keeps (BothFacts QuietFact CallsKept) (BothFine QuietAction AnyAction) both plan moves (has_bytes plan moves schedule) (quiet_first plan schedule.start schedule.forms, first_calls plan) in
+    (after.holds.1 (omega (arith, after.few, schedule.few)) (draws_differ plan moves)).answered

@@ -7,7 +7,7 @@ use Rattle.std.proofs.lemmas.Bool.Decides.{Decides-eqb}
 use Rattle.std.proofs.lemmas.List.{length-set}
 use Rattle.std.proofs.lemmas.List.Elements.{recursion_from_All}
 use Rattle.channel_client.specs.Effects.{View}
-use Rattle.channel_events.specs.Marks.{Calling, Mark}
+use Rattle.channel_events.specs.Marks.{Mark}
 use Rattle.channel_events.specs.Requests.{CallsAreApart, Requests}
 use Rattle.channel_events.proofs.ListLaws.{all_weaker, got_append, got_nothing, one_weaker, pairs_first, some_is}
 use Rattle.member_server.specs.State.{State as MemberState}
@@ -21,7 +21,8 @@ use Rattle.world_moves.specs.Moving.{end_of_peer}
 use Rattle.domain_world.specs.Past.{controller_number, controller_of_plan, sent_at}
 use Rattle.domain_world.proofs.Accepting.LetInStepLaws.{IsAcceptedBy}
 use Rattle.domain_world.proofs.Challenges.MessageOnceLaws.{set_cases}
-use Rattle.domain_world.proofs.Requests.LooserLaws.{NoCalls, calls_before, drawn_before, looser}
+use Rattle.domain_world.proofs.Requests.AnsweredCallLaws.{AreCalled}
+use Rattle.domain_world.proofs.Requests.LooserLaws.{NoRequests, drawn_before, requests_before, looser}
 use Rattle.domain_world.proofs.Requests.OutStepLaws.{IsOutIn, MemberHolds, StaysKnown, stays_known}
 use Rattle.domain_world.proofs.Requests.StepApartLaws.{Differ, differ_later, requests_after, seen_member, seen_or, seen_running}
 use Rattle.domain_world.proofs.Requests.WholeOutLaws.{AreAccepted, out_more}
@@ -67,11 +68,13 @@ mark_there (first ∷ sent) (suc n) one there = mark_there sent n one there
 abbrev pub requests_at : ℕ → List MemberPlan → EndStates → List (List ℕ) → List Sent → Requests ℕ
 requests_at n plans ends drawn sent = record { views = views_at plans ends; marks = marks_in sent; drawn = drawn; uses = 2 * n }
 
--- calls are apart, of each member what it keeps is known, and each message came on a link that its member accepted
+-- calls are apart, of each member what it keeps is known, each message came on a link that its member accepted, and
+-- where its answer was taken there is a call on that link
 pub record CallsHold (n : ℕ) (plans : List MemberPlan) (ends : EndStates) (drawn : List (List ℕ)) (links : List Route) (sent : List Sent) (messages : List MessageTaken) : Type 0 where
   pub apart : CallsAreApart (requests_at n plans ends drawn sent)
   pub members : (k : ℕ) (m : MemberState) → slice_get ends.members k ≡ Some m → MemberHolds links sent messages (controller_of_plan (slice_get plans k) ends) k m.running
   pub accepted : AreAccepted links messages
+  pub answered : AreCalled messages
 
 -- ---- draws
 
@@ -103,7 +106,7 @@ module _ (n later : ℕ) (onward : n ≤ later) (plans : List MemberPlan) (ends 
   ends_other holds = record {
     apart = looser (requests_at n plans ends drawn sent) (requests_at later plans after (drawn ++ more) sent) (record {
       views = view_before;
-      marks = λ unit number timestamp c there. there;
+      marks = λ unit number c mark asks there. there;
       drawn = λ challenge is. drawn_before challenge drawn more is;
       uses = omega (arith, onward);
     }) holds.apart;
@@ -111,6 +114,7 @@ module _ (n later : ℕ) (onward : n ≤ later) (plans : List MemberPlan) (ends 
         subst (λ (c : ℕ). MemberHolds links sent messages c k m.running) (sym (controller_same (slice_get plans k) ends after numbers))
         (holds.members k m (subst (λ (members : List MemberState). slice_get members k ≡ Some m) same there));
     accepted = holds.accepted;
+    answered = holds.answered;
   }
 
 -- more steps were taken
@@ -118,12 +122,13 @@ pub more_steps : (n later : ℕ) (plans : List MemberPlan) (ends : EndStates) (d
     CallsHold n plans ends drawn links sent messages → CallsHold later plans ends drawn links sent messages
 more_steps n later plans ends drawn links sent messages onward holds = record {
   apart = looser (requests_at n plans ends drawn sent) (requests_at later plans ends drawn sent)
-      (record { views = λ k v at. at; marks = λ unit number timestamp c there. there; drawn = λ challenge is. is; uses = omega (arith, onward) }) holds.apart;
+      (record { views = λ k v at. at; marks = λ unit number c mark asks there. there; drawn = λ challenge is. is; uses = omega (arith, onward) }) holds.apart;
   members = holds.members;
   accepted = holds.accepted;
+  answered = holds.answered;
 }
 
--- ---- units that are no calls are written down
+-- ---- units that are no requests are written down
 
 -- the marks of both
 pub marks_append : (sent more : List Sent) → marks_in (sent ++ more) ≡ marks_in sent ++ marks_in more
@@ -146,20 +151,20 @@ sent_known links sent more messages k = record {
 }
 
 -- behind the others
-pub sent_more : (n : ℕ) (plans : List MemberPlan) (ends : EndStates) (drawn : List (List ℕ)) (links : List Route) (sent more : List Sent) (messages : List MessageTaken) → NoCalls (marks_in more) →
+pub sent_more : (n : ℕ) (plans : List MemberPlan) (ends : EndStates) (drawn : List (List ℕ)) (links : List Route) (sent more : List Sent) (messages : List MessageTaken) → NoRequests (marks_in more) →
     CallsHold n plans ends drawn links sent messages → CallsHold n plans ends drawn links (sent ++ more) messages
 sent_more n plans ends drawn links sent more messages none holds = record {
   apart = looser (requests_at n plans ends drawn sent) (requests_at n plans ends drawn (sent ++ more)) (record {
     views = λ k v at. at;
-    marks = λ unit number timestamp c there.
-        calls_before (marks_in sent) (marks_in more) none unit number timestamp c
-        (subst (λ (marks : List Mark). slice_get marks unit ≡ Some (Calling c number timestamp)) (marks_append sent more) there);
+    marks = λ unit number c mark asks there.
+        requests_before (marks_in sent) (marks_in more) none unit number c mark asks (subst (λ (marks : List Mark). slice_get marks unit ≡ Some mark) (marks_append sent more) there);
     drawn = λ challenge is. is;
     uses = omega arith;
   }) holds.apart;
   members = λ k m there.
       stays_known links links sent (sent ++ more) messages messages (controller_of_plan (slice_get plans k) ends) k m.running (sent_known links sent more messages k) (holds.members k m there);
   accepted = holds.accepted;
+  answered = holds.answered;
 }
 
 -- ---- a link is made
@@ -181,6 +186,7 @@ link_more n plans ends drawn links route sent messages holds = record {
       }) (holds.members k m there);
   accepted = all_weaker (λ (message : MessageTaken). IsAcceptedBy links message.member message.link) (λ (message : MessageTaken). IsAcceptedBy (links ++ route ∷ []) message.member message.link) messages
       (λ message is. accepted_on links route message.member message.link is) holds.accepted;
+  answered = holds.answered;
 }
 
 -- ---- a member changes
@@ -218,14 +224,14 @@ module _ (plans : List MemberPlan) (ends : EndStates) (at : ℕ) (new : MemberSt
       CallsHold n plans ends drawn links sent messages →
       CallsAreApart (requests_after (views_at plans ends) at (controller_of_plan (slice_get plans at) ends) new.running (marks_in more) after uses) →
       MemberHolds links more messages_after (controller_of_plan (slice_get plans at) ends) at new.running →
-      ((k : ℕ) → (k ≡ at → ⊥) → StaysKnown links links sent more messages messages_after k) → AreAccepted links messages_after →
+      ((k : ℕ) → (k ≡ at → ⊥) → StaysKnown links links sent more messages messages_after k) → AreAccepted links messages_after → AreCalled messages_after →
       CallsHold later plans with_new after links more messages_after
-  member_changed n later uses drawn after links sent more messages messages_after few holds apart own others accepted = record {
+  member_changed n later uses drawn after links sent more messages messages_after few holds apart own others accepted answered = record {
     apart = looser (requests_after (views_at plans ends) at (controller_of_plan (slice_get plans at) ends) new.running (marks_in more) after uses) (requests_at later plans with_new after more) (record {
       views = λ j v seen.
           seen_found (slice_get (slice_set ends.members at new) j) j v refl
           (ap (λ (c : ℕ). seen_member c (slice_get (slice_set ends.members at new) j)) (sym (controller_same (slice_get plans j) ends with_new same_size)) ∙ seen);
-      marks = λ unit number timestamp c there. there;
+      marks = λ unit number c mark asks there. there;
       drawn = λ challenge is. is;
       uses = few;
     }) apart;
@@ -239,4 +245,5 @@ module _ (plans : List MemberPlan) (ends : EndStates) (at : ℕ) (new : MemberSt
               stays_known links links sent more messages messages_after (controller_of_plan (slice_get plans k) ends) k m.running (others k (λ is. other.0 is)) (holds.members k m other.1)
         ]);
     accepted = accepted;
+    answered = answered;
   }

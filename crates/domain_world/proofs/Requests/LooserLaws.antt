@@ -1,31 +1,35 @@
--- Calls stay apart where less is known of them: fewer requesters are seen, fewer calls are written down, more
+-- Calls stay apart where less is known of them: fewer requesters are seen, fewer requests are written down, more
 -- challenges were drawn and more numbers used. It serves `runs_stand_so`.
-use Rattle.std.proofs.Common.{◌≡◌, ◌⊎◌, ℕ, zero, suc, ◌≤◌, Bool, true, false, List, [], ◌∷◌, ◌++◌, inl, inr, Some, slice_get, sym, ap, ◌∙◌, subst, arith}
+use Rattle.std.proofs.Common.{◌≡◌, ◌⊎◌, ℕ, zero, suc, ◌≤◌, Bool, true, false, List, [], ◌∷◌, ◌++◌, inl, inr, Some, slice_get, refl, sym, ap, ◌∙◌, subst, arith}
 use Rattle.std.specs.List.{AllByRecursion}
 use Rattle.std.proofs.lemmas.List.{append_assoc}
 use Rattle.authenticators.specs.Channels.{ChannelIdentity}
 use Rattle.channel_client.specs.Effects.{View}
 use Rattle.channel_events.specs.Marks.{Mark, Calling, Opened, Opening, Plain, ReplyTo}
-use Rattle.channel_events.specs.Requests.{CallsAreApart, IsDrawn, IsNoCall, Requests}
-use Rattle.channel_events.proofs.ListLaws.{got_append, got_nothing}
+use Rattle.channel_events.specs.Requests.{CallsAreApart, IsAsked, IsDrawn, IsNoRequest, IsRequest, Requests}
+use Rattle.channel_events.proofs.ListLaws.{got_append, got_nothing, some_is}
+use Rattle.channel_events.proofs.RequestLaws.{no_request}
 
 -- what is known afterwards was known before
 pub record IsLooser {Who : Type 0} (r t : Requests Who) : Type 0 where
   pub views : (j : Who) (v : View) → t.views j ≡ Some v → r.views j ≡ Some v
-  pub marks : (unit number timestamp : ℕ) (c : ChannelIdentity) → slice_get t.marks unit ≡ Some (Calling c number timestamp) → slice_get r.marks unit ≡ Some (Calling c number timestamp)
+  pub marks : (unit number : ℕ) (c : ChannelIdentity) (mark : Mark) → IsRequest c number mark → slice_get t.marks unit ≡ Some mark → slice_get r.marks unit ≡ Some mark
   pub drawn : (challenge : List ℕ) → IsDrawn challenge r.drawn → IsDrawn challenge t.drawn
   pub uses : r.uses ≤ t.uses
+
+-- a request was one before
+asked_before : {Who : Type 0} (r t : Requests Who) → IsLooser r t → (unit number : ℕ) (c : ChannelIdentity) → IsAsked t.marks unit c number → IsAsked r.marks unit c number
+asked_before r t is unit number c asked = record { mark = asked.mark; asks = asked.asks; there = is.marks unit number c asked.mark asked.asks asked.there }
 
 -- calls that are apart are apart then
 pub looser : {Who : Type 0} (r t : Requests Who) → IsLooser r t → CallsAreApart r → CallsAreApart t
 looser r t is a = record {
-  made_before = λ unit number timestamp c there. is.drawn c.client (a.made_before unit number timestamp c (is.marks unit number timestamp c there));
+  made_before = λ unit number c there. is.drawn c.client (a.made_before unit number c (asked_before r t is unit number c there));
   held_before = λ i v challenge at holds. is.drawn challenge (a.held_before i v challenge (is.views i v at) holds);
   apart = λ i j u v challenge at also holds too. a.apart i j u v challenge (is.views i u at) (is.views j v also) holds too;
-  opening = λ i v unit number timestamp c at opening there. a.opening i v unit number timestamp c (is.views i v at) opening (is.marks unit number timestamp c there);
-  numbers = λ i v unit number timestamp c at holds there. a.numbers i v unit number timestamp c (is.views i v at) holds (is.marks unit number timestamp c there);
-  distinct = λ unit other number timestamp later c d there also same.
-      a.distinct unit other number timestamp later c d (is.marks unit number timestamp c there) (is.marks other number later d also) same;
+  opening = λ i v unit number timestamp c at opening there. a.opening i v unit number timestamp c (is.views i v at) opening (is.marks unit number c (Calling c number timestamp) (refl, refl) there);
+  numbers = λ i v unit number c at holds there. a.numbers i v unit number c (is.views i v at) holds (asked_before r t is unit number c there);
+  distinct = λ unit other number c d there also same. a.distinct unit other number c d (asked_before r t is unit number c there) (asked_before r t is other number d also) same;
   calls = λ i v at. omega (arith, is.uses, a.calls i v (is.views i v at));
 }
 
@@ -38,65 +42,64 @@ drawn_before challenge (first ∷ drawn) more is = elim is [ inl here ↦ inl he
 
 -- ---- marks
 
--- none of them is a call
-abbrev pub NoCalls : List Mark → Type 0
-NoCalls marks = (k number timestamp : ℕ) (c : ChannelIdentity) → slice_get marks k ≡ Some (Calling c number timestamp) → ⊥
-
-no_call : (mark : Mark) (number timestamp : ℕ) (c : ChannelIdentity) → IsNoCall mark → Some mark ≡ Some (Calling c number timestamp) → ⊥
-no_call mark number timestamp c none is =
-    let same : mark ≡ Calling c number timestamp = (let x = is in cc) in
-    subst IsNoCall same none
+-- none of them opens a channel or is a call
+abbrev pub NoRequests : List Mark → Type 0
+NoRequests marks = (k number : ℕ) (c : ChannelIdentity) (mark : Mark) → IsRequest c number mark → slice_get marks k ≡ Some mark → ⊥
 
 -- where each is none
-pub no_calls : (marks : List Mark) → AllByRecursion IsNoCall marks → NoCalls marks
-no_calls [] all k number timestamp c there = got_nothing k (Calling c number timestamp) there
-no_calls (mark ∷ marks) all zero number timestamp c there = no_call mark number timestamp c all.0 there
-no_calls (mark ∷ marks) all (suc k) number timestamp c there = no_calls marks all.1 k number timestamp c there
+pub no_requests : (marks : List Mark) → AllByRecursion IsNoRequest marks → NoRequests marks
+no_requests [] all k number c mark asks there = got_nothing k mark there
+no_requests (first ∷ marks) all zero number c mark asks there = no_request first number c all.0 (subst (IsRequest c number) (sym (some_is first mark there)) asks)
+no_requests (first ∷ marks) all (suc k) number c mark asks there = no_requests marks all.1 k number c mark asks there
 
--- a call among those and these is among those
-pub calls_before : (marks more : List Mark) → NoCalls more → (unit number timestamp : ℕ) (c : ChannelIdentity) → slice_get (marks ++ more) unit ≡ Some (Calling c number timestamp) →
+-- a request among those and these is among those
+pub requests_before : (marks more : List Mark) → NoRequests more → (unit number : ℕ) (c : ChannelIdentity) (mark : Mark) → IsRequest c number mark → slice_get (marks ++ more) unit ≡ Some mark →
+    slice_get marks unit ≡ Some mark
+requests_before [] more none unit number c mark asks there = absurd (none unit number c mark asks there)
+requests_before (first ∷ marks) more none zero number c mark asks there = there
+requests_before (first ∷ marks) more none (suc unit) number c mark asks there = requests_before marks more none unit number c mark asks there
+
+-- so is a call
+pub calls_before : (marks more : List Mark) → NoRequests more → (unit number timestamp : ℕ) (c : ChannelIdentity) → slice_get (marks ++ more) unit ≡ Some (Calling c number timestamp) →
     slice_get marks unit ≡ Some (Calling c number timestamp)
-calls_before [] more none unit number timestamp c there = absurd (none unit number timestamp c there)
-calls_before (mark ∷ marks) more none zero number timestamp c there = there
-calls_before (mark ∷ marks) more none (suc unit) number timestamp c there = calls_before marks more none unit number timestamp c there
+calls_before marks more none unit number timestamp c there = requests_before marks more none unit number c (Calling c number timestamp) (refl, refl) there
 
--- ---- a call that is written down among others
+-- ---- a request that is written down among others
 
--- the mark stands in one place, and no call before or behind it
+-- the mark stands in one place, and no request before or behind it
 pub record IsPlaced (more : List Mark) (mark : Mark) : Type 0 where
   pub front : List Mark
   pub rest : List Mark
   pub is : more ≡ front ++ mark ∷ rest
-  pub before : NoCalls front
-  pub behind : NoCalls rest
+  pub before : NoRequests front
+  pub behind : NoRequests rest
 
--- of marks that are written down for one: calls among them are that one, which is there at most once
+-- of marks that are written down for one: requests among them are that one, which is there at most once
 abbrev pub IfPlaced : Mark → List Mark → Type 0
-IfPlaced (Calling c number timestamp) more = NoCalls more ⊎ IsPlaced more (Calling c number timestamp)
-IfPlaced Plain more = NoCalls more
-IfPlaced (Opening c number) more = NoCalls more
-IfPlaced (Opened c number request) more = NoCalls more
-IfPlaced (ReplyTo c number request) more = NoCalls more
+IfPlaced (Calling c number timestamp) more = NoRequests more ⊎ IsPlaced more (Calling c number timestamp)
+IfPlaced Plain more = NoRequests more
+IfPlaced (Opening c number) more = NoRequests more ⊎ IsPlaced more (Opening c number)
+IfPlaced (Opened c number request) more = NoRequests more
+IfPlaced (ReplyTo c number request) more = NoRequests more
 
 -- the argument: whether there is one
 abbrev pub Placed : Bool → Mark → List Mark → Type 0
-Placed false mark more = NoCalls more
+Placed false mark more = NoRequests more
 Placed true mark more = IfPlaced mark more
 
--- with marks of which none is a call behind
-pub more_marks : {Who : Type 0} (r : Requests Who) (more : List Mark) → NoCalls more → CallsAreApart r → CallsAreApart (record r { marks = r.marks ++ more })
+-- with marks of which none is a request behind
+pub more_marks : {Who : Type 0} (r : Requests Who) (more : List Mark) → NoRequests more → CallsAreApart r → CallsAreApart (record r { marks = r.marks ++ more })
 more_marks r more none a =
     looser r (record r { marks = r.marks ++ more })
-    (record { views = λ j v at. at; marks = calls_before r.marks more none; drawn = λ challenge is. is; uses = omega arith }) a
+    (record { views = λ j v at. at; marks = requests_before r.marks more none; drawn = λ challenge is. is; uses = omega arith }) a
 
--- a call that was counted with isn't written down
-pub fewer_marks : {Who : Type 0} (r : Requests Who) (mark : Mark) (more : List Mark) → NoCalls more → CallsAreApart (record r { marks = r.marks ++ mark ∷ [] }) →
+-- a request that was counted with isn't written down
+pub fewer_marks : {Who : Type 0} (r : Requests Who) (mark : Mark) (more : List Mark) → NoRequests more → CallsAreApart (record r { marks = r.marks ++ mark ∷ [] }) →
     CallsAreApart (record r { marks = r.marks ++ more })
 fewer_marks r mark more none a =
     looser (record r { marks = r.marks ++ mark ∷ [] }) (record r { marks = r.marks ++ more }) (record {
       views = λ j v at. at;
-      marks = λ unit number timestamp c there.
-          got_append r.marks (mark ∷ []) unit (Calling c number timestamp) (calls_before r.marks more none unit number timestamp c there);
+      marks = λ unit number c other asks there. got_append r.marks (mark ∷ []) unit other (requests_before r.marks more none unit number c other asks there);
       drawn = λ challenge is. is;
       uses = omega arith;
     }) a

@@ -37,7 +37,7 @@ use Rattle.step_notes.specs.MemberNotes.{TurnNote, no_note, request_note, taking
 use Rattle.step_notes.proofs.Channels.EffectNoteLaws.{steps_are_noted}
 use Rattle.step_notes.proofs.Members.RestLaws.{event_rest}
 use Rattle.domain_world.specs.Accepting.Runs.{view_with}
-use Rattle.domain_world.proofs.Requests.LooserLaws.{IsPlaced, NoCalls, Placed, drawn_before, fewer_marks, looser, more_marks, placed_marks}
+use Rattle.domain_world.proofs.Requests.LooserLaws.{IsPlaced, NoRequests, Placed, drawn_before, fewer_marks, looser, more_marks, placed_marks}
 use Rattle.domain_world.specs.Past.{requester_in, running_in}
 
 -- ---- draws that differ
@@ -101,7 +101,7 @@ module _ (views : ℕ → Option View) (who controller : ℕ) where
     coherent = after.coherent;
     apart = looser (with_seen who (view_of controller t) used (seen_with views who v marks drawn uses)) (seen_with views who (view_of controller t) marks drawn more) (record {
       views = λ j w there. hidden (j == who) v (view_of controller t) (views j) w there;
-      marks = λ unit number timestamp c there. there;
+      marks = λ unit number c mark asks there. there;
       drawn = λ challenge is. is;
       uses = onward;
     }) after.apart;
@@ -114,7 +114,7 @@ module _ (views : ℕ → Option View) (who controller : ℕ) where
     coherent = stands.coherent;
     apart = looser (seen_with views who (view_of controller s) marks drawn uses) (seen_with views who (view_of controller s) marks (drawn ++ more) later) (record {
       views = λ j v at. at;
-      marks = λ unit number timestamp c there. there;
+      marks = λ unit number c mark asks there. there;
       drawn = λ challenge is. drawn_before challenge drawn more is;
       uses = onward;
     }) stands.apart;
@@ -152,14 +152,14 @@ module _ (views : ℕ → Option View) (who controller : ℕ) where
     abbrev Later : Type 0
     Later = StandsApart views who controller t (marks ++ more) drawn (uses + 1)
 
-    -- none of the marks is a call
-    none_later : NoCalls more → IsSeenAfter (with_seen who (view_of controller t) 1 (seen_with views who (view_of controller s) marks drawn uses)) who controller t → Later
+    -- none of the marks is a request
+    none_later : NoRequests more → IsSeenAfter (with_seen who (view_of controller t) 1 (seen_with views who (view_of controller s) marks drawn uses)) who controller t → Later
     none_later none after =
         let so : StandsApart views who controller t marks drawn (uses + 1) = again (view_of controller s) t marks drawn uses 1 (uses + 1) (omega arith) after in
         record { coherent = so.coherent; apart = more_marks (seen_with views who (view_of controller t) marks drawn (uses + 1)) more none so.apart }
 
-    -- the call isn't written down
-    unwritten : (mark : Mark) → NoCalls more →
+    -- the request isn't written down
+    unwritten : (mark : Mark) → NoRequests more →
         IsSeenAfter (with_seen who (view_of controller t) 1 (seen_with views who (view_of controller s) (marks ++ mark ∷ []) drawn uses)) who controller t → Later
     unwritten mark none after =
         let so : StandsApart views who controller t (marks ++ mark ∷ []) drawn (uses + 1) =
@@ -180,32 +180,44 @@ module _ (views : ℕ → Option View) (who controller : ℕ) where
     placed_by : (note other : TurnNote) → note ≡ other → Placed note.sends note.mark more → Placed other.sends other.mark more
     placed_by note other is placed = subst (λ (n : TurnNote). Placed n.sends n.mark more) is placed
 
-    called : (c : ChannelIdentity) (number timestamp : ℕ) → NoCalls more ⊎ IsPlaced more (Calling c number timestamp) → TakesAt (Calls c number) → Later
+    opened : (c : ChannelIdentity) → (view_of controller s).opening ≡ Some c.client →
+        NoRequests more ⊎ IsPlaced more (Opening c (view_of controller s).call) → TakesAt Counts → Later
+    opened c under_way placed takes =
+        let mark : Mark = Opening c (view_of controller s).call in
+        let seen : seen_if (who == who) (view_of controller s) (views who) ≡ Some (view_of controller s) =
+        ap (λ (hit : Bool). seen_if hit (view_of controller s) (views who)) ((Decides-eqb who who).1 refl) in
+        elim placed [
+          | inl none ↦ unwritten mark none ((takes marks stands).1 c (view_of controller s) seen under_way)
+          | inr is ↦ written_down mark is ((takes (marks ++ is.front) (with_front mark is)).1 c (view_of controller s) seen under_way)
+        ]
+
+    called : (c : ChannelIdentity) (number timestamp : ℕ) → NoRequests more ⊎ IsPlaced more (Calling c number timestamp) → TakesAt (Calls c number) → Later
     called c number timestamp placed takes = elim placed [
       | inl none ↦ unwritten (Calling c number timestamp) none (takes marks stands timestamp)
       | inr is ↦ written_down (Calling c number timestamp) is (takes (marks ++ is.front) (with_front (Calling c number timestamp) is) timestamp)
     ]
 
-    by_effect : (e : Effect) (note : TurnNote) (u v : View) (old new : Bool) → IsNotedBy e note u v old new → Placed note.sends note.mark more → TakesAt e → Later
-    by_effect Stays note u v old new noted placed takes = none_later (placed_by note no_note noted.0 placed) (takes marks stands)
-    by_effect Counts note u v old new noted placed takes = elim noted [
-      | inl plain ↦ none_later (placed_by note (request_note Plain None) plain.0 placed) (takes marks stands)
-      | inr out ↦ none_later (placed_by note (request_note (Opening out.channel u.call) None) out.is placed) (takes marks stands)
+    by_effect : (e : Effect) (note : TurnNote) (v : View) (old new : Bool) → IsNotedBy e note (view_of controller s) v old new → Placed note.sends note.mark more → TakesAt e → Later
+    by_effect Stays note v old new noted placed takes = none_later (placed_by note no_note noted.0 placed) (takes marks stands)
+    by_effect Counts note v old new noted placed takes = elim noted [
+      | inl plain ↦ none_later (placed_by note (request_note Plain None) plain.0 placed) (takes marks stands).0
+      | inr out ↦
+          opened out.channel out.under_way (placed_by note (request_note (Opening out.channel (view_of controller s).call) None) out.is placed) takes
     ]
-    by_effect (Begins client) note u v old new noted placed takes = absurd noted
-    by_effect (Opens c) note u v old new noted placed takes = none_later (placed_by note (passed_note c None None) noted placed) (takes marks stands)
-    by_effect (Moves c timestamp) note u v old new noted placed takes = absurd noted
-    by_effect (Calls c number) note u v old new noted placed takes =
+    by_effect (Begins client) note v old new noted placed takes = absurd noted
+    by_effect (Opens c) note v old new noted placed takes = none_later (placed_by note (passed_note c None None) noted placed) (takes marks stands)
+    by_effect (Moves c timestamp) note v old new noted placed takes = absurd noted
+    by_effect (Calls c number) note v old new noted placed takes =
         called c number noted.0 (placed_by note (request_note (Calling c number noted.0) (Some noted.1)) noted.2 placed) takes
-    by_effect (Answers c number) note u v old new noted placed takes = none_later (placed_by note (passed_note c (Some noted.0) (Some number)) noted.1 placed) (takes marks stands)
-    by_effect Drops note u v old new noted placed takes = none_later (placed_by note no_note noted placed) (takes marks stands)
+    by_effect (Answers c number) note v old new noted placed takes = none_later (placed_by note (passed_note c (Some noted.0) (Some number)) noted.1 placed) (takes marks stands)
+    by_effect Drops note v old new noted placed takes = none_later (placed_by note no_note noted placed) (takes marks stands)
 
   taken_so : (s : Requester) (unit : RpcUnit) (marks more : List Mark) (drawn : List (List ℕ)) (uses : ℕ) → uses + 2 < 2 ^ 32 →
       Placed (taking_note (Some (take_of s unit)) controller s).sends (taking_note (Some (take_of s unit)) controller s).mark more →
       StandsApart views who controller s marks drawn uses → StandsApart views who controller (take_of s unit).state (marks ++ more) drawn (uses + 1)
   taken_so s unit marks more drawn uses few placed stands =
       let t : Requester = (take_of s unit).state in
-      by_effect s t marks more drawn uses stands (effect_of_take controller s unit) (taking_note (Some (take_of s unit)) controller s) (view_of controller s) (view_of controller t)
+      by_effect s t marks more drawn uses stands (effect_of_take controller s unit) (taking_note (Some (take_of s unit)) controller s) (view_of controller t)
       (opening_out_of s) (opening_out_of t) (steps_are_noted.take controller s unit stands.coherent) placed
       (λ some so. requesters_keep.take (seen_with views who (view_of controller s) some drawn uses) who controller s unit (seen_so s some drawn uses few so))
 
@@ -234,7 +246,7 @@ module _ (views : ℕ → Option View) (who controller : ℕ) where
         (record {
           coherent = stands.coherent;
           apart = looser (seen_with views who (view_of controller s) marks (drawn ++ rest.front) later) (seen_with views who (view_of controller s) marks (drawn ++ rest.front) (uses + 1))
-              (record { views = λ j v at. at; marks = λ unit number timestamp c there. there; drawn = λ challenge is. is; uses = onward }) stands.apart;
+              (record { views = λ j v at. at; marks = λ unit number c mark asks there. there; drawn = λ challenge is. is; uses = onward }) stands.apart;
         })
 
     -- one more is
@@ -298,7 +310,7 @@ none_before true old x is = absurd (let e = is in cc)
 used_more : (r : Requests ℕ) (more : ℕ) → r.uses ≤ more → CallsAreApart r → CallsAreApart (record r { uses = more })
 used_more r more onward a =
     looser r (record r { uses = more })
-    (record { views = λ j v at. at; marks = λ unit number timestamp c there. there; drawn = λ challenge is. is; uses = onward }) a
+    (record { views = λ j v at. at; marks = λ unit number c mark asks there. there; drawn = λ challenge is. is; uses = onward }) a
 
 -- no whole unit comes on the link of the turn
 abbrev pub HearsNone : Option Running → Event → Type 0
@@ -313,7 +325,7 @@ CoherentIf (Some running) = IsCoherent running.logons.channel
 -- the mark of the request that goes out, if one does, stands among those that are written down; the argument: what the
 -- step comes to
 abbrev pub PlacedBy : Result (Part DialWork) StepRefused → TurnNote → List Mark → Type 0
-PlacedBy (Err why) note more = NoCalls more
+PlacedBy (Err why) note more = NoRequests more
 PlacedBy (Ok part) note more = Placed note.sends note.mark more
 
 module _ (views : ℕ → Option View) (who controller : ℕ) where
@@ -323,7 +335,7 @@ module _ (views : ℕ → Option View) (who controller : ℕ) where
   halted_so s marks drawn more uses stands =
       looser (seen_with views who (view_of controller s) marks drawn uses) (requests_after views who controller None marks (drawn ++ more) (uses + 1)) (record {
         views = λ j w there. or_none (j == who) (view_of controller s) (views j) w there;
-        marks = λ unit number timestamp c there. there;
+        marks = λ unit number c mark asks there. there;
         drawn = λ challenge is. drawn_before challenge drawn more is;
         uses = omega arith;
       }) stands.apart
@@ -333,7 +345,7 @@ module _ (views : ℕ → Option View) (who controller : ℕ) where
   running_so r marks drawn uses stands =
       looser (seen_with views who (view_of controller r.logons.channel) marks drawn uses) (requests_after views who controller (Some r) marks drawn uses) (record {
         views = λ j w there. or_if (j == who) (view_of controller r.logons.channel) (views j) w there;
-        marks = λ unit number timestamp c there. there;
+        marks = λ unit number c mark asks there. there;
         drawn = λ challenge is. is;
         uses = omega arith;
       }) stands.apart
@@ -362,7 +374,7 @@ module _ (views : ℕ → Option View) (who controller : ℕ) where
     coherent = coherent;
     apart = looser (record { views = views; marks = marks; drawn = drawn; uses = uses }) (seen_with views who (view_of controller s) marks drawn uses) (record {
       views = λ j w there. as_seen (j == who) j (view_of controller s) w refl at there;
-      marks = λ unit number timestamp c there. there;
+      marks = λ unit number c mark asks there. there;
       drawn = λ challenge is. is;
       uses = omega arith;
     }) a;
@@ -389,7 +401,7 @@ module _ (views : ℕ → Option View) (who controller : ℕ) where
   stopped_so marks drawn uses a =
       looser (record { views = views; marks = marks; drawn = drawn; uses = uses }) (requests_after views who controller None marks (drawn ++ []) (uses + 1)) (record {
         views = λ j w there. none_before (j == who) (views j) w there;
-        marks = λ unit number timestamp c there. there;
+        marks = λ unit number c mark asks there. there;
         drawn = λ challenge is. drawn_before challenge drawn [] is;
         uses = omega arith;
       }) a

@@ -16,8 +16,8 @@ use Rattle.end_links.specs.Links.{LinkState}
 use Rattle.end_links.specs.Serving.{ServedUnit, served_units}
 use Rattle.channel_client.specs.Machine.{Taking, take_of}
 use Rattle.channel_events.specs.Marks.{Calling, Mark, Opened, Opening, Plain, ReplyTo}
-use Rattle.channel_events.specs.Requests.{IsNoCall}
-use Rattle.channel_events.proofs.ListLaws.{got_behind}
+use Rattle.channel_events.specs.Requests.{IsNoRequest, IsRequest}
+use Rattle.channel_events.proofs.ListLaws.{got_behind, got_nothing, some_is}
 use Rattle.member_server.specs.Machine.{actions_in, at_turn, halted_state, state_in, work_of}
 use Rattle.member_server.specs.Turns.{AtTurn, DialWork, turn_server}
 use Rattle.channel_turns.specs.declared.state.Dialling.{Dialling}
@@ -42,19 +42,17 @@ use Rattle.world_moves.proofs.LinkFrameLaws.{actions_stay}
 use Rattle.domain_world.specs.Past.{first_of, is_sent_on, later_of, marks_by, marks_of, note_turn, note_turns, numbers_on, sent_at, answers_by}
 use Rattle.domain_world.proofs.Frames.MarkPlaceLaws.{ArePlain, all_append, front_goes, plain_of_none}
 use Rattle.domain_world.proofs.Frames.OpenMadeLaws.{IsMore, MoreOf, goes_on, no_more}
-use Rattle.domain_world.proofs.Requests.LooserLaws.{IfPlaced, IsPlaced, NoCalls, Placed, no_calls}
+use Rattle.domain_world.proofs.Requests.LooserLaws.{IfPlaced, IsPlaced, NoRequests, Placed, no_requests}
 use Rattle.domain_world.proofs.Requests.StepApartLaws.{PlacedBy}
 use Rattle.domain_world.proofs.Requests.WholeOutLaws.{IsSentAs, noted}
 
 -- ---- marks
 
-plain_calls : (marks : List Mark) → ArePlain marks → NoCalls marks
-plain_calls marks plain k number timestamp c there =
-    let is : Calling c number timestamp ≡ Plain = plain k (Calling c number timestamp) there in
-    (let x = is in cc)
+plain_calls : (marks : List Mark) → ArePlain marks → NoRequests marks
+plain_calls marks plain k number c mark asks there = subst (IsRequest c number) (plain k mark there) asks
 
--- without marks none is a call
-pub none_marked : (link : ℕ) (back : Bool) (units : List BagUnit) → NoCalls (marks_of link back units [])
+-- without marks none is a request
+pub none_marked : (link : ℕ) (back : Bool) (units : List BagUnit) → NoRequests (marks_of link back units [])
 none_marked link back units = plain_calls (marks_of link back units []) (plain_of_none link back units)
 
 -- whatever holds of the marks, and of a unit that has none
@@ -69,37 +67,36 @@ marks_all P plain link back [] marks all = tt
 marks_all P plain link back (unit ∷ units) marks all =
     all_by P plain (is_sent_on link back unit) marks (λ rest. marks_of link back units rest) all (λ rest each. marks_all P plain link back units rest each)
 
--- where no mark is a call, none is written down
-pub no_calls_marked : (link : ℕ) (back : Bool) (units : List BagUnit) (marks : List Mark) → AllByRecursion IsNoCall marks → NoCalls (marks_of link back units marks)
-no_calls_marked link back units marks all = no_calls (marks_of link back units marks) (marks_all IsNoCall tt link back units marks all)
+-- where no mark is a request, none is written down
+pub no_requests_marked : (link : ℕ) (back : Bool) (units : List BagUnit) (marks : List Mark) → AllByRecursion IsNoRequest marks → NoRequests (marks_of link back units marks)
+no_requests_marked link back units marks all = no_requests (marks_of link back units marks) (marks_all IsNoRequest tt link back units marks all)
 
-nothing_called : NoCalls []
-nothing_called zero number timestamp c there = let x = there in cc
-nothing_called (suc k) number timestamp c there = let x = there in cc
+nothing_called : NoRequests []
+nothing_called k number c mark asks there = got_nothing k mark there
 
-plain_before : (marks : List Mark) → NoCalls marks → NoCalls (Plain ∷ marks)
-plain_before marks none zero number timestamp c there = let x = there in cc
-plain_before marks none (suc k) number timestamp c there = none k number timestamp c there
+plain_before : (marks : List Mark) → NoRequests marks → NoRequests (Plain ∷ marks)
+plain_before marks none zero number c mark asks there = subst (IsRequest c number) (sym (some_is Plain mark there)) asks
+plain_before marks none (suc k) number c mark asks there = none k number c mark asks there
 
 -- one mark: it isn't written down, or in one place
-placed_by : (on : Bool) (mark : Mark) (later : List Mark → List Mark) → NoCalls (later []) → NoCalls (later (mark ∷ [])) ⊎ IsPlaced (later (mark ∷ [])) mark →
-    NoCalls (marks_by on (mark ∷ []) later) ⊎ IsPlaced (marks_by on (mark ∷ []) later) mark
+placed_by : (on : Bool) (mark : Mark) (later : List Mark → List Mark) → NoRequests (later []) → NoRequests (later (mark ∷ [])) ⊎ IsPlaced (later (mark ∷ [])) mark →
+    NoRequests (marks_by on (mark ∷ []) later) ⊎ IsPlaced (marks_by on (mark ∷ []) later) mark
 placed_by false mark later none placed = elim placed [
   | inl nothing ↦ inl (plain_before (later (mark ∷ [])) nothing)
   | inr is ↦ inr (record { front = Plain ∷ is.front; rest = is.rest; is = ap (λ (marks : List Mark). Plain ∷ marks) is.is; before = plain_before is.front is.before; behind = is.behind })
 ]
 placed_by true mark later none placed = inr (record { front = []; rest = later []; is = refl; before = nothing_called; behind = none })
 
-one_placed : (link : ℕ) (back : Bool) (units : List BagUnit) (mark : Mark) → NoCalls (marks_of link back units (mark ∷ [])) ⊎ IsPlaced (marks_of link back units (mark ∷ [])) mark
+one_placed : (link : ℕ) (back : Bool) (units : List BagUnit) (mark : Mark) → NoRequests (marks_of link back units (mark ∷ [])) ⊎ IsPlaced (marks_of link back units (mark ∷ [])) mark
 one_placed link back [] mark = inl nothing_called
 one_placed link back (unit ∷ units) mark =
     placed_by (is_sent_on link back unit) mark (λ rest. marks_of link back units rest) (none_marked link back units) (one_placed link back units mark)
 
 if_placed : (link : ℕ) (back : Bool) (units : List BagUnit) (mark : Mark) → IfPlaced mark (marks_of link back units (mark ∷ []))
-if_placed link back units Plain = no_calls_marked link back units (Plain ∷ []) (tt, tt)
-if_placed link back units (Opening c number) = no_calls_marked link back units (Opening c number ∷ []) (tt, tt)
-if_placed link back units (Opened c number request) = no_calls_marked link back units (Opened c number request ∷ []) (tt, tt)
-if_placed link back units (ReplyTo c number request) = no_calls_marked link back units (ReplyTo c number request ∷ []) (tt, tt)
+if_placed link back units Plain = no_requests_marked link back units (Plain ∷ []) (tt, tt)
+if_placed link back units (Opening c number) = one_placed link back units (Opening c number)
+if_placed link back units (Opened c number request) = no_requests_marked link back units (Opened c number request ∷ []) (tt, tt)
+if_placed link back units (ReplyTo c number request) = no_requests_marked link back units (ReplyTo c number request ∷ []) (tt, tt)
 if_placed link back units (Calling c number timestamp) = one_placed link back units (Calling c number timestamp)
 
 marks_placed : (link : ℕ) (back : Bool) (units : List BagUnit) (sends : Bool) (mark : Mark) → Placed sends mark (marks_of link back units (mark_if sends mark))

@@ -386,7 +386,7 @@ others_known links units more messages after controller member other note runnin
 
 -- ---- what came on accepted links
 
-changed_all : (P : MessageTaken → Type 0) (change : MessageTaken → MessageTaken) → ((message : MessageTaken) → P message → P (change message)) → (messages : List MessageTaken) → AllByRecursion P messages →
+pub changed_all : (P : MessageTaken → Type 0) (change : MessageTaken → MessageTaken) → ((message : MessageTaken) → P message → P (change message)) → (messages : List MessageTaken) → AllByRecursion P messages →
     (found : Option ℕ) → AllByRecursion P (change_message found change messages)
 changed_all P change so messages all None = all
 changed_all P change so [] all (Some link) = tt

@@ -26,7 +26,7 @@ use Rattle.channel_events.proofs.ListLaws.{got_append, some_is}
 use Rattle.step_notes.specs.MemberNotes.{TurnNote, asked_note, request_note, taking_note, timestamp_bound}
 use Rattle.step_notes.specs.Records.{ChannelTurn}
 use Rattle.step_notes.proofs.Members.TurnRequestLaws.{IsOfTurn, of_turn}
-use Rattle.domain_world.proofs.Requests.LooserLaws.{IsPlaced, NoCalls, Placed, calls_before}
+use Rattle.domain_world.proofs.Requests.LooserLaws.{IsPlaced, NoRequests, Placed, calls_before}
 use Rattle.domain_world.proofs.Sequences.CallTurnLaws.{CallsMade, KnowsCalls, answered_knows, called_knows, calls_still, opened_knows}
 use Rattle.domain_world.proofs.Sequences.SeedTurnLaws.{Turned, none_on}
 
@@ -76,7 +76,7 @@ module _ (Done Later : ℕ → Type 0) (so : (n : ℕ) → Done n → Later n) (
   Now t = KnowsCalls Later (marks ++ more) own controller t
 
   -- no call is written down
-  with_none : NoCalls more → (t : Requester) → KnowsCalls Done marks own controller t → Now t
+  with_none : NoRequests more → (t : Requester) → KnowsCalls Done marks own controller t → Now t
   with_none none t known = λ c is.
       calls_still Done Later so marks (marks ++ more) own c (λ k mark there. got_append marks more k mark there) (λ n number timestamp d there same. calls_before marks more none n number timestamp d there)
       t.turn (known c is)
@@ -84,7 +84,7 @@ module _ (Done Later : ℕ → Type 0) (so : (n : ℕ) → Done n → Later n) (
   later_so : (some : List Mark) (c : ChannelIdentity) (turn : Option Pending) → CallsMade Done some own c turn → CallsMade Later some own c turn
   later_so some c turn calls = calls_still Done Later so some some own c (λ k mark there. there) (λ n number timestamp d there same. there) turn calls
 
-  judged_knows : (j : Judgement) → HasEffect controller (effect_judged controller j s.caller.computer (number_in s.turn)) s (settle j s).state → NoCalls more →
+  judged_knows : (j : Judgement) → HasEffect controller (effect_judged controller j s.caller.computer (number_in s.turn)) s (settle j s).state → NoRequests more →
       ((c : ChannelIdentity) (number : ℕ) → IsAnswer (settle j s).taken → (view_of controller s).stands ≡ Some c → (view_of controller s).asking ≡ Some number → (n timestamp : ℕ) →
       slice_get marks n ≡ Some (Calling c number timestamp) → Later n) → Now (settle j s).state
   judged_knows (judgement.Half client server) has none done = λ c is. absurd (let x = is in cc)
@@ -137,7 +137,7 @@ module _ (Done Later : ℕ → Type 0) (so : (n : ℕ) → Done n → Later n) (
   abbrev IsWritten : Hearing → Type 0
   IsWritten h = (c : ChannelIdentity) (number timestamp place : ℕ) → noted h ≡ request_note (Calling c number timestamp) (Some place) → IsPlaced more (Calling c number timestamp)
 
-  settled_none : (j : Judgement) → Placed (taking_note (Some (settle j s)) controller s).sends (taking_note (Some (settle j s)) controller s).mark more → NoCalls more
+  settled_none : (j : Judgement) → Placed (taking_note (Some (settle j s)) controller s).sends (taking_note (Some (settle j s)) controller s).mark more → NoRequests more
   settled_none (judgement.Half client server) placed = placed
   settled_none (judgement.Opened o) placed = placed
   settled_none (judgement.Answer o v) placed = placed

@@ -32,6 +32,10 @@ abbrev pub CallsAreMarked : Past → Type 0
 CallsAreMarked past =
     AllByRecursion (λ (message : MessageTaken). (n : ℕ) → message.call ≡ Some n → IsMarkedAsCall past message.member n) past.book.messages
 
+-- a message whose answer was taken has a call
+abbrev pub AnswersHaveCalls : Past → Type 0
+AnswersHaveCalls past = AllByRecursion (λ (message : MessageTaken). (u : ℕ) → message.reply ≡ Some u → (n : ℕ) × (message.call ≡ Some n)) past.book.messages
+
 -- the call has a reply in the bag, which is marked as the reply to it: on the channel on which it passed, by its
 -- number, and by the unit in which it came
 pub record IsMarkedAsReply (past : Past) (j : Judging) (n : ℕ) : Type 0 where

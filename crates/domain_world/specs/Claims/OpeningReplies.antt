@@ -2,7 +2,7 @@
 -- 3.5.4.4.3; what is claimed is this project's own choice).
 use Rattle.std.specs.Prelude.{ℕ, ◌≡◌, false, List, Some, slice_get}
 use Rattle.std.specs.List.{AllByRecursion}
-use Rattle.authenticators.specs.Channels.{ChannelIdentity}
+use Rattle.authenticators.specs.Channels.{ChannelIdentity, SameChannel}
 use Rattle.channel_events.specs.Marks.{Mark, OneOf, Plain, Opening, Opened, Calling, ReplyTo}
 use Rattle.step_notes.specs.Marking.{clashes}
 use Rattle.step_notes.specs.Records.{ChannelAccepted, InUnit, Sent, unit_in}
@@ -38,14 +38,31 @@ pub record RepliesAnswerOpenings (past : Past) : Type 0 where
   pub unclashed : OpeningsAreUnclashed past
 
 -- The opening has its reply in the bag, which is marked as that: on its channel, by its number, and by the unit in
--- which its call came.
+-- which its call came. It was accepted at the step that sent the reply.
 pub record IsMarkedAsOpened (past : Past) (one : ChannelAccepted) (n : ℕ) : Type 0 where
   pub reply : ℕ
   pub is : one.reply ≡ Some reply
   pub sent : Sent
   pub there : slice_get past.book.sent reply ≡ Some sent
   pub mark : sent.mark ≡ Opened one.channel one.number n
+  pub step : sent.at ≡ one.at
 
 -- so it is of each opening that was accepted and came in a unit of the bag
 abbrev pub OpeningsAreMarked : Past → Type 0
 OpeningsAreMarked past = AllByRecursion (λ (one : ChannelAccepted). (n : ℕ) → one.source ≡ InUnit n → IsMarkedAsOpened past one n) past.book.accepted
+
+-- The unit `request` was made as the opening of the channel, with that number. It was accepted after so many moves, and
+-- the unit `reply` carries the answer.
+pub record AnswersOpening (past : Past) (channel : ChannelIdentity) (number request reply moves : ℕ) : Type 0 where
+  pub sent : Sent
+  pub there : slice_get past.book.sent request ≡ Some sent
+  pub named : ChannelIdentity
+  pub mark : sent.mark ≡ Opening named number
+  pub same : SameChannel named channel
+  pub accepted : OneOf (λ (one : ChannelAccepted). IsAcceptedIn channel number request reply one × (one.at ≡ moves)) past.book.accepted
+
+-- So it is of each unit that was made as the reply to an opening, which was accepted at the step that sent it.
+abbrev pub RepliesAreToOpenings : Past → Type 0
+RepliesAreToOpenings past =
+    (n : ℕ) (one : Sent) (channel : ChannelIdentity) (number request : ℕ) → slice_get past.book.sent n ≡ Some one → one.mark ≡ Opened channel number request →
+    AnswersOpening past channel number request n one.at

@@ -53,7 +53,7 @@ use Rattle.logon_steps.proofs.ControllerTurnLaws.{controllers_step}
 use Rattle.logon_steps.proofs.GrantingLaws.{logons_are_granted}
 use Rattle.logon_runs.specs.Grants.{KeyArrives}
 use Rattle.logon_runs.specs.Seen.LinkScenes.{its_link}
-use Rattle.logon_runs.specs.Phases.{NotYet, WasJudged, progress_onward, Aim, ArrivesAt, Coming, First, Fits, HasThree, IsAimed, IsReady, IsTurning, HasUser, HasUserAt, MayLogOnAt, IsKnown, Second, Third, TurnAt, WhoAsked, call_for, own, scene_of, standing_for, turn_before, turn_on}
+use Rattle.logon_runs.specs.Phases.{NotYet, WasJudged, WasOpened, progress_called, progress_onward, Aim, ArrivesAt, Coming, First, Fits, HasThree, IsAimed, IsReady, IsTurning, HasUser, HasUserAt, MayLogOnAt, IsKnown, Second, Third, TurnAt, WhoAsked, call_for, own, scene_of, standing_for, turn_before, turn_on}
 use Rattle.logon_runs.specs.Phases.{Acked, BindsBefore, BindsHeld, Calls, DialsBefore, DialsHeld, Granted, Halved, Proved}
 use Rattle.logon_runs.specs.Runs.{Asked, hidden, info_asked, sam_for, with_moved}
 use Rattle.logon_runs.specs.First.FirstRuns.{with_pair}
@@ -91,7 +91,7 @@ module _ (p : Coming) (s : State) (a : Asked) (who : WhoAsked p a) (v : TurnAt) 
       under p s _ (Acked a who v aim) left moment shows.left fits
       (turns_are_seen.bound s (turn_on p a who.later (who.sent ∷ []) v aim) v.next v.number (call_for p a aim) v.computers left moment between fits.0.number_below shows)
 
-  pub acked_on : Shows s (scene_of p (Acked a who v aim) left moment) → ComesBy p NotYet s (onward s).state
+  pub acked_on : Shows s (scene_of p (Acked a who v aim) left moment) → ComesBy p (progress_called aim) s (onward s).state
   acked_on shows =
       under p s _ (Calls a who v aim) left moment shows.left fits
       (turns_are_seen.asks s (turn_on p a who.later (who.sent ∷ []) v aim) v.next v.number (call_for p a aim) v.computers left moment between fits.0.number_below shows)
@@ -128,7 +128,7 @@ with_stands p client server computers = record {
 }
 
 second_answered : (p : Coming) (s : State) (a : Asked) (who : WhoAsked p a) (v : TurnAt) (client server : List ℕ) (left : List (List ℕ)) (moment : ℕ) → IsKnown p →
-    IsTurning p a v × IsAimed p v (Second client server) → Shows s (scene_of p (Calls a who v (Second client server)) left moment) → ComesBy p NotYet s (onward s).state
+    IsTurning p a v × IsAimed p v (Second client server) → Shows s (scene_of p (Calls a who v (Second client server)) left moment) → ComesBy p (WasOpened client server) s (onward s).state
 second_answered p s a who v client server left moment known fits shows =
     let can : IsTurnCall (call_for p a (Second client server)) = calls_can_go.authenticate p.meeting.caller client server known.caller in
     let later : Computers = with_stands p client server v.computers in
@@ -165,7 +165,7 @@ cleared_range : (table : AccountTable) (user : List ℕ) → InRangeTable table 
 cleared_range table user is = cleared_at_range (place_in table.accounts user) table is
 
 -- what the controller makes of the logon's call
-grants_then : (p : Coming) (a : Asked) (v : TurnAt) (o c : SecureChannelState) (timestamp moment : ℕ) (left : List (List ℕ)) → IsKnown p → HasUser p → IsTurning p a v →
+pub grants_then : (p : Coming) (a : Asked) (v : TurnAt) (o c : SecureChannelState) (timestamp moment : ℕ) (left : List (List ℕ)) → IsKnown p → HasUser p → IsTurning p a v →
     IsAimed p v (Third o c timestamp) → MayLogOn p.table (info_told p.meeting.task) moment → IsTurnCall (call_for p a (Third o c timestamp)) →
     let sam : SamInfo = sam_for (own p) a p.table p.name p.account moment in
     controller_step_of (controller_at p.table p.name v.computers (turn_link (length v.links)))

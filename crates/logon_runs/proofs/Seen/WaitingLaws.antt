@@ -15,10 +15,8 @@ use Rattle.member_server.specs.State.{State as MemberState}
 use Rattle.world_moves.specs.declared.bag.BagUnit.{BagUnit}
 use Rattle.world_moves.specs.declared.links.EndId.{EndId}
 use Rattle.world_moves.specs.declared.links.OpenLink.{OpenLink}
-use Rattle.world_moves.specs.declared.links.Route.{Route}
 use Rattle.world_moves.specs.declared.state.State.{State}
-use Rattle.world_moves.specs.declared.state.WaitingDial.{WaitingDial}
-use Rattle.world_moves.specs.Acting.{Acted, hear_and_act, hear_and_act_if, heard_by, nothing_done, pieces_come, sent_if, then_act, unit_if, unit_on}
+use Rattle.world_moves.specs.Acting.{Acted, hear_and_act, hear_and_act_if, heard_by, nothing_done, pieces_come, then_act}
 use Rattle.world_moves.specs.Bag.{first_waiting, is_waiting, pieces_in, pieces_of, settle_at, settle_by, settled}
 use Rattle.world_moves.specs.Ends.{client_done, client_step, controller_done, controller_step, member_done, member_step}
 use Rattle.world_moves.specs.Links.{hearer_of, hearer_on}

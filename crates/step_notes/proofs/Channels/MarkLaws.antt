@@ -33,7 +33,6 @@ use Rattle.logon_stubs.specs.declared.calls.Call.TheVariants as netlogon
 use Rattle.controller_calls.specs.declared.calls.ControllerCall.TheVariants as call
 use Rattle.logon_stubs.specs.declared.calls.ChallengeCall.{ChallengeCall}
 use Rattle.logon_stubs.specs.declared.calls.Reply.{Reply}
-use Rattle.logon_stubs.specs.declared.info.NetworkInfo.{NetworkInfo}
 use Rattle.logon_stubs.specs.declared.refused.StubRefused.{StubRefused}
 use Rattle.logon_stubs.specs.declared.refused.StubRefused.TheVariants as refused
 use Rattle.account_table.specs.LookUps.{knows_in}

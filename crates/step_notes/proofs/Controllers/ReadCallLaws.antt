@@ -1,6 +1,6 @@
 -- Which calls a whole request carries, by its number.
 -- It serves `controllers_hear_whole`, and laws of runs.
-use Rattle.std.proofs.Common.{◌≡◌, ◌==◌, ◌||◌, ℕ, Bool, true, false, List, Option, Some, None, Result, Ok, Err, refl, sym, ap, ◌∙◌, arith}
+use Rattle.std.proofs.Common.{◌≡◌, ◌==◌, ℕ, Bool, true, false, List, Some, Result, Ok, Err, refl, arith}
 use Rattle.wire_base.specs.Numbers.{AreBytes}
 use Rattle.logon_stubs.specs.Calls.{IsCall, call_of}
 use Rattle.logon_stubs.specs.declared.calls.Call.{Call}

@@ -22,6 +22,7 @@ use Rattle.domain_world.specs.Accepting.Runs.{AskedIsOut, IsOut}
 use Rattle.domain_world.specs.Past.{controller_of, past}
 use Rattle.channel_events.specs.Marks.{Mark}
 use Rattle.channel_events.proofs.ListLaws.{one_weaker}
+use Rattle.channel_events.proofs.RequestLaws.{called_is}
 use Rattle.domain_world.specs.Schedules.{OfSchedules}
 use Rattle.domain_world.proofs.Accepting.LetInStepLaws.{IsDialledBy}
 use Rattle.domain_world.proofs.Accepting.Quiet.QuietRunLaws.{has_bytes, is_quiet, quiet_first, quiet_keeps}
@@ -31,7 +32,7 @@ use Rattle.domain_world.proofs.Accepting.Turns.TurnKeepLaws.{TurnsHold, TurnsRes
 use Rattle.domain_world.proofs.Frames.DrawnRunLaws.{all_of, end_all, given_all}
 use Rattle.domain_world.proofs.Frames.StepFrameLaws.{ActionFact, AnyAction, BothFacts, BothFine, HoldsAfterRun, Keeps, NoFact, RunFact, WhileFew, all_any, join, run_keeps, while_few, with_side}
 use Rattle.domain_world.proofs.Requests.CallFrameLaws.{CallsKept, QuietSide, calls_keep, first_calls, out_of}
-use Rattle.domain_world.proofs.Requests.CallHoldsLaws.{CallsHold, differ_front, mark_there}
+use Rattle.domain_world.proofs.Requests.CallHoldsLaws.{CallsHold, differ_front, mark_there, marks_in}
 use Rattle.domain_world.proofs.Requests.CallStepLaws.{most_steps}
 use Rattle.domain_world.proofs.Requests.OutStepLaws.{HasOne, IsOutIn, OutFor}
 use Rattle.domain_world.proofs.Requests.StepApartLaws.{Differ}
@@ -104,8 +105,9 @@ rests_on plan n s given b known few =
       accepts = λ k m there. (holds.members k m there).accepts;
       out = out_at plan n s b holds;
       numbers = λ one other number timestamp later c d sent another there also mark mark_too same.
-          holds.apart.distinct one other number timestamp later c d (mark_there b.sent one sent there ∙ ap (λ (m : Mark). Some m) mark)
-          (mark_there b.sent other another also ∙ ap (λ (m : Mark). Some m) mark_too) same;
+          holds.apart.distinct one other number c d
+          (called_is (marks_in b.sent) one number timestamp c (mark_there b.sent one sent there ∙ ap (λ (m : Mark). Some m) mark))
+          (called_is (marks_in b.sent) other number later d (mark_there b.sent other another also ∙ ap (λ (m : Mark). Some m) mark_too)) same;
     }
 
 -- ---- a run

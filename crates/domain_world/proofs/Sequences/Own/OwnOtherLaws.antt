@@ -23,7 +23,7 @@ use Rattle.world_moves.proofs.EndKindLaws.{of_member}
 use Rattle.domain_world.specs.Past.{Coming, at_member, controller_of, marks_of, note_member, note_messages, note_turns, numbers_on, sent_at, with_marks, with_taken}
 use Rattle.domain_world.proofs.Accepting.Turns.TurnFactLaws.{AreApart, apart_front}
 use Rattle.domain_world.proofs.Challenges.MessageApartLaws.{links_append, links_in}
-use Rattle.domain_world.proofs.Requests.CallComesLaws.{if_none, no_calls_sent, other_none, units_in_none}
+use Rattle.domain_world.proofs.Requests.CallComesLaws.{if_none, no_requests_sent, other_none, units_in_none}
 use Rattle.domain_world.proofs.Requests.CallHoldsLaws.{marks_append, marks_in}
 use Rattle.domain_world.proofs.Requests.LooserLaws.{calls_before}
 use Rattle.domain_world.proofs.Requests.OutStepLaws.{IsOther}
@@ -53,7 +53,7 @@ module _ (plan : Plan) (n at : ℕ) (w : Coming) (piece : List ℕ) (s t after :
       (λ k one there. got_append b.sent (map (sent_at w.at) new) k one there) (λ unclashed. unclashed)
       (λ apart. apart_front (links_in b.messages) (links_in news) (subst AreApart (links_append b.messages news) apart)) refl
       (λ k number timestamp e there.
-      calls_before (marks_in b.sent) (marks_in (map (sent_at w.at) new)) (no_calls_sent w.at new (none_marked w.link false (drop (length s.bag) after.bag))) k number timestamp e
+      calls_before (marks_in b.sent) (marks_in (map (sent_at w.at) new)) (no_requests_sent w.at new (none_marked w.link false (drop (length s.bag) after.bag))) k number timestamp e
       (subst (λ (all : List Mark). slice_get all k ≡ Some (Calling e number timestamp)) (marks_append b.sent (map (sent_at w.at) new)) there)) holds)
 
 -- no unit comes on the link of its turn

@@ -5,7 +5,7 @@ use Rattle.std.specs.List.{AllByRecursion}
 use Rattle.outside.specs.declared.event.Event.{Event}
 use Rattle.outside.specs.declared.event.Event.TheVariants as event
 use Rattle.channel_events.specs.Marks.{Mark, Calling}
-use Rattle.channel_events.specs.Requests.{IsNoCall}
+use Rattle.channel_events.specs.Requests.{IsNoRequest}
 use Rattle.channel_events.proofs.ListLaws.{all_weaker, got_append}
 use Rattle.domain_controller.specs.State.{State as ControllerState}
 use Rattle.logon_client.specs.State.{State as ClientState}
@@ -29,10 +29,10 @@ use Rattle.domain_world.specs.Accepting.Answered.{IsItsWay}
 use Rattle.domain_world.proofs.Requests.MarkWayLaws.{answers_way}
 use Rattle.domain_world.proofs.Frames.BagFrameLaws.{IsServer}
 use Rattle.domain_world.proofs.Frames.StepFrameLaws.{AnyAction, HasHeard, KeepsWith, RunFact, all_any}
-use Rattle.domain_world.proofs.Requests.CallComesLaws.{no_calls_sent, reply_no_call}
+use Rattle.domain_world.proofs.Requests.CallComesLaws.{no_requests_sent, reply_no_request}
 use Rattle.domain_world.proofs.Requests.CallHoldsLaws.{marks_append, marks_in}
 use Rattle.domain_world.proofs.Requests.LooserLaws.{calls_before}
-use Rattle.domain_world.proofs.Requests.WholeNotedLaws.{no_calls_marked}
+use Rattle.domain_world.proofs.Requests.WholeNotedLaws.{no_requests_marked}
 use Rattle.domain_world.proofs.Sequences.Own.OwnCarryLaws.{book_changed, changed, client_begins, none_if, own_anew}
 use Rattle.domain_world.proofs.Sequences.Own.OwnKeepLaws.{HearsNoUnit, OwnHolds, own_hears}
 use Rattle.domain_world.proofs.Sequences.Own.OwnStayLaws.{HearsIf}
@@ -62,13 +62,13 @@ module _ (plan : Plan) where
   controller_noted c at n w piece s t after given b holds =
       let marks : List Mark = answered_marks (answers_of at c w piece s) in
       let new : List Mark = marks_of w.link true (drop (length s.bag) after.bag) marks in
-      let none : AllByRecursion IsNoCall marks =
-      all_weaker (λ (mark : Mark). IsItsWay true mark) IsNoCall marks reply_no_call
+      let none : AllByRecursion IsNoRequest marks =
+      all_weaker (λ (mark : Mark). IsItsWay true mark) IsNoRequest marks reply_no_request
       (answers_way w.link (at_controller at c w s) (units_of_controller c w.link piece s.moment s.chances.left)) in
       book_changed plan n t given b (note_controller (Some c) at w piece s after b) (λ k one there. got_append b.sent (map (sent_at w.at) new) k one there)
       (λ unclashed. (or_false b.clash (any_clash (answers_of at c w piece s) (unit_in w.source) b.sent) unclashed).0) (λ apart. apart) refl
       (λ k number timestamp e there.
-      calls_before (marks_in b.sent) (marks_in (map (sent_at w.at) new)) (no_calls_sent w.at new (no_calls_marked w.link true (drop (length s.bag) after.bag) marks none)) k number timestamp e
+      calls_before (marks_in b.sent) (marks_in (map (sent_at w.at) new)) (no_requests_sent w.at new (no_requests_marked w.link true (drop (length s.bag) after.bag) marks none)) k number timestamp e
       (subst (λ (all : List Mark). slice_get all k ≡ Some (Calling e number timestamp)) (marks_append b.sent (map (sent_at w.at) new)) there)) holds
 
   client_noted : (c : ClientState) (at n : ℕ) (w : Coming) (piece : List ℕ) (s t : State) (given : Given) (b : Book) → OwnHolds plan n t given b →

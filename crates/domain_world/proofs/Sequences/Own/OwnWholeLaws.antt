@@ -41,7 +41,7 @@ use Rattle.domain_world.proofs.Requests.CallComesLaws.{IsWhole, marks, request_p
 use Rattle.domain_world.proofs.Requests.CallFrameLaws.{TurnOn, turn_case}
 use Rattle.domain_world.proofs.Requests.CallHoldsLaws.{CallsHold, differ_front, marks_append, marks_in, marks_sent}
 use Rattle.domain_world.proofs.Requests.CallStepLaws.{most_steps}
-use Rattle.domain_world.proofs.Requests.LooserLaws.{IsPlaced, NoCalls, Placed}
+use Rattle.domain_world.proofs.Requests.LooserLaws.{IsPlaced, NoRequests, Placed}
 use Rattle.domain_world.proofs.Requests.StepApartLaws.{Differ, PlacedBy, seen_member}
 use Rattle.domain_world.proofs.Requests.WholeNotedLaws.{placed_part}
 use Rattle.domain_world.proofs.Sequences.CallTakenLaws.{IsAnswer}
@@ -59,15 +59,15 @@ use Rattle.domain_world.proofs.Frames.TurnFrameLaws.{turns_sent}
 
 -- ---- the marks that are written down
 
--- the first of them, where no other is a call
-one_behind : (rest : List Mark) (mark : Mark) → NoCalls rest → (n number timestamp : ℕ) (c : ChannelIdentity) → slice_get (mark ∷ rest) n ≡ Some (Calling c number timestamp) → mark ≡ Calling c number timestamp
+-- the first of them, where no other is a request
+one_behind : (rest : List Mark) (mark : Mark) → NoRequests rest → (n number timestamp : ℕ) (c : ChannelIdentity) → slice_get (mark ∷ rest) n ≡ Some (Calling c number timestamp) → mark ≡ Calling c number timestamp
 one_behind rest mark none zero number timestamp c there = let x = there in cc
-one_behind rest mark none (suc n) number timestamp c there = absurd (none n number timestamp c there)
+one_behind rest mark none (suc n) number timestamp c there = absurd (none n number c (Calling c number timestamp) (refl, refl) there)
 
-call_in : (front rest : List Mark) (mark : Mark) → NoCalls front → NoCalls rest → (n number timestamp : ℕ) (c : ChannelIdentity) → slice_get (front ++ mark ∷ rest) n ≡ Some (Calling c number timestamp) →
+call_in : (front rest : List Mark) (mark : Mark) → NoRequests front → NoRequests rest → (n number timestamp : ℕ) (c : ChannelIdentity) → slice_get (front ++ mark ∷ rest) n ≡ Some (Calling c number timestamp) →
     mark ≡ Calling c number timestamp
 call_in [] rest mark none_before behind n number timestamp c there = one_behind rest mark behind n number timestamp c there
-call_in (first ∷ front) rest mark none_before behind zero number timestamp c there = absurd (none_before zero number timestamp c there)
+call_in (first ∷ front) rest mark none_before behind zero number timestamp c there = absurd (none_before zero number c (Calling c number timestamp) (refl, refl) there)
 call_in (first ∷ front) rest mark none_before behind (suc n) number timestamp c there = call_in front rest mark (λ k. none_before (suc k)) behind n number timestamp c there
 
 behind_or : (old more : List Mark) (mark : Mark) → ((n number timestamp : ℕ) (c : ChannelIdentity) → slice_get more n ≡ Some (Calling c number timestamp) → mark ≡ Calling c number timestamp) →
@@ -77,12 +77,12 @@ behind_or [] more mark so n number timestamp c there = inr (so n number timestam
 behind_or (first ∷ old) more mark so zero number timestamp c there = inl there
 behind_or (first ∷ old) more mark so (suc n) number timestamp c there = behind_or old more mark so n number timestamp c there
 
--- of marks among which one stands, or none is a call
+-- of marks among which one stands, or none is a request
 abbrev OnlyThat : List Mark → Mark → Type 0
 OnlyThat more mark = (n number timestamp : ℕ) (c : ChannelIdentity) → slice_get more n ≡ Some (Calling c number timestamp) → mark ≡ Calling c number timestamp
 
-only_none : (more : List Mark) (mark : Mark) → NoCalls more → OnlyThat more mark
-only_none more mark none n number timestamp c there = absurd (none n number timestamp c there)
+only_none : (more : List Mark) (mark : Mark) → NoRequests more → OnlyThat more mark
+only_none more mark none n number timestamp c there = absurd (none n number c (Calling c number timestamp) (refl, refl) there)
 
 only_one : (more : List Mark) (mark : Mark) → IsPlaced more mark → OnlyThat more mark
 only_one more mark is n number timestamp c there =

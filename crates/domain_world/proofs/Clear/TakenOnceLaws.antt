@@ -1,6 +1,6 @@
 -- What is written down of the units that come on the link of a member's turn: of the answer to its bind, and of a reply
 -- to its call, in one fragment or more. And nothing is of units on other links.
--- It serves `a_run_is_clear`.
+-- It serves `Proved.one_by_one`, and `a_run_is_clear` of claim_examples.
 use Rattle.std.proofs.Common.{◌≡◌, ℕ, ◌<◌, ◌^◌, arith, Bool, List, [], ◌∷◌, map, Option, Some, None, Result, Ok, refl, sym, ap, ap₂, subst, ◌∙◌, false}
 use Rattle.std.specs.List.{AllByRecursion}
 use Rattle.outside.specs.declared.action.Action.{Action}
@@ -47,7 +47,7 @@ use Rattle.logon_steps.proofs.MemberTurnLaws.{turns_step}
 use Rattle.logon_steps.proofs.StreamLaws.{one_unit, read_again, same}
 use Rattle.logon_steps.proofs.TurningLaws.{response_sends, turn_ack_sends, turns_go_through}
 use Rattle.domain_world.proofs.Completeness.HeardOnceLaws.{either_way, nothing_follows}
-use Rattle.claim_examples.proofs.Runs.NotedLaws.{AreOwn}
+use Rattle.domain_world.proofs.Clear.NotedLaws.{AreOwn}
 
 -- ---- notes that clash with nothing
 

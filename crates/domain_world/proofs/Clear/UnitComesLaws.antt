@@ -1,5 +1,5 @@
 -- What is written down where a unit of a turn, or of a client's link, comes at its end, as the world is seen then.
--- It serves `a_run_is_clear`.
+-- It serves `Proved.one_by_one`, and `a_run_is_clear` of claim_examples.
 use Rattle.std.proofs.Common.{◌≡◌, ℕ, ◌+◌, ◌≤◌, ◌<◌, ◌^◌, arith, Bool, true, false, List, [], ◌∷◌, ◌++◌, length, map, Option, Some, refl, sym, ap, ap₂, subst, ◌∙◌, slice_get, append-nil}
 use Rattle.std.specs.Prelude.{◌||◌, ◌&&◌}
 use Rattle.std.specs.List.{AllByRecursion}
@@ -66,11 +66,11 @@ use Rattle.logon_runs.proofs.Seen.LinkSceneLaws.{heard_up}
 use Rattle.logon_runs.proofs.Seen.TurnSceneLaws.{heard_back, heard_there}
 use Rattle.logon_runs.proofs.Seen.WaitingLaws.{waiting_comes}
 use Rattle.domain_world.proofs.Completeness.HeardOnceLaws.{ComeTo, bind_answers, controller_answers, turn_answer}
-use Rattle.claim_examples.proofs.Runs.NotedLaws.{AreOwn, Fine, Leads, Waits, Written, client_fine, controller_fine, given_fine, grows, member_fine, world_at}
+use Rattle.domain_world.proofs.Clear.NotedLaws.{AreOwn, Fine, Leads, Waits, Written, client_fine, controller_fine, given_fine, grows, member_fine, world_at}
 use Rattle.domain_world.proofs.Completeness.UnitNotedLaws.{Came, comes_so, coming, state_then}
 use Rattle.domain_world.proofs.Frames.MemberPlanLaws.{controller_but_secret}
-use Rattle.claim_examples.proofs.Runs.NotedOnLaws.{came_fine, onward_waits, written_few}
-use Rattle.claim_examples.proofs.Runs.TakenOnceLaws.{ack_notes, own_notes, reply_own, rests_quiet, waits_quiet}
+use Rattle.domain_world.proofs.Clear.NotedOnLaws.{came_fine, onward_waits, written_few}
+use Rattle.domain_world.proofs.Clear.TakenOnceLaws.{ack_notes, own_notes, reply_own, rests_quiet, waits_quiet}
 
 -- ---- moves at which no unit comes
 

@@ -1,6 +1,6 @@
 -- What is written down of one move: a unit comes on its own link in one piece, at a client, at a member or at a
 -- controller, and no credential passes in it on another channel.
--- It serves `a_run_is_clear`.
+-- It serves `Proved.one_by_one`, and `a_run_is_clear` of claim_examples.
 use Rattle.std.proofs.Common.{◌≡◌, ℕ, zero, suc, ◌+◌, ◌-◌, ◌≤◌, Bool, true, false, List, [], ◌∷◌, ◌++◌, length, map, Option, Some, None, refl, ap, ◌∙◌, arith, slice_get}
 use Rattle.std.specs.Prelude.{◌||◌, drop, replicate}
 use Rattle.std.specs.List.{AllByRecursion}

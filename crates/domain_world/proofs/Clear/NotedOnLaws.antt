@@ -1,6 +1,6 @@
 -- What holds once a unit came, of all that is written down by then: there is no clash still, and the unit that was sent
 -- for it waits with its mark.
--- It serves `a_run_is_clear`.
+-- It serves `Proved.one_by_one`, and `a_run_is_clear` of claim_examples.
 use Rattle.std.proofs.Common.{Option, ◌≡◌, ℕ, suc, ◌+◌, ◌-◌, ◌≤◌, Bool, true, false, List, [], ◌∷◌, ◌++◌, length, map, Some, inl, inr, refl, sym, ap, subst, ◌∙◌, arith, slice_get}
 use Rattle.std.specs.Prelude.{drop, not}
 use Rattle.std.specs.Option.{option_map}
@@ -22,7 +22,7 @@ use Rattle.logon_runs.specs.Seen.WaitingUnits.{waiting}
 use Rattle.logon_runs.proofs.Seen.WaitingLaws.{first_place, later_place, waits_first, waits_later}
 use Rattle.domain_world.specs.Past.{is_sent_on, marks_by, marks_of, note, note_at, note_given, sent_at}
 use Rattle.domain_world.proofs.Frames.MarkPlaceLaws.{got_later, marks_length, settled_length}
-use Rattle.claim_examples.proofs.Runs.NotedLaws.{Fine, Waits, Written, given_fine, grows, world_at}
+use Rattle.domain_world.proofs.Clear.NotedLaws.{Fine, Waits, Written, given_fine, grows, world_at}
 use Rattle.domain_world.proofs.Completeness.UnitNotedLaws.{Came, coming, state_then}
 
 -- ---- fine again

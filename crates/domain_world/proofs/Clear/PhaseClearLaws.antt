@@ -1,0 +1,517 @@
+-- In each phase of a logon that is granted, where no credential clashed, none does as a unit comes: the unit that
+-- carries a call, and the one that carries its reply, was made for the channel on which the credential passes.
+-- It serves `Proved.one_by_one`.
+use Rattle.std.proofs.Common.{◌≡◌, ◌≢◌, ℕ, ◌+◌, ◌==◌, arith, Bool, true, false, List, [], ◌∷◌, ◌++◌, length, map, Option, Some, None, refl, sym, ap, ap₂, subst, ◌∙◌, slice_get}
+use Rattle.std.proofs.lemmas.Bool.{false_from_ne_true}
+use Rattle.std.proofs.lemmas.Bool.Decides.{Decides-eqb}
+use Rattle.authenticators.specs.Channels.{ChannelIdentity}
+use Rattle.authenticators.specs.SecureChannels.{SecureChannelState, channel_of}
+use Rattle.outside.specs.declared.action.Judged.TheVariants as judged
+use Rattle.outside.specs.declared.event.Event.TheVariants as event
+use Rattle.rpc_units.specs.Writing.{written}
+use Rattle.logon_stubs.specs.declared.calls.Call.{Call}
+use Rattle.logon_stubs.specs.declared.calls.Reply.{Reply}
+use Rattle.logon_stubs.specs.declared.calls.Reply.TheVariants as reply
+use Rattle.logon_stubs.specs.declared.info.SamInfo.{SamInfo}
+use Rattle.account_table.specs.AccountTable.{AccountTable}
+use Rattle.end_links.specs.Links.{LinkState}
+use Rattle.end_links.specs.Serving.{ServedUnit}
+use Rattle.sam_logon.specs.MayLogOn.{MayLogOn}
+use Rattle.channel_client.specs.Machine.{Taking, after, offered_flags, wait_for}
+use Rattle.channel_client.specs.State.{Requester}
+use Rattle.channel_client.specs.declared.state.Question.TheVariants as question
+use Rattle.channel_client.specs.declared.state.Step.TheVariants as step
+use Rattle.channel_events.specs.Marks.{Calling, Opened, Opening, Plain, ReplyTo}
+use Rattle.channel_events.proofs.ListLaws.{got_append}
+use Rattle.domain_controller.specs.Hearing.{bound_talk, served_call}
+use Rattle.domain_controller.specs.Machine.{Desk, by_call}
+use Rattle.domain_controller.specs.State.{State as ControllerState}
+use Rattle.channel_client.specs.Machine as requester
+use Rattle.logon_client.specs.Answering.{bind_for}
+use Rattle.logon_client.specs.declared.state.Phase.TheVariants as client_phase
+use Rattle.member_server.specs.Machine.{step_of}
+use Rattle.member_server.specs.Turns.{AtTurn, turn_talk}
+use Rattle.member_server.specs.declared.state.Logons.{Logons}
+use Rattle.member_server.specs.declared.state.Talk.{Talk}
+use Rattle.channel_turns.specs.declared.state.TurnTalk.{TurnTalk}
+use Rattle.step_notes.specs.ChannelNames.{Expects, HasChannel, place_answered}
+use Rattle.step_notes.specs.ControllerNotes.{Answered, has_passed, judged_in, judging_of, new_actions, opening, passing}
+use Rattle.step_notes.specs.Marking.{answered_marks, clashes}
+use Rattle.step_notes.specs.MemberNotes.{half_channel, taking_note, turn_units, turn_units_by}
+use Rattle.step_notes.specs.Records.{Book, Judging, Sent}
+use Rattle.controller_calls.specs.declared.calls.JudgedCall.TheVariants.{Network}
+use Rattle.step_notes.specs.Served.{units_if_taken, work_after}
+use Rattle.step_notes.proofs.Channels.ChannelNameLaws.{channels_are_named_alike}
+use Rattle.world_moves.specs.MemberPlans.{but_secret}
+use Rattle.world_moves.specs.declared.links.EndId.TheVariants.{Client, Controller}
+use Rattle.world_moves.specs.declared.links.Route.TheVariants.{ToMember}
+use Rattle.world_moves.specs.declared.moves.Move.TheVariants as move
+use Rattle.world_moves.specs.declared.state.State.{State}
+use Rattle.world_moves.specs.declared.state.WaitingDial.{WaitingDial}
+use Rattle.world_moves.specs.Moving.{act, connect_first, end_of_peer, onward, tick, without_first}
+use Rattle.world_moves.specs.Bag.{first_waiting}
+use Rattle.logon_steps.specs.Answering.{IsInStep}
+use Rattle.logon_steps.specs.Answers.{auth3_for}
+use Rattle.logon_steps.specs.ControllerTurns.{reply_bytes}
+use Rattle.logon_steps.specs.Granting.{info_told}
+use Rattle.logon_steps.specs.Meeting.{ack_for, challenged_talk, fresh_talk}
+use Rattle.logon_steps.specs.MemberAnswers.{granting}
+use Rattle.logon_steps.specs.MemberTurns.{logons_in_turn, member_at, on_turn}
+use Rattle.logon_steps.specs.Turning.{IsTurnCall, IsTurnReply, turn_agreed}
+use Rattle.logon_steps.proofs.AnswersLaws.{answers_are_asked}
+use Rattle.logon_steps.proofs.AskingLaws.{logons_are_asked}
+use Rattle.logon_steps.proofs.CallingLaws.{calls_can_go}
+use Rattle.logon_steps.proofs.ControllerTurnLaws.{controllers_step}
+use Rattle.logon_steps.proofs.MeetingLaws.{ack_sends, bind_sends}
+use Rattle.logon_steps.proofs.TurningLaws.{turns_go_through, unit_comes}
+use Rattle.std.specs.Prelude.{IsSomeAnd, ◌-◌}
+use Rattle.logon_runs.specs.Seen.LinkScenes.{its_link, unit_down, unit_up}
+use Rattle.logon_runs.specs.Seen.TurnScenes.{IsBetween, Turn, with_accounts}
+use Rattle.logon_runs.specs.Seen.WaitingUnits.{waiting}
+use Rattle.logon_runs.specs.Phases.{Aim, Coming, First, Fits, HasThree, HasUser, IsAimed, IsAsking, IsKnown, IsOpening, IsReady, IsTurning, LogonPhase, MayLogOnAt, NotYet, Progress, Second, Third, TurnAt, WasJudged, WasOpened, WasTold, WhoAsked, call_for, meeting_at, own, progress_answered, progress_called, progress_of, progress_onward, scene_of, standing_for, turn_before, turn_on, with_its_controller}
+use Rattle.logon_runs.specs.Phases.{Acked, Answers, Binds, BindsBefore, BindsHeld, Calls, Challenged, Dials, DialsBefore, DialsHeld, Echoed, Echoes, Granted, Halved, Named, Proved}
+use Rattle.logon_runs.specs.Runs.{Asked, goes, hidden, info_asked, message_for, sam_for}
+use Rattle.logon_runs.specs.Scenes.{Shows}
+use Rattle.logon_runs.proofs.Phases.PhaseEndLaws.{reply_then}
+use Rattle.logon_runs.proofs.Phases.PhaseStartLaws.{left_so}
+use Rattle.logon_runs.proofs.Phases.PhaseTurnLaws.{grants_then}
+use Rattle.logon_runs.proofs.RunLaws.{between_still}
+use Rattle.logon_runs.proofs.Seen.LinkSceneLaws.{found_here, heard_down}
+use Rattle.logon_runs.proofs.Seen.TwoLinkLaws.{turns_have_links}
+use Rattle.logon_runs.proofs.Seen.WaitingLaws.{waiting_comes}
+use Rattle.domain_world.specs.Past.{judged_of, note, note_given, note_onward}
+use Rattle.domain_world.proofs.Completeness.HeardOnceLaws.{either_way, turn_line}
+use Rattle.domain_world.proofs.Completeness.JudgedNoteLaws.{passed_so}
+use Rattle.domain_world.proofs.Completeness.UnitNotedLaws.{comes_so}
+use Rattle.domain_world.proofs.Clear.NotedLaws.{Fine, Waits, given_fine, grows, world_at}
+use Rattle.domain_world.proofs.Clear.NotedOnLaws.{waits_marked}
+use Rattle.domain_world.proofs.Clear.UnitComesLaws.{Called, FineAnd, Names, ack_leads, answer_in_turn, bind_leads, call_comes, channel_in_turn, client_comes, connect_fine, desk_in_turn, dial_leads, judged_bag, meeting_leads, quiet_leads, replied_bag, reply_leads, reply_waits, where_in_turn}
+
+-- ---- what holds
+
+-- no credential clashed, and each unit of the bag has its mark
+pub record IsClean (s : State) (b : Book) : Type 0 where
+  pub apart : b.clash ≡ false
+  pub marked : length b.sent ≡ length s.bag
+
+pub fine_of : (s : State) (b : Book) → IsClean s b → Fine s (length b.judged) b
+fine_of s b clean = record { apart = clean.apart; few = omega arith; marked = clean.marked }
+
+pub clean_of : (s : State) (count : ℕ) (b : Book) → Fine s count b → IsClean s b
+clean_of s count b fine = record { apart = fine.apart; marked = fine.marked }
+
+-- the channel that is opened, and the one that stands
+abbrev pub half_of : Coming → List ℕ → List ℕ → ChannelIdentity
+half_of p client server = record {
+  controller = p.meeting.at_controller;
+  computer = p.meeting.caller.computer;
+  secret = p.meeting.caller.secret;
+  client = client;
+  server = server;
+  flags = offered_flags;
+}
+
+abbrev pub open_of : Coming → SecureChannelState → ChannelIdentity
+open_of p o = channel_of p.meeting.at_controller p.meeting.caller.computer o
+
+-- the unit that waits was made for that channel, where a call or its reply is out
+abbrev pub WaitsFor : Coming → Progress → State → Book → Type 0
+WaitsFor p NotYet s b = Unit {0}
+WaitsFor p (IsOpening client server) s b = Waits s (Some (half_of p client server)) b
+WaitsFor p (WasOpened client server) s b = Waits s (Some (half_of p client server)) b
+WaitsFor p (IsAsking o) s b = Waits s (Some (open_of p o)) b
+WaitsFor p (WasJudged a o) s b = Waits s (Some (open_of p o)) b
+WaitsFor p (WasTold a) s b = Unit {0}
+
+pub record IsClearFor (p : Coming) (far : Progress) (s : State) (b : Book) : Type 0 where
+  pub clean : IsClean s b
+  pub waits : WaitsFor p far s b
+
+-- the member's plan is that of the world, but for the secret, and names the controller
+pub record IsPlanned (p : Coming) (s : State) : Type 0 where
+  pub plan : slice_get (map but_secret s.member_plans) p.meeting.at_member ≡ Some (but_secret p.meeting.plan)
+  pub reach : end_of_peer p.meeting.plan.controller s.ends ≡ Some (Controller p.meeting.at_controller)
+
+-- both ends name the channel alike
+named_alike : (controller : ℕ) (computer : List ℕ) (o c : SecureChannelState) → IsInStep o c → channel_of controller computer c ≡ channel_of controller computer o
+named_alike controller computer o c is =
+    ap₂ (λ (secret client : List ℕ). record { controller = controller; computer = computer; secret = secret; client = client; server = c.server; flags = c.flags }) is.secret is.client
+    ∙ ap₂ (λ (server : List ℕ) (flags : ℕ). record { controller = controller; computer = computer; secret = o.secret; client = o.client; server = server; flags = flags }) is.server is.flags
+
+-- no unit is the turn's that comes on another link
+other_quiet : (logons : Logons) (links : List (ℕ × LinkState Talk)) (link other now : ℕ) (piece : List ℕ) (left : List (List ℕ)) → link ≢ other →
+    turn_units (member_at logons links (on_turn link)) other piece now left ≡ []
+other_quiet logons links link other now piece left apart =
+    let differs : (link == other) ≡ false = false_from_ne_true (link == other) (λ is. apart ((Decides-eqb link other).0 is)) in
+    ap (λ (hit : Bool). units_if_taken (step_of (member_at logons links (on_turn link)) (event.Bytes other piece) now left).answer
+    (turn_units_by hit (record { rest = []; talk = turn_talk None }) other piece (record { logons = logons; links = links; dialling = on_turn link }) left)) differs
+    ∙ either_way (λ (units : List (ServedUnit AtTurn TurnTalk)). units ≡ []) (step_of (member_at logons links (on_turn link)) (event.Bytes other piece) now left).answer [] refl refl
+
+-- ---- a unit comes
+
+-- none waits
+pub idle_clean : (s : State) (k : ℕ) (b : Book) → IsClean s b → waiting s.bag ≡ [] → IsClean (goes s) (note (world_at k s) move.Onward b)
+idle_clean s k b clean none =
+    clean_of (goes s) (length b.judged) (note (world_at k s) move.Onward b)
+    (subst (λ (one : Book). Fine (goes s) (length b.judged) (note_given k (onward s).given (goes s) one)) (sym (ap (λ (found : Option ℕ). note_onward found k s b) (waiting_comes.none s.bag none)))
+    (given_fine k (onward s).given (goes s) (length b.judged) b clean.apart (omega arith) (omega (arith, clean.marked, grows s move.Onward))))
+
+module _ (p : Coming) (s : State) (k : ℕ) (b : Book) (known : IsKnown p) (ready : IsReady p s) (planned : IsPlanned p s) (clean : IsClean s b) (left : List (List ℕ)) (moment : ℕ) where
+  abbrev now : Book
+  now = note (world_at k s) move.Onward b
+
+  abbrev count : ℕ
+  count = length b.judged
+
+  abbrev After : Progress → Type 0
+  After far = IsClearFor p far (goes s) now
+
+  fine : Fine s count b
+  fine = fine_of s b clean
+
+  names_of : (t : Turn) → t.at_member ≡ p.meeting.at_member → t.at_controller ≡ p.meeting.at_controller → t.plan ≡ p.meeting.plan → Names s t
+  names_of t member controller plan = record {
+    plan = subst (λ (at : ℕ). slice_get (map but_secret s.member_plans) at ≡ Some (but_secret t.plan)) (sym member)
+        (subst (λ (own_plan : _). slice_get (map but_secret s.member_plans) p.meeting.at_member ≡ Some (but_secret own_plan)) (sym plan) planned.plan);
+    reach = subst (λ (at : ℕ). end_of_peer t.plan.controller s.ends ≡ Some (Controller at)) (sym controller)
+        (subst (λ (own_plan : _). end_of_peer own_plan.controller s.ends ≡ Some (Controller p.meeting.at_controller)) (sym plan) planned.reach);
+  }
+
+  binds_clear : Shows s (scene_of p Binds left moment) → After NotYet
+  binds_clear shows = record {
+    clean = clean_of (goes s) count now
+        (meeting_leads s (with_its_controller p (own p)) client_phase.Bound fresh_talk (written (bind_for p.meeting.task.level p.meeting.task.auth)) [] left moment count
+        (unit_comes (bind_for p.meeting.task.level p.meeting.task.auth) (bind_sends p.meeting.task.level p.meeting.task.auth)) shows k b fine);
+    waits = tt;
+  }
+
+  challenged_clear : (challenge : List ℕ) → Fits p (Challenged challenge) → Shows s (scene_of p (Challenged challenge) left moment) → After NotYet
+  challenged_clear challenge fits shows =
+      let ack : List ℕ = written (ack_for p.meeting.plan p.meeting.task challenge) in
+      record {
+        clean = clean_of (goes s) count now
+            (client_comes s (unit_down (own p) ack) [] p.meeting.at_client count
+            (comes_so s _ (unit_down (own p) ack) [] (Client p.meeting.at_client) shows
+            (heard_down (with_its_controller p (own p)) client_phase.Bound (challenged_talk p.meeting.task challenge) ack [] left moment
+            (unit_comes (ack_for p.meeting.plan p.meeting.task challenge) (ack_sends p.meeting.plan p.meeting.task challenge known.names fits.0)))) k b fine);
+        waits = tt;
+      }
+
+  module _ (a : Asked) (who : WhoAsked p a) where
+    answers_clear : Fits p (Answers a who) → Shows s (scene_of p (Answers a who) left moment) → After NotYet
+    answers_clear fits shows = record {
+      clean = clean_of (goes s) count now
+          (meeting_leads s (with_its_controller p (own p)) _ (challenged_talk p.meeting.task a.challenge) (written (auth3_for p.meeting.task (message_for (own p) a)))
+          (unit_up (own p) who.sent ∷ []) left moment count
+          (unit_comes (auth3_for p.meeting.task (message_for (own p) a))
+          (answers_are_asked.sends p.meeting.plan p.meeting.task a.challenge a.one a.two a.three a.then_now known.can known.names fits.draws)) shows k b fine);
+      waits = tt;
+    }
+
+    module _ (v : TurnAt) where
+      abbrev t_on : Aim → Turn
+      t_on aim = turn_on p a who.later (who.sent ∷ []) v aim
+
+      between_on : (aim : Aim) → IsTurning p a v → IsBetween (t_on aim)
+      between_on aim is = turns_have_links.between (own p) (turn_before p a who.later (who.sent ∷ []) v) (standing_for aim) is.joined_so
+
+      before_clear : (aim : Aim) → Shows s (scene_of p (DialsBefore a who v aim) left moment) → After NotYet
+      before_clear aim shows = record {
+        clean = clean_of (goes s) count now
+            (dial_leads s (turn_before p a who.later [] v) (its_link (own p)) (standing_for aim) v.next v.number (call_for p a aim) v.computers (unit_up (own p) who.sent) [] left moment count shows
+            (record {
+              units = refl;
+              some = who.some;
+              short = omega (arith, who.short);
+              there = record { route = ToMember p.meeting.at_client p.meeting.at_member; dialler = true; acceptor = true };
+              found = found_here (own p);
+              hearer = refl;
+            }) k b fine);
+        waits = tt;
+      }
+
+      held_clear : (aim : Aim) → IsTurning p a v → Shows s (scene_of p (BindsBefore a who v aim) left moment) → After NotYet
+      held_clear aim is shows =
+          let before : Turn = turn_before p a who.later [] v in
+          let t : Turn = turn_on p a who.later [] v aim in
+          record {
+            clean = clean_of (goes s) count now
+                (quiet_leads s _ (unit_up (own p) who.sent) _ count shows
+                (record {
+                  units = refl;
+                  some = who.some;
+                  short = omega (arith, who.short);
+                  there = record { route = ToMember p.meeting.at_client p.meeting.at_member; dialler = true; acceptor = true };
+                  found = turns_have_links.own (own p) before (standing_for aim) is.joined_so;
+                  hearer = refl;
+                })
+                (λ then_now l. other_quiet (logons_in_turn t.plan t.caller t.how t.info t.place v.next v.number (step.Bind (call_for p a aim)) t.asked) t.accepted (length v.links) (own p).link
+                then_now who.sent l (turns_have_links.apart (own p) before is.joined_so)) k b fine);
+            waits = tt;
+          }
+
+      bound_clear : (aim : Aim) → IsTurning p a v → Shows s (scene_of p (BindsHeld a who v aim) left moment) → After NotYet
+      bound_clear aim is shows = record {
+        clean = clean_of (goes s) count now
+            (bind_leads s (t_on aim) v.next v.number (step.Bind (call_for p a aim)) v.computers left moment count (between_on aim is) is.number_below shows k b fine);
+        waits = tt;
+      }
+
+      -- the call goes out
+      acked_clear : (aim : Aim) → IsTurning p a v → Shows s (scene_of p (Acked a who v aim) left moment) → After (progress_called aim)
+      acked_clear (First client) is shows =
+          let t : Turn = t_on (First client) in
+          let f : FineAnd (goes s) count None now =
+          ack_leads s t v.next v.number (call_for p a (First client)) v.computers left moment count Plain None (between_on (First client) is) is.number_below (names_of t refl refl refl) refl shows k b fine in
+          record { clean = clean_of (goes s) count now f.fine; waits = tt }
+      acked_clear (Second client server) is shows =
+          let t : Turn = t_on (Second client server) in
+          let asks : Requester = channel_in_turn t v.next v.number (step.Bind (call_for p a (Second client server))) in
+          let f : FineAnd (goes s) count (Some (half_of p client server)) now =
+          ack_leads s t v.next v.number (call_for p a (Second client server)) v.computers left moment count
+          (Opening (half_channel t.at_controller (wait_for asks t.place (step.Reply question.Authenticate)) client server) asks.next_call) None (between_on (Second client server) is) is.number_below
+          (names_of t refl refl refl) refl shows k b fine in
+          record { clean = clean_of (goes s) count now f.fine; waits = f.waits }
+      acked_clear (Third o c timestamp) is shows =
+          let t : Turn = t_on (Third o c timestamp) in
+          let asks : Requester = channel_in_turn t v.next v.number (step.Bind (call_for p a (Third o c timestamp))) in
+          let f : FineAnd (goes s) count (Some (open_of p o)) now =
+          ack_leads s t v.next v.number (call_for p a (Third o c timestamp)) v.computers left moment count (Calling (open_of p o) asks.next_call timestamp) (Some t.place)
+          (between_on (Third o c timestamp) is) is.number_below (names_of t refl refl refl) refl shows k b fine in
+          record { clean = clean_of (goes s) count now f.fine; waits = f.waits }
+
+      -- the controller answers
+      first_clear : (client : List ℕ) → IsTurning p a v → IsAimed p v (First client) → Shows s (scene_of p (Calls a who v (First client)) left moment) → After NotYet
+      first_clear client is aimed shows =
+          let t : Turn = t_on (First client) in
+          let three : HasThree s.chances.left = ready.draws in
+          let more : List (List ℕ) = three.two ∷ three.three ∷ three.more in
+          let can : IsTurnCall (call_for p a (First client)) = calls_can_go.challenge p.meeting.caller client known.caller aimed in
+          record {
+            clean = clean_of (goes s) count now
+                (call_comes s t (after v.next) v.next (step.Reply (question.Challenge client)) (call_for p a (First client)) v.computers (three.one ∷ more) more moment count count _ _
+                (between_on (First client) is) is.next_below can
+                (controllers_step.challenged p.table p.name v.computers (length v.links) moment v.next p.meeting.caller client three.one more is.next_below can known.knows)
+                (left_so s (λ (l : List (List ℕ)). scene_of p (Calls a who v (First client)) l moment) left _ shows.left three.are shows) k b fine
+                (λ unit first. refl) (λ unit numbers. omega arith)).has.fine;
+            waits = tt;
+          }
+
+      second_clear : (client server : List ℕ) → IsTurning p a v → IsAimed p v (Second client server) → Waits s (Some (half_of p client server)) b →
+          Shows s (scene_of p (Calls a who v (Second client server)) left moment) → After (WasOpened client server)
+      second_clear client server is aimed waits shows =
+          let t : Turn = t_on (Second client server) in
+          let call : Call = call_for p a (Second client server) in
+          let r : Reply = reply.Authenticate (record { credential = requester.server_credential p.meeting.caller.secret client server; flags = offered_flags; status = 0 }) in
+          let can : IsTurnCall call = calls_can_go.authenticate p.meeting.caller client server known.caller in
+          let steps = controllers_step.proved p.table p.name v.computers (length v.links) moment v.next p.meeting.caller client server p.machine left is.next_below can
+          (known.machine_found client server) known.secret aimed in
+          let channel : Requester = channel_in_turn t (after v.next) v.next (step.Reply question.Authenticate) in
+          let named : ChannelIdentity = half_channel t.at_controller channel client server in
+          let d : Desk = desk_in_turn t v.computers in
+          let then_so : Option Desk = work_after (by_call (served_call call) (turn_line t.link v.next) (bound_talk None turn_agreed) t.name moment d left) in
+          let expects : Expects d channel client server = record { account = p.machine; found = known.machine_found client server; secret = known.secret; pair = aimed } in
+          let one : (unit : ℕ) → answer_in_turn s t v.next call v.computers k unit left moment ≡ opening (Some named) (where_in_turn s t v.next call v.computers k unit) v.next =
+          λ unit. channels_are_named_alike.openings.opens channel client server (where_in_turn s t v.next call v.computers k unit) (turn_line t.link v.next) d then_so expects in
+          let called : Called s t v.next call v.computers k count left moment b =
+          call_comes s t (after v.next) v.next (step.Reply question.Authenticate) call v.computers left left moment count count _ _ (between_on (Second client server) is) is.next_below can steps shows k b fine
+          (λ unit first. channels_are_named_alike.exchanges.opening channel client server (where_in_turn s t v.next call v.computers k unit) (turn_line t.link v.next) d then_so b.sent expects
+          (waits_marked s (Some named) b unit waits first))
+          (λ unit numbers. omega (arith, ap (λ (x : Answered). length (judged_of (x ∷ []) numbers)) (one unit))) in
+          let f : FineAnd (goes s) count (Some named) now =
+          reply_waits s t v.next call v.computers k count count left moment b (reply_bytes v.next r) (Some named) fine called (Opened named v.next called.came.number)
+          (ap (λ (x : Answered). answered_marks (x ∷ [])) (one called.came.number)) refl
+          (replied_bag s t (after v.next) v.next (step.Reply question.Authenticate) call v.computers left left moment (reply_bytes v.next r) _ called.came.number (between_on (Second client server) is) steps shows) in
+          record { clean = clean_of (goes s) count now f.fine; waits = f.waits }
+
+      third_clear : (o c : SecureChannelState) (timestamp : ℕ) → HasUser p → MayLogOnAt p s → IsTurning p a v → IsAimed p v (Third o c timestamp) → Waits s (Some (open_of p o)) b →
+          Shows s (scene_of p (Calls a who v (Third o c timestamp)) left moment) → After (WasJudged a o)
+      third_clear o c timestamp user may_log is aimed waits shows =
+          let t : Turn = t_on (Third o c timestamp) in
+          let call : Call = call_for p a (Third o c timestamp) in
+          let sam : SamInfo = sam_for (own p) a p.table p.name p.account moment in
+          let r : Reply = granting o timestamp 0 1 (hidden o sam) in
+          let may_then : MayLogOn p.table (info_told p.meeting.task) s.moment =
+          subst (λ (found : Option ControllerState). IsSomeAnd found (λ (x : ControllerState). MayLogOn x.table (info_told p.meeting.task) s.moment)) shows.controller may_log in
+          let may : MayLogOn p.table (info_told p.meeting.task) moment = subst (λ (at : ℕ). MayLogOn p.table (info_told p.meeting.task) at) shows.moment may_then in
+          let can : IsTurnCall call = calls_can_go.logon p.meeting.caller o timestamp (info_asked (own p) a) known.caller aimed.0 is.answering.info in
+          let steps = grants_then p a v o c timestamp moment left known user is aimed may can in
+          let named : ChannelIdentity = open_of p o in
+          let d : Desk = desk_in_turn t v.computers in
+          let then_so : Option Desk = work_after (by_call (served_call call) (turn_line t.link v.next) (bound_talk None turn_agreed) t.name moment d left) in
+          let has : HasChannel v.computers named = record { state = c; kept = aimed.1; is = named_alike p.meeting.at_controller p.meeting.caller.computer o c aimed.2 } in
+          let passed : has_passed (judged_in (new_actions then_so d)) ≡ true = ap has_passed (passed_so p a v o c timestamp moment left known user is aimed may) in
+          let j : ℕ → Judging = λ unit. judging_of (where_in_turn s t v.next call v.computers k unit) (turn_line t.link v.next) (Network _) d then_so in
+          let one : (unit : ℕ) → answer_in_turn s t v.next call v.computers k unit left moment ≡ passing (Some named) (j unit) =
+          λ unit. channels_are_named_alike.calls.passes (j unit) v.computers named refl refl refl has passed in
+          let called : Called s t v.next call v.computers k (1 + count) left moment b =
+          call_comes s t (after v.next) v.next (step.Reply question.Logon) call v.computers left left moment count (1 + count) _ _ (between_on (Third o c timestamp) is) is.next_below can steps shows k b fine
+          (λ unit first. channels_are_named_alike.exchanges.calling (j unit) v.computers named b.sent refl refl refl has passed (waits_marked s (Some named) b unit waits first))
+          (λ unit numbers. omega (arith, ap (λ (x : Answered). length (judged_of (x ∷ []) numbers)) (one unit))) in
+          let f : FineAnd (goes s) (1 + count) (Some named) now =
+          reply_waits s t v.next call v.computers k count (1 + count) left moment b (reply_bytes v.next r) (Some named) fine called (ReplyTo named v.next called.came.number)
+          (ap (λ (x : Answered). answered_marks (x ∷ [])) (one called.came.number)) refl
+          (judged_bag s t (after v.next) v.next (step.Reply question.Logon) call v.computers left left moment (judged.Passed 0) (reply_bytes v.next r) _ called.came.number (between_on (Third o c timestamp) is) steps shows) in
+          record { clean = clean_of (goes s) (1 + count) now f.fine; waits = f.waits }
+
+      calls_clear : (aim : Aim) → HasUser p → MayLogOnAt p s → IsTurning p a v → IsAimed p v aim → WaitsFor p (progress_called aim) s b → Shows s (scene_of p (Calls a who v aim) left moment) →
+          After (progress_answered a aim)
+      calls_clear (First client) user may is aimed waits shows = first_clear client is aimed shows
+      calls_clear (Second client server) user may is aimed waits shows = second_clear client server is aimed waits shows
+      calls_clear (Third o c timestamp) user may is aimed waits shows = third_clear o c timestamp user may is aimed waits shows
+
+      -- the member takes the reply
+      halved_clear : (client server : List ℕ) → Fits p (Halved a who v client server) → Shows s (scene_of p (Halved a who v client server) left moment) → After NotYet
+      halved_clear client server fits shows =
+          let t : Turn = t_on (First client) in
+          let r : Reply = reply.Challenge (record { challenge = server; status = 0 }) in
+          let is_reply = calls_can_go.challenged client server fits.1 in
+          let channel : Requester = channel_in_turn t (after v.next) v.next (step.Reply (question.Challenge client)) in
+          let takes =
+          turns_go_through.takes.reply channel v.next t.place (question.Challenge client) r is_reply ∙ logons_are_asked.half t.caller t.info t.place (after v.next) v.next client server in
+          record {
+            clean = clean_of (goes s) count now
+                (reply_leads s t (after v.next) v.next (question.Challenge client) r v.computers left moment count (between_on (First client) fits.0) fits.0.next_below is_reply (names_of t refl refl refl) shows k b fine
+                (λ unit first. ap (λ (taking : Taking). clashes (taking_note (Some taking) t.at_controller channel).checked (Some unit) b.sent) takes));
+            waits = tt;
+          }
+
+      proved_clear : (client server : List ℕ) → Fits p (Proved a who v client server) → Waits s (Some (half_of p client server)) b → Shows s (scene_of p (Proved a who v client server) left moment) → After NotYet
+      proved_clear client server fits waits shows =
+          let t : Turn = t_on (Second client server) in
+          let r : Reply = reply.Authenticate (record { credential = requester.server_credential p.meeting.caller.secret client server; flags = offered_flags; status = 0 }) in
+          let is_reply = calls_can_go.proved p.meeting.caller.secret client server in
+          let channel : Requester = channel_in_turn t (after v.next) v.next (step.Reply question.Authenticate) in
+          let named : ChannelIdentity = half_channel t.at_controller channel client server in
+          let takes =
+          turns_go_through.takes.reply channel v.next t.place question.Authenticate r is_reply ∙ logons_are_asked.opened t.caller t.info t.place (after v.next) v.next offered_flags client server refl in
+          record {
+            clean = clean_of (goes s) count now
+                (reply_leads s t (after v.next) v.next question.Authenticate r v.computers left moment count (between_on (Second client server) fits.0) fits.0.next_below is_reply (names_of t refl refl refl) shows k b fine
+                (λ unit first. channels_are_named_alike.exchanges.opened t.at_controller channel _ client server (Some unit) b.sent refl (ap (λ (taking : Taking). taking.taken) takes)
+                (waits_marked s (Some named) b unit waits first)));
+            waits = tt;
+          }
+
+      granted_clear : (o c : SecureChannelState) (timestamp judged_at : ℕ) (accounts : AccountTable) → Fits p (Granted a who v o c timestamp judged_at accounts) → Waits s (Some (open_of p o)) b →
+          Shows s (scene_of p (Granted a who v o c timestamp judged_at accounts) left moment) → After (WasTold a)
+      granted_clear o c timestamp judged_at accounts fits waits shows =
+          let before : Turn = t_on (Third o c timestamp) in
+          let t : Turn = with_accounts accounts before in
+          let sam : SamInfo = sam_for (own p) a p.table p.name p.account judged_at in
+          let r : Reply = granting o timestamp 0 1 (hidden o sam) in
+          let is_reply : IsTurnReply question.Logon r = reply_then p a o timestamp judged_at known fits.1 in
+          let channel : Requester = channel_in_turn t (after v.next) v.next (step.Reply question.Logon) in
+          let named : ChannelIdentity = open_of p o in
+          let takes =
+          turns_go_through.takes.reply channel v.next t.place question.Logon r is_reply ∙ logons_are_asked.granted t.caller o t.info (hidden o sam) t.place (after v.next) v.next timestamp 0 1 in
+          record {
+            clean = clean_of (goes s) count now
+                (reply_leads s t (after v.next) v.next question.Logon r v.computers left moment count (between_still before accounts (between_on (Third o c timestamp) fits.0)) fits.0.next_below is_reply
+                (names_of t refl refl refl) shows k b fine
+                (λ unit first. channels_are_named_alike.exchanges.answered t.at_controller channel _ t.place named (Some unit) b.sent refl (ap (λ (taking : Taking). place_answered taking.taken) takes)
+                (waits_marked s (Some named) b unit waits first)));
+            waits = tt;
+          }
+
+  -- so it is in each phase
+  pub onward_clear : (phase : LogonPhase p) → HasUser p → MayLogOnAt p s → Fits p phase → WaitsFor p (progress_of phase) s b → Shows s (scene_of p phase left moment) → After (progress_onward phase)
+  onward_clear Dials user may fits waits shows = record { clean = idle_clean s k b clean shows.units; waits = tt }
+  onward_clear Binds user may fits waits shows = binds_clear shows
+  onward_clear (Challenged challenge) user may fits waits shows = challenged_clear challenge fits shows
+  onward_clear (Answers a who) user may fits waits shows = answers_clear a who fits shows
+  onward_clear (DialsBefore a who v aim) user may fits waits shows = before_clear a who v aim shows
+  onward_clear (DialsHeld a who v aim) user may fits waits shows = record { clean = idle_clean s k b clean shows.units; waits = tt }
+  onward_clear (BindsBefore a who v aim) user may fits waits shows = held_clear a who v aim fits.0 shows
+  onward_clear (BindsHeld a who v aim) user may fits waits shows = bound_clear a who v aim fits.0 shows
+  onward_clear (Acked a who v aim) user may fits waits shows = acked_clear a who v aim fits.0 shows
+  onward_clear (Calls a who v aim) user may fits waits shows = calls_clear a who v aim user may fits.0 fits.1 waits shows
+  onward_clear (Halved a who v client server) user may fits waits shows = halved_clear a who v client server fits shows
+  onward_clear (Proved a who v client server) user may fits waits shows = proved_clear a who v client server fits waits shows
+  onward_clear (Granted a who v o c timestamp judged_at accounts) user may fits waits shows = granted_clear a who v o c timestamp judged_at accounts fits waits shows
+  onward_clear (Named a e on one other back) user may fits waits shows = record {
+    clean = clean_of (goes s) count now
+        (client_comes s (unit_down (own p) back.sent) [] p.meeting.at_client count
+        (comes_so s _ (unit_down (own p) back.sent) [] (Client p.meeting.at_client) shows
+        (heard_down (meeting_at p e) _ _ back.sent [] left moment (record { some = back.some; short = omega (arith, back.short) }))) k b fine);
+    waits = tt;
+  }
+  onward_clear (Echoes a e on one asks) user may fits waits shows = record {
+    clean = clean_of (goes s) count now
+        (meeting_leads s (meeting_at p e) _ _ asks.sent [] left moment count (record { some = asks.some; short = omega (arith, asks.short) }) shows k b fine);
+    waits = tt;
+  }
+  onward_clear (Echoed a e talk one other back) user may fits waits shows = record {
+    clean = clean_of (goes s) count now
+        (client_comes s (unit_down (own p) back.sent) [] p.meeting.at_client count
+        (comes_so s _ (unit_down (own p) back.sent) [] (Client p.meeting.at_client) shows
+        (heard_down (meeting_at p e) _ _ back.sent [] left moment (record { some = back.some; short = omega (arith, back.short) }))) k b fine);
+    waits = tt;
+  }
+
+-- ---- no unit comes
+
+-- the bag stays, and no unit loses its mark
+kept_so : (s after : State) (b : Book) (more : List Sent) (then_b : Book) → after.bag ≡ s.bag → then_b.sent ≡ b.sent ++ more → (channel : Option ChannelIdentity) → Waits s channel b → Waits after channel then_b
+kept_so s after b more then_b same grown channel waits = record {
+  number = waits.number;
+  first = ap first_waiting same ∙ waits.first;
+  one = waits.one;
+  there = ap (λ (sent : List Sent). slice_get sent waits.number) grown ∙ got_append b.sent more waits.number waits.one waits.there;
+  made = waits.made;
+}
+
+waits_kept : (p : Coming) (far : Progress) (s after : State) (b : Book) (more : List Sent) (then_b : Book) → after.bag ≡ s.bag → then_b.sent ≡ b.sent ++ more → WaitsFor p far s b → WaitsFor p far after then_b
+waits_kept p NotYet s after b more then_b same grown waits = tt
+waits_kept p (IsOpening client server) s after b more then_b same grown waits = kept_so s after b more then_b same grown _ waits
+waits_kept p (WasOpened client server) s after b more then_b same grown waits = kept_so s after b more then_b same grown _ waits
+waits_kept p (IsAsking o) s after b more then_b same grown waits = kept_so s after b more then_b same grown _ waits
+waits_kept p (WasJudged a o) s after b more then_b same grown waits = kept_so s after b more then_b same grown _ waits
+waits_kept p (WasTold a) s after b more then_b same grown waits = tt
+
+module _ (s : State) (k : ℕ) (b : Book) (clean : IsClean s b) where
+  -- no dial waits
+  no_dial : s.dials ≡ [] → (act s move.Connect).state.bag ≡ s.bag
+  no_dial none = ap (λ (dials : List WaitingDial). (connect_first (slice_get dials 0) (without_first s)).state.bag) none
+
+  pub connect_clean : IsClean (act s move.Connect).state (note (world_at k s) move.Connect b)
+  connect_clean = clean_of (act s move.Connect).state (length b.judged) (note (world_at k s) move.Connect b) (connect_fine s (length b.judged) k b (fine_of s b clean))
+
+  pub tick_clean : (more : ℕ) → IsClean (act s (move.Tick more)).state (note (world_at k s) (move.Tick more) b)
+  tick_clean more =
+      clean_of (tick more s) (length b.judged) (note (world_at k s) (move.Tick more) b)
+      (given_fine k [] (tick more s) (length b.judged) b clean.apart (omega arith) (omega (arith, clean.marked)))
+
+module _ (p : Coming) (s : State) (k : ℕ) (b : Book) (clean : IsClean s b) where
+  abbrev Connected : Progress → Type 0
+  Connected far = IsClearFor p far (act s move.Connect).state (note (world_at k s) move.Connect b)
+
+  still : (far : Progress) → s.dials ≡ [] → WaitsFor p far s b → Connected far
+  still far none waits = record {
+    clean = connect_clean s k b clean;
+    waits = waits_kept p far s (act s move.Connect).state b _ (note (world_at k s) move.Connect b) (no_dial s k b clean none) refl waits;
+  }
+
+  pub connect_clear : (phase : LogonPhase p) (left : List (List ℕ)) (moment : ℕ) → WaitsFor p (progress_of phase) s b → Shows s (scene_of p phase left moment) → Connected (progress_of phase)
+  connect_clear Dials left moment waits shows = record { clean = connect_clean s k b clean; waits = tt }
+  connect_clear Binds left moment waits shows = record { clean = connect_clean s k b clean; waits = tt }
+  connect_clear (Challenged challenge) left moment waits shows = record { clean = connect_clean s k b clean; waits = tt }
+  connect_clear (Answers a who) left moment waits shows = record { clean = connect_clean s k b clean; waits = tt }
+  connect_clear (DialsBefore a who v aim) left moment waits shows = record { clean = connect_clean s k b clean; waits = tt }
+  connect_clear (DialsHeld a who v aim) left moment waits shows = record { clean = connect_clean s k b clean; waits = tt }
+  connect_clear (BindsBefore a who v aim) left moment waits shows = record { clean = connect_clean s k b clean; waits = tt }
+  connect_clear (BindsHeld a who v aim) left moment waits shows = record { clean = connect_clean s k b clean; waits = tt }
+  connect_clear (Acked a who v aim) left moment waits shows = record { clean = connect_clean s k b clean; waits = tt }
+  connect_clear (Calls a who v aim) left moment waits shows = still (progress_called aim) shows.dials waits
+  connect_clear (Halved a who v client server) left moment waits shows = record { clean = connect_clean s k b clean; waits = tt }
+  connect_clear (Proved a who v client server) left moment waits shows = still (WasOpened client server) shows.dials waits
+  connect_clear (Granted a who v o c timestamp judged_at accounts) left moment waits shows = still (WasJudged a o) shows.dials waits
+  connect_clear (Named a e on one other back) left moment waits shows = record { clean = connect_clean s k b clean; waits = tt }
+  connect_clear (Echoes a e on one asks) left moment waits shows = record { clean = connect_clean s k b clean; waits = tt }
+  connect_clear (Echoed a e talk one other back) left moment waits shows = record { clean = connect_clean s k b clean; waits = tt }
+
+  pub tick_clear : (far : Progress) (more : ℕ) → WaitsFor p far s b → IsClearFor p far (act s (move.Tick more)).state (note (world_at k s) (move.Tick more) b)
+  tick_clear far more waits = record {
+    clean = tick_clean s k b clean more;
+    waits = waits_kept p far s (act s (move.Tick more)).state b _ (note (world_at k s) (move.Tick more) b) refl refl waits;
+  }
