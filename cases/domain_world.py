@@ -781,7 +781,7 @@ def logon_scripts():
     return [granted, refused]
 
 
-# ---- logons that come one at a time: each client that can succeed does (`EachSucceeds` of docs/ARCHITECTURE.md), and
+# ---- logons that come one at a time: each client that can succeed does (`EachSucceeds` of docs/CLAIMS.md), and
 # near misses of its premises
 
 # Of each client its user, the number of its member's end, the level, the kind of response, its hash and how many bytes
