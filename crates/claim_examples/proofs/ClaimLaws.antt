@@ -1,8 +1,7 @@
 -- Small runs that meet a claim, and some that don't.
 -- It serves `claims_tell_apart`.
-use Rattle.std.proofs.Common.{◌≡◌, ◌≢◌, ℕ, ◌≤◌, ◌+◌, Bool, true, false, List, [], ◌∷◌, ◌++◌, length, inl, inr, Option, Some, None, refl, sym, ap, subst, ◌∙◌, arith}
+use Rattle.std.proofs.Common.{◌≡◌, ◌≢◌, ℕ, ◌+◌, Bool, true, false, List, [], ◌∷◌, ◌++◌, inl, inr, Option, Some, None, refl, sym, ap, subst, ◌∙◌, arith}
 use Rattle.std.specs.Prelude.{◌%◌, ◌^◌, codes, ◌⊎◌}
-use Rattle.wire_base.specs.Maps.{lookup}
 use Rattle.end_links.specs.Serving.{ServedUnit}
 use Rattle.wire_base.specs.Names.{same_name}
 use Rattle.wire_base.specs.Names as names
@@ -21,17 +20,16 @@ use Rattle.step_notes.specs.Marking.{clashes, is_channel}
 use Rattle.step_notes.specs.Records.{Judging, computer_named, given_in, timestamp_in}
 use Rattle.world_moves.specs.declared.links.Route.TheVariants.{ToMember}
 use Rattle.world_moves.specs.declared.plan.Plan.{Plan}
-use Rattle.world_moves.specs.World.{first_world}
 use Rattle.domain_world.specs.Claims.{IsAccepted, PassesTheNextCredential, Wraps, moved_if, moved_on, passed_on, judged_timestamp}
 use Rattle.domain_world.specs.Headline.{IsClaimed}
 use Rattle.domain_world.proofs.HeadlineLaws.{all_proved}
-use Rattle.claim_examples.specs.ClaimExamples.{OfAll, OfClashes, OfCredentials, OfReplays, OfTakenAnswers, OfWraps, elsewhere, judged_as, judged_once, last_timestamp, message, next_call, on_channel, passed_in, second_timestamp, seed_after_one, small_account, small_challenge, small_channel, small_computers, small_name, small_seed, taken_in, third_timestamp, told_as, whole_book, whole_call, whole_run}
+use Rattle.claim_examples.specs.ClaimExamples.{OfAll, OfClashes, OfCredentials, OfReplays, OfTakenAnswers, OfWraps, elsewhere, judged_as, judged_once, last_timestamp, message, next_call, on_channel, passed_in, second_timestamp, seed_after_one, small_account, small_challenge, small_channel, small_name, small_seed, taken_in, third_timestamp, told_as, whole_book, whole_call, whole_run}
 use Rattle.claim_examples.specs.TellApart.{ClaimsTellApart}
 use Rattle.step_notes.proofs.Controllers.JudgedStepLaws.{next_unbarred, right_passed}
 use Rattle.claim_examples.proofs.CompletenessLaws.{of_completeness, of_success}
 use Rattle.claim_examples.proofs.LetInExampleLaws.{found_small}
 use Rattle.claim_examples.proofs.LogonLaws.{granted_small, of_accepting_all, of_accepting_only, of_challenges, of_keys, of_short_responses, only_draw}
-use Rattle.claim_examples.proofs.SequenceLaws.{kept_small, of_sequences, one_apart, one_stamp, shares_by}
+use Rattle.claim_examples.proofs.SequenceLaws.{of_sequences, one_apart, one_stamp, shares_by}
 
 -- ---- parts of short lists
 

@@ -2,7 +2,6 @@
 -- It serves `grants_tell_apart`.
 use Rattle.std.proofs.Common.{◌≡◌, ◌≤◌, ◌<◌, ℕ, zero, suc, true, false, List, [], ◌∷◌, get_or, length, map, replicate, slice_get, inl, inr, Option, Some, None, Result, Ok, refl, sym, ap, ap₂, subst, ◌∙◌, arith}
 use Rattle.std.specs.Prelude.{codes}
-use Rattle.wire_base.specs.Maps.{lookup}
 use Rattle.wire_base.specs.Names.{same_name}
 use Rattle.wire_base.specs.declared.authenticator.Authenticator.{Authenticator}
 use Rattle.authenticators.specs.Sequences.{authenticator_of}
@@ -40,7 +39,7 @@ use Rattle.account_table.specs.Changes.{settled}
 use Rattle.account_table.proofs.ChangeLaws.{states-none}
 use Rattle.account_table.specs.LookUps.{account_in, place_in, route_in}
 use Rattle.sam_logon.specs.MayLogOn.{MayLogOn, ResponseVerifies}
-use Rattle.domain_controller.specs.Machine.{Desk, answer_logon, judge_info}
+use Rattle.domain_controller.specs.Machine.{Desk, answer_logon}
 use Rattle.controller_calls.specs.declared.line.Line.{Line}
 use Rattle.step_notes.specs.ControllerNotes.{Where, judging_of}
 use Rattle.step_notes.specs.GrantSends.{IsSentAsGranted, actions_granting, reply_granted}
@@ -51,7 +50,7 @@ use Rattle.domain_world.specs.Claims.{info_asked}
 use Rattle.domain_world.specs.Claims.Counts.{RaisesCount}
 use Rattle.domain_world.specs.Claims.Grants.{IsToBeGranted, users_of}
 use Rattle.domain_world.specs.Claims.Tables.{left_by}
-use Rattle.claim_examples.specs.ClaimExamples.{judged_as, message, next_call, next_logon, small_account, small_channel, small_computers, small_hash, small_table}
+use Rattle.claim_examples.specs.ClaimExamples.{judged_as, message, next_call, next_logon, small_account, small_channel, small_hash, small_table}
 use Rattle.claim_examples.specs.GrantExamples.{GrantsTellApart, OfCounts, OfGrants, OfSending, at_level, counted_table, disabled_table, empty_table, hashed_table, locked_call, machine_table, reply_with_key, small_call, small_desk, small_line, wrong_call}
 use Rattle.channel_events.proofs.ListLaws.{got_nothing}
 use Rattle.step_notes.proofs.Controllers.GrantSendLaws.{grants_carry_their_key}

@@ -2,8 +2,6 @@
 -- It serves `replies_tell_apart`.
 use Rattle.std.proofs.Common.{◌≡◌, ℕ, zero, suc, Bool, true, false, List, [], ◌∷◌, length, inl, inr, Some, refl, sym, ap, subst, ◌∙◌}
 use Rattle.std.specs.Prelude.{codes, flat_map, nat_le, if◌then◌else◌}
-use Rattle.wire_base.specs.Maps.{lookup}
-use Rattle.wire_base.specs.Names.{same_name}
 use Rattle.authenticators.specs.Channels.{ChannelIdentity}
 use Rattle.outside.specs.declared.action.Judged.TheVariants as judged
 use Rattle.rpc_units.specs.declared.unit.Unit.{Unit as RpcUnit}
@@ -14,20 +12,18 @@ use Rattle.authenticators.specs.Sequences.{authenticator_of}
 use Rattle.authenticators.specs.SecureChannels.{key_of_channel, channel_of}
 use Rattle.domain_controller.specs.Machine.{status_of}
 use Rattle.channel_events.specs.Marks.{Mark, Plain, ReplyTo}
-use Rattle.step_notes.specs.ControllerNotes.{identity_by}
 use Rattle.step_notes.specs.Judged.{IsNextOn}
 use Rattle.step_notes.specs.Records.{InUnit, Judging, Sent, given_in}
 use Rattle.step_notes.specs.ReplySends.{IsReplyOfCall, verdict_passed}
 use Rattle.world_moves.specs.declared.bag.BagUnit.{BagUnit}
 use Rattle.domain_world.specs.Claims.Replies.{IsReplyOfOne, RepliesCarryTheirJudgement}
 use Rattle.domain_world.specs.Past.{plain_form, sent_at}
-use Rattle.claim_examples.specs.ClaimExamples.{judged_as, next_call, next_logon, small_channel, small_computers, small_name, small_table}
+use Rattle.claim_examples.specs.ClaimExamples.{judged_as, next_call, next_logon, small_channel, small_name, small_table}
 use Rattle.claim_examples.specs.ReplyExamples.{OfReplies, replied, replied_call, reply_mark, small_reply}
 use Rattle.channel_events.proofs.ListLaws.{got_nothing, some_is}
 use Rattle.step_notes.proofs.Controllers.GrantVerdictLaws.{granted_status}
 use Rattle.claim_examples.proofs.GrantExampleLaws.{may_small}
 use Rattle.claim_examples.proofs.LogonLaws.{granted_small}
-use Rattle.claim_examples.proofs.SequenceLaws.{kept_small}
 
 -- ---- a call is sent in some bytes
 

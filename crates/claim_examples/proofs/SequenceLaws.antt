@@ -9,7 +9,6 @@ use Rattle.authenticators.specs.Sequences.{moved_by}
 use Rattle.authenticators.proofs.SeedLaws.{IsBlock-add_to, add_to-same}
 use Rattle.channel_keys.proofs.CredLaws.{IsBlock-cred_of}
 use Rattle.authenticators.specs.SecureChannels.{channel_of, SecureChannelState}
-use Rattle.channel_client.specs.declared.state.Standing.{Standing}
 use Rattle.channel_client.specs.declared.state.Pending.{Pending}
 use Rattle.member_server.specs.State.{State as MemberState}
 use Rattle.member_server.specs.declared.state.Running.{Running as MemberRunning}

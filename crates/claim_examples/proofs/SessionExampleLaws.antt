@@ -1,6 +1,6 @@
 -- Interactive logons that were written down by hand, and the sessions behind them: which meet the claims, and which
 -- don't. It serves `sessions_tell_apart`.
-use Rattle.std.proofs.Common.{◌≡◌, ℕ, zero, suc, ◌≤◌, ◌<◌, true, false, inl, inr, List, [], ◌∷◌, length, replicate, get_or, Option, Some, None, refl, sym, ap, subst, ◌∙◌, arith}
+use Rattle.std.proofs.Common.{◌≡◌, ℕ, zero, suc, ◌≤◌, ◌<◌, true, false, inr, List, [], ◌∷◌, length, replicate, get_or, Some, refl, sym, ap, subst, ◌∙◌, arith}
 use Rattle.std.specs.Prelude.{codes}
 use Rattle.std.proofs.lemmas.List.{length-replicate}
 use Rattle.wire_base.specs.Names as names
@@ -34,7 +34,7 @@ use Rattle.domain_world.specs.Claims.Grants.{IsToBeLetOn}
 use Rattle.domain_world.specs.Claims.Sessions.{AreBySince, ControllerRenewed, HasSessions, SessionsFollow, last_start, sessions_behind, sessions_since}
 use Rattle.channel_events.proofs.ListLaws.{got_nothing, some_is}
 use Rattle.claim_examples.specs.ClaimExamples.{judged_as, message, small_channel, small_hash, small_table}
-use Rattle.claim_examples.specs.SessionExamples.{OfHashGrants, OfSessions, ann_call, ann_session, barred_by, controller_with, hash_call, hash_info, hash_logon, other_hash, renewed_by, run_with, running_with, with_sessions}
+use Rattle.claim_examples.specs.SessionExamples.{OfHashGrants, OfSessions, ann_call, ann_session, barred_by, controller_with, hash_call, hash_info, hash_logon, other_hash, renewed_by, run_with, running_with}
 use Rattle.claim_examples.proofs.ClaimLaws.{no_channel}
 use Rattle.claim_examples.proofs.GrantExampleLaws.{may_small}
 

@@ -1,6 +1,6 @@
 -- Interactive logons that were written down by hand, and the sessions that a controller has behind them: of which what
 -- is claimed of both holds, and of which it doesn't (this project's own choice).
-use Rattle.std.specs.Prelude.{ℕ, ◌≡◌, List, [], ◌∷◌, replicate, Option, Some, None, codes}
+use Rattle.std.specs.Prelude.{ℕ, ◌≡◌, List, [], ◌∷◌, replicate, Some, None, codes}
 use Rattle.rc4_stream.specs.Rc4.{applied}
 use Rattle.authenticators.specs.SecureChannels.{key_of_channel}
 use Rattle.outside.specs.declared.action.Judged.TheVariants as judged

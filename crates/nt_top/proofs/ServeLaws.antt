@@ -1,5 +1,5 @@
 -- A command that serves, by the results of its parts.
-use Rattle.std.proofs.Common.{◌≡◌, inl, inr, ℕ, true, false, List, ◌∷◌, codes, Option, Some, IfSome, Result, Ok, Err, OnOk, IfErr, refl, sym, ap, subst, ◌∙◌}
+use Rattle.std.proofs.Common.{◌≡◌, inl, inr, ℕ, true, false, List, ◌∷◌, codes, Some, IfSome, Result, Ok, Err, OnOk, IfErr, refl, sym, ap, subst, ◌∙◌}
 use Rattle.outside.specs.Causes.{Rose}
 use Rattle.outside.specs.Machine.{Machine}
 use Rattle.end_loop.specs.Seen.{Sight}
@@ -7,7 +7,7 @@ use Rattle.end_loop.specs.Serving.{Served, ServedUntil}
 use Rattle.end_loop.specs.declared.halt.Halt.{Halt}
 use Rattle.end_loop.specs.declared.halt.Halt.TheVariants as halts
 use Rattle.wire_base.specs.Memory.{UpToMemory}
-use Rattle.nt_words.specs.Files.{FaultRose, HasFault, Shelf, UpToFaults}
+use Rattle.nt_words.specs.Files.{Shelf, UpToFaults}
 use Rattle.nt_words.specs.Roles.{job_of}
 use Rattle.nt_words.specs.Setups.{setup_due}
 use Rattle.nt_words.specs.declared.job.Job.{Job}
@@ -33,7 +33,7 @@ use Rattle.nt_top.specs.Refusals.{files_exit, words_exit}
 use Rattle.nt_top.specs.Serve.{IsServed, MayServe, ServesTo, halt_exit, service_exit}
 use Rattle.nt_top.specs.Logon.{plan_of}
 use Rattle.nt_top.specs.LogonExits.{IsAnswered, IsOfClients, LosesLink}
-use Rattle.nt_top.specs.Service.{IsBadOfFiles, IsOfContents, IsServedBy, IsServiceOfForm, ServiceAsked, ServiceBy, ServiceFollows, ServiceReads, ServiceRuns, uses_port}
+use Rattle.nt_top.specs.Service.{IsBadOfFiles, IsOfContents, IsServedBy, IsServiceOfForm, ServiceAsked, ServiceBy, ServiceFollows, ServiceRuns, uses_port}
 use Rattle.nt_top.proofs.JobLaws.{acts_by_words}
 use Rattle.nt_top.proofs.LogonLaws.{logon_laws}
 

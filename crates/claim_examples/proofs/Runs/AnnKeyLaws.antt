@@ -1,7 +1,7 @@
 -- The keys of the example's logon, of all that is written down of its run. The client made its message for the
 -- CHALLENGE that the member sent, by the hash that is stored. The key with which the member lets in is the client's.
 -- It serves `ann_is_accepted`.
-use Rattle.std.proofs.Common.{◌≡◌, ℕ, ◌&&◌, ◌||◌, Bool, true, false, not, List, [], ◌∷◌, ◌++◌, Option, Some, None, inl, inr, refl, sym, ap, ◌∙◌, subst, bytes_eq}
+use Rattle.std.proofs.Common.{◌≡◌, ℕ, ◌&&◌, ◌||◌, Bool, true, false, not, List, [], ◌∷◌, ◌++◌, Option, Some, None, inl, inr, refl, sym, ap, ◌∙◌, bytes_eq}
 use Rattle.std.specs.Prelude.{◌==◌}
 use Rattle.std.proofs.lemmas.Bool.{and_parts}
 use Rattle.std.proofs.lemmas.Bool.Decides.{Decides-eqb}
@@ -60,7 +60,7 @@ use Rattle.channel_events.specs.Marks.{OneOf}
 use Rattle.step_notes.specs.Judged.{base_key_asked, passed_channel, stored_hash}
 use Rattle.step_notes.specs.Records.{Book, ChallengeSent, Judging, MessageMade, MessageTaken, OutcomeTold, blank}
 use Rattle.world_moves.specs.Counting.{is_in}
-use Rattle.world_moves.specs.World.{World, first_world, run}
+use Rattle.world_moves.specs.World.{World, first_world}
 use Rattle.domain_world.specs.Claims.{HasKey, IsMadeFor, TravelsAsZeros, info_asked, key_bytes, taken_answer}
 use Rattle.domain_world.specs.Past.{Past, book, past}
 use Rattle.claim_examples.specs.AnnAccepted.{HasKeyed, IsKeyed}

@@ -17,7 +17,6 @@ use Rattle.logon_client.specs.Machine as steps
 use Rattle.member_server.specs.declared.plan.MemberPlan.{MemberPlan}
 use Rattle.channel_events.proofs.ListLaws.{all_weaker}
 use Rattle.logon_stubs.specs.declared.calls.LogonCall.{LogonCall}
-use Rattle.step_notes.specs.Records.{Judging}
 use Rattle.step_notes.proofs.Controllers.JudgedCallLaws.{network_so}
 use Rattle.domain_world.specs.Claims.{TravelsAsZeros}
 use Rattle.world_moves.specs.declared.plan.Plan.{Plan}

@@ -3,8 +3,6 @@
 -- It serves `ann_can_succeed`.
 use Rattle.std.proofs.Common.{◌≡◌, ℕ, ◌≤◌, arith, Bool, true, false, List, [], ◌∷◌, length, Option, Some, sym, ap, subst, ◌∙◌, replicate}
 use Rattle.std.specs.List.{AllByRecursion}
-use Rattle.wire_base.specs.Maps.{lookup}
-use Rattle.wire_base.specs.Names.{same_name}
 use Rattle.rc4_stream.specs.Rc4.{applied}
 use Rattle.authenticators.specs.SecureChannels.{SecureChannelState, key_of_channel}
 use Rattle.step_notes.specs.ControllerNotes.{identity_by, channel_in, has_passed}

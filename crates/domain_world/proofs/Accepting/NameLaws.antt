@@ -22,7 +22,6 @@ use Rattle.step_notes.specs.Records.{InUnit, Judging, MessageTaken, OutcomeTold}
 use Rattle.step_notes.specs.ReplySends.{IsReplyOfCall, verdict_passed}
 use Rattle.world_moves.specs.Counting.{is_in}
 use Rattle.domain_world.specs.Accepting.Answered.{AnswersAreHeard, AsksForIt, IsAnsweredIn, IsLetInAsRead, IsProved, outcome_read, verdict_read}
-use Rattle.domain_world.specs.Claims.{info_asked}
 use Rattle.domain_world.specs.Claims.Names.{HasNames, IsLetInByName, IsNamedBy, LetsInByName}
 use Rattle.domain_world.specs.Claims.Replies.{IsReplyOfOne}
 use Rattle.domain_world.specs.Past.{Past, plain_form}

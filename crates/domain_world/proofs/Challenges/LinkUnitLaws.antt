@@ -6,9 +6,7 @@ use Rattle.std.proofs.lemmas.Bool.{eq-eqb}
 use Rattle.std.proofs.lemmas.Option.{same_Some}
 use Rattle.wire_base.specs.Maps.{lookup, put, same_number}
 use Rattle.wire_base.proofs.MapLaws.{lookup-put_same}
-use Rattle.outside.specs.declared.action.Action.TheVariants as action
 use Rattle.outside.specs.declared.action.CloseCause.TheVariants as close
-use Rattle.outside.specs.declared.event.Event.TheVariants as event
 use Rattle.ntlm_flags.specs.Flags.{agreed_flags}
 use Rattle.ntlm_messages.specs.declared.messages.Authenticate.{Authenticate}
 use Rattle.ntlm_messages.specs.declared.refused.MessageRefused.{MessageRefused}

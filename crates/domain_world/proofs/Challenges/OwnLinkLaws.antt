@@ -18,7 +18,6 @@ use Rattle.rpc_units.specs.Stream.{Cut, cut_stream}
 use Rattle.end_links.specs.Links.{LinkState}
 use Rattle.end_links.specs.Serving.{ServedPart, served_cut, ServedUnit, served_units}
 use Rattle.end_links.proofs.KeepLaws.{comes_to, unit_served}
-use Rattle.channel_client.specs.declared.answers.AskRefused.TheVariants as ask_refused
 use Rattle.member_server.specs.declared.state.AtLink.{AtLink}
 use Rattle.member_server.specs.declared.state.Bound.{Bound}
 use Rattle.channel_turns.specs.declared.state.Dialling.{Dialling}

@@ -13,7 +13,7 @@ use Rattle.world_moves.specs.declared.moves.Move.TheVariants as move
 use Rattle.world_moves.specs.declared.plan.Plan.{Plan}
 use Rattle.world_moves.specs.declared.state.State.{State}
 use Rattle.world_moves.specs.Forms.{HasForms}
-use Rattle.world_moves.specs.Moving.{act, start}
+use Rattle.world_moves.specs.Moving.{act}
 use Rattle.world_moves.specs.World.{IsPlan, World, first_world, happens}
 use Rattle.logon_runs.specs.Phases.{ArrivesAt, ComesSoFar, Coming, DrawsFew, HasUser, HasUserAt, IsKnown, IsOver, IsReached, IsReady, IsUnderWay, MayLogOnAt, NotYet, Progress, WasTold, progress_of, progress_onward}
 use Rattle.logon_runs.specs.Rests.{CanBeGranted, HasBegun, HasEnough, coming_of}

@@ -64,7 +64,7 @@ use Rattle.logon_steps.proofs.CallingLaws.{calls_can_go}
 use Rattle.logon_steps.proofs.ControllerTurnLaws.{controllers_step}
 use Rattle.logon_steps.proofs.MeetingLaws.{ack_sends, bind_sends}
 use Rattle.logon_steps.proofs.TurningLaws.{turns_go_through, unit_comes}
-use Rattle.std.specs.Prelude.{IsSomeAnd, ◌-◌}
+use Rattle.std.specs.Prelude.{IsSomeAnd}
 use Rattle.logon_runs.specs.Seen.LinkScenes.{its_link, unit_down, unit_up}
 use Rattle.logon_runs.specs.Seen.TurnScenes.{IsBetween, Turn, with_accounts}
 use Rattle.logon_runs.specs.Seen.WaitingUnits.{waiting}

@@ -1,12 +1,11 @@
 -- The logon of a client that can succeed, move by move: where it is judged and told, that is written down; at its end
 -- the client is in, with the key that was told.
 -- It serves `Proved.complete`.
-use Rattle.std.proofs.Common.{◌≡◌, ℕ, refl, sym, subst, List, [], ◌∷◌, length, Some, inl}
+use Rattle.std.proofs.Common.{◌≡◌, ℕ, refl, sym, subst, List, [], ◌∷◌, length, inl}
 use Rattle.std.specs.List.{AllByRecursion}
 use Rattle.authenticators.specs.SecureChannels.{SecureChannelState, key_of_channel}
 use Rattle.outside.specs.declared.action.Action.TheVariants as action
 use Rattle.outside.specs.declared.action.CloseCause.TheVariants as close
-use Rattle.outside.specs.declared.action.Judged.TheVariants as judged
 use Rattle.outside.specs.declared.action.Outcome.TheVariants as outcome
 use Rattle.account_table.specs.AccountTable.{AccountTable}
 use Rattle.channel_events.specs.Marks.{OneOf}

@@ -1,7 +1,6 @@
 -- What holds of each plain move: what holds where a client starts, and what holds at the moves between starts. It
 -- serves `Proved.complete`.
 use Rattle.std.proofs.Common.{◌≡◌, ℕ, List, [], ◌++◌, refl, subst, sym}
-use Rattle.std.specs.List.{AllByRecursion}
 use Rattle.world_moves.specs.declared.moves.Move.{Move}
 use Rattle.world_moves.specs.declared.moves.Move.TheVariants as move
 use Rattle.logon_runs.specs.Seen.Others.{IsStepOn}

@@ -9,7 +9,6 @@ use Rattle.outside.specs.declared.action.Judged.{Judged}
 use Rattle.outside.specs.declared.event.Event.{Event}
 use Rattle.rpc_units.specs.Stream.{cut_stream}
 use Rattle.logon_stubs.specs.declared.calls.LogonCall.{LogonCall}
-use Rattle.logon_stubs.specs.declared.info.Verdict.{Verdict}
 use Rattle.account_table.specs.AccountTable.{AccountTable}
 use Rattle.account_table.specs.Changes.{DifferInStates}
 use Rattle.account_table.proofs.ChangeLaws.{states-again, states-none}

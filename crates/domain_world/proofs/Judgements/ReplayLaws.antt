@@ -2,8 +2,6 @@
 -- to a multiple of 2^32. It serves `Proved.replays`.
 use Rattle.std.proofs.Common.{◌≡◌, ◌≢◌, ◌↔◌, ℕ, zero, suc, ◌+◌, ◌-◌, ◌%◌, ◌^◌, Bool, true, false, List, [], ◌∷◌, ◌++◌, Option, Some, None, AllPairs, refl, sym, ap, ap₂, subst, ◌∙◌, arith, slice_get}
 use Rattle.std.proofs.lemmas.List.Elements.{recursion_from_All}
-use Rattle.wire_base.specs.Maps.{lookup}
-use Rattle.wire_base.specs.Names.{same_name}
 use Rattle.wire_base.specs.declared.authenticator.Authenticator.{Authenticator}
 use Rattle.channel_keys.specs.Credentials.{cred_of}
 use Rattle.channel_keys.specs.Des.{IsBlock}

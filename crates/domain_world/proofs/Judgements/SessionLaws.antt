@@ -1,7 +1,7 @@
 -- In every run sessions follow the calls that were judged, no controller keeps more than 10,000, and an interactive
 -- logon is granted exactly where it is to be.
 -- It serves `Proved.sessions` and `Proved.let_on`.
-use Rattle.std.proofs.Common.{◌≡◌, ◌↔◌, ℕ, suc, ◌+◌, ◌≤◌, ◌<◌, ◌==◌, ◌||◌, Bool, true, false, List, [], ◌∷◌, ◌++◌, length, inl, inr, Option, Some, None, refl, sym, ap, subst, ◌∙◌, arith, drop, position, slice_get, take}
+use Rattle.std.proofs.Common.{◌≡◌, ◌↔◌, ℕ, suc, ◌≤◌, ◌<◌, ◌==◌, ◌||◌, Bool, true, false, List, [], ◌∷◌, length, inl, inr, Option, Some, None, refl, sym, ap, subst, ◌∙◌, arith, drop, position, take}
 use Rattle.std.specs.List.{AllByRecursion, remove}
 use Rattle.std.proofs.lemmas.Bool.{cases_Bool, eq-eqb}
 use Rattle.std.proofs.lemmas.Bool.Decides.{Decides-eqb, leb_tells}
@@ -19,7 +19,7 @@ use Rattle.account_table.specs.AccountTable.{AccountTable}
 use Rattle.account_table.specs.LookUps.{machine_in}
 use Rattle.secret_change.specs.Hiding.{show_of}
 use Rattle.sam_logon.specs.MayLogOn.{HashIsStored, MayLogOnAt}
-use Rattle.sam_logon.specs.Verdict.{interactive_judgement_of, interactive_verdict_of, is_granted}
+use Rattle.sam_logon.specs.Verdict.{interactive_judgement_of, is_granted}
 use Rattle.sam_logon.proofs.VerdictLaws.{interactive_verdict_of-Decides}
 use Rattle.controller_calls.specs.Calls.{IfInteractive}
 use Rattle.controller_calls.specs.declared.calls.JudgedCall.{JudgedCall}
@@ -27,7 +27,6 @@ use Rattle.controller_calls.specs.declared.calls.JudgedCall.TheVariants.{Interac
 use Rattle.controller_calls.specs.Doing.{computer_or_none, done_by, sessions_after, set_so}
 use Rattle.controller_calls.specs.Interactive.{admitted, judge_interactive, judge_interactive_level, shown_hash}
 use Rattle.controller_calls.specs.Logons.{IsServedLevel, serves_level, status_of}
-use Rattle.domain_controller.specs.State.{State as ControllerState}
 use Rattle.domain_controller.specs.declared.state.Running.{Running}
 use Rattle.domain_controller.proofs.SessionLaws.{IsOtherThanZero, level_other}
 use Rattle.step_notes.specs.ControllerNotes.{has_passed}
@@ -40,7 +39,7 @@ use Rattle.world_moves.specs.declared.moves.Move.{Move}
 use Rattle.world_moves.specs.declared.plan.Plan.{Plan}
 use Rattle.world_moves.specs.World.{first_world}
 use Rattle.domain_world.specs.Claims.Grants.{GrantsWhoseHashIsStored, IsLetOnRightly, IsToBeLetOn}
-use Rattle.domain_world.specs.Claims.Sessions.{AreBySince, ControllerRenewed, HasSessions, SessionsFollow, is_since, last_start, renewals, sessions_behind, sessions_if, sessions_on, sessions_since, since_if, start_before}
+use Rattle.domain_world.specs.Claims.Sessions.{AreBySince, ControllerRenewed, HasSessions, SessionsFollow, is_since, last_start, renewals, sessions_if, sessions_on, sessions_since, since_if, start_before}
 use Rattle.domain_world.specs.Past.{past}
 use Rattle.domain_world.proofs.Judgements.GrantLaws.{HasItsStatus, each_status}
 use Rattle.domain_world.proofs.Judgements.JudgedLaws.{AreRight, judged_rightly}

@@ -1,8 +1,8 @@
 -- In every run a controller keeps the sessions that the calls left which it judged since its last start.
 -- It serves `Proved.sessions` and `Proved.let_on`.
-use Rattle.std.proofs.Common.{◌≡◌, ℕ, zero, suc, ◌+◌, ◌≤◌, ◌<◌, ◌==◌, ◌&&◌, nat_le, Bool, true, false, List, [], ◌∷◌, ◌++◌, length, Option, Some, None, refl, sym, ap, ap₂, subst, ◌∙◌, arith, slice_get, slice_set}
+use Rattle.std.proofs.Common.{◌≡◌, ℕ, ◌+◌, ◌≤◌, ◌==◌, ◌&&◌, nat_le, Bool, true, false, List, [], ◌∷◌, ◌++◌, length, Option, Some, None, refl, sym, ap, ap₂, subst, ◌∙◌, arith, slice_get, slice_set}
 use Rattle.std.specs.List.{AllByRecursion}
-use Rattle.std.proofs.lemmas.Bool.{eq-eqb, ne_eqb, le-leb, lt-leb, cases_Bool, eqb-true}
+use Rattle.std.proofs.lemmas.Bool.{eq-eqb, ne_eqb, le-leb, lt-leb}
 use Rattle.outside.specs.declared.event.Event.{Event}
 use Rattle.outside.specs.declared.event.Event.TheVariants as event
 use Rattle.authenticators.specs.SecureChannels.{SecureChannelState}
@@ -21,7 +21,7 @@ use Rattle.world_moves.specs.declared.plan.Plan.{Plan}
 use Rattle.world_moves.specs.declared.state.State.{State}
 use Rattle.world_moves.specs.Acting.{forget, hear_and_act}
 use Rattle.world_moves.specs.Choosing.{chosen_place}
-use Rattle.world_moves.specs.Ends.{EndStates, EndStep, count_of, end_at, end_step, renew_client, renew_controller, renew_member}
+use Rattle.world_moves.specs.Ends.{EndStates, EndStep, count_of, end_step, renew_client, renew_controller, renew_member}
 use Rattle.world_moves.specs.Links.{acceptor_of}
 use Rattle.world_moves.specs.Moving.{act, renewed, restart_at, restart_by}
 use Rattle.world_moves.specs.World.{World, first_world, happens, run}
@@ -39,7 +39,7 @@ use Rattle.domain_world.proofs.Frames.MoveFrameLaws.{placed_next}
 use Rattle.domain_world.proofs.Frames.NoBytesLaws.{IsNoBytes, KeepsComputers, does_nothing_else}
 use Rattle.domain_world.proofs.Frames.PlacedLaws.{IsPlaced}
 use Rattle.domain_world.proofs.Judgements.OpeningRunLaws.{each_fresh}
-use Rattle.domain_world.proofs.Judgements.SessionStepLaws.{AreChained, IsBy, RunningChains, RunsWith, StepChains, left_behind, left_of, step_chains}
+use Rattle.domain_world.proofs.Judgements.SessionStepLaws.{AreChained, IsBy, RunningChains, RunsWith, left_behind, left_of, step_chains}
 
 -- ---- since when
 

@@ -1,7 +1,7 @@
 -- In every run users keep the hashes that the plan gives them: a NetrServerPasswordSet sets those of machines and
 -- trusts alone.
 -- It serves `Proved.grants`.
-use Rattle.std.proofs.Common.{◌≡◌, ◌==◌, ◌&&◌, ℕ, zero, suc, Bool, true, false, List, [], ◌∷◌, map, Option, Some, None, if◌then◌else◌, option_map, refl, sym, ap, subst, ◌∙◌, slice_get}
+use Rattle.std.proofs.Common.{◌≡◌, ◌==◌, ◌&&◌, ℕ, zero, suc, Bool, true, false, List, [], ◌∷◌, map, Option, Some, None, if◌then◌else◌, option_map, refl, sym, ap, ◌∙◌, slice_get}
 use Rattle.std.specs.List.{AllByRecursion}
 use Rattle.std.proofs.lemmas.Bool.Decides.{Decides-eqb}
 use Rattle.wire_base.specs.Maps.{place_of}
@@ -28,7 +28,7 @@ use Rattle.step_notes.specs.Records.{Judging}
 use Rattle.world_moves.specs.declared.moves.Move.{Move}
 use Rattle.world_moves.specs.declared.plan.Plan.{Plan}
 use Rattle.domain_world.specs.Claims.Grants.{hash_of_user, users_of}
-use Rattle.domain_world.specs.Claims.Tables.{AreByEarlier, accounts_after, accounts_if, left_by, left_if, left_on}
+use Rattle.domain_world.specs.Claims.Tables.{AreByEarlier, accounts_after, accounts_if, left_if, left_on}
 use Rattle.domain_world.specs.Past.{past}
 use Rattle.channel_events.proofs.ListLaws.{no_some}
 use Rattle.domain_world.proofs.Judgements.GrantLaws.{HasUsers}

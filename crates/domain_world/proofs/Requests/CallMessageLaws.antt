@@ -7,7 +7,6 @@ use Rattle.authenticators.specs.Channels.{ChannelIdentity, channel_key}
 use Rattle.authenticators.specs.Sequences.{authenticator_of}
 use Rattle.outside.specs.declared.action.Action.{Action}
 use Rattle.outside.specs.declared.action.Action.TheVariants as action
-use Rattle.outside.specs.declared.event.Event.TheVariants as event
 use Rattle.rpc_units.specs.declared.refused.JoinRefused.{JoinRefused}
 use Rattle.rpc_units.specs.declared.refused.JoinRefused.TheVariants as join
 use Rattle.rpc_units.specs.declared.refused.UnitRefused.{UnitRefused}

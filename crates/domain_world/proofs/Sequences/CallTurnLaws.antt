@@ -26,7 +26,6 @@ use Rattle.step_notes.specs.MemberNotes.{timestamp_bound, turn_of}
 use Rattle.step_notes.specs.Records.{ChannelTurn, RequesterId}
 use Rattle.domain_world.specs.Accepting.Sequences.{AreUnitsApart, stamps_of}
 use Rattle.domain_world.proofs.Requests.LooserLaws.{IsPlaced, calls_before, placed_as}
-use Rattle.domain_world.proofs.Sequences.Own.OwnTurnLaws.{stands_same}
 use Rattle.domain_world.proofs.Sequences.SeedTurnLaws.{stamps_last, stamps_on}
 
 -- ---- what is known

@@ -1,7 +1,7 @@
 -- What is below the premises of the claims on answers (`Answered`): of each unit of the bag that its bytes are those of
 -- one whole unit, of each mark what such a unit is, and of each message which calls were made for it and in which turn
 -- its answer was taken. From these follow three of the eight premises (`CarriedCallsAreHeard`).
-use Rattle.std.specs.Prelude.{ℕ, ◌≡◌, true, false, List, Option, Some, None, Result, Ok, Err, slice_get}
+use Rattle.std.specs.Prelude.{ℕ, ◌≡◌, true, false, List, Some, Ok, slice_get}
 use Rattle.std.specs.List.{AllByRecursion}
 use Rattle.wire_base.specs.declared.authenticator.Authenticator.{Authenticator}
 use Rattle.authenticators.specs.Channels.{ChannelIdentity, SameChannel}

@@ -1,6 +1,6 @@
 -- What is known of the whole unit that bytes are: its stub has bytes, and the level that a Logon call asks for has 16
 -- bits. It serves `calls_are_judged_as_carried`, `replies_are_read_back` and `marked_units_are_whole`.
-use Rattle.std.proofs.Common.{◌≡◌, ◌==◌, ℕ, ◌-◌, ◌<◌, ◌^◌, List, [], ◌∷◌, ◌++◌, drop, map, Some, Result, Ok, Err, sym, subst}
+use Rattle.std.proofs.Common.{◌≡◌, ◌==◌, ℕ, ◌-◌, ◌<◌, ◌^◌, List, [], ◌∷◌, ◌++◌, drop, map, Some, Result, Ok, sym, subst}
 use Rattle.std.specs.List.{AllByRecursion}
 use Rattle.wire_base.specs.Numbers.{AreBytes}
 use Rattle.wire_base.proofs.NumberLaws.{AreBytes-append, AreBytes-drop, AreBytes-nil, AreBytes-take}

@@ -13,8 +13,6 @@ use Rattle.rpc_units.specs.Calls.{IsHeard}
 use Rattle.rpc_units.specs.Joining.{stub_of}
 use Rattle.logon_stubs.specs.Calls.{reply_of}
 use Rattle.logon_stubs.specs.Writing.{written_reply}
-use Rattle.logon_stubs.specs.declared.calls.Call.TheVariants as call
-use Rattle.logon_stubs.specs.declared.calls.LogonCall.{LogonCall}
 use Rattle.logon_stubs.specs.declared.calls.Reply.TheVariants as reply
 use Rattle.logon_stubs.proofs.AnswerLaws.{answers_are_long}
 use Rattle.end_links.specs.Whole.{IsWholeSend}

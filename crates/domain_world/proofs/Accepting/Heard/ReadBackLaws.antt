@@ -1,11 +1,11 @@
 -- What is told of an answer is what its controller judged, read with the key of the channel.
 -- It serves `outcomes_are_read_back`.
-use Rattle.std.proofs.Common.{◌≡◌, ℕ, ◌==◌, Bool, true, false, List, Option, Some, None, Result, Ok, slice_get, refl, sym, ap, ◌∙◌, subst}
+use Rattle.std.proofs.Common.{◌≡◌, ℕ, ◌==◌, Bool, true, false, List, Some, None, Result, Ok, slice_get, refl, sym, ap, ◌∙◌, subst}
 use Rattle.std.specs.List.{AllByRecursion}
 use Rattle.std.proofs.lemmas.Bool.Decides.{Decides-eqb}
 use Rattle.channel_keys.specs.Hidden.{crypt_key}
 use Rattle.authenticators.specs.Channels.{ChannelIdentity, channel_key}
-use Rattle.authenticators.specs.SecureChannels.{SecureChannelState, after_return, is_awaited, key_of_channel, channel_of}
+use Rattle.authenticators.specs.SecureChannels.{SecureChannelState, after_return, is_awaited, key_of_channel}
 use Rattle.authenticators.proofs.ChannelLaws.{channel_key-same}
 use Rattle.outside.specs.declared.action.Outcome.{Outcome}
 use Rattle.rpc_units.specs.Joining.{stub_of}

@@ -30,7 +30,7 @@ use Rattle.outside.specs.declared.event.Event.{Event}
 use Rattle.outside.specs.declared.event.Event.TheVariants as event
 use Rattle.account_table.specs.AccountTable.{AccountTable}
 use Rattle.end_links.specs.Links.{LinkState}
-use Rattle.end_links.specs.Whole.{IsByteSend, IsWholeSend}
+use Rattle.end_links.specs.Whole.{IsWholeSend}
 use Rattle.domain_controller.specs.State.{State as ControllerState}
 use Rattle.domain_controller.specs.Step as controller
 use Rattle.domain_controller.proofs.WholeLaws.{sends_are_whole}
@@ -38,7 +38,7 @@ use Rattle.logon_client.specs.Machine as client
 use Rattle.logon_client.specs.Plans.{CanLogOn}
 use Rattle.logon_client.specs.State.{State as ClientState}
 use Rattle.logon_client.specs.declared.plan.ClientPlan.{ClientPlan}
-use Rattle.logon_client.proofs.SendLaws.{AtUnlessStopped, DialledAt}
+use Rattle.logon_client.proofs.SendLaws.{AtUnlessStopped}
 use Rattle.member_server.specs.Machine as member
 use Rattle.member_server.specs.State.{State as MemberState}
 use Rattle.member_server.specs.declared.plan.MemberPlan.{MemberPlan}

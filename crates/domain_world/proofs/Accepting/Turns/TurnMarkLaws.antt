@@ -10,7 +10,6 @@ use Rattle.domain_controller.specs.Hearing.{hear}
 use Rattle.domain_controller.specs.Machine.{Desk}
 use Rattle.domain_controller.specs.declared.hearing.Heard.{Heard}
 use Rattle.controller_calls.specs.declared.line.Line.{Line}
-use Rattle.controller_calls.specs.declared.state.Computers.{Computers}
 use Rattle.domain_controller.specs.declared.state.Talk.{Talk}
 use Rattle.channel_events.specs.Marks.{Mark, Plain, Opening, Opened, Calling, ReplyTo}
 use Rattle.channel_events.proofs.ListLaws.{all_weaker, got_nothing, some_is}

@@ -1,6 +1,6 @@
 -- In every schedule answers are taken in turn and told: what that rests on holds of each state, since calls stay apart
 -- there, what is under way is whole, and draws differ. It serves `answers_are_taken_in_turn`.
-use Rattle.std.proofs.Common.{◌≡◌, ℕ, ◌+◌, ◌-◌, List, [], ◌++◌, length, Option, Some, ap, sym, subst, ◌∙◌, arith}
+use Rattle.std.proofs.Common.{◌≡◌, ℕ, ◌-◌, List, [], ◌++◌, length, Option, Some, ap, sym, subst, ◌∙◌, arith}
 use Rattle.outside.specs.Counter.{most_draws}
 use Rattle.outside.specs.declared.event.Event.TheVariants as event
 use Rattle.outside.proofs.CounterLaws.{challenges_from-distinct, challenges_from-none}

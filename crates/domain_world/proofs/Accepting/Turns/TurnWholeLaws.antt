@@ -57,7 +57,7 @@ use Rattle.domain_world.specs.Accepting.Carried.{CallsHaveNumbers, IsAnswerFor, 
 use Rattle.domain_world.specs.Accepting.ReadBack.{IsLetInInTurn, IsReadIn, IsToldInTurn}
 use Rattle.domain_world.specs.Accepting.Runs.{IsOut}
 use Rattle.domain_world.specs.Claims.{HasController}
-use Rattle.domain_world.specs.Past.{answer_on_channel, answers_by, call_made, change_message, taken_as, told_by, told_in, with_answer, with_call}
+use Rattle.domain_world.specs.Past.{answers_by, call_made, change_message, taken_as, told_by, told_in, with_answer, with_call}
 use Rattle.domain_world.proofs.Accepting.Heard.AnswerReadLaws.{HearsWhole, IsAnswerOf, TellsAnswer, answer_is, answer_tells, heard_whole, out_differ}
 use Rattle.domain_world.proofs.Accepting.Turns.CallUnitLaws.{IsCallAt, call_at, call_is}
 use Rattle.domain_world.proofs.Accepting.Turns.TurnChangedLaws.{all_pair, answered_facts, called_facts}

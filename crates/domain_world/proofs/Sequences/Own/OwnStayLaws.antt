@@ -1,6 +1,6 @@
 -- What is known of the calls of members' turns stays where no member takes a step, and where one does with no whole
 -- unit on the link of its turn. It serves `Proved.sequences`.
-use Rattle.std.proofs.Common.{◌≡◌, ℕ, ◌+◌, ◌==◌, Bool, true, false, List, ◌++◌, inl, inr, Option, Some, None, slice_get, refl, sym, ap, subst, ◌∙◌, arith}
+use Rattle.std.proofs.Common.{◌≡◌, ℕ, ◌==◌, Bool, true, false, List, ◌++◌, inl, inr, Option, Some, None, slice_get, refl, sym, ap, subst, ◌∙◌, arith}
 use Rattle.std.proofs.lemmas.Bool.Decides.{Decides-eqb}
 use Rattle.outside.specs.declared.action.Action.{Action}
 use Rattle.outside.specs.declared.event.Event.{Event}

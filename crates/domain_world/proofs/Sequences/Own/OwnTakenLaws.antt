@@ -1,15 +1,12 @@
 -- Where a whole unit comes on the link of a member's turn: a call that goes out is on the channel that stands, and the
 -- answer that is taken is to the call of that channel that has the number of the turn. It serves
 -- `Proved.sequences`.
-use Rattle.std.proofs.Common.{◌≡◌, ℕ, List, [], ◌∷◌, map, inl, inr, Option, Some, slice_get, refl, sym, ap, subst, ◌∙◌}
-use Rattle.std.specs.List.{AllByRecursion}
-use Rattle.wire_base.specs.Maps.{lookup, same_number}
-use Rattle.wire_base.proofs.NameLaws.{IsSameness-same_number}
+use Rattle.std.proofs.Common.{◌≡◌, ℕ, List, Option, Some, slice_get, refl, sym, ap, subst, ◌∙◌}
 use Rattle.authenticators.specs.Channels.{ChannelIdentity, SameChannel}
 use Rattle.authenticators.specs.SecureChannels.{channel_of}
 use Rattle.outside.specs.Machine.{Part}
 use Rattle.rpc_units.specs.declared.unit.Unit.{Unit as RpcUnit}
-use Rattle.channel_client.specs.Effects.{IsForFirst, asking_in, number_in, stands_in, step_in, view_of}
+use Rattle.channel_client.specs.Effects.{asking_in, number_in, stands_in, step_in, view_of}
 use Rattle.channel_client.specs.Machine.{act, hear, judge, settle, take_of}
 use Rattle.channel_client.specs.State.{Requester}
 use Rattle.channel_client.specs.declared.answers.Taken.{Taken}
@@ -25,25 +22,19 @@ use Rattle.channel_client.specs.declared.state.Standing.{Standing}
 use Rattle.channel_client.specs.declared.state.Standing.TheVariants as standing
 use Rattle.channel_client.specs.declared.state.Step.{Step}
 use Rattle.channel_client.specs.declared.state.Step.TheVariants as step
-use Rattle.channel_client.specs.declared.state.Waiting.{Waiting}
 use Rattle.logon_stubs.specs.declared.info.Verdict.{Verdict}
-use Rattle.channel_events.specs.Marks.{Mark, Calling, OneOf}
+use Rattle.channel_events.specs.Marks.{Calling}
 use Rattle.channel_events.proofs.ListLaws.{some_is}
 use Rattle.channel_events.proofs.SameLaws.{same_self}
 use Rattle.member_server.specs.Turns.{DialWork}
-use Rattle.member_server.specs.declared.state.Logon.{Logon}
 use Rattle.member_server.specs.declared.state.Running.{Running}
-use Rattle.step_notes.specs.CallLogons.{waiting_for}
-use Rattle.step_notes.specs.ChannelNames.{place_answered, standing_channel}
+use Rattle.step_notes.specs.ChannelNames.{place_answered}
 use Rattle.step_notes.specs.MemberNotes.{asked_note, taking_note}
 use Rattle.step_notes.specs.Records.{Book, MessageTaken, OfMember, Sent}
 use Rattle.step_notes.proofs.Channels.ChannelNameLaws.{channels_are_named_alike}
-use Rattle.step_notes.proofs.Members.TurnRequestLaws.{found_if}
 use Rattle.world_moves.specs.declared.plan.Plan.{Plan}
 use Rattle.world_moves.specs.declared.state.State.{State}
-use Rattle.domain_world.specs.Accepting.Runs.{IsOut}
 use Rattle.domain_world.specs.Accepting.Sequences.{IsTakenFor}
-use Rattle.domain_world.specs.Past.{with_answer}
 use Rattle.domain_world.proofs.Accepting.Heard.AnswerReadLaws.{IsAnswerOf, answer_is}
 use Rattle.domain_world.proofs.Accepting.Turns.TurnFactLaws.{past_at}
 use Rattle.domain_world.proofs.Accepting.Turns.TurnWholeLaws.{ComesWhole, in_turn}
