@@ -89,6 +89,7 @@ all_proved plan moves = record {
   marked = each_marked plan moves;
   ways = marks_have_their_way plan moves;
   have_calls = answers_have_calls plan moves;
+  asks_for = λ schedule. (runs_heard.heard plan moves (units_heard plan moves schedule) (draws_differ plan moves)).asks;
   call_marks = calls_marked plan moves;
   reply_marks = replies_marked plan moves;
   opened_marks = openings_marked plan moves;

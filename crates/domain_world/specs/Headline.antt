@@ -4,7 +4,7 @@ use Rattle.world_moves.specs.declared.moves.Move.{Move}
 use Rattle.world_moves.specs.declared.plan.Plan.{Plan}
 use Rattle.world_moves.specs.Forms.{IsSchedule}
 use Rattle.world_moves.specs.World.{World, first_world, run}
-use Rattle.domain_world.specs.Accepting.Answered.{MarksHaveTheirWay, MessagesAreApart, PassesAreUnclashed}
+use Rattle.domain_world.specs.Accepting.Answered.{CallsAskForMessages, MarksHaveTheirWay, MessagesAreApart, PassesAreUnclashed}
 use Rattle.domain_world.specs.Accepting.KeysMade.{MessagesAreMade, MessagesAreTakenAsSent}
 use Rattle.domain_world.specs.Accepting.Sequences.{RepliesAnswerCalls, TurnsAreCalled}
 use Rattle.domain_world.specs.Claims.{AcceptsAllGranted, AcceptsOnlyGranted, ChallengesServeOnce, IsClear, KeysAgree, PassesTheNextCredential, ReplaysBySum, ShortResponsesLetInOnce, ShortResponsesServeOnce, TellsOfCallsAlone}
@@ -31,8 +31,8 @@ use Rattle.domain_world.specs.Past.{past}
 -- members accept, how often a count is raised, what the ends of a channel share, and which calls turns made, is of
 -- schedules that are clear: in them no credential passed on a unit made for another channel or for none, and no seed
 -- came round. Of the others `unclashed`, and a part of `opened`, ask that no credential clashed. `names`, `answered`
--- and `opened_by` ask for a schedule besides, and `as_made`, `numbers`, `have_calls`, `call_marks`, `reply_marks` and
--- `opened_marks` for a schedule alone.
+-- and `opened_by` ask for a schedule besides, and `as_made`, `numbers`, `have_calls`, `asks_for`, `call_marks`,
+-- `reply_marks` and `opened_marks` for a schedule alone. `complete` and `one_by_one` ask for logons one at a time.
 pub record Proved (plan : Plan) (moves : List Move) : Type 0 where
   -- challenges, and the messages that are made for them
   pub challenges : ChallengesServeOnce (past plan moves)
@@ -87,9 +87,12 @@ pub record Proved (plan : Plan) (moves : List Move) : Type 0 where
   -- the units of the bag, and which way they go
   pub marked : EachUnitIsMarked (past plan moves)
   pub ways : MarksHaveTheirWay (past plan moves)
-  -- A message whose answer was taken has a call, and the call of each message is marked as one. The reply to a call
-  -- that passed, or to an opening that was accepted, is marked as that.
+  -- A message whose answer was taken has a call. What was judged in the unit of a message's call is a network logon
+  -- that asks what the message asks.
   pub have_calls : IsSchedule plan moves → AnswersHaveCalls (past plan moves)
+  pub asks_for : IsSchedule plan moves → CallsAskForMessages (past plan moves)
+  -- The call of each message is marked as one. The reply to a call that passed, or to an opening that was accepted, is
+  -- marked as that.
   pub call_marks : IsSchedule plan moves → CallsAreMarked (past plan moves)
   pub reply_marks : IsSchedule plan moves → RepliesAreMarked (past plan moves)
   pub opened_marks : IsSchedule plan moves → OpeningsAreMarked (past plan moves)
