@@ -8,7 +8,7 @@ use Rattle.std.proofs.lemmas.Grind.{flat_map-append}
 use Rattle.std.proofs.lemmas.Option.{get_or_from_slice_get, slice_get_within}
 use Rattle.wire_base.specs.Maps.{place_of}
 use Rattle.account_table.specs.AccountTable.{AccountTable}
-use Rattle.account_table.specs.Changes.{accounts_after, at_place, settled, state_by, state_by_change, state_by_change_of, state_of, with_count, with_bad_count, with_change, with_change_of, with_changes, with_hash, with_new_hash, with_state, DifferInCounts, DifferInStates}
+use Rattle.account_table.specs.Changes.{accounts_after, at_place, without_state, state_by, state_by_change, state_by_change_of, state_of, with_count, with_bad_count, with_change, with_change_of, with_changes, with_hash, with_new_hash, with_state, DifferInCounts, DifferInStates}
 use Rattle.account_table.specs.Document.{has_name}
 use Rattle.account_table.specs.LookUps.{machine_name, place_in, machine_in, knows_in, route_in, is_machine, is_machine_for, is_trust_for}
 use Rattle.account_table.specs.declared.account.Account.{Account}
@@ -83,9 +83,9 @@ abbrev pub account_by : Change → Account → Account
 account_by (Count count) account = with_count count account
 account_by (Hash hash) account = with_new_hash hash account
 
-settled-changed : (change : Change) (account : Account) → settled (account_by change account) ≡ settled account
-settled-changed (Count count) account = refl
-settled-changed (Hash hash) account = refl
+without_state-changed : (change : Change) (account : Account) → without_state (account_by change account) ≡ without_state account
+without_state-changed (Count count) account = refl
+without_state-changed (Hash hash) account = refl
 
 pub states-none : (table : AccountTable) → DifferInStates table table
 states-none table = record { domain = refl; sid = refl; policy = refl; accounts = refl; trusts = refl }
@@ -99,9 +99,9 @@ states-again old mid new one other = record {
   trusts = other.trusts ∙ one.trusts;
 }
 
-settled-uncounted : (accounts : List Account) → map settled (map (with_count 0) accounts) ≡ map settled accounts
-settled-uncounted [] = refl
-settled-uncounted (account ∷ accounts) = ap (λ (xs : List Account). settled account ∷ xs) (settled-uncounted accounts)
+without_state-uncounted : (accounts : List Account) → map without_state (map (with_count 0) accounts) ≡ map without_state accounts
+without_state-uncounted [] = refl
+without_state-uncounted (account ∷ accounts) = ap (λ (xs : List Account). without_state account ∷ xs) (without_state-uncounted accounts)
 
 -- tables that differ in counts alone
 pub counts-states : (old new : AccountTable) → DifferInCounts old new → DifferInStates old new
@@ -109,7 +109,7 @@ counts-states old new differ = record {
   domain = differ.domain;
   sid = differ.sid;
   policy = differ.policy;
-  accounts = sym (settled-uncounted new.accounts) ∙ ap (map settled) differ.accounts ∙ settled-uncounted old.accounts;
+  accounts = sym (without_state-uncounted new.accounts) ∙ ap (map without_state) differ.accounts ∙ without_state-uncounted old.accounts;
   trusts = differ.trusts;
 }
 
@@ -124,7 +124,7 @@ with_hash-differs place hash table = record {
   domain = refl;
   sid = refl;
   policy = refl;
-  accounts = map-at_place settled (with_new_hash hash) (λ account. refl) place table.accounts;
+  accounts = map-at_place without_state (with_new_hash hash) (λ account. refl) place table.accounts;
   trusts = refl;
 }
 
@@ -334,36 +334,36 @@ module _ (old new : AccountTable) (differ : DifferInStates old new) where
   pub places-left : (name : List ℕ) → place_in new.accounts name ≡ place_in old.accounts name
   unfolding place_in
   places-left name =
-      sym (place_of-clean settled (has_name name) (λ account. refl) new.accounts)
+      sym (place_of-clean without_state (has_name name) (λ account. refl) new.accounts)
       ∙ ap (place_of (has_name name)) differ.accounts
-      ∙ place_of-clean settled (has_name name) (λ account. refl) old.accounts
+      ∙ place_of-clean without_state (has_name name) (λ account. refl) old.accounts
 
   pub machines-left : (name : List ℕ) (channel : ℕ) (computer : List ℕ) → machine_in new.accounts name channel computer ≡ machine_in old.accounts name channel computer
   unfolding machine_in
   machines-left name channel computer =
       let test : Account → Bool = λ account. has_name name account && is_machine_for channel computer account in
-      sym (place_of-clean settled test (λ account. refl) new.accounts)
+      sym (place_of-clean without_state test (λ account. refl) new.accounts)
       ∙ ap (place_of test) differ.accounts
-      ∙ place_of-clean settled test (λ account. refl) old.accounts
+      ∙ place_of-clean without_state test (λ account. refl) old.accounts
 
   pub known-left : (computer : List ℕ) → knows_in new.accounts computer ≡ knows_in old.accounts computer
   unfolding knows_in
   known-left computer =
       let named : Account → Bool = λ account. has_name (machine_name computer) account && is_machine account.kind in
       ap (λ (b : Bool). b || list_any (is_trust_for computer) new.accounts)
-      (sym (list_any-clean settled named (λ account. refl) new.accounts) ∙ ap (list_any named) differ.accounts ∙ list_any-clean settled named (λ account. refl) old.accounts)
+      (sym (list_any-clean without_state named (λ account. refl) new.accounts) ∙ ap (list_any named) differ.accounts ∙ list_any-clean without_state named (λ account. refl) old.accounts)
       ∙ ap (λ (b : Bool). list_any named old.accounts || b)
-      (sym (list_any-clean settled (is_trust_for computer) (λ account. refl) new.accounts) ∙ ap (list_any (is_trust_for computer)) differ.accounts ∙ list_any-clean settled (is_trust_for computer) (λ account. refl) old.accounts)
+      (sym (list_any-clean without_state (is_trust_for computer) (λ account. refl) new.accounts) ∙ ap (list_any (is_trust_for computer)) differ.accounts ∙ list_any-clean without_state (is_trust_for computer) (λ account. refl) old.accounts)
 
   pub routes-left : (domain : List ℕ) → route_in new domain ≡ route_in old domain
   unfolding route_in
   routes-left domain = rw (differ.domain, differ.trusts) refl
 
-  pub accounts-left : (place : ℕ) → option_map settled (slice_get new.accounts place) ≡ option_map settled (slice_get old.accounts place)
+  pub accounts-left : (place : ℕ) → option_map without_state (slice_get new.accounts place) ≡ option_map without_state (slice_get old.accounts place)
   accounts-left place =
-      sym (slice_get-clean settled new.accounts place)
+      sym (slice_get-clean without_state new.accounts place)
       ∙ ap (λ (xs : List Account). slice_get xs place) differ.accounts
-      ∙ slice_get-clean settled old.accounts place
+      ∙ slice_get-clean without_state old.accounts place
 
 -- where counts of bad passwords alone differ
 module _ (old new : AccountTable) (differ : DifferInCounts old new) where

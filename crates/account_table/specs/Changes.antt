@@ -54,15 +54,15 @@ abbrev pub with_state : AccountState → Account → Account
 with_state state account = record account { bad_count = state.bad_count; hash = state.hash; changed = state.changed }
 
 -- the account without that
-abbrev pub settled : Account → Account
-settled account = with_state (record { bad_count = 0; hash = []; changed = false }) account
+abbrev pub without_state : Account → Account
+without_state account = with_state (record { bad_count = 0; hash = []; changed = false }) account
 
 -- the tables differ in counts of bad passwords, and in hashes that were set, alone
 pub record DifferInStates (old new : AccountTable) : Type 0 where
   pub domain : new.domain ≡ old.domain
   pub sid : new.sid ≡ old.sid
   pub policy : new.policy ≡ old.policy
-  pub accounts : map settled new.accounts ≡ map settled old.accounts
+  pub accounts : map without_state new.accounts ≡ map without_state old.accounts
   pub trusts : new.trusts ≡ old.trusts
 
 -- ---- changes that are collected, and made later

@@ -4,7 +4,7 @@
 ghost use Rattle.std.specs.Prelude.{ℕ, ◌≡◌, ◌++◌, IsTrue, false, List, [], Ok, option_map, slice_get};
 ghost use Rattle.std.specs.List.{AllByRecursion};
 ghost use Rattle.account_table.specs.AccountTable.{AccountTable, has_distinct_names};
-ghost use Rattle.account_table.specs.Changes.{with_count, with_bad_count, with_changes, state_by, state_of, DifferInCounts, DifferInStates};
+ghost use Rattle.account_table.specs.Changes.{with_count, with_bad_count, with_changes, state_by, state_of, without_state, DifferInCounts, DifferInStates};
 ghost use Rattle.account_table.specs.declared.changes.TableChange.{TableChange as OneChange};
 ghost use Rattle.account_table.specs.Secrets.{IsFresh, IsSettingOf, Setting, apply_secrets, secrets_of, with_settings};
 ghost use Rattle.account_table.specs.IsTable.{IsTableText};
@@ -36,7 +36,8 @@ pub fn what_counts_leave()
 
 /// Changes are made one after the other: none change nothing, and those of two lists are made in their order. They
 /// leave all but the counts of bad passwords and the hashes that they set, and the account at a place has what they
-/// give it. Tables that differ so from one do so from one another.
+/// give it. Tables that differ so from one do so from one another: names are found at the same places, computers'
+/// accounts too, domains have the same routes, and the account at a place is the same but for these.
 pub fn what_changes_leave()
     ensures none { (table : AccountTable) → with_changes [] table ≡ table }
     ensures joined { (before after : List OneChange) (table : AccountTable) →
@@ -50,10 +51,19 @@ pub fn what_changes_leave()
         option_map state_of (slice_get (with_changes changes table).accounts place)
         ≡ option_map (λ account. state_by changes place (state_of account))
         (slice_get table.accounts place) }
+    ensures places { (old new : AccountTable) → DifferInStates old new → (name : List ℕ) →
+        place_in new.accounts name ≡ place_in old.accounts name }
     ensures machines { (old new : AccountTable) → DifferInStates old new →
         (name : List ℕ) (channel : ℕ) (computer : List ℕ) →
         machine_in new.accounts name channel computer
         ≡ machine_in old.accounts name channel computer }
+    ensures known { (old new : AccountTable) → DifferInStates old new → (computer : List ℕ) →
+        knows_in new.accounts computer ≡ knows_in old.accounts computer }
+    ensures routes { (old new : AccountTable) → DifferInStates old new → (domain : List ℕ) →
+        route_in new domain ≡ route_in old domain }
+    ensures accounts { (old new : AccountTable) → DifferInStates old new → (place : ℕ) →
+        option_map without_state (slice_get new.accounts place)
+        ≡ option_map without_state (slice_get old.accounts place) }
 {}
 
 /// In a table that is read no hash was set. The text of secrets sets in such a table what was set in it since: whatever

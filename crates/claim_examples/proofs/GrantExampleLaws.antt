@@ -35,7 +35,7 @@ use Rattle.outside.specs.declared.action.Judged.{Judged}
 use Rattle.outside.specs.declared.action.Judged.TheVariants as judged
 use Rattle.logon_stubs.specs.Status.{account_disabled, wrong_password}
 use Rattle.account_table.specs.AccountTable.{AccountTable}
-use Rattle.account_table.specs.Changes.{settled}
+use Rattle.account_table.specs.Changes.{without_state}
 use Rattle.account_table.proofs.ChangeLaws.{states-none}
 use Rattle.account_table.specs.LookUps.{account_in, place_in, route_in}
 use Rattle.sam_logon.specs.MayLogOn.{MayLogOn, ResponseVerifies}
@@ -183,7 +183,7 @@ of_grants = record {
   fails_next = λ claim. let met = claim.0.granted.0 refl in no_channel met.next.channel met.next.stands;
   fails_table = λ claim.
       let of : empty_table ≡ claim.0.table.planned = same_item empty_table claim.0.table.planned claim.0.table.is in
-      absurd (let accounts = claim.0.table.states.accounts ∙ ap (λ (t : AccountTable). map settled t.accounts) (sym of) in cc);
+      absurd (let accounts = claim.0.table.states.accounts ∙ ap (λ (t : AccountTable). map without_state t.accounts) (sym of) in cc);
   set = (
     record {
       granted = (λ is. record { next = next_at []; level = inr refl; may = may_machine 0; verifies = verifies_machine }, λ met. refl);

@@ -11,7 +11,7 @@ use Rattle.outside.specs.declared.event.Event.{Event}
 use Rattle.outside.specs.Machine.{step_by, then_part}
 use Rattle.logon_stubs.specs.declared.calls.ChallengeCall.{ChallengeCall}
 use Rattle.account_table.specs.AccountTable.{AccountTable}
-use Rattle.account_table.specs.Changes.{DifferInCounts, at_place, is_user, settled, with_count, with_hash, with_new_hash}
+use Rattle.account_table.specs.Changes.{DifferInCounts, at_place, is_user, without_state, with_count, with_hash, with_new_hash}
 use Rattle.account_table.specs.Document.{has_name}
 use Rattle.account_table.specs.LookUps.{is_machine_for, machine_in, opens}
 use Rattle.account_table.specs.Secrets.{IsHash, IsSettingOf, Setting, with_settings}
@@ -78,18 +78,18 @@ machine_is accounts name channel computer place found =
 
 -- ---- what was set before, and what is set then
 
-same_kind : (old new : Account) → settled new ≡ settled old → IsComputer new → IsComputer old
+same_kind : (old new : Account) → without_state new ≡ without_state old → IsComputer new → IsComputer old
 same_kind old new same is = ap (λ (account : Account). is_user account.kind) (sym same) ∙ is
 
-computer_left : (olds news : List Account) (place : ℕ) → map settled news ≡ map settled olds → IsSomeAnd (slice_get news place) IsComputer → IsSomeAnd (slice_get olds place) IsComputer
+computer_left : (olds news : List Account) (place : ℕ) → map without_state news ≡ map without_state olds → IsSomeAnd (slice_get news place) IsComputer → IsSomeAnd (slice_get olds place) IsComputer
 computer_left [] [] place same there = there
 computer_left [] (new ∷ news) place same there = absurd cc
 computer_left (old ∷ olds) [] place same there = absurd there
-computer_left (old ∷ olds) (new ∷ news) zero same there = same_kind old new (let whole : settled new ∷ map settled news ≡ settled old ∷ map settled olds = same in cc) there
+computer_left (old ∷ olds) (new ∷ news) zero same there = same_kind old new (let whole : without_state new ∷ map without_state news ≡ without_state old ∷ map without_state olds = same in cc) there
 computer_left (old ∷ olds) (new ∷ news) (suc place) same there =
-    computer_left olds news place (let whole : settled new ∷ map settled news ≡ settled old ∷ map settled olds = same in cc) there
+    computer_left olds news place (let whole : without_state new ∷ map without_state news ≡ without_state old ∷ map without_state olds = same in cc) there
 
-settings_left : (olds news : List Account) (settings : List Setting) → map settled news ≡ map settled olds → AllByRecursion (IsSettingOf news) settings → AllByRecursion (IsSettingOf olds) settings
+settings_left : (olds news : List Account) (settings : List Setting) → map without_state news ≡ map without_state olds → AllByRecursion (IsSettingOf news) settings → AllByRecursion (IsSettingOf olds) settings
 settings_left olds news [] same all = tt
 settings_left olds news (setting ∷ settings) same all =
     (record { computer = computer_left olds news setting.0 same all.0.computer; hash = all.0.hash }, settings_left olds news settings same all.1)
@@ -142,10 +142,10 @@ sets_joined one two three first second = record {
 
 -- ---- hashes of users stay
 
-settled_at : (place : ℕ) (hash : List ℕ) (accounts : List Account) → map settled accounts ≡ map settled (at_place place (with_new_hash hash) accounts)
+settled_at : (place : ℕ) (hash : List ℕ) (accounts : List Account) → map without_state accounts ≡ map without_state (at_place place (with_new_hash hash) accounts)
 settled_at place hash [] = refl
 settled_at zero hash (account ∷ accounts) = refl
-settled_at (suc place) hash (account ∷ accounts) = ap (λ (more : List Account). settled account ∷ more) (settled_at place hash accounts)
+settled_at (suc place) hash (account ∷ accounts) = ap (λ (more : List Account). without_state account ∷ more) (settled_at place hash accounts)
 
 computer_secret : (of_user : Bool) (hash other : List ℕ) (changed : Bool) → of_user ≡ false → secret_if of_user hash true ≡ secret_if of_user other changed
 computer_secret true hash other changed not = absurd cc

@@ -3,7 +3,7 @@ use Rattle.std.proofs.Common.{◌≡◌, ℕ, ◌==◌, List, Option, Some, None
 use Rattle.std.specs.List.{slice_get}
 use Rattle.std.proofs.lemmas.Bool.{cases_Bool, eqb-true}
 use Rattle.account_table.specs.AccountTable.{AccountTable}
-use Rattle.account_table.specs.Changes.{at_place, settled, state_of, with_count, with_bad_count, with_change_if, with_changes, with_state, DifferInCounts}
+use Rattle.account_table.specs.Changes.{at_place, without_state, state_of, with_count, with_bad_count, with_change_if, with_changes, with_state, DifferInCounts}
 use Rattle.account_table.specs.LookUps.{place_in, route_in}
 use Rattle.account_table.specs.declared.account.Account.{Account}
 use Rattle.account_table.specs.declared.account.Policy.{Policy}
@@ -76,26 +76,26 @@ change_made table place account found count after count_is =
 -- ---- the account as the changes leave it
 
 -- an account that has that state, and is like one but for what may change, is that one with the state
-state_put : (other account : Account) (state : AccountState) → settled other ≡ settled account → state_of other ≡ state → other ≡ with_state state account
+state_put : (other account : Account) (state : AccountState) → without_state other ≡ without_state account → state_of other ≡ state → other ≡ with_state state account
 state_put other account state same is =
     ap (λ (s : AccountState). with_state s other) is ∙ ap (λ (a : Account). with_state state a) same
 
-standing_by : (found : Option Account) (account : Account) (state : AccountState) → option_map settled found ≡ Some (settled account) → Some state ≡ option_map state_of found → found ≡ Some (with_state state account)
+standing_by : (found : Option Account) (account : Account) (state : AccountState) → option_map without_state found ≡ Some (without_state account) → Some state ≡ option_map state_of found → found ≡ Some (with_state state account)
 standing_by None account state same stated = absurd (cc)
 standing_by (Some other) account state same stated =
-    let alike : settled other ≡ settled account = cc in
+    let alike : without_state other ≡ without_state account = cc in
     let is : state_of other ≡ state = cc in
     ap (λ (a : Account). Some a) (state_put other account state alike is)
 
-not_past : (found : Option Account) (account : Account) → option_map settled found ≡ Some (settled account) → None ≡ option_map state_of found → ⊥
+not_past : (found : Option Account) (account : Account) → option_map without_state found ≡ Some (without_state account) → None ≡ option_map state_of found → ⊥
 not_past None account same past = cc
 not_past (Some other) account same past = cc
 
 module _ (table : AccountTable) (changes : List TableChange) (place : ℕ) (account : Account) (found : slice_get table.accounts place ≡ Some account) where
-  alike : option_map settled (slice_get (with_changes changes table).accounts place) ≡ Some (settled account)
+  alike : option_map without_state (slice_get (with_changes changes table).accounts place) ≡ Some (without_state account)
   alike =
       accounts-left table (with_changes changes table) (with_changes-differs changes table) place
-      ∙ ap (λ (o : Option Account). option_map settled o) found
+      ∙ ap (λ (o : Option Account). option_map without_state o) found
 
   pub stands_there : None ≡ option_map state_of (slice_get (with_changes changes table).accounts place) → ⊥
   stands_there past = not_past _ account alike past

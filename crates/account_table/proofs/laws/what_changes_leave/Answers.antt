@@ -1,5 +1,5 @@
 -- Each clause is a law of `proofs/ChangeLaws`.
-use Rattle.account_table.proofs.ChangeLaws.{with_changes-none, with_changes-append, with_changes-differs, with_changes-states, states-again, counts-states, machines-left}
+use Rattle.account_table.proofs.ChangeLaws.{with_changes-none, with_changes-append, with_changes-differs, with_changes-states, states-again, counts-states, places-left, machines-left, known-left, routes-left, accounts-left}
 use Rattle.account_table.proofs.laws.what_changes_leave.Goals as goal
 
 pub returns-clause-none : goal.returns-clause-none
@@ -22,3 +22,15 @@ returns-clause-states c = with_changes-states
 
 pub returns-clause-machines : goal.returns-clause-machines
 returns-clause-machines c = machines-left
+
+pub returns-clause-places : goal.returns-clause-places
+returns-clause-places c = places-left
+
+pub returns-clause-known : goal.returns-clause-known
+returns-clause-known c = known-left
+
+pub returns-clause-routes : goal.returns-clause-routes
+returns-clause-routes c = routes-left
+
+pub returns-clause-accounts : goal.returns-clause-accounts
+returns-clause-accounts c = accounts-left
