@@ -1,6 +1,6 @@
 -- A run over some of the moves, from the first on, and what is left where the rest isn't made.
 -- It serves `drive`.
-use Rattle.std.proofs.Common.{◌≡◌, ℕ, zero, suc, ◌≤◌, List, [], ◌∷◌, length, take, Some, slice_get, refl, ap, ◌∙◌, arith}
+use Rattle.std.proofs.Common.{◌≡◌, ℕ, zero, suc, ◌≤◌, List, [], ◌∷◌, length, take, Some, slice_get, ap, ◌∙◌, arith}
 use Rattle.world_moves.specs.declared.moves.Move.{Move}
 use Rattle.world_moves.specs.Outcomes.{HasOutcomesOf}
 use Rattle.world_moves.specs.World.{World, happens, outcome_of, report_of, run}

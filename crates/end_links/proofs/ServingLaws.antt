@@ -5,7 +5,7 @@ use Rattle.outside.specs.declared.action.StepRefused.{StepRefused}
 use Rattle.outside.specs.declared.action.StepRefused.TheVariants.{Spent, Memory, Stopped}
 use Rattle.outside.specs.Drawing.{IsRest}
 use Rattle.outside.specs.Machine.{Part, AnswersBy, left_by}
-use Rattle.outside.proofs.DrawLaws.{IsRest-refl, IsRest-trans, DrawsSome-none, DrawsSome-trans}
+use Rattle.outside.proofs.DrawLaws.{IsRest-refl, DrawsSome-none, DrawsSome-trans}
 use Rattle.outside.proofs.MachineLaws.{then_part-rest, AnswersBy-refused}
 use Rattle.rpc_units.specs.declared.refused.UnitRefused.{UnitRefused}
 use Rattle.rpc_units.specs.declared.unit.Unit.{Unit as RpcUnit}

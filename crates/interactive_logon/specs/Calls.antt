@@ -1,7 +1,7 @@
 -- An interactive logon and its logoff in a stub, parameter by parameter (MS-NRPC 3.5.4.5.3, 3.5.4.5.4; C706 14.3).
 -- Padding, nonzero referents and maximum lengths are free, and so is what follows the last parameter. A hash has 16
 -- bytes.
-use Rattle.std.specs.Prelude.{ℕ, ◌≡◌, ◌⊎◌, ◌==◌, ◌&&◌, ◌||◌, Bool, true, false, List, Result, Err, if◌then◌else◌}
+use Rattle.std.specs.Prelude.{ℕ, ◌≡◌, ◌⊎◌, ◌==◌, ◌&&◌, ◌||◌, Bool, true, false, List, Result, Err}
 use Rattle.ndr_codec.specs.Stub.{Begins, parsed_by}
 use Rattle.ndr_codec.specs.Layout.{short, long, raw}
 use Rattle.ndr_codec.specs.Parts.{unique, unique_text, some_pointer, halves, head, units}
