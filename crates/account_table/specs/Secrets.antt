@@ -21,8 +21,7 @@ use Rattle.account_table.specs.declared.refused.ApplyRefused.TheVariants.{NotSec
 unfoldable pub line_of : List ℕ → List ℕ → List ℕ
 line_of name hash = name ++ (32 ∷ (encode_lower hash ++ 10 ∷ []))
 
--- the argument: whether there is a line
-abbrev pub line_if : Bool → List ℕ → List ℕ → List ℕ
+abbrev pub line_if : (has_line : Bool) → List ℕ → List ℕ → List ℕ
 line_if false name hash = []
 line_if true name hash = line_of name hash
 

@@ -177,8 +177,8 @@ how_refused (Some computer) (Some given) computers = refused_on (lookup same_nam
 
 -- ---- what is kept
 
--- where another hash was set, the text of all changed accounts is kept; the argument: whether it was
-abbrev pub kept_if : Bool → AccountTable → List Action
+-- where another hash was set, the text of all changed accounts is kept
+abbrev pub kept_if : (was_set : Bool) → AccountTable → List Action
 kept_if false table = []
 kept_if true table = action.Keep (secrets_of table.accounts) ∷ []
 

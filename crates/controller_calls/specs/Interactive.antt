@@ -33,8 +33,7 @@ with_sessions sessions work = record work { computers = record work.computers { 
 abbrev pub shown_hash : List ℕ → InteractiveInfo → List ℕ
 shown_hash key info = applied key 0 info.nt
 
--- the argument: whether the validation level is served
-abbrev pub judge_interactive_level : Bool → AccountTable → List ℕ → ℕ → InteractiveInfo → List ℕ → Judgement
+abbrev pub judge_interactive_level : (is_served_level : Bool) → AccountTable → List ℕ → ℕ → InteractiveInfo → List ℕ → Judgement
 judge_interactive_level false table name now info key = record { verdict = Status invalid_info_class; table = table }
 judge_interactive_level true table name now info key =
     interactive_judgement_of table name info.domain info.user info.workstation (shown_hash key info) now
@@ -42,8 +41,8 @@ judge_interactive_level true table name now info key =
 abbrev pub judge_interactive : AccountTable → List ℕ → ℕ → InteractiveInfo → ℕ → List ℕ → Judgement
 judge_interactive table name now info validation key = judge_interactive_level (serves_level validation) table name now info key
 
--- what is granted opens a session, unless as many stand as are kept; the argument: whether that is so
-abbrev pub admitted : Bool → Verdict → Verdict
+-- what is granted opens a session, unless as many stand as are kept
+abbrev pub admitted : (is_full : Bool) → Verdict → Verdict
 admitted false verdict = verdict
 admitted true (Granted info) = Status insufficient_resources
 admitted true (Status status) = Status status
@@ -78,8 +77,8 @@ pass_logoff status line credential work =
     send_logoff_reply (Some (record { credential = credential; timestamp = 0 })) status line
     (tell work (action.Judged (judged.Passed status)))
 
--- the argument: whether there is a session of that computer, user and logon
-abbrev pub logoff_status : Bool → ℕ
+-- by whether there is a session of that computer, user and logon
+abbrev pub logoff_status : (has_session : Bool) → ℕ
 logoff_status true = 0
 logoff_status false = no_such_logon_session
 

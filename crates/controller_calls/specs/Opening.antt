@@ -72,8 +72,7 @@ judge_pair_with (Some pair) hash line c work = judge_client (channel_with hash p
 abbrev pub judge_pair : Option ChallengePair → Account → Line → AuthCall → Work → Work
 judge_pair pair account line c work = judge_pair_with pair account.hash line c work
 
--- the argument: whether RC4 is offered
-abbrev pub judge_offer_with : Bool → Option ChallengePair → List ℕ → Line → AuthCall → Work → Work
+abbrev pub judge_offer_with : (offers_rc4 : Bool) → Option ChallengePair → List ℕ → Line → AuthCall → Work → Work
 judge_offer_with false pair hash line c work = deny_channel work line c.flags downgrade_detected
 judge_offer_with true pair hash line c work = judge_pair_with pair hash line c work
 

@@ -93,8 +93,7 @@ hear_netlogon (netlogon.Authenticate c) line talk = heard.Asked line (call.Authe
 hear_netlogon (netlogon.Logon c) line talk = heard.Asked line (call.Judged (judged_call.Network c)) talk
 hear_netlogon (netlogon.Logoff c) line talk = heard.Asked line (call.Judged (judged_call.NetworkLogoff c)) talk
 
--- the argument: whether it is a logon
-abbrev pub interactive_by : Bool → InteractiveCall → JudgedCall
+abbrev pub interactive_by : (is_logon : Bool) → InteractiveCall → JudgedCall
 interactive_by true c = judged_call.Interactive c
 interactive_by false c = judged_call.Logoff c
 
@@ -102,8 +101,7 @@ abbrev pub hear_interactive : Result InteractiveCall StubRefused → Bool → Li
 hear_interactive (Err why) logs_on line talk = hear_fault line rpc_x_bad_stub_data talk
 hear_interactive (Ok c) logs_on line talk = heard.Asked line (call.Judged (interactive_by logs_on c)) talk
 
--- the argument: whether the tag is that of an interactive logon
-abbrev pub hear_arm : Bool → ℕ → List ℕ → Line → Talk → Heard
+abbrev pub hear_arm : (is_interactive : Bool) → ℕ → List ℕ → Line → Talk → Heard
 hear_arm false opnum stub line talk = hear_fault line rpc_x_bad_stub_data talk
 hear_arm true opnum stub line talk = hear_interactive (interactive_of opnum stub) (is_logon opnum) line talk
 
@@ -120,18 +118,15 @@ abbrev pub hear_set : Result SetCall SetRefused → Line → Talk → Heard
 hear_set (Err why) line talk = hear_fault line rpc_x_bad_stub_data talk
 hear_set (Ok c) line talk = heard.Asked line (call.Judged (judged_call.Set c)) talk
 
--- the argument: whether the number is NetrServerPasswordSet's
-abbrev pub hear_number : Bool → ℕ → List ℕ → Line → Talk → Heard
+abbrev pub hear_number : (is_set : Bool) → ℕ → List ℕ → Line → Talk → Heard
 hear_number false opnum stub line talk = hear_stub (call_of opnum stub) opnum stub line talk
 hear_number true opnum stub line talk = hear_set (set_call_of stub) line talk
 
--- the argument: whether calls of the number are served
-abbrev pub hear_opnum : Bool → ℕ → List ℕ → Line → Talk → Heard
+abbrev pub hear_opnum : (is_served_number : Bool) → ℕ → List ℕ → Line → Talk → Heard
 hear_opnum false opnum stub line talk = hear_fault line nca_op_rng_error talk
 hear_opnum true opnum stub line talk = hear_number (opnum == set_opnum) opnum stub line talk
 
--- the argument: whether the context was accepted
-abbrev pub hear_context : Bool → ℕ → List ℕ → Line → Talk → Heard
+abbrev pub hear_context : (is_accepted : Bool) → ℕ → List ℕ → Line → Talk → Heard
 hear_context false opnum stub line talk = hear_fault line nca_proto_error talk
 hear_context true opnum stub line talk = hear_opnum (is_served opnum) opnum stub line talk
 

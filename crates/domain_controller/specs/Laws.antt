@@ -101,8 +101,8 @@ IsActionOn link units (action.Judged how) = Unit {0}
 IsActionOn link units (action.Dial peer) = ⊥
 IsActionOn link units (action.Told to outcome) = ⊥
 
--- what is done where a link opens; the argument: whether as many links are open as may be
-abbrev pub done_by_open : Bool → ℕ → List Action
+-- what is done where a link opens
+abbrev pub done_by_open : (is_full : Bool) → ℕ → List Action
 done_by_open true link = action.Close link close.TooManyLinks ∷ []
 done_by_open false link = []
 

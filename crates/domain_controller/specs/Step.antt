@@ -36,8 +36,7 @@ whole_part d links left = Ok (record { value = (d, links); left = left })
 
 -- ---- a link opens
 
--- the argument: whether as many links are open as may be
-abbrev pub open_by : Bool → ℕ → Work → LinkMap → Work × LinkMap
+abbrev pub open_by : (is_full : Bool) → ℕ → Work → LinkMap → Work × LinkMap
 open_by true link work links = (tell work (action.Close link close.TooManyLinks), links)
 open_by false link work links = (work, put same_number link (record { rest = []; talk = first_talk }) links)
 

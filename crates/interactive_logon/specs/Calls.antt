@@ -55,8 +55,7 @@ abbrev pub validation_asked : Bool → Layout ℕ
 validation_asked true = item short
 validation_asked false = done 0
 
--- the argument: whether it is a logon
-unfoldable pub interactive_call : Bool → Layout InteractiveCall
+unfoldable pub interactive_call : (is_logon : Bool) → Layout InteractiveCall
 interactive_call is_logon = do
   server ← part unique_text
   computer ← part unique_text
@@ -79,8 +78,7 @@ IsOpnum opnum = (opnum ≡ 2) ⊎ (opnum ≡ 3)
 unfoldable pub IsInteractive : ℕ → List ℕ → InteractiveCall → Type 0
 IsInteractive opnum stub value = IsOpnum opnum × Begins (interactive_call (is_logon opnum)) value stub
 
--- the argument: whether the number is one of both
-abbrev pub interactive_by : Bool → ℕ → List ℕ → Result InteractiveCall StubRefused
+abbrev pub interactive_by : (is_one_of_both : Bool) → ℕ → List ℕ → Result InteractiveCall StubRefused
 interactive_by false opnum stub = Err (NoSuchCall opnum)
 interactive_by true opnum stub = parsed_by stub_refused (λ value. value) (interactive_call (is_logon opnum)) stub
 

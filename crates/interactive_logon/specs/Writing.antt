@@ -49,8 +49,7 @@ put_info info =
 unfoldable pub put_leveled_info : InteractiveInfo → Putting
 put_leveled_info info = put short 1 >> put short 1 >> put pointer true >> put_info info
 
--- the argument: whether it is a logon
-abbrev pub put_validation : Bool → ℕ → Putting
+abbrev pub put_validation : (is_logon : Bool) → ℕ → Putting
 put_validation true level = put short level
 put_validation false level = keep
 

@@ -47,8 +47,8 @@ bind_for level auth = record (bind_of memo_syntax 1) { trailer = Some (trailer_o
 
 -- ---- the CHALLENGE
 
--- the pairs of its target information, of which it may have none; the argument: whether it has none
-abbrev pub pairs_by : Bool → List ℕ → Result (List (ℕ × List ℕ)) PairsRefused
+-- the pairs of its target information, of which it may have none
+abbrev pub pairs_by : (has_none : Bool) → List ℕ → Result (List (ℕ × List ℕ)) PairsRefused
 pairs_by true info = Ok []
 pairs_by false info = pairs_of info
 

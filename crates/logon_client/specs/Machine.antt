@@ -158,8 +158,7 @@ done end = heard.Done end.0 end.1
 abbrev pub fails : ClientOutcome → ℕ → Work → Heard
 fails outcome link work = done (ends outcome link work)
 
--- the argument: whether enough is agreed
-abbrev pub hear_flags : Bool → ServerOffer → ℕ → Work → Heard
+abbrev pub hear_flags : (agrees_enough : Bool) → ServerOffer → ℕ → Work → Heard
 hear_flags false offer link work = fails (Refused refused_cause.WeakOffer) link work
 hear_flags true offer link work = heard.Challenged work link offer
 
@@ -190,8 +189,7 @@ abbrev pub hear_trailer : Option Trailer → ℕ → ℕ → Work → Heard
 hear_trailer None receive link work = fails (BadPeer peer_fault.BadMessage) link work
 hear_trailer (Some trailer) receive link work = hear_challenge (challenge_of trailer.value) receive link work
 
--- the arguments: whether the first result is acceptance 0, and its reason
-abbrev pub hear_result : Bool → ℕ → Option Trailer → ℕ → ℕ → Work → Heard
+abbrev pub hear_result : (is_accepted : Bool) (reason : ℕ) → Option Trailer → ℕ → ℕ → Work → Heard
 hear_result false reason trailer receive link work = fails (Refused (refused_cause.Rejected reason)) link work
 hear_result true reason trailer receive link work = hear_trailer trailer receive link work
 
@@ -202,8 +200,7 @@ hear_ack (first ∷ results) trailer receive link work = hear_result (first.0 ==
 
 -- ---- a response that is whole
 
--- the argument: whether nothing is echoed
-abbrev pub hear_name_by : Bool → List ℕ → Terms → ℕ → Work → Heard
+abbrev pub hear_name_by : (echoes_nothing : Bool) → List ℕ → Terms → ℕ → Work → Heard
 hear_name_by true name terms link work = fails (In name terms.key 0) link work
 hear_name_by false name terms link work = done (asks_echo name terms link work)
 
@@ -211,8 +208,7 @@ abbrev pub hear_name : Result (List ℕ) MemoRefused → Terms → ℕ → Work 
 hear_name (Err why) terms link work = fails (BadPeer peer_fault.BadReply) link work
 hear_name (Ok name) terms link work = hear_name_by (work.task.echo == 0) name terms link work
 
--- the argument: whether the same bytes came back
-abbrev pub hear_echo_by : Bool → List ℕ → Terms → ℕ → Work → Heard
+abbrev pub hear_echo_by : (is_same : Bool) → List ℕ → Terms → ℕ → Work → Heard
 hear_echo_by true name terms link work = fails (In name terms.key work.task.echo) link work
 hear_echo_by false name terms link work = fails (BadPeer peer_fault.BadReply) link work
 
@@ -253,8 +249,7 @@ hear_opened None joiner terms question link work = fails (BadPeer peer_fault.Bad
 hear_opened (Some opened) joiner terms question link work =
     hear_unit_opened (unit_of opened.bytes) joiner (record terms { session = Some opened.session }) question link work
 
--- the argument: whether the trailer is of the level
-abbrev pub hear_secured : Bool → List ℕ → SessionState → Option RpcUnit → Terms → Question → ℕ → Work → Heard
+abbrev pub hear_secured : (has_trailer_of_level : Bool) → List ℕ → SessionState → Option RpcUnit → Terms → Question → ℕ → Work → Heard
 hear_secured false bytes session joiner terms question link work = fails (BadPeer peer_fault.BadSeal) link work
 hear_secured true bytes session joiner terms question link work =
     hear_opened (open_unit (is_sealed work.task.level) session bytes) joiner terms question link work
@@ -267,8 +262,7 @@ hear_response (Some session) unit bytes joiner terms question link work =
 
 -- ---- a unit
 
--- the argument: whether the status is that of no controller
-abbrev pub fault_outcome : Bool → ℕ → ClientOutcome
+abbrev pub fault_outcome : (is_no_controller : Bool) → ℕ → ClientOutcome
 fault_outcome true status = NoAnswer no_answer.NoController
 fault_outcome false status = Refused (refused_cause.Fault status)
 
@@ -290,8 +284,7 @@ abbrev pub is_response : Body → Bool
 is_response (Response hint context stub) = true
 is_response _ = false
 
--- the argument: whether the unit has the number that is waited for
-abbrev pub hear_call : Bool → RpcUnit → List ℕ → Talk → Work → Heard
+abbrev pub hear_call : (is_awaited_call : Bool) → RpcUnit → List ℕ → Talk → Work → Heard
 hear_call false unit bytes talk work = fails (BadPeer peer_fault.OutOfPlace) talk.link work
 hear_call true unit bytes talk work = hear_body unit.body talk.phase unit bytes talk.joiner talk.link work
 
@@ -346,15 +339,13 @@ standing_by (Some talk) rest = On (record { rest = rest; talk = talk })
 abbrev pub after_stream : List ℕ → Work × Option Talk → List (List ℕ) → Result (Part After) StepRefused
 after_stream rest served left = stays (standing_by served.1 rest) served.0 left
 
--- the argument: whether the piece came on the client's link
-abbrev pub by_piece : Bool → List ℕ → LinkState Talk → Work → List (List ℕ) → Result (Part After) StepRefused
+abbrev pub by_piece : (is_own_link : Bool) → List ℕ → LinkState Talk → Work → List (List ℕ) → Result (Part After) StepRefused
 by_piece false piece link work left = stays (On link) work left
 by_piece true piece link work left =
     then_part (served_cut client_server (cut_stream (link.rest ++ piece)) work link.talk left)
     (after_stream (cut_stream (link.rest ++ piece)).rest)
 
--- the argument: whether it is the client's link that was closed
-abbrev pub by_close : Bool → LinkState Talk → Work → List (List ℕ) → Result (Part After) StepRefused
+abbrev pub by_close : (is_own_link : Bool) → LinkState Talk → Work → List (List ℕ) → Result (Part After) StepRefused
 by_close false link work left = stays (On link) work left
 by_close true link work left = stays Idle (concluded (NoAnswer no_answer.LinkClosed) work) left
 

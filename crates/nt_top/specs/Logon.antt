@@ -57,8 +57,7 @@ outcome_exit (Some (outcomes.Refused cause)) = Refused cause
 outcome_exit (Some (outcomes.NoAnswer cause)) = NoAnswer cause
 outcome_exit (Some (outcomes.BadPeer fault)) = BadPeer fault
 
--- the argument: whether nothing was echoed
-abbrev pub echo_line : Bool → ℕ → List ℕ
+abbrev pub echo_line : (echoes_nothing : Bool) → ℕ → List ℕ
 echo_line true echoed = []
 echo_line false echoed = codes "echo " ++ decimal echoed ++ codes "\n"
 

@@ -32,8 +32,7 @@ use Rattle.step_notes.specs.Served.{units_if_taken}
 
 -- ---- the units
 
--- the argument: whether it is the client's link
-abbrev pub units_if : Bool → LinkState Talk → List ℕ → ClientPlan → ℕ → List (List ℕ) → List (ServedUnit Work Talk)
+abbrev pub units_if : (is_own_link : Bool) → LinkState Talk → List ℕ → ClientPlan → ℕ → List (List ℕ) → List (ServedUnit Work Talk)
 units_if false own piece task now left = []
 units_if true own piece task now left =
     served_units client_server (cut_stream (own.rest ++ piece)).units (work_of task now) own.talk left

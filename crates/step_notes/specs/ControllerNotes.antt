@@ -136,8 +136,7 @@ passing None j = record { sends = true; mark = Plain; checked = None; judging = 
 passing (Some channel) j =
     record { sends = true; mark = reply_mark (unit_in j.source) channel j.number; checked = Some channel; judging = Some j; accepted = None }
 
--- the argument: whether it passed
-abbrev pub judging_by : Bool → Judging → Answered
+abbrev pub judging_by : (has_passed : Bool) → Judging → Answered
 judging_by false j = record { sends = true; mark = Plain; checked = None; judging = Some j; accepted = None }
 judging_by true j = passing (channel_in j.controller (computer_named j.asked) j.checks) j
 

@@ -32,8 +32,7 @@ abbrev pub interactive_read : Result InteractiveCall StubRefused → Bool → Op
 interactive_read (Err why) logs_on = None
 interactive_read (Ok c) logs_on = Some (call.Judged (interactive_by logs_on c))
 
--- the argument: whether the tag is that of an interactive logon
-abbrev pub arm_read : Bool → ℕ → List ℕ → Option ControllerCall
+abbrev pub arm_read : (is_interactive : Bool) → ℕ → List ℕ → Option ControllerCall
 arm_read false opnum stub = None
 arm_read true opnum stub = interactive_read (interactive_of opnum stub) (is_logon opnum)
 
@@ -50,8 +49,7 @@ abbrev pub set_read : Result SetCall SetRefused → Option ControllerCall
 set_read (Err why) = None
 set_read (Ok c) = Some (call.Judged (judged_call.Set c))
 
--- the argument: whether the number is NetrServerPasswordSet's
-abbrev pub number_read : Bool → ℕ → List ℕ → Option ControllerCall
+abbrev pub number_read : (is_set : Bool) → ℕ → List ℕ → Option ControllerCall
 number_read false opnum stub = call_read (call_of opnum stub) opnum stub
 number_read true opnum stub = set_read (set_call_of stub)
 

@@ -50,8 +50,7 @@ use Rattle.step_notes.specs.Served.{talk_after, units_if_taken, work_after}
 
 -- ---- the units of the link of the turn
 
--- the argument: whether it is that link
-abbrev pub turn_units_by : Bool → LinkState TurnTalk → ℕ → List ℕ → Running → List (List ℕ) → List (ServedUnit AtTurn TurnTalk)
+abbrev pub turn_units_by : (is_turn_link : Bool) → LinkState TurnTalk → ℕ → List ℕ → Running → List (List ℕ) → List (ServedUnit AtTurn TurnTalk)
 turn_units_by false said number piece running left = []
 turn_units_by true said number piece running left =
     served_units turn_server (cut_stream (said.rest ++ piece)).units (at_turn number (work_of running)) said.talk left
@@ -77,8 +76,7 @@ link_units_on None number piece running left = []
 link_units_on (Some link) number piece running left =
     served_units link_server (cut_stream (link.rest ++ piece)).units (at_link number (work_of running)) link.talk left
 
--- the argument: whether it is the link of the turn
-abbrev pub link_units_by : Bool → ℕ → List ℕ → Running → List (List ℕ) → List (ServedUnit AtLink Talk)
+abbrev pub link_units_by : (is_turn_link : Bool) → ℕ → List ℕ → Running → List (List ℕ) → List (ServedUnit AtLink Talk)
 link_units_by true number piece running left = []
 link_units_by false number piece running left = link_units_on (lookup same_number number running.links) number piece running left
 
@@ -249,8 +247,7 @@ abbrev pub challenge_after : Option Talk → LinkAt → AtLink → List (List �
 challenge_after None w at left = []
 challenge_after (Some talk) w at left = challenge_in talk.phase w at left
 
--- the argument: whether nothing was bound
-abbrev pub challenge_by : Bool → ServedUnit AtLink Talk → LinkAt → List ChallengeSent
+abbrev pub challenge_by : (was_fresh : Bool) → ServedUnit AtLink Talk → LinkAt → List ChallengeSent
 challenge_by false unit w = []
 challenge_by true unit w = challenge_after (talk_after unit.part) w unit.work unit.left
 
@@ -273,8 +270,7 @@ abbrev pub taken_after : Option Talk → ℕ → List ℕ
 taken_after None link = []
 taken_after (Some talk) link = link_if (is_past talk.phase) link
 
--- the argument: whether a CHALLENGE had been sent
-abbrev pub taken_by : Bool → Option Talk → ℕ → List ℕ
+abbrev pub taken_by : (was_challenged : Bool) → Option Talk → ℕ → List ℕ
 taken_by false after link = []
 taken_by true after link = taken_after after link
 
@@ -305,8 +301,7 @@ abbrev pub message_after : Option Talk → Option AtLink → LinkAt → List ℕ
 message_after None after w bytes = []
 message_after (Some talk) after w bytes = message_at talk.phase after w bytes
 
--- the argument: whether a CHALLENGE had been sent
-abbrev pub message_by : Bool → ServedUnit AtLink Talk → LinkAt → List MessageTaken
+abbrev pub message_by : (was_challenged : Bool) → ServedUnit AtLink Talk → LinkAt → List MessageTaken
 message_by false unit w = []
 message_by true unit w = message_after (talk_after unit.part) (work_after unit.part) w unit.bytes
 

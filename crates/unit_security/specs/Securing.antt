@@ -65,8 +65,7 @@ signed_with (Err why) bytes session = None
 abbrev pub sealed_with : Sealing → Option Secured
 sealed_with sealing = signed_with sealing.answer sealing.unit sealing.session
 
--- the first argument: whether units are sealed
-abbrev pub secure_in : Bool → Option (ℕ × ℕ) → SessionState → List ℕ → Option Secured
+abbrev pub secure_in : (seals : Bool) → Option (ℕ × ℕ) → SessionState → List ℕ → Option Secured
 secure_in seals None session bytes = None
 secure_in true (Some range) session bytes = sealed_with (seal_of session (signed_part range bytes) range.0 range.1)
 secure_in false (Some range) session bytes =

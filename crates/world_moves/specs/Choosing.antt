@@ -2,8 +2,7 @@
 -- choice).
 use Rattle.std.specs.Prelude.{ℕ, ◌+◌, ◌%◌, ◌==◌, Bool, true, false, List, [], ◌∷◌, ◌++◌, length, Option, Some, None, slice_get, if◌then◌else◌}
 
--- the argument: whether there is nothing to choose from
-abbrev pub place_by : Bool → ℕ → ℕ → Option ℕ
+abbrev pub place_by : (is_empty : Bool) → ℕ → ℕ → Option ℕ
 place_by true number count = None
 place_by false number count = Some (number % count)
 

@@ -92,8 +92,7 @@ accepted route = record { route = route; dialler = false; acceptor = true }
 abbrev pub answered : OpenLink → OpenLink
 answered link = record link { dialler = true }
 
--- the argument: whether that side is open
-abbrev pub end_if : Bool → Option EndId → Option EndId
+abbrev pub end_if : (is_open : Bool) → Option EndId → Option EndId
 end_if false end = None
 end_if true end = end
 
@@ -118,8 +117,7 @@ forgotten_by end link = record link {
   acceptor = link.acceptor && not (is_accepted_by end link.route);
 }
 
--- the argument: whether a side is open
-abbrev pub open_if : Bool → ℕ → OpenLink → OpenMap → OpenMap
+abbrev pub open_if : (is_open : Bool) → ℕ → OpenLink → OpenMap → OpenMap
 open_if false number link links = links
 open_if true number link links = (number, link) ∷ links
 

@@ -32,8 +32,7 @@ abbrev pub is_told : Option Bool → Bool
 is_told None = false
 is_told (Some told) = told
 
--- the argument: whether the client had an outcome
-abbrev pub kept_if : Bool → Option ClientOutcome → Option ClientOutcome
+abbrev pub kept_if : (had_outcome : Bool) → Option ClientOutcome → Option ClientOutcome
 kept_if true outcome = outcome
 kept_if false outcome = None
 

@@ -47,7 +47,6 @@ renewals (what ∷ moves) w earlier = renewals moves (happens w what) (renewal_b
 
 -- ---- since when a controller keeps its sessions
 
--- the argument: whether it is the one
 abbrev pub start_if : (is_it : Bool) → ℕ → ℕ → ℕ
 start_if false moves start = start
 start_if true moves start = moves
@@ -71,7 +70,7 @@ abbrev pub sessions_on : Option SecureChannelState → Judging → List Session
 sessions_on None j = j.sessions
 sessions_on (Some channel) j = (done_on j channel).sessions
 
--- those behind a call that passed, and else those before it; the argument: whether it passed
+-- the sessions behind a call that passed, and else those before it
 abbrev pub sessions_if : (passed : Bool) → Judging → List Session
 sessions_if false j = j.sessions
 sessions_if true j = sessions_on j.checks j
@@ -79,7 +78,6 @@ sessions_if true j = sessions_on j.checks j
 abbrev pub sessions_behind : Judging → List Session
 sessions_behind j = sessions_if (has_passed j.how) j
 
--- the argument: whether the call is one of those
 abbrev pub since_if : (is_one : Bool) → Judging → List Session → List Session
 since_if false j before = before
 since_if true j before = sessions_behind j

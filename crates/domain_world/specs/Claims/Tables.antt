@@ -17,8 +17,7 @@ abbrev pub left_on : Option SecureChannelState → Judging → AccountTable
 left_on None j = j.table
 left_on (Some channel) j = (done_on j channel).table
 
--- the argument: whether it passed
-abbrev pub left_if : Bool → Judging → AccountTable
+abbrev pub left_if : (has_passed : Bool) → Judging → AccountTable
 left_if false j = j.table
 left_if true j = left_on j.checks j
 

@@ -40,8 +40,8 @@ use Rattle.logon_runs.specs.Scenes.{Shows}
 abbrev pub turn_moves : List Move
 turn_moves = move.Connect ∷ move.Onward ∷ move.Onward ∷ move.Onward ∷ move.Onward ∷ []
 
--- Echo and its answer. The argument: whether nothing is echoed
-abbrev pub echo_moves : Bool → List Move
+-- Echo and its answer
+abbrev pub echo_moves : (echoes_nothing : Bool) → List Move
 echo_moves true = []
 echo_moves false = move.Onward ∷ move.Onward ∷ []
 
