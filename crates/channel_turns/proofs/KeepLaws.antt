@@ -1,19 +1,54 @@
--- What holds through the units on the link of a turn: whatever stays where a unit is passed over, taken or refused,
--- stays through all of them. It serves the laws of turns.
-use Rattle.std.specs.Prelude.{ℕ, List, [], ◌∷◌, Option, Some, None}
+-- What a unit on the link of a turn can come to, and what holds through all of them: whatever stays where a unit is
+-- passed over, taken or refused, stays through all of them. It serves the laws of turns.
+use Rattle.std.proofs.Common.{◌≡◌, ℕ, List, [], ◌∷◌, Option, Some, None, refl}
+use Rattle.outside.specs.declared.action.Action.TheVariants as action
 use Rattle.outside.specs.declared.action.CloseCause.{CloseCause}
 use Rattle.outside.specs.declared.action.CloseCause.TheVariants as close
 use Rattle.rpc_units.specs.declared.refused.UnitRefused.{UnitRefused}
 use Rattle.rpc_units.specs.declared.unit.Unit.{Unit as RpcUnit}
 use Rattle.rpc_units.specs.Reading.{unit_of}
 use Rattle.rpc_units.specs.Stream.{Cut}
+use Rattle.end_links.specs.Sending.{joined_frames}
+use Rattle.channel_client.specs.declared.answers.Taken.{Taken}
+use Rattle.channel_client.specs.declared.answers.Taken.TheVariants as taken
 use Rattle.channel_client.specs.Machine.{take_of}
 use Rattle.channel_turns.specs.declared.hearing.Heard.{Heard}
 use Rattle.channel_turns.specs.declared.hearing.Heard.TheVariants as heard
+use Rattle.channel_turns.specs.declared.state.TurnEnd.{TurnEnd}
+use Rattle.channel_turns.specs.declared.state.TurnEnd.TheVariants as turn_end
 use Rattle.channel_turns.specs.declared.state.TurnTalk.{TurnTalk}
 use Rattle.channel_turns.specs.declared.state.TurnWork.{TurnWork}
 use Rattle.channel_turns.specs.Hearing.{heard_of}
-use Rattle.channel_turns.specs.Turns.{TurnServed, break_turn, do_heard, served_by, take_by, then_said, turn_served, turn_talk, turn_unit}
+use Rattle.channel_turns.specs.Turns.{TurnServed, break_turn, do_heard, do_taken, end_by, served_by, take_by, tell, then_said, turn_served, turn_talk, turn_unit}
+
+-- ---- a unit that was taken
+
+-- how the turn ends, where it does
+abbrev pub end_of : Taken → Option TurnEnd
+end_of (taken.Skip right) = None
+end_of (taken.Next right frames) = None
+end_of taken.Half = Some turn_end.Half
+end_of taken.Opened = Some turn_end.Opened
+end_of (taken.Answer place verdict) = Some (turn_end.Answer place verdict)
+end_of (taken.Dropped place cause) = Some (turn_end.Dropped place cause)
+
+-- it is passed over, sends the next request, or ends the turn
+pub record ByTaken (what : Taken) (joiner : Option RpcUnit) (at : TurnWork) (Holds : TurnServed → Type 0) : Type 0 where
+  pub skips : (right : Unit {0}) → what ≡ taken.Skip right → Holds (at, Some (turn_talk joiner))
+  pub sends : (right : Unit {0}) (frames : List (List ℕ)) → what ≡ taken.Next right frames →
+      Holds (tell (action.Send at.link (joined_frames frames)) at, Some (turn_talk joiner))
+  pub ends : (how : TurnEnd) → end_of what ≡ Some how → Holds (end_by close.CallDone how at)
+
+pub taken_by : (what : Taken) (joiner : Option RpcUnit) (at : TurnWork) (Holds : TurnServed → Type 0) → ByTaken what joiner at Holds →
+    Holds (do_taken what joiner at)
+taken_by (taken.Skip right) joiner at Holds by = by.skips right refl
+taken_by (taken.Next right frames) joiner at Holds by = by.sends right frames refl
+taken_by taken.Half joiner at Holds by = by.ends turn_end.Half refl
+taken_by taken.Opened joiner at Holds by = by.ends turn_end.Opened refl
+taken_by (taken.Answer place verdict) joiner at Holds by = by.ends (turn_end.Answer place verdict) refl
+taken_by (taken.Dropped place cause) joiner at Holds by = by.ends (turn_end.Dropped place cause) refl
+
+-- ---- the units of a stream
 
 pub record StaysOnTurns (Holds : TurnServed → Type 0) : Type 0 where
   pub waits : (at : TurnWork) (talk other : TurnTalk) → Holds (at, Some talk) → Holds (at, Some other)

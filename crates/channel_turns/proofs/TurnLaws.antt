@@ -17,30 +17,28 @@ use Rattle.channel_client.specs.declared.answers.Taken.TheVariants as taken
 use Rattle.channel_client.proofs.TurnLaws.{one_turn}
 use Rattle.channel_turns.specs.declared.hearing.Heard.{Heard}
 use Rattle.channel_turns.specs.declared.hearing.Heard.TheVariants as heard
+use Rattle.channel_turns.specs.declared.state.TurnEnd.{TurnEnd}
 use Rattle.channel_turns.specs.declared.state.TurnTalk.{TurnTalk}
 use Rattle.channel_turns.specs.declared.state.TurnWork.{TurnWork}
 use Rattle.channel_turns.specs.Hearing.{heard_by, heard_of}
 use Rattle.channel_turns.specs.Laws.{EndsOnce, TurnsEndOnce, TurnsStepTheChannel, is_refused, or_broken, taken_in_order, then_heard, while_out, whole_units}
 use Rattle.channel_turns.specs.Turns.{TurnServed, do_heard, do_taken, served_by, take_by, then_said, turn_served, turn_talk, turn_unit, with_channel}
-use Rattle.channel_turns.proofs.KeepLaws.{turn_stays}
+use Rattle.channel_turns.proofs.KeepLaws.{end_of, taken_by, turn_stays}
 use Rattle.channel_turns.proofs.ServedLaws.{served_part}
 
 -- ---- it ends once
-
-taken_once : (t : Taken) (joiner : Option RpcUnit) (at : TurnWork) → at.ended ≡ None → EndsOnce (do_taken t joiner at)
-taken_once (taken.Skip turn) joiner at not_yet = not_yet
-taken_once (taken.Next turn frames) joiner at not_yet = not_yet
-taken_once taken.Half joiner at not_yet = refl
-taken_once taken.Opened joiner at not_yet = refl
-taken_once (taken.Answer place verdict) joiner at not_yet = refl
-taken_once (taken.Dropped place cause) joiner at not_yet = refl
 
 ends_once : (cut : Cut) (at : TurnWork) (talk : TurnTalk) → at.ended ≡ None → EndsOnce (turn_served cut at talk)
 ends_once cut at talk not_yet =
     turn_stays EndsOnce (record {
       waits = λ at talk other ends. ends;
       takes = λ unit joiner at talk ends.
-          taken_once (take_of at.channel unit).taken joiner (with_channel (take_of at.channel unit).state at) ends;
+          let taking = take_of at.channel unit in
+          taken_by taking.taken joiner (with_channel taking.state at) EndsOnce (record {
+            skips = λ right is. ends;
+            sends = λ right frames is. ends;
+            ends = λ how is. refl;
+          });
       breaks = λ cause at talk ends. refl;
     }) cut at talk not_yet
 
@@ -49,21 +47,26 @@ ends_once cut at talk not_yet =
 abbrev IsOutWhile : TurnServed → Type 0
 IsOutWhile served = is_out served.0.channel ≡ is_some served.1
 
-taken_out : (t : Taken) (joiner : Option RpcUnit) (at : TurnWork) → gives_right t ≡ is_out at.channel → IsOutWhile (do_taken t joiner at)
-taken_out (taken.Skip turn) joiner at right = sym right
-taken_out (taken.Next turn frames) joiner at right = sym right
-taken_out taken.Half joiner at right = sym right
-taken_out taken.Opened joiner at right = sym right
-taken_out (taken.Answer place verdict) joiner at right = sym right
-taken_out (taken.Dropped place cause) joiner at right = sym right
+ended_right : (what : Taken) (how : TurnEnd) → end_of what ≡ Some how → gives_right what ≡ false
+ended_right (taken.Skip right) how is = absurd (let x = is in cc)
+ended_right (taken.Next right frames) how is = absurd (let x = is in cc)
+ended_right taken.Half how is = refl
+ended_right taken.Opened how is = refl
+ended_right (taken.Answer place verdict) how is = refl
+ended_right (taken.Dropped place cause) how is = refl
 
 stays_out : (cut : Cut) (at : TurnWork) (talk : TurnTalk) → is_out at.channel ≡ true → IsOutWhile (turn_served cut at talk)
 stays_out cut at talk out =
     turn_stays IsOutWhile (record {
       waits = λ at talk other out. out;
       takes = λ unit joiner at talk out.
-          taken_out (take_of at.channel unit).taken joiner (with_channel (take_of at.channel unit).state at)
-          (one_turn.take at.channel unit out);
+          let taking = take_of at.channel unit in
+          let right : gives_right taking.taken ≡ is_out taking.state = one_turn.take at.channel unit out in
+          taken_by taking.taken joiner (with_channel taking.state at) IsOutWhile (record {
+            skips = λ turn is. sym right ∙ ap gives_right is;
+            sends = λ turn frames is. sym right ∙ ap gives_right is;
+            ends = λ how is. sym right ∙ ended_right taking.taken how is;
+          });
       breaks = λ cause at talk out. refl;
     }) cut at talk out
 

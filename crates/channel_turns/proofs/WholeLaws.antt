@@ -1,21 +1,18 @@
 -- What turns send is whole. It serves `what_turns_send_is_whole`.
-use Rattle.std.proofs.Common.{◌≡◌, ℕ, List, [], ◌∷◌, ◌++◌, Option, refl, sym, ap, ◌∙◌, append-nil, append_assoc}
+use Rattle.std.proofs.Common.{◌≡◌, ℕ, List, [], ◌∷◌, ◌++◌, refl, sym, ap, subst, ◌∙◌, append-nil, append_assoc}
 use Rattle.std.specs.List.{AllByRecursion}
 use Rattle.outside.specs.declared.action.Action.{Action}
 use Rattle.outside.specs.declared.action.Action.TheVariants as action
 use Rattle.rpc_units.specs.Stream.{Cut}
-use Rattle.rpc_units.specs.declared.unit.Unit.{Unit as RpcUnit}
 use Rattle.end_links.specs.Sending.{joined_frames}
 use Rattle.channel_client.specs.Machine.{lose_of, take_of}
 use Rattle.channel_client.specs.Whole.{InRangeRequester, IsWholeNext}
-use Rattle.channel_client.specs.declared.answers.Taken.{Taken}
-use Rattle.channel_client.specs.declared.answers.Taken.TheVariants as taken
 use Rattle.channel_client.proofs.WholeLaws.{requesters_send_whole}
 use Rattle.channel_turns.specs.declared.state.TurnTalk.{TurnTalk}
 use Rattle.channel_turns.specs.declared.state.TurnWork.{TurnWork}
 use Rattle.channel_turns.specs.Laws.{IsWholeOn, SendsWhole, TurnsSendWhole}
-use Rattle.channel_turns.specs.Turns.{TurnServed, do_taken, turn_served, with_channel}
-use Rattle.channel_turns.proofs.KeepLaws.{turn_stays}
+use Rattle.channel_turns.specs.Turns.{TurnServed, turn_served, with_channel}
+use Rattle.channel_turns.proofs.KeepLaws.{taken_by, turn_stays}
 
 all_behind : (P : Action → Type 0) (actions : List Action) (what : Action) → AllByRecursion P actions → P what → AllByRecursion P (actions ++ what ∷ [])
 all_behind P [] what all is = (is, tt)
@@ -46,16 +43,6 @@ module _ (before : TurnWork) where
     range = sends.range;
   }
 
-  taken_sends : (t : Taken) (joiner : Option RpcUnit) (at : TurnWork) → IsWholeNext t → SendsWhole before at → Sends (do_taken t joiner at)
-  taken_sends (taken.Skip turn) joiner at whole sends = sends
-  taken_sends (taken.Next turn frames) joiner at whole sends = sent at frames (refl, whole) sends
-  taken_sends taken.Half joiner at whole sends = moved at (do_taken taken.Half joiner at).0 refl refl sends.range sends
-  taken_sends taken.Opened joiner at whole sends = moved at (do_taken taken.Opened joiner at).0 refl refl sends.range sends
-  taken_sends (taken.Answer place verdict) joiner at whole sends =
-      moved at (do_taken (taken.Answer place verdict) joiner at).0 refl refl sends.range sends
-  taken_sends (taken.Dropped place cause) joiner at whole sends =
-      moved at (do_taken (taken.Dropped place cause) joiner at).0 refl refl sends.range sends
-
   first_sends : InRangeRequester before.channel → SendsWhole before before
   first_sends range = record { more = []; is = sym (append-nil before.actions); all = tt; link = refl; range = range }
 
@@ -66,8 +53,13 @@ sends_whole cut before talk range =
       takes = λ unit joiner at talk sends.
           let taking = take_of at.channel unit in
           let takes = requesters_send_whole.take at.channel unit sends.range in
-          taken_sends before taking.taken joiner (with_channel taking.state at) takes.1
-          (moved before at (with_channel taking.state at) refl refl takes.0 sends);
+          let after = with_channel taking.state at in
+          let moves = moved before at after refl refl takes.0 sends in
+          taken_by taking.taken joiner after (Sends before) (record {
+            skips = λ right is. moves;
+            sends = λ right frames is. sent before after frames (refl, subst IsWholeNext is takes.1) moves;
+            ends = λ how is. moved before after (record after { ended = _ }) refl refl takes.0 moves;
+          });
       breaks = λ cause at talk sends.
           moved before at (record at { channel = (lose_of at.channel).state; ended = _ }) refl refl
           (requesters_send_whole.lose at.channel sends.range) sends;

@@ -19,9 +19,8 @@ use Rattle.channel_client.specs.declared.state.Standing.{Standing}
 use Rattle.channel_client.specs.declared.state.Standing.TheVariants as standing
 use Rattle.channel_client.specs.declared.state.Waiting.{Waiting}
 use Rattle.channel_client.specs.Effects.{ArePlacesApart, IsCoherent, IsForFirst}
-use Rattle.channel_client.specs.Machine.{act, ask_by, ask_of, can_start, hear, judge, later_logons, lose_of, place_of, remove_first, settle, start_by, start_of, waiting_limit}
+use Rattle.channel_client.specs.Machine.{act, ask_by, ask_of, hear, judge, later_logons, lose_of, place_of, remove_first, settle, start_by, waiting_limit}
 use Rattle.channel_client.specs.State.{Requester}
-use Rattle.channel_client.specs.Turns.{is_out}
 use Rattle.channel_client.proofs.EffectLaws.{steps_have_effects}
 use Rattle.channel_client.proofs.TurnLaws.{one_turn}
 use Rattle.member_server.specs.declared.state.Logon.{Logon}
@@ -31,7 +30,7 @@ use Rattle.member_server.specs.Laws.{AreAsked, AsksWhatWaits, HoldRequests, InOr
 use Rattle.member_server.specs.Machine.{actions_in, caller_of, event_part, halted_state, state_in, step_on}
 use Rattle.member_server.specs.Messages.{with_channel, with_logon}
 use Rattle.member_server.specs.Turns.{DialWork}
-use Rattle.member_server.proofs.StepRules.{AfterStart, AfterTaken, LinkRules, StepRules, TurnRules, drop_logon}
+use Rattle.member_server.proofs.StepRules.{AfterTaken, LinkRules, StepRules, TurnRules, drop_logon}
 use Rattle.member_server.proofs.EventSteps.{DialWorkPart, step_fine}
 
 -- ---- places
@@ -173,32 +172,16 @@ start_waits (Some p) logons s timestamp challenge = refl
 start_waits None [] s timestamp challenge = refl
 start_waits None (logon ∷ logons) s timestamp challenge = refl
 
--- the argument: whether a turn can start
-started : (starts : Bool) (answer : Option (Unit {0} × List (List ℕ))) (dialled : Bool) (l : Logons) (a : List Action) (timestamp : ℕ) (challenge : List ℕ) →
-    can_start l.channel.turn l.channel.waiting ≡ starts → is_some answer ≡ starts → IsInOrder dialled l →
-    AfterStart InOrder dialled answer (with_channel l (start_of l.channel timestamp challenge).state) a
-started true None dialled l a timestamp challenge can some order = absurd (let x = some in cc)
-started false (Some start) dialled l a timestamp challenge can some order = absurd (let x = some in cc)
-started false None dialled l a timestamp challenge can some order = record {
-  coherent = (steps_have_effects.start 0 l.channel timestamp challenge order.coherent).1;
-  asked = order.asked ∙ sym (ap places_of (start_waits l.channel.turn l.channel.waiting l.channel timestamp challenge));
-  out = ap is_out (one_turn.unstarted l.channel timestamp challenge can) ∙ order.out;
-}
-started true (Some start) dialled l a timestamp challenge can some order = record {
-  coherent = (steps_have_effects.start 0 l.channel timestamp challenge order.coherent).1;
-  asked = order.asked ∙ sym (ap places_of (start_waits l.channel.turn l.channel.waiting l.channel timestamp challenge));
-  out = (one_turn.started l.channel timestamp challenge can).1;
-}
-
 order_step : StepRules (λ units. InOrder true) InOrder
 order_step = record {
   link = order_link;
   turn = order_turn;
   returns = λ units l a order. order;
-  starts = λ dialled l a timestamp challenge order.
-      started (can_start l.channel.turn l.channel.waiting) (start_of l.channel timestamp challenge).answer dialled l a timestamp challenge refl
-      (one_turn.start l.channel timestamp challenge) order;
-  dials = λ l a peer order. order;
+  starts = λ dialled l a timestamp challenge can order. record {
+    coherent = (steps_have_effects.start 0 l.channel timestamp challenge order.coherent).1;
+    asked = order.asked ∙ sym (ap places_of (start_waits l.channel.turn l.channel.waiting l.channel timestamp challenge));
+    out = (one_turn.started l.channel timestamp challenge can).1;
+  };
 }
 
 -- ---- a step

@@ -1,42 +1,39 @@
 -- A turn that starts is dialled once, and while its dial waits only the answer to it changes the turn.
 -- It serves `turns_are_dialled`.
-use Rattle.std.proofs.Common.{◌≡◌, ℕ, ◌+◌, Bool, true, false, List, [], ◌∷◌, ◌++◌, replicate, nat_le, length, is_some, Option, Some, None, Result, Ok, Err, refl, sym, ap, subst, ◌∙◌, arith}
+use Rattle.std.proofs.Common.{◌≡◌, ℕ, ◌+◌, Bool, true, false, List, [], ◌∷◌, ◌++◌, nat_le, length, is_some, Option, Some, None, Result, Ok, Err, refl, sym, ap, subst, ◌∙◌, arith}
 use Rattle.std.specs.List.{AllByRecursion}
-use Rattle.wire_base.specs.Maps.{lookup, same_number}
-use Rattle.outside.specs.Machine.{Part, then_part}
+use Rattle.outside.specs.Machine.{Part}
 use Rattle.outside.specs.declared.action.Action.{Action}
 use Rattle.outside.specs.declared.action.Action.TheVariants as action
+use Rattle.outside.specs.declared.action.CloseCause.TheVariants as close
 use Rattle.outside.specs.declared.action.Outcome.{Outcome}
 use Rattle.outside.specs.declared.action.StepRefused.{StepRefused}
 use Rattle.outside.specs.declared.event.Event.{Event}
-use Rattle.outside.specs.declared.event.Event.TheVariants as event
-use Rattle.rpc_units.specs.declared.unit.Unit.{Unit as RpcUnit}
 use Rattle.rpc_units.specs.Stream.{cut_stream}
-use Rattle.end_links.specs.Links.{LinkState}
 use Rattle.end_links.specs.Serving.{ServedPart, served_cut}
+use Rattle.end_links.proofs.KeepLaws.{served_stays}
 use Rattle.channel_client.specs.declared.answers.Taken.{Taken}
 use Rattle.channel_client.specs.declared.answers.Taken.TheVariants as taken
-use Rattle.channel_client.specs.Machine.{ask_by, can_start, lose_of, needs_challenge, start_of, take_of, waiting_limit}
+use Rattle.channel_client.specs.Machine.{ask_by, can_start, lose_of, take_of, waiting_limit}
 use Rattle.channel_client.specs.State.{Requester}
 use Rattle.channel_client.specs.Turns.{is_out}
 use Rattle.channel_client.specs.declared.state.Pending.{Pending}
 use Rattle.channel_client.specs.declared.state.Waiting.{Waiting}
-use Rattle.channel_client.proofs.TurnLaws.{one_turn}
-use Rattle.member_server.specs.ChannelSteps.{IsNextTurn}
-use Rattle.member_server.specs.Dials.{ComesUnstarted, IsDialledBy, IsNoAnswer, IsNoStart, IsWaiting, StaysOutIfTaken, TurnStepsIfTaken, TurnsAreDialled, dial_of, dials_in}
-use Rattle.member_server.specs.Laws.{Asks, Doing, IsInOrder, Loses, Takes, heard_in, is_dialled, state_after, state_done}
-use Rattle.member_server.specs.Machine.{after_units, by_event, bytes_on_link, event_part, work_of}
+use Rattle.member_server.specs.Dials.{ComesUnstarted, IsDialledBy, IsNoAnswer, IsNoStart, IsWaiting, StaysOut, StaysOutIfTaken, TurnSteps, TurnStepsIfTaken, TurnsAreDialled, dial_of, dials_in}
+use Rattle.member_server.specs.Laws.{Asks, Doing, IsInOrder, Loses, Takes, state_after, state_done}
+use Rattle.member_server.specs.Machine.{after_units, by_event, event_part, work_of}
 use Rattle.member_server.specs.Outcomes.{at_link, without_link}
 use Rattle.member_server.specs.Units.{link_server}
 use Rattle.member_server.specs.declared.state.AtLink.{AtLink}
-use Rattle.member_server.specs.Turns.{DialWork, dial_for, next_turn, timestamp_of, turn_by, with_requester}
+use Rattle.member_server.specs.Turns.{DialWork, timestamp_of}
 use Rattle.channel_turns.specs.declared.state.Dialling.{Dialling}
 use Rattle.channel_turns.specs.declared.state.Dialling.TheVariants as dialling
 use Rattle.member_server.specs.declared.state.Logons.{Logons}
 use Rattle.member_server.specs.declared.state.Running.{Running}
 use Rattle.member_server.specs.declared.state.Talk.{Talk}
 use Rattle.member_server.specs.declared.state.Work.{Work}
-use Rattle.member_server.proofs.EventSteps.{DialWorkPart, event_fine}
+use Rattle.member_server.proofs.EventSteps.{DialWorkPart, LinkPart, event_fine, kept_fine, units_stay}
+use Rattle.member_server.proofs.StepFrame.{IsLost, KeepsEvent, KeepsNext, PartHolds, WorkFact, dialling_at, next_follows, none_next, part_keeps, some_next}
 use Rattle.member_server.proofs.StepRules.{AfterTaken, EventRules, Holds, IsPlainAction, LinkRules, TurnRules}
 
 -- ---- counts
@@ -110,52 +107,44 @@ module _ (old : Requester) where
   unstarted_event : EventRules (λ units. Unstarted) (λ dialled. Unstarted)
   unstarted_event = record { link = λ dialled. unstarted_link; turn = unstarted_turn; returns = λ units l a so. so }
 
--- ---- the next turn
-
-module _ (now : ℕ) (w : Work) (how : Dialling) (none : dials_in w.actions ≡ 0) where
-  -- the arguments: the start's answer, and whether one can start
-  dialled_so : (start : Option (Unit {0} × List (List ℕ))) (c : Requester) → is_some start ≡ true → IsDialledBy true how (dial_for start (with_requester w c) how)
-  dialled_so None c some = absurd (let x = some in cc)
-  dialled_so (Some start) c some = (omega (arith, dials_more w.actions (action.Dial w.logons.plan.controller), none), tt)
-
-  dial_channel : (start : Option (Unit {0} × List (List ℕ))) (c : Requester) → (dial_for start (with_requester w c) how).0.logons.channel ≡ c
-  dial_channel None c = refl
-  dial_channel (Some start) c = refl
-
-  abbrev NextIfTaken : Bool → Bool → List (List ℕ) → Result (Part DialWork) StepRefused → Type 0
-  NextIfTaken starts needs before (Err why) = Unit {0}
-  NextIfTaken starts needs before (Ok part) =
-      IsNextTurn starts needs now w.logons.channel before part.value.0.logons.channel part.left × IsDialledBy starts how part.value
-
-  some_start : (timestamp : ℕ) (challenge : List ℕ) → can_start w.logons.channel.turn w.logons.channel.waiting ≡ true → is_some (start_of w.logons.channel timestamp challenge).answer ≡ true
-  some_start timestamp challenge can = one_turn.start w.logons.channel timestamp challenge ∙ can
-
-  next_is : (starts needs : Bool) (left : List (List ℕ)) → can_start w.logons.channel.turn w.logons.channel.waiting ≡ starts → NextIfTaken starts needs left (turn_by starts needs now w how left)
-  next_is false needs left can = ((refl, refl), (none, refl))
-  next_is true false left can =
-      let starting = start_of w.logons.channel (timestamp_of now) (replicate 8 0) in
-      ((dial_channel starting.answer starting.state, refl), dialled_so starting.answer starting.state (some_start (timestamp_of now) (replicate 8 0) can))
-  next_is true true [] can = tt
-  next_is true true (challenge ∷ left) can =
-      let starting = start_of w.logons.channel (timestamp_of now) challenge in
-      ((challenge, refl, dial_channel starting.answer starting.state), dialled_so starting.answer starting.state (some_start (timestamp_of now) challenge can))
-
 -- ---- a step
 
-with_next : (old : Requester) (first : Result (Part DialWork) StepRefused) (now : ℕ) (part : Part DialWork) (next : Result (Part DialWork) StepRefused) → first ≡ Ok part →
-    ComesUnstarted old part.value.0.logons.channel → (none : dials_in part.value.0.actions ≡ 0) →
-    NextIfTaken now part.value.0 part.value.1 none (can_start part.value.0.logons.channel.turn part.value.0.logons.channel.waiting) (needs_challenge part.value.0.logons.channel.standing) part.left next →
-    TurnStepsIfTaken old first now next
-with_next old first now part (Err why) is comes none so = tt
-with_next old first now part (Ok after) is comes none so = record { part = part; is = is; comes = comes; next = so.0; dials = so.1 }
+-- what the event comes to, before the next turn
+record Unstarts (old : Requester) (first : Result (Part DialWork) StepRefused) (how : Dialling) (w : Work) (left : List (List ℕ)) : Type 0 where
+  is : first ≡ Ok (record { value = (w, how); left = left })
+  comes : ComesUnstarted old w.logons.channel
+  none : dials_in w.actions ≡ 0
 
-steps_by : (old : Requester) (first found : Result (Part DialWork) StepRefused) (now : ℕ) → first ≡ found → DialWorkPart ⊥ (λ dialled. Unstarted old) found →
-    TurnStepsIfTaken old first now (then_part found (next_turn now))
-steps_by old first (Err why) now is fine = tt
-steps_by old first (Ok part) now is fine =
-    let c : Requester = part.value.0.logons.channel in
-    with_next old first now part (next_turn now part.value part.left) is fine.good.0 fine.good.1
-    (next_is now part.value.0 part.value.1 fine.good.1 (can_start c.turn c.waiting) (needs_challenge c.standing) part.left refl)
+module _ (old : Requester) (first : Result (Part DialWork) StepRefused) (now : ℕ) where
+  abbrev Steps : WorkFact
+  Steps how w left = TurnSteps old first now (record { value = (w, how); left = left })
+
+  next_steps : KeepsNext now (Unstarts old first) Steps
+  next_steps = record {
+    still = λ how w left can so. record {
+      part = record { value = (w, how); left = left };
+      is = so.is;
+      comes = so.comes;
+      next = none_next now w left can;
+      dials = subst (λ (b : Bool). IsDialledBy b how (w, how)) (sym can) (so.none, refl);
+    };
+    starts = λ turn frames challenge how w before after can drawn answer so. record {
+      part = record { value = (w, how); left = before };
+      is = so.is;
+      comes = so.comes;
+      next = some_next now w challenge before after can drawn;
+      dials = subst (λ (b : Bool). IsDialledBy b how (dialling_at w (timestamp_of now) challenge, dialling.Waits turn frames)) (sym can)
+          (omega (arith, dials_more w.actions (action.Dial w.logons.plan.controller), so.none), tt);
+    };
+  }
+
+  if_taken : (found : Result (Part DialWork) StepRefused) → PartHolds Steps found → TurnStepsIfTaken old first now found
+  if_taken (Err why) steps = tt
+  if_taken (Ok part) steps = steps
+
+unstarts : (old : Requester) (first found : Result (Part DialWork) StepRefused) → first ≡ found → DialWorkPart ⊥ (λ dialled. Unstarted old) found → PartHolds (Unstarts old first) found
+unstarts old first (Err why) is fine = tt
+unstarts old first (Ok part) is fine = record { is = is; comes = fine.good.0; none = fine.good.1 }
 
 event_unstarted : (running : Running) (what : Event) (left : List (List ℕ)) → DialWorkPart ⊥ (λ dialled. Unstarted running.logons.channel) (by_event what running.dialling (work_of running) left)
 event_unstarted running what left =
@@ -166,8 +155,10 @@ event_unstarted running what left =
 starts_so : (running : Running) (what : Event) (now : ℕ) (left : List (List ℕ)) →
     TurnStepsIfTaken running.logons.channel (by_event what running.dialling (work_of running) left) now (event_part running what now left)
 starts_so running what now left =
+    let old : Requester = running.logons.channel in
     let first : Result (Part DialWork) StepRefused = by_event what running.dialling (work_of running) left in
-    steps_by running.logons.channel first first now refl (event_unstarted running what left)
+    if_taken old first now (event_part running what now left)
+    (next_follows now (Unstarts old first) (Steps old first now) (next_steps old first now) first (unstarts old first first refl (event_unstarted running what left)))
 
 -- ---- a dial that waits
 
@@ -181,107 +172,72 @@ asked_same : (full : Bool) (old new : Requester) (info : _) → SameTurn old new
 asked_same true old new info same = same
 asked_same false old new info same = record { caller = same.caller; standing = same.standing; turn = same.turn }
 
-abbrev Kept : Requester → Holds
-Kept old l a = SameTurn old l.channel × (dials_in a ≡ 0)
+-- nothing is dialled, and the dial is the same
+abbrev Kept : Requester → Dialling → WorkFact
+Kept old how at w left = (at ≡ how) × SameTurn old w.logons.channel × (dials_in w.actions ≡ 0)
 
--- the argument: whether a turn is dialled
-abbrev KeptIf : Requester → Bool → Holds
-KeptIf old false l a = Unit {0}
-KeptIf old true l a = Kept old l a
+-- on an accepted link
+kept_link : (old : Requester) → LinkRules (λ l a. SameTurn old l.channel × (dials_in a ≡ 0))
+kept_link old = record {
+  tells = λ l a what plain so. (so.0, still_none a what plain so.1);
+  waits = λ l a info place logon answers so. (asked_same (nat_le waiting_limit (length l.channel.waiting)) old l.channel info so.0, so.1);
+  full = λ l a info answers so. (asked_same (nat_le waiting_limit (length l.channel.waiting)) old l.channel info so.0, so.1);
+}
 
--- no whole unit comes
-abbrev KeptOn : Requester → List RpcUnit → Holds
-KeptOn old units l a = (units ≡ []) × Kept old l a
+never_lost : (what : Event) (how : Dialling) → IsWaiting how → IsNoAnswer what → IsLost what how → ⊥
+never_lost what dialling.Nothing waits none lost = lost
+never_lost what (dialling.On number said) waits none lost = waits
+never_lost what (dialling.Waits turn frames) waits none lost = subst IsNoAnswer lost none
 
-module _ (old : Requester) where
-  kept_link : (dialled : Bool) → LinkRules (KeptIf old dialled)
-  kept_link false = record { tells = λ l a what plain so. tt; waits = λ l a info place logon answers so. tt; full = λ l a info answers so. tt }
-  kept_link true = record {
-    tells = λ l a what plain so. (so.0, still_none a what plain so.1);
-    waits = λ l a info place logon answers so. (asked_same (nat_le waiting_limit (length l.channel.waiting)) old l.channel info so.0, so.1);
-    full = λ l a info answers so. (asked_same (nat_le waiting_limit (length l.channel.waiting)) old l.channel info so.0, so.1);
+kept_part : (old : Requester) (how : Dialling) (part : ServedPart AtLink Talk) (rest : List ℕ) (number : ℕ) (w : Work) (at : Dialling) → at ≡ how →
+    LinkPart ⊥ (λ l a. SameTurn old l.channel × (dials_in a ≡ 0)) part → PartHolds (Kept old how) (after_units part rest number at w)
+kept_part old how (Err why) rest number w at same fine = tt
+kept_part old how (Ok part) rest number w at same fine =
+    let kept = kept_fine ⊥ (λ l a. SameTurn old l.channel × (dials_in a ≡ 0)) (kept_link old) part.value.1 rest number part.value.0 w fine.good fine.holds (λ p. absurd p) in
+    (same, kept.good.0, kept.good.1)
+
+none_starts : (turn : Option Pending) (logons : List Waiting) → is_some turn ≡ true → can_start turn logons ≡ true → ⊥
+none_starts None logons some can = let x = some in cc
+none_starts (Some p) logons some can = let x = can in cc
+
+module _ (old : Requester) (how : Dialling) (what : Event) (waits : IsWaiting how) (none : IsNoAnswer what) where
+  kept_event : KeepsEvent what (Kept old how) (Kept old how)
+  kept_event = record {
+    still = λ at w left so. so;
+    closes = λ link at w left so. so;
+    loses = λ cause at w left lost heard so. absurd (never_lost what at (subst IsWaiting (sym so.0) waits) none lost);
+    full = λ link at w left is so. (so.0, so.1, still_none w.actions (action.Close link close.TooManyLinks) tt so.2);
+    opens = λ link at w left is so. so;
+    answers = λ link turn frames w left is so. absurd (subst IsNoAnswer is none);
+    link = λ number piece link at w left is there so.
+        let cut = cut_stream (link.rest ++ piece) in
+        kept_part old how (served_cut link_server cut (at_link number (without_link number w)) link.talk left) cut.rest number (without_link number w) at so.0
+        (served_stays link_server (LinkPart ⊥ (λ l a. SameTurn old l.channel × (dials_in a ≡ 0)))
+        (units_stay ⊥ (λ l a. SameTurn old l.channel × (dials_in a ≡ 0)) (kept_link old)) cut (at_link number (without_link number w)) link.talk left
+        (record { good = (so.1, so.2); holds = λ p. absurd p }));
+    turn = λ number piece said w left is so. absurd (subst IsWaiting (sym so.0) waits);
   }
 
-  kept_turn : TurnRules (KeptOn old) (KeptIf old false)
-  kept_turn = record {
-    tells = λ units l a what plain so. (so.0, (so.1.0, still_none a what plain so.1.1));
-    takes = λ unit units l a so. absurd (let x = so.0 in cc);
-    loses = λ units l a cause so. record { silent = tt; told = λ logon kept. tt };
+  -- no turn starts behind it
+  kept_next : (now : ℕ) → is_out old ≡ true → KeepsNext now (Kept old how) (λ at w left. StaysOut old how (w, at))
+  kept_next now out = record {
+    still = λ at w left can so. record { none = so.2; dialling = so.0; caller = so.1.caller; standing = so.1.standing; turn = so.1.turn };
+    starts = λ turn frames challenge at w before after can drawn answer so.
+        absurd (none_starts w.logons.channel.turn w.logons.channel.waiting (ap (λ (turn : Option Pending). is_some turn) so.1.turn ∙ out) can);
   }
 
-  kept_event : EventRules (KeptOn old) (KeptIf old)
-  kept_event = record { link = kept_link; turn = kept_turn; returns = λ units l a so. so.1 }
-
--- the dial waits still
-abbrev HowIfTaken : Dialling → Result (Part DialWork) StepRefused → Type 0
-HowIfTaken how (Err why) = Unit {0}
-HowIfTaken how (Ok part) = part.value.1 ≡ how
-
-units_how : (part : ServedPart AtLink Talk) (rest : List ℕ) (number : ℕ) (how : Dialling) (w : Work) → HowIfTaken how (after_units part rest number how w)
-units_how (Err why) rest number how w = tt
-units_how (Ok part) rest number how w = refl
-
-bytes_how : (found : Option (LinkState Talk)) (number : ℕ) (piece : List ℕ) (how : Dialling) (w : Work) (left : List (List ℕ)) → HowIfTaken how (bytes_on_link found number piece how w left)
-bytes_how None number piece how w left = refl
-bytes_how (Some link) number piece how w left =
-    let cut = cut_stream (link.rest ++ piece) in
-    units_how (served_cut link_server cut (at_link number (without_link number w)) link.talk left) cut.rest number how (without_link number w)
-
-event_how : (what : Event) (how : Dialling) (w : Work) (left : List (List ℕ)) → IsWaiting how → IsNoAnswer what → HowIfTaken how (by_event what how w left)
-event_how what dialling.Nothing w left waits none = absurd waits
-event_how what (dialling.On number said) w left waits none = absurd waits
-event_how (event.Opened link) (dialling.Waits turn frames) w left waits none = refl
-event_how (event.Bytes link piece) (dialling.Waits turn frames) w left waits none = bytes_how (lookup same_number link w.links) link piece (dialling.Waits turn frames) w left
-event_how (event.Closed link) (dialling.Waits turn frames) w left waits none = refl
-event_how (event.Dialled link) (dialling.Waits turn frames) w left waits none = absurd none
-event_how event.DialFailed (dialling.Waits turn frames) w left waits none = absurd none
-event_how event.Stop (dialling.Waits turn frames) w left waits none = refl
-
-waits_hears : (what : Event) (how : Dialling) → IsWaiting how → heard_in what how ≡ []
-waits_hears what dialling.Nothing waits = absurd waits
-waits_hears what (dialling.On number said) waits = absurd waits
-waits_hears (event.Opened link) (dialling.Waits turn frames) waits = refl
-waits_hears (event.Bytes link piece) (dialling.Waits turn frames) waits = refl
-waits_hears (event.Closed link) (dialling.Waits turn frames) waits = refl
-waits_hears (event.Dialled link) (dialling.Waits turn frames) waits = refl
-waits_hears event.DialFailed (dialling.Waits turn frames) waits = refl
-waits_hears event.Stop (dialling.Waits turn frames) waits = refl
-
-is_waiting_dialled : (how : Dialling) → IsWaiting how → is_dialled how ≡ true
-is_waiting_dialled dialling.Nothing waits = absurd waits
-is_waiting_dialled (dialling.Waits turn frames) waits = refl
-is_waiting_dialled (dialling.On number said) waits = absurd waits
-
-none_starts : (turn : Option Pending) (logons : List Waiting) → is_some turn ≡ true → can_start turn logons ≡ false
-none_starts None logons some = absurd (let x = some in cc)
-none_starts (Some p) logons some = refl
-
--- no turn starts behind it. The argument: whether one can
-next_waits : (starts needs : Bool) (now : ℕ) (old : Requester) (how : Dialling) (w : Work) (at : Dialling) (left : List (List ℕ)) → starts ≡ false → at ≡ how → Kept old w.logons w.actions →
-    StaysOutIfTaken old how (turn_by starts needs now w at left)
-next_waits true needs now old how w at left not same kept = absurd (let x = not in cc)
-next_waits false needs now old how w at left not same kept =
-    record { none = kept.1; dialling = same; caller = kept.0.caller; standing = kept.0.standing; turn = kept.0.turn }
-
-stays_by : (old : Requester) (how : Dialling) (found : Result (Part DialWork) StepRefused) (now : ℕ) → is_out old ≡ true → IsWaiting how → HowIfTaken how found → DialWorkPart ⊥ (KeptIf old) found →
-    StaysOutIfTaken old how (then_part found (next_turn now))
-stays_by old how (Err why) now out waits same fine = tt
-stays_by old how (Ok part) now out waits same fine =
-    let c : Requester = part.value.0.logons.channel in
-    let kept : Kept old part.value.0.logons part.value.0.actions =
-    subst (λ (dialled : Bool). KeptIf old dialled part.value.0.logons part.value.0.actions) (ap is_dialled same ∙ is_waiting_dialled how waits) fine.good in
-    next_waits (can_start c.turn c.waiting) (needs_challenge c.standing) now old how part.value.0 part.value.1 part.left
-    (none_starts c.turn c.waiting (ap (λ (turn : Option Pending). is_some turn) kept.0.turn ∙ out)) same kept
+stays_out : (old : Requester) (how : Dialling) (found : Result (Part DialWork) StepRefused) → PartHolds (λ at w left. StaysOut old how (w, at)) found → StaysOutIfTaken old how found
+stays_out old how (Err why) stays = tt
+stays_out old how (Ok part) stays = stays
 
 waits_so : (running : Running) (what : Event) (now : ℕ) (left : List (List ℕ)) → IsWaiting running.dialling → IsNoAnswer what → IsInOrder true running.logons →
     StaysOutIfTaken running.logons.channel running.dialling (event_part running what now left)
 waits_so running what now left waits none order =
     let old : Requester = running.logons.channel in
     let how : Dialling = running.dialling in
-    let kept : Kept old running.logons [] = (record { caller = refl; standing = refl; turn = refl }, refl) in
-    stays_by old how (by_event what how (work_of running) left) now order.out waits (event_how what how (work_of running) left waits none)
-    (event_fine ⊥ (KeptOn old) (KeptIf old) (kept_event old) what how (work_of running) left
-    (subst (λ (dialled : Bool). KeptIf old dialled running.logons []) (sym (is_waiting_dialled how waits)) kept) (λ dialled. (waits_hears what how waits, kept)) (λ p. absurd p))
+    stays_out old how (event_part running what now left)
+    (part_keeps (Kept old how) (Kept old how) (λ at w left. StaysOut old how (w, at)) running what now left (kept_event old how what waits none)
+    (kept_next old how what waits none now order.out) (refl, record { caller = refl; standing = refl; turn = refl }, refl))
 
 pub turns_dialled : TurnsAreDialled
 turns_dialled = record { starts = starts_so; waits = waits_so }

@@ -1,5 +1,5 @@
 -- That what is held are requests, and that In is told of what was granted.
-use Rattle.std.proofs.Common.{◌≡◌, ℕ, Bool, List, [], ◌∷◌, ◌++◌, append_assoc, map, Option, Some, None, Result, Ok, Err, refl, sym, ap, subst, ◌∙◌}
+use Rattle.std.proofs.Common.{◌≡◌, ℕ, Bool, List, [], ◌∷◌, ◌++◌, append_assoc, map, Option, Result, Ok, Err, refl, sym, ap, subst, ◌∙◌}
 use Rattle.std.specs.List.{AllByRecursion}
 use Rattle.outside.specs.declared.action.Action.{Action}
 use Rattle.outside.specs.declared.action.Action.TheVariants as action
@@ -15,7 +15,7 @@ use Rattle.logon_stubs.specs.declared.info.Verdict.TheVariants as verdict
 use Rattle.end_loop.specs.Runs.{actions_of}
 use Rattle.channel_client.specs.declared.answers.Taken.{Taken}
 use Rattle.channel_client.specs.declared.answers.Taken.TheVariants as taken
-use Rattle.channel_client.specs.Machine.{start_of, take_of}
+use Rattle.channel_client.specs.Machine.{take_of}
 use Rattle.channel_client.specs.State.{Requester}
 use Rattle.member_server.specs.declared.outcomes.Ending.TheVariants as ending
 use Rattle.member_server.specs.declared.state.Logon.{Logon}
@@ -26,7 +26,7 @@ use Rattle.member_server.specs.Machine.{actions_in, event_part, halted_state, st
 use Rattle.member_server.specs.Messages.{with_channel}
 use Rattle.member_server.specs.Outcomes.{outcome_of}
 use Rattle.member_server.specs.Turns.{DialWork, ending_of}
-use Rattle.member_server.proofs.StepRules.{AfterStart, AfterTaken, Ends, Holds, IsPlainAction, LinkRules, StepRules, TurnRules}
+use Rattle.member_server.proofs.StepRules.{AfterTaken, Ends, Holds, IsPlainAction, LinkRules, StepRules, TurnRules}
 use Rattle.member_server.proofs.EventSteps.{DialWorkPart, step_fine}
 
 -- ---- who is told that he is in
@@ -135,20 +135,12 @@ module _ (running : Running) (what : Event) where
     loses = λ units l a cause so_far. record { silent = so_far.told; told = λ logon kept. one_told running what a _ so_far.told tt };
   }
 
-  started_told : (start : Option (Unit {0} × List (List ℕ))) (dialled : Bool) (l : Logons) (a : List Action) → AreTold running what l a →
-      AfterStart (λ b. AreTold running what) dialled start l a
-  started_told None dialled l a told = told
-  started_told (Some start) dialled l a told = told
-
   told_step : StepRules (SoFar running what) (λ b. AreTold running what)
   told_step = record {
     link = λ b. told_link;
     turn = told_turn;
     returns = λ units l a so_far. so_far.told;
-    starts = λ dialled l a timestamp challenge told.
-        let starting = start_of l.channel timestamp challenge in
-        started_told starting.answer dialled (with_channel l starting.state) a told;
-    dials = λ l a peer told. one_told running what a (action.Dial peer) told tt;
+    starts = λ dialled l a timestamp challenge can told. one_told running what a (action.Dial l.plan.controller) told tt;
   }
 
 -- ---- a step

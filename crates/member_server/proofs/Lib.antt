@@ -6,13 +6,17 @@ pub mod DialLaws
 pub mod EventSteps
 pub mod KeptLaws
 pub mod LinkLaws
+pub mod LinkView
+pub mod LogonFrame
 pub mod MemoLaws
 pub mod MessageLaws
 pub mod OtherLinkLaws
 pub mod OutcomeLaws
+pub mod OutcomeView
 pub mod PendingLaws
 pub mod QuietLaws
 pub mod SharingLaws
+pub mod StepFrame
 pub mod StepLaws
 pub mod StepRules
 pub mod TurnLaws

@@ -1,15 +1,14 @@
 -- Bytes on an accepted link leave every other link as it is.
-use Rattle.std.proofs.Common.{◌≡◌, ℕ, ◌==◌, Bool, true, false, List, [], ◌∷◌, ◌++◌, replicate, Option, Some, None, Result, Ok, Err, refl, sym, subst, ◌∙◌}
+use Rattle.std.proofs.Common.{◌≡◌, ℕ, ◌==◌, Bool, true, false, List, ◌++◌, Option, Some, None, Result, Ok, Err, refl, sym, subst, ◌∙◌}
 use Rattle.wire_base.specs.Maps.{lookup, take_out, same_number}
 use Rattle.wire_base.proofs.MapLaws.{put_others, taken_others}
 use Rattle.wire_base.proofs.NameLaws.{IsSameness-same_number}
 use Rattle.outside.specs.declared.action.StepRefused.{StepRefused}
 use Rattle.outside.specs.declared.event.Event.TheVariants as event
-use Rattle.outside.specs.Machine.{Part, step_by, then_part}
+use Rattle.outside.specs.Machine.{Part, step_by}
 use Rattle.rpc_units.specs.Stream.{cut_stream}
 use Rattle.end_links.specs.Links.{LinkState}
 use Rattle.end_links.specs.Serving.{ServedPart, served_by}
-use Rattle.channel_client.specs.Machine.{can_start, needs_challenge, start_of}
 use Rattle.member_server.specs.declared.state.AtLink.{AtLink}
 use Rattle.channel_turns.specs.declared.state.Dialling.{Dialling}
 use Rattle.channel_turns.specs.declared.state.Dialling.TheVariants as dialling
@@ -20,15 +19,15 @@ use Rattle.member_server.specs.declared.state.Work.{Work}
 use Rattle.member_server.specs.Laws.{LeavesOtherLinks, StaysUnlessStopped, is_on}
 use Rattle.member_server.specs.Machine.{actions_in, after_units, bytes_by, bytes_on, bytes_on_link, event_part, halted_state, state_in, step_on, work_of}
 use Rattle.member_server.specs.Outcomes.{after_link, at_link, keep_link, without_link}
-use Rattle.member_server.specs.Turns.{DialWork, dial_for, next_turn, timestamp_of, turn_by, with_requester}
+use Rattle.member_server.specs.Turns.{DialWork}
 use Rattle.member_server.specs.Units.{link_server}
+use Rattle.member_server.proofs.StepFrame.{KeepsNext, PartHolds, next_follows}
 
 abbrev pub Stays : ℕ → List (ℕ × LinkState Talk) → Work → Type 0
 Stays other links w = lookup same_number other w.links ≡ lookup same_number other links
 
 abbrev pub StaysPart : ℕ → List (ℕ × LinkState Talk) → Result (Part DialWork) StepRefused → Type 0
-StaysPart other links (Err why) = Unit {0}
-StaysPart other links (Ok part) = Stays other links part.value.0
+StaysPart other links part = PartHolds (λ how w left. Stays other links w) part
 
 module _ (number other : ℕ) (differs : same_number number other ≡ false) where
   taken_stays : (w : Work) → Stays other w.links (without_link number w)
@@ -59,28 +58,11 @@ module _ (number other : ℕ) (differs : same_number number other ≡ false) whe
   bytes_stay (dialling.Waits turn frames) piece w left e = link_stays (lookup same_number number w.links) piece (dialling.Waits turn frames) w left
   bytes_stay (dialling.On taken said) piece w left e = by_stays (taken == number) said piece (dialling.On taken said) w left e
 
--- ---- the next turn leaves the links
+-- ---- a step
 
-dial_stays : (other : ℕ) (links : List (ℕ × LinkState Talk)) (start : Option (Unit {0} × List (List ℕ))) (w : Work) (how : Dialling) → Stays other links w →
-    Stays other links (dial_for start w how).0
-dial_stays other links None w how stays = stays
-dial_stays other links (Some start) w how stays = stays
-
-turn_stays : (other : ℕ) (links : List (ℕ × LinkState Talk)) (b needs : Bool) (now : ℕ) (w : Work) (how : Dialling) (left : List (List ℕ)) → Stays other links w →
-    StaysPart other links (turn_by b needs now w how left)
-turn_stays other links false needs now w how left stays = stays
-turn_stays other links true false now w how left stays =
-    let starting = start_of w.logons.channel (timestamp_of now) (replicate 8 0) in dial_stays other links starting.answer (with_requester w starting.state) how stays
-turn_stays other links true true now w how [] stays = tt
-turn_stays other links true true now w how (challenge ∷ left) stays =
-    let starting = start_of w.logons.channel (timestamp_of now) challenge in dial_stays other links starting.answer (with_requester w starting.state) how stays
-
-next_stays : (other : ℕ) (links : List (ℕ × LinkState Talk)) (part : Result (Part DialWork) StepRefused) (now : ℕ) → StaysPart other links part →
-    StaysPart other links (then_part part (next_turn now))
-next_stays other links (Err why) now stays = tt
-next_stays other links (Ok part) now stays =
-    let w : Work = part.value.0 in
-    turn_stays other links (can_start w.logons.channel.turn w.logons.channel.waiting) (needs_challenge w.logons.channel.standing) now w part.value.1 part.left stays
+-- the next turn leaves the links
+next_stays : (other : ℕ) (links : List (ℕ × LinkState Talk)) (now : ℕ) → KeepsNext now (λ how w left. Stays other links w) (λ how w left. Stays other links w)
+next_stays other links now = record { still = λ how w left can stays. stays; starts = λ turn frames challenge how w before after can drawn is stays. stays }
 
 step_stays : (other : ℕ) (links : List (ℕ × LinkState Talk)) (part : Result (Part DialWork) StepRefused) (left : List (List ℕ)) → StaysPart other links part →
     StaysUnlessStopped other links (step_by actions_in state_in halted_state left part).state.running
@@ -92,6 +74,6 @@ leaves_other_links = record {
   stays = λ s running number other piece now left runs on differs.
       subst (λ (r : Option Running). StaysUnlessStopped other running.links (step_on r s (event.Bytes number piece) now left).state.running) (sym runs)
       (step_stays other running.links (event_part running (event.Bytes number piece) now left) left
-      (next_stays other running.links (bytes_on running.dialling number piece (work_of running) left) now
-      (bytes_stay number other differs running.dialling piece (work_of running) left on)));
+      (next_follows now (λ how w left. Stays other running.links w) (λ how w left. Stays other running.links w) (next_stays other running.links now)
+      (bytes_on running.dialling number piece (work_of running) left) (bytes_stay number other differs running.dialling piece (work_of running) left on)));
 }

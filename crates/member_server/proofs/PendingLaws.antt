@@ -1,34 +1,28 @@
 -- What a step for a closed or dialled link makes.
-use Rattle.std.proofs.Common.{◌≡◌, ℕ, suc, ◌+◌, ◌*◌, ◌≤◌, ◌==◌, ◌++◌, Bool, true, false, List, [], ◌∷◌, length, replicate, Option, Some, None, Result, Ok, Err, refl, ap, arith, if◌then◌else◌}
+use Rattle.std.proofs.Common.{sym, ◌∙◌, ◌≡◌, ℕ, suc, ◌+◌, ◌*◌, ◌≤◌, ◌++◌, Bool, true, false, List, [], ◌∷◌, length, Option, Some, None, Result, Ok, Err, refl, ap, arith, if◌then◌else◌}
 use Rattle.wire_base.specs.Maps.{lookup, put, take_out, has_key, same_number}
 use Rattle.outside.specs.declared.action.Action.{Action}
 use Rattle.outside.specs.declared.action.Action.TheVariants as action
 use Rattle.outside.specs.declared.action.DropCause.{DropCause}
-use Rattle.outside.specs.declared.action.DropCause.TheVariants as drop_cause
 use Rattle.outside.specs.declared.action.CloseCause.{CloseCause}
-use Rattle.outside.specs.declared.action.CloseCause.TheVariants as close
 use Rattle.outside.specs.declared.action.Outcome.TheVariants as outcome
 use Rattle.outside.specs.declared.action.StepRefused.{StepRefused}
+use Rattle.outside.specs.declared.event.Event.{Event}
 use Rattle.outside.specs.declared.event.Event.TheVariants as event
 use Rattle.outside.specs.Machine.{Part}
-use Rattle.rpc_units.specs.declared.refused.UnitRefused.{UnitRefused}
 use Rattle.rpc_units.specs.declared.unit.Unit.{Unit as RpcUnit}
-use Rattle.rpc_units.specs.declared.unit.Body.{Body}
-use Rattle.rpc_units.specs.declared.unit.Body.TheVariants.{Bind, BindAck, BindNak, Auth3, Request, Response, Fault}
 use Rattle.rpc_units.specs.Numbers.{rpc_s_server_unavailable}
-use Rattle.rpc_units.specs.Reading.{unit_of}
 use Rattle.rpc_units.specs.Writing.{written}
 use Rattle.end_links.specs.Links.{LinkState}
 use Rattle.end_links.specs.Sending.{fault_of, joined_frames}
-use Rattle.end_loop.specs.Acts.{most_made, most_made_by}
+use Rattle.end_loop.specs.Acts.{is_made, most_made, most_made_by}
 use Rattle.channel_client.specs.State.{Requester}
-use Rattle.channel_client.specs.Machine.{can_start, later_logons, lose_of, needs_challenge, start_by}
+use Rattle.channel_client.specs.Machine.{can_start, later_logons, lose_of, start_by}
 use Rattle.channel_client.specs.declared.state.Pending.{Pending}
 use Rattle.channel_client.specs.declared.state.Waiting.{Waiting}
 use Rattle.member_server.specs.declared.outcomes.Ending.TheVariants as ending
 use Rattle.member_server.specs.declared.state.AtLink.{AtLink}
 use Rattle.member_server.specs.declared.state.Bound.{Bound}
-use Rattle.channel_turns.specs.declared.state.Dialling.{Dialling}
 use Rattle.channel_turns.specs.declared.state.Dialling.TheVariants as dialling
 use Rattle.member_server.specs.declared.state.Logon.{Logon}
 use Rattle.member_server.specs.declared.state.Logons.{Logons}
@@ -36,13 +30,15 @@ use Rattle.member_server.specs.declared.state.Phase.{Phase}
 use Rattle.member_server.specs.declared.state.Phase.TheVariants as phase
 use Rattle.member_server.specs.declared.state.Talk.{Talk}
 use Rattle.member_server.specs.declared.state.Work.{Work}
-use Rattle.member_server.specs.Machine.{answer_dial, close_link, close_turn, fail_dial, work_of}
-use Rattle.member_server.specs.Outcomes.{after_link, at_link, end_found, end_logon, keep_link, reach_link, tell_outcome, reach_in_map, reach_waiting, waiting_at, waiting_if, without_link, without_logon}
+use Rattle.member_server.specs.Machine.{event_part}
+use Rattle.member_server.specs.Outcomes.{after_link, at_link, end_logon, keep_link, tell_outcome, reach_waiting, without_link, without_logon}
 use Rattle.member_server.specs.Pending.{channel_weight, held_in, held_on, pending_of, start_weight, total, work_weight, Within, Settles}
-use Rattle.member_server.specs.Requests.{body_out, unit_out}
-use Rattle.member_server.specs.Turns.{DialWork, dial_by, lose_turn, next_turn, timestamp_of, turn_by, with_requester}
-use Rattle.member_server.specs.Units.{serve_held, then_held}
+use Rattle.member_server.specs.Turns.{DialWork, lose_turn, timestamp_of, with_requester}
+use Rattle.member_server.specs.Units.{bound_unit, serve_held, then_held}
 use Rattle.member_server.specs.Work.{Served, send_unit, shut}
+use Rattle.member_server.proofs.LinkView.{BoundView, Closes, Faults, bound_view}
+use Rattle.member_server.proofs.OutcomeView.{EndView, Unknown, Tells, Reaches, end_view}
+use Rattle.member_server.proofs.StepFrame.{KeepsEvent, KeepsNext, PartHolds, WorkFact, part_keeps}
 
 made_told : (actions : List Action) (a : Action) → most_made_by (actions ++ a ∷ []) ≡ most_made_by actions + most_made a
 made_told [] a = omega arith
@@ -110,28 +106,20 @@ shut_within : (cause : CloseCause) (at : AtLink) (units : List (List ℕ)) →
     ServesWithin (then_held (shut cause at) (λ next said. serve_held units next said)) at.logons (most_made_by at.actions + suc (length units))
 shut_within cause at units = (closing cause at (suc (length units)), refl, tt)
 
-out_body : (b : Body) (call : ℕ) (at : AtLink) (bound : Bound) (status : ℕ) (joiner : Option RpcUnit) (units : List (List ℕ)) → Later units status →
-    ServesWithin (then_held (body_out b call bound status joiner at) (λ next said. serve_held units next said)) at.logons (most_made_by at.actions + suc (length units))
-out_body (Request hint context opnum stub) call at bound status joiner units ih =
+out_first : (bytes : List ℕ) (at : AtLink) (bound : Bound) (status : ℕ) (joiner : Option RpcUnit) (units : List (List ℕ)) (served : Served) →
+    BoundView bytes joiner at (phase.Out bound status) served → Later units status →
+    ServesWithin (then_held served (λ next said. serve_held units next said)) at.logons (most_made_by at.actions + suc (length units))
+out_first bytes at bound status joiner units served (Closes cause may) later = shut_within cause at units
+out_first bytes at bound status joiner units served (Faults call context) later =
     let sent : AtLink = send_unit at (fault_of call context status) in
     weaker (serve_held units sent (out_talk bound status joiner)) at.logons (most_made_by sent.actions + length units) (most_made_by at.actions + suc (length units))
     (let m = made_told at.actions (action.Send at.link (written (fault_of call context status))) in omega (arith, m))
-    (ih sent bound joiner)
-out_body (Response hint context stub) call at bound status joiner units ih = shut_within close.OutOfPlace at units
-out_body (Fault hint context other) call at bound status joiner units ih = shut_within close.OutOfPlace at units
-out_body (Bind send receive group contexts) call at bound status joiner units ih = shut_within close.OutOfPlace at units
-out_body (BindAck send receive group results) call at bound status joiner units ih = shut_within close.OutOfPlace at units
-out_body (BindNak reason) call at bound status joiner units ih = shut_within close.OutOfPlace at units
-out_body Auth3 call at bound status joiner units ih = shut_within close.OutOfPlace at units
-
-out_first : (r : Result RpcUnit UnitRefused) (at : AtLink) (bound : Bound) (status : ℕ) (joiner : Option RpcUnit) (units : List (List ℕ)) → Later units status →
-    ServesWithin (then_held (unit_out r bound status joiner at) (λ next said. serve_held units next said)) at.logons (most_made_by at.actions + suc (length units))
-out_first (Err why) at bound status joiner units ih = shut_within close.BadUnit at units
-out_first (Ok unit) at bound status joiner units ih = out_body unit.body unit.call at bound status joiner units ih
+    (later sent bound joiner)
 
 out_made : (units : List (List ℕ)) (status : ℕ) → Later units status
 out_made [] status at bound joiner = (omega arith, refl, refl)
-out_made (bytes ∷ units) status at bound joiner = out_first (unit_of bytes) at bound status joiner units (out_made units status)
+out_made (bytes ∷ units) status at bound joiner =
+    let p : Phase = phase.Out bound status in out_first bytes at bound status joiner units (bound_unit p bytes joiner at) (bound_view bytes joiner at p) (out_made units status)
 
 -- ---- a logon that no controller answers
 
@@ -147,48 +135,24 @@ kept_over (Some talk) at link number n w e f h r k =
     let again : LinkState Talk = record { rest = link.rest; talk = talk } in
     (omega (arith, held_found number w.links link e, held_put number again (take_out same_number number w.links), k, f, h), ap Logons.channel r)
 
-if_size : (b : Bool) (bound : Bound) (held : List (List ℕ)) (x : Bound × List (List ℕ)) → waiting_if b bound held ≡ Some x → length x.1 ≤ length held
-if_size false bound held x e = absurd (let z = e in cc)
-if_size true bound held x e =
-    let same : (bound, held) ≡ x = (let z = e in cc) in
-    let size : length held ≡ length x.1 = ap (λ (y : Bound × List (List ℕ)). length y.1) same in
-    omega (arith, size)
-
-for_size : (place : ℕ) (p : Phase) (x : Bound × List (List ℕ)) → waiting_at place p ≡ Some x → length x.1 ≤ held_in p
-for_size place phase.Fresh x e = absurd (let z = e in cc)
-for_size place (phase.Challenged bound challenge flags) x e = absurd (let z = e in cc)
-for_size place (phase.Asked bound other held) x e = if_size (other == place) bound held x e
-for_size place (phase.In on) x e = absurd (let z = e in cc)
-for_size place (phase.Out bound status) x e = absurd (let z = e in cc)
-
-waiting_keeps : (x : Bound × List (List ℕ)) (link : LinkState Talk) (cause : DropCause) (place : ℕ) (logon : Logon) (w : Work) →
-    waiting_at place link.talk.phase ≡ Some x → lookup same_number logon.link w.links ≡ Some link →
-    Keeps (reach_waiting x link (ending.NoController cause) logon (without_link logon.link w)) w
-waiting_keeps x link cause place logon w e f =
+waiting_keeps : (bound : Bound) (held : List (List ℕ)) (link : LinkState Talk) (cause : DropCause) (place : ℕ) (logon : Logon) (w : Work) →
+    link.talk.phase ≡ phase.Asked bound place held → lookup same_number logon.link w.links ≡ Some link →
+    Keeps (reach_waiting (bound, held) link (ending.NoController cause) logon (without_link logon.link w)) w
+waiting_keeps bound held link cause place logon w is there =
     let at : AtLink = at_link logon.link w in
-    let served : Served = serve_held x.1 at (out_talk x.0 rpc_s_server_unavailable link.talk.joiner) in
-    let made = out_made x.1 rpc_s_server_unavailable at x.0 link.talk.joiner in
-    kept_over served.1 served.0 link logon.link (length x.1) w f (for_size place link.talk.phase x e) made.0 made.1 made.2
+    let served : Served = serve_held held at (out_talk bound rpc_s_server_unavailable link.talk.joiner) in
+    let made = out_made held rpc_s_server_unavailable at bound link.talk.joiner in
+    kept_over served.1 served.0 link logon.link (length held) w there (omega (arith, ap held_in is)) made.0 made.1 made.2
 
-link_keeps : (x : Option (Bound × List (List ℕ))) (link : LinkState Talk) (cause : DropCause) (place : ℕ) (logon : Logon) (w : Work) →
-    waiting_at place link.talk.phase ≡ x → lookup same_number logon.link w.links ≡ Some link → Keeps (reach_in_map x link (ending.NoController cause) logon w) w
-link_keeps None link cause place logon w e f = (omega arith, refl)
-link_keeps (Some x) link cause place logon w e f = waiting_keeps x link cause place logon w e f
-
-reached_keeps : (found : Option (LinkState Talk)) (cause : DropCause) (place : ℕ) (logon : Logon) (w : Work) → lookup same_number logon.link w.links ≡ found →
-    Keeps (reach_link found place (ending.NoController cause) logon w) w
-reached_keeps None cause place logon w e = (omega arith, refl)
-reached_keeps (Some link) cause place logon w e = link_keeps (waiting_at place link.talk.phase) link cause place logon w refl e
-
-found_keeps : (found : Option Logon) (cause : DropCause) (place : ℕ) (w : Work) → Keeps (end_found found place (ending.NoController cause) w) w
-found_keeps None cause place w = (omega arith, refl)
-found_keeps (Some logon) cause place w =
-    let told : Work = tell_outcome (ending.NoController cause) logon w in
-    let keeps = reached_keeps (lookup same_number logon.link w.links) cause place logon told refl in
+ended_keeps : (cause : DropCause) (place : ℕ) (w after : Work) → EndView place (ending.NoController cause) w after → Keeps after w
+ended_keeps cause place w after (Unknown none) = (omega arith, refl)
+ended_keeps cause place w after (Tells logon kept) = (omega (arith, made_told w.actions (action.Told logon.link (outcome.NoController cause))), refl)
+ended_keeps cause place w after (Reaches logon link bound held kept there is) =
+    let keeps = waiting_keeps bound held link cause place logon (tell_outcome (ending.NoController cause) logon (without_logon place w)) is there in
     (omega (arith, keeps.0, made_told w.actions (action.Told logon.link (outcome.NoController cause))), keeps.1)
 
 dropped_keeps : (cause : DropCause) (place : ℕ) (w : Work) → Keeps (end_logon place (ending.NoController cause) w) w
-dropped_keeps cause place w = found_keeps (lookup same_number place w.logons.asked) cause place (without_logon place w)
+dropped_keeps cause place w = ended_keeps cause place w (end_logon place (ending.NoController cause) w) (end_view place (ending.NoController cause) w)
 
 -- ---- a turn that is lost
 
@@ -204,62 +168,57 @@ loses_within cause w =
     let channel : channel_weight (lose_turn cause w).logons.channel ≡ channel_weight after.logons.channel = ap (λ (c : Requester). channel_weight c) keeps.1 in
     omega (arith, keeps.0, channel, rest_weight w.logons.channel.waiting)
 
--- ---- a turn that starts
+-- ---- an event, and then the next turn
 
-abbrev pub queued : Work → Option Pending → List Waiting → Work
-queued w turn ws = with_requester w (record w.logons.channel { turn = turn; waiting = ws })
+-- no more is to be made than so much
+abbrev MakesFew : ℕ → WorkFact
+MakesFew most how w left = total (w, how) ≤ most
 
-dials_within : (turn : Option Pending) (ws : List Waiting) (w : Work) (how : Dialling) (t : ℕ) (challenge : List ℕ) → can_start turn ws ≡ true →
-    total (dial_by (start_by turn ws (queued w turn ws).logons.channel t challenge) (queued w turn ws) how) ≤ total (queued w turn ws, how)
-dials_within (Some p) ws w how t challenge e = absurd (let z = e in cc)
-dials_within None [] w how t challenge e = absurd (let z = e in cc)
-dials_within None (x ∷ ws) w how t challenge e = omega (arith, made_told w.actions (action.Dial w.logons.plan.controller))
+made_not : (what other : Event) → is_made what ≡ true → is_made other ≡ false → what ≡ other → ⊥
+made_not what other made not is = let x = sym made ∙ ap is_made is ∙ not in cc
 
-turns_within : (b needs : Bool) (now : ℕ) (w : Work) (how : Dialling) (left : List (List ℕ)) → can_start w.logons.channel.turn w.logons.channel.waiting ≡ b →
-    Within (turn_by b needs now w how left) (total (w, how))
-turns_within false needs now w how left e = omega arith
-turns_within true false now w how left e = dials_within w.logons.channel.turn w.logons.channel.waiting w how (timestamp_of now) (replicate 8 0) e
-turns_within true true now w how [] e = tt
-turns_within true true now w how (challenge ∷ left) e = dials_within w.logons.channel.turn w.logons.channel.waiting w how (timestamp_of now) challenge e
+dialled_weight : (turn : Option Pending) (ws : List Waiting) (c : Requester) (t : ℕ) (challenge : List ℕ) → can_start turn ws ≡ true →
+    channel_weight (start_by turn ws c t challenge).state ≡ 2 * length c.waiting
+dialled_weight (Some p) ws c t challenge can = absurd (let z = can in cc)
+dialled_weight None [] c t challenge can = absurd (let z = can in cc)
+dialled_weight None (x ∷ ws) c t challenge can = omega arith
 
-lighter : (r : Result (Part DialWork) StepRefused) (m n : ℕ) → m ≤ n → Within r m → Within r n
-lighter (Err why) m n h k = tt
-lighter (Ok part) m n h k = omega (arith, h, k)
+can_weight : (c : Requester) (can : Bool) → can_start c.turn c.waiting ≡ can → channel_weight c ≡ 2 * length c.waiting + start_weight can
+can_weight c can is = ap (λ (b : Bool). 2 * length c.waiting + start_weight b) is
 
-next_within : (now : ℕ) (dial_work : DialWork) (left : List (List ℕ)) (n : ℕ) → total dial_work ≤ n → Within (next_turn now dial_work left) n
-next_within now dial_work left n h =
-    lighter (next_turn now dial_work left) (total dial_work) n h
-    (turns_within (can_start dial_work.0.logons.channel.turn dial_work.0.logons.channel.waiting) (needs_challenge dial_work.0.logons.channel.standing) now dial_work.0 dial_work.1 left refl)
+module _ (most : ℕ) (what : Event) (made : is_made what ≡ true) where
+  event_few : KeepsEvent what (MakesFew most) (MakesFew most)
+  event_few = record {
+    still = λ how w left few. few;
+    closes = λ link how w left few. omega (arith, few, held_taken link w.links);
+    loses = λ cause how w left lost none few. omega (arith, few, loses_within cause w);
+    full = λ link how w left is few. absurd (made_not what (event.Opened link) made refl is);
+    opens = λ link how w left is few. absurd (made_not what (event.Opened link) made refl is);
+    answers = λ link turn frames w left is few. omega (arith, few, held_taken link w.links, made_told w.actions (action.Send link (joined_frames frames)));
+    link = λ number piece link how w left is there few. absurd (made_not what (event.Bytes number piece) made refl is);
+    turn = λ number piece said w left is few. absurd (made_not what (event.Bytes number piece) made refl is);
+  }
 
--- ---- the events
+  next_few : (now : ℕ) → KeepsNext now (MakesFew most) (MakesFew most)
+  next_few now = record {
+    still = λ how w left can few. few;
+    starts = λ turn frames challenge how w before after can drawn answer few.
+        let c : Requester = w.logons.channel in
+        omega (
+          arith,
+          few,
+          can_weight c true can,
+          dialled_weight c.turn c.waiting c (timestamp_of now) challenge can,
+          made_told w.actions (action.Dial w.logons.plan.controller),
+        );
+  }
 
-close_turn_within : (b : Bool) (link : ℕ) (how : Dialling) (w : Work) → total (close_turn b link how w) ≤ total (w, how)
-close_turn_within false link how w = omega (arith, held_taken link w.links)
-close_turn_within true link how w = omega (arith, loses_within drop_cause.LinkClosed w)
-
-close_within : (how : Dialling) (link : ℕ) (w : Work) → total (close_link how link w) ≤ total (w, how)
-close_within dialling.Nothing link w = omega (arith, held_taken link w.links)
-close_within (dialling.Waits turn frames) link w = omega (arith, held_taken link w.links)
-close_within (dialling.On number said) link w = close_turn_within (number == link) link (dialling.On number said) w
-
-answer_within : (how : Dialling) (link : ℕ) (w : Work) → total (answer_dial how link w) ≤ total (w, how)
-answer_within dialling.Nothing link w = omega arith
-answer_within (dialling.On number said) link w = omega arith
-answer_within (dialling.Waits turn frames) link w =
-    omega (arith, held_taken link w.links, made_told w.actions (action.Send link (joined_frames frames)))
-
-fail_within : (how : Dialling) (w : Work) → total (fail_dial how w) ≤ total (w, how)
-fail_within dialling.Nothing w = omega arith
-fail_within (dialling.On number said) w = omega arith
-fail_within (dialling.Waits turn frames) w = omega (arith, loses_within drop_cause.DialFailed w)
+within : (part : Result (Part DialWork) StepRefused) (most : ℕ) → PartHolds (MakesFew most) part → Within part most
+within (Err why) most few = tt
+within (Ok part) most few = few
 
 pub settles : Settles
-settles running (event.Closed link) now left e =
-    next_within now (close_link running.dialling link (work_of running)) left (pending_of running) (omega (arith, close_within running.dialling link (work_of running)))
-settles running (event.Dialled link) now left e =
-    next_within now (answer_dial running.dialling link (work_of running)) left (pending_of running) (omega (arith, answer_within running.dialling link (work_of running)))
-settles running event.DialFailed now left e =
-    next_within now (fail_dial running.dialling (work_of running)) left (pending_of running) (omega (arith, fail_within running.dialling (work_of running)))
-settles running (event.Opened link) now left e = absurd (let z = e in cc)
-settles running (event.Bytes link bytes) now left e = absurd (let z = e in cc)
-settles running event.Stop now left e = absurd (let z = e in cc)
+settles running what now left made =
+    let most : ℕ = pending_of running in
+    within (event_part running what now left) most
+    (part_keeps (MakesFew most) (MakesFew most) (MakesFew most) running what now left (event_few most what made) (next_few most what made now) (omega arith))

@@ -10,13 +10,9 @@ use Rattle.outside.proofs.DrawLaws.{DrawsSome-none, IsRest-refl}
 use Rattle.outside.proofs.MachineLaws.{AnswersBy-refused}
 use Rattle.wire_base.specs.Maps.{lookup, same_number}
 use Rattle.rpc_units.specs.declared.refused.UnitRefused.{UnitRefused}
-use Rattle.rpc_units.specs.declared.unit.Unit.{Unit as RpcUnit}
 use Rattle.rpc_units.specs.Reading.{unit_of}
 use Rattle.rpc_units.specs.Stream.{cut_stream}
-use Rattle.end_links.specs.Links.{LinkState}
 use Rattle.end_links.specs.Serving.{ServedPart, served_by, then_talk}
-use Rattle.channel_client.specs.declared.answers.Taken.{Taken}
-use Rattle.channel_client.specs.declared.answers.Taken.TheVariants as taken
 use Rattle.channel_client.specs.Machine.{can_start, needs_challenge, take_of}
 use Rattle.channel_turns.specs.declared.hearing.Heard.{Heard}
 use Rattle.channel_turns.specs.declared.hearing.Heard.TheVariants as heard
@@ -24,15 +20,19 @@ use Rattle.channel_turns.specs.declared.state.Dialling.{Dialling}
 use Rattle.channel_turns.specs.declared.state.Dialling.TheVariants as dialling
 use Rattle.channel_turns.specs.declared.state.Turning.{Turning}
 use Rattle.channel_turns.specs.declared.state.TurnTalk.{TurnTalk}
-use Rattle.channel_turns.specs.Dials.{NextTurn, next_by}
+use Rattle.channel_turns.specs.Dials.{next_by}
 use Rattle.channel_turns.specs.Hearing.{heard_of}
 use Rattle.channel_turns.specs.Turning as turning
 use Rattle.channel_turns.specs.Turning.{is_on, link_hears, next_dial}
 use Rattle.channel_turns.specs.Turns as turns
+use Rattle.channel_turns.proofs.KeepLaws.{taken_by}
 use Rattle.member_server.specs.declared.state.Work.{Work}
-use Rattle.member_server.specs.Machine.{after_turn, at_turn, bytes_by, bytes_on, bytes_on_link, drawless_part, serve_dialled}
+use Rattle.member_server.specs.Outcomes.{tell_at}
+use Rattle.outside.specs.declared.action.Action.TheVariants as action
+use Rattle.end_links.specs.Sending.{joined_frames}
+use Rattle.member_server.specs.Machine.{after_turn, at_turn, bytes_by, bytes_on, bytes_on_link, drawless_part}
 use Rattle.member_server.specs.Sharing.{SharesTurns, turned_part}
-use Rattle.member_server.specs.Turns.{AtTurn, DialWork, TurnServed, after_turn_served, after_turned, dial_part, do_taken, next_turn, turn_server, turn_talk, turn_work, turning_of, with_requester, with_work}
+use Rattle.member_server.specs.Turns.{AtTurn, DialWork, TurnServed, after_turn_served, after_turned, next_turn, turn_server, turn_talk, turn_work, turning_of, with_requester, with_work}
 
 -- ---- the units of a stream
 
@@ -50,21 +50,17 @@ module _ (units : List (List ℕ)) (why : Option UnitRefused) (left : List (List
   abbrev then_shared : turns.TurnServed → turns.TurnServed
   then_shared served = turns.then_said served (λ later said. turns.served_by units why later said)
 
-  after_taken : (t : Taken) (joiner : Option RpcUnit) (at : AtTurn) → Each →
-      IsShared (then_own (do_taken t joiner at)) at (then_shared (turns.do_taken t joiner (turn_work at)))
-  after_taken (taken.Skip turn) joiner at each = each at (turn_talk joiner)
-  after_taken (taken.Next turn frames) joiner at each = each (do_taken (taken.Next turn frames) joiner at).0 (turn_talk joiner)
-  after_taken taken.Half joiner at each = refl
-  after_taken taken.Opened joiner at each = refl
-  after_taken (taken.Answer place verdict) joiner at each = refl
-  after_taken (taken.Dropped place cause) joiner at each = refl
-
   after_heard : (what : Heard) (at : AtTurn) → Each →
       IsShared (then_own (after_turn_served (turns.do_heard what (turn_work at)) at)) at (then_shared (turns.do_heard what (turn_work at)))
   after_heard (heard.Waits joiner) at each = each at (turn_talk joiner)
   after_heard (heard.Whole unit joiner) at each =
       let taking = take_of at.work.logons.channel unit in
-      after_taken taking.taken joiner (with_work at (with_requester at.work taking.state)) each
+      let after : AtTurn = with_work at (with_requester at.work taking.state) in
+      taken_by taking.taken joiner (turn_work after) (λ served. IsShared (then_own (after_turn_served served at)) at (then_shared served)) (record {
+        skips = λ right is. each after (turn_talk joiner);
+        sends = λ right frames is. each (with_work at (tell_at after.work (action.Send at.link (joined_frames frames)))) (turn_talk joiner);
+        ends = λ how is. refl;
+      })
   after_heard (heard.Broken cause) at each = refl
 
 by_shared : (units : List (List ℕ)) (why : Option UnitRefused) (at : AtTurn) (talk : TurnTalk) (left : List (List ℕ)) →
@@ -80,27 +76,16 @@ by_shared (bytes ∷ units) why at talk left =
 same_link : (other link : ℕ) → (other == link) ≡ true → other ≡ link
 same_link other link is = grind (arith, nat_tests)
 
-piece_shared : (number : ℕ) (said : LinkState TurnTalk) (piece : List ℕ) (work : Work) (left : List (List ℕ)) →
-    serve_dialled (cut_stream (said.rest ++ piece)) number said.talk work left
-    ≡ drawless_part (after_turned (turning.hear_on number said piece work.logons.channel work.actions) work) left
-piece_shared number said piece work left =
-    let cut = cut_stream (said.rest ++ piece) in
-    ap (λ (p : ServedPart AtTurn TurnTalk). after_turn p cut.rest number) (by_shared cut.units cut.refused (at_turn number work) said.talk left)
-
-on_shared : (hit : Bool) (other number : ℕ) (said : LinkState TurnTalk) (piece : List ℕ) (work : Work) (left : List (List ℕ)) → (hit ≡ true → other ≡ number) → hit ≡ true →
-    bytes_by hit said number piece (dialling.On other said) work left
-    ≡ drawless_part (after_turned (turning.hear_if hit other said piece (turning_of work (dialling.On other said))) work) left
-on_shared false other number said piece work left same on = absurd (let x = on in cc)
-on_shared true other number said piece work left same on =
-    piece_shared number said piece work left
-    ∙ ap (λ (n : ℕ). drawless_part (after_turned (turning.hear_on n said piece work.logons.channel work.actions) work) left) (sym (same refl))
-
 pub bytes_shared : (how : Dialling) (number : ℕ) (piece : List ℕ) (work : Work) (left : List (List ℕ)) → is_on number how ≡ true →
     bytes_on how number piece work left ≡ drawless_part (after_turned (link_hears number piece (turning_of work how)) work) left
 bytes_shared dialling.Nothing number piece work left on = absurd (let x = on in cc)
 bytes_shared (dialling.Waits turn frames) number piece work left on = absurd (let x = on in cc)
 bytes_shared (dialling.On other said) number piece work left on =
-    on_shared (other == number) other number said piece work left (same_link other number) on
+    let cut = cut_stream (said.rest ++ piece) in
+    ap (λ (hit : Bool). bytes_by hit said number piece (dialling.On other said) work left) on
+    ∙ ap (λ (p : ServedPart AtTurn TurnTalk). after_turn p cut.rest number) (by_shared cut.units cut.refused (at_turn number work) said.talk left)
+    ∙ ap (λ (n : ℕ). drawless_part (after_turned (turning.hear_on n said piece work.logons.channel work.actions) work) left) (sym (same_link other number on))
+    ∙ ap (λ (hit : Bool). drawless_part (after_turned (turning.hear_if hit other said piece (turning_of work (dialling.On other said))) work) left) (sym on)
 
 -- no memory was found
 pub bytes_unserved : (how : Dialling) (number : ℕ) (piece : List ℕ) (work : Work) (left : List (List ℕ)) → is_on number how ≡ true →
@@ -108,32 +93,25 @@ pub bytes_unserved : (how : Dialling) (number : ℕ) (piece : List ℕ) (work : 
 bytes_unserved how number piece work left on =
     subst (λ p. IsRest (left_by p) left) (sym (bytes_shared how number piece work left on)) (IsRest-refl left)
 
-off_by : (hit : Bool) (other number : ℕ) (said : LinkState TurnTalk) (piece : List ℕ) (work : Work) (left : List (List ℕ)) → hit ≡ false →
-    bytes_by hit said number piece (dialling.On other said) work left
-    ≡ bytes_on_link (lookup same_number number work.links) number piece (dialling.On other said) work left
-off_by true other number said piece work left off = absurd (let x = off in cc)
-off_by false other number said piece work left off = refl
-
 -- another link
 pub bytes_off : (how : Dialling) (number : ℕ) (piece : List ℕ) (work : Work) (left : List (List ℕ)) → is_on number how ≡ false →
     bytes_on how number piece work left ≡ bytes_on_link (lookup same_number number work.links) number piece how work left
 bytes_off dialling.Nothing number piece work left off = refl
 bytes_off (dialling.Waits turn frames) number piece work left off = refl
-bytes_off (dialling.On other said) number piece work left off = off_by (other == number) other number said piece work left off
+bytes_off (dialling.On other said) number piece work left off = ap (λ (hit : Bool). bytes_by hit said number piece (dialling.On other said) work left) off
 
 -- ---- the next turn
 
-through : (part : Result (Part NextTurn) StepRefused) (work : Work) (how : Dialling) →
-    then_part part (dial_part work how)
-    ≡ then_part (then_part part (turning.dial_part work.logons.plan.controller (turning_of work how))) (turned_part work)
-through (Err why) work how = refl
-through (Ok part) work how = refl
+then_again : {T U V : Type 0} (part : Result (Part T) StepRefused) (next : T → List (List ℕ) → Result (Part U) StepRefused) (last : U → List (List ℕ) → Result (Part V) StepRefused) →
+    then_part part (λ value left. then_part (next value left) last) ≡ then_part (then_part part next) last
+then_again (Err why) next last = refl
+then_again (Ok part) next last = refl
 
 next_shared : (now : ℕ) (work : Work) (how : Dialling) (left : List (List ℕ)) →
     next_turn now (work, how) left ≡ then_part (next_dial now work.logons.plan.controller (turning_of work how) left) (turned_part work)
 next_shared now work how left =
     let c = work.logons.channel in
-    through (next_by (can_start c.turn c.waiting) (needs_challenge c.standing) now c left) work how
+    then_again (next_by (can_start c.turn c.waiting) (needs_challenge c.standing) now c left) (turning.dial_part work.logons.plan.controller (turning_of work how)) (turned_part work)
 
 pub next_done : (now : ℕ) (work : Work) (how : Dialling) (turning : Turning) (dial_work : DialWork) (before after : List (List ℕ)) →
     next_dial now work.logons.plan.controller (turning_of work how) before ≡ Ok (record { value = turning; left = after }) →

@@ -1,6 +1,6 @@
 -- What a step may do to what logons need and to the actions so far: whatever holds by these rules holds after each
 -- step.
-use Rattle.std.proofs.Common.{◌≡◌, ℕ, Bool, true, false, List, [], ◌∷◌, ◌++◌, Option, Some, None, Ok, Err}
+use Rattle.std.proofs.Common.{◌≡◌, ℕ, Bool, true, false, List, [], ◌∷◌, ◌++◌, Some, Ok, Err}
 use Rattle.outside.specs.declared.action.Action.{Action}
 use Rattle.outside.specs.declared.action.Action.TheVariants as action
 use Rattle.outside.specs.declared.action.DropCause.{DropCause}
@@ -11,7 +11,7 @@ use Rattle.rpc_units.specs.declared.unit.Unit.{Unit as RpcUnit}
 use Rattle.channel_client.specs.declared.answers.AskRefused.TheVariants as ask_refused
 use Rattle.channel_client.specs.declared.answers.Taken.{Taken}
 use Rattle.channel_client.specs.declared.answers.Taken.TheVariants as taken
-use Rattle.channel_client.specs.Machine.{ask_of, lose_of, start_of, take_of}
+use Rattle.channel_client.specs.Machine.{ask_of, can_start, lose_of, start_of, take_of}
 use Rattle.member_server.specs.declared.outcomes.Ending.{Ending}
 use Rattle.member_server.specs.declared.outcomes.Ending.TheVariants as ending
 use Rattle.member_server.specs.declared.state.Logon.{Logon}
@@ -69,10 +69,6 @@ pub record TurnRules (T : List RpcUnit → Holds) (K : Holds) : Type 0 where
 
 -- ---- a step; the argument of G: whether a turn is dialled
 
-abbrev pub AfterStart : (Bool → Holds) → Bool → Option (Unit {0} × List (List ℕ)) → Logons → List Action → Type 0
-AfterStart G dialled None l a = G dialled l a
-AfterStart G dialled (Some start) l a = G true l a
-
 -- what an event does, before the next turn starts
 pub record EventRules (T : List RpcUnit → Holds) (G : Bool → Holds) : Type 0 where
   pub link : (dialled : Bool) → LinkRules (G dialled)
@@ -83,9 +79,9 @@ pub record StepRules (T : List RpcUnit → Holds) (G : Bool → Holds) : Type 0 
   pub link : (dialled : Bool) → LinkRules (G dialled)
   pub turn : TurnRules T (G false)
   pub returns : (units : List RpcUnit) (l : Logons) (a : List Action) → T units l a → G true l a
-  pub starts : (dialled : Bool) (l : Logons) (a : List Action) (timestamp : ℕ) (challenge : List ℕ) → G dialled l a →
-      AfterStart G dialled (start_of l.channel timestamp challenge).answer (with_channel l (start_of l.channel timestamp challenge).state) a
-  pub dials : (l : Logons) (a : List Action) (peer : List ℕ) → G true l a → G true l (a ++ action.Dial peer ∷ [])
+  -- a turn starts, and its controller is dialled
+  pub starts : (dialled : Bool) (l : Logons) (a : List Action) (timestamp : ℕ) (challenge : List ℕ) → can_start l.channel.turn l.channel.waiting ≡ true → G dialled l a →
+      G true (with_channel l (start_of l.channel timestamp challenge).state) (a ++ action.Dial l.plan.controller ∷ [])
 
 pub events_of : (T : List RpcUnit → Holds) (G : Bool → Holds) → StepRules T G → EventRules T G
 events_of T G rules = record { link = rules.link; turn = rules.turn; returns = rules.returns }
