@@ -1,5 +1,5 @@
 -- Channels that are kept have types. It serves `kept_channels_have_kinds`.
-use Rattle.std.proofs.Common.{◌≡◌, ◌≢◌, ◌⊎◌, ℕ, Bool, true, false, List, [], ◌∷◌, inl, inr, Option, Some, None, refl, sym, subst, bytes_eq}
+use Rattle.std.proofs.Common.{◌≡◌, ◌⊎◌, ℕ, Bool, true, false, List, [], ◌∷◌, inl, inr, Some, refl, sym, subst}
 use Rattle.std.proofs.lemmas.Bool.{cases_Bool}
 use Rattle.std.specs.List.{AllByRecursion}
 use Rattle.wire_base.specs.Maps.{has_key, lookup, put, take_out}
@@ -7,73 +7,23 @@ use Rattle.wire_base.specs.Names.{same_name}
 use Rattle.wire_base.specs.declared.authenticator.Authenticator.{Authenticator}
 use Rattle.wire_base.proofs.MapLaws.{lookup-put_same}
 use Rattle.wire_base.proofs.NameLaws.{IsSameness-same_name}
-use Rattle.ntlm_flags.specs.Flags.{has_flag}
-use Rattle.channel_keys.specs.Credentials.{cred_of}
-use Rattle.channel_keys.specs.Flags.{rc4_flag}
-use Rattle.authenticators.specs.SecureChannels.{SecureChannelState, channel_by, key_of_channel, passes_on, return_by}
-use Rattle.logon_stubs.specs.Status.{access_denied, downgrade_detected, no_trust_sam_account}
-use Rattle.logon_stubs.specs.declared.calls.AuthCall.{AuthCall}
-use Rattle.account_table.specs.LookUps.{knows_in}
-use Rattle.account_table.specs.declared.account.Account.{Account}
+use Rattle.authenticators.specs.SecureChannels.{SecureChannelState, channel_by, passes_on}
+use Rattle.outside.specs.declared.action.Judged.{Judged}
+use Rattle.controller_calls.specs.Asking.{answer_judged}
 use Rattle.controller_calls.specs.ChannelKinds.{ChannelsHaveKinds, HasKind, HaveKinds, IsAccepted, IsDenied}
-use Rattle.controller_calls.specs.Desk.{Desk, desk, put_channel, take_channel, take_pair}
-use Rattle.controller_calls.specs.Asking.{answers_to, refuse_asked}
-use Rattle.controller_calls.specs.Calls.{asked_of, computer_named, given_in}
-use Rattle.controller_calls.specs.Judging.{answer_named, answer_on}
-use Rattle.controller_calls.specs.declared.calls.Asked.{Asked}
-use Rattle.controller_calls.proofs.DoneLaws.{KeepsPairs, refused_keeps, return_keeps}
-use Rattle.outside.specs.declared.action.Judged.TheVariants as judged
-use Rattle.controller_calls.specs.Opening.{account_for, channel_for, deny_channel, judge_account, judge_offer, judge_pair, open_channel, put_pair_if}
+use Rattle.controller_calls.specs.Desk.{Desk, desk, take_pair}
+use Rattle.controller_calls.specs.Opening.{account_for, channel_for}
+use Rattle.controller_calls.specs.declared.calls.JudgedCall.{JudgedCall}
 use Rattle.controller_calls.specs.declared.line.Line.{Line}
-use Rattle.controller_calls.specs.declared.state.ChallengePair.{ChallengePair}
 use Rattle.controller_calls.specs.declared.state.Computers.{Computers}
-use Rattle.controller_calls.specs.declared.state.Work.{Work}
-
--- ---- an opening
-
-abbrev Comes : Line → AuthCall → Work → Work → Type 0
-Comes line c taken later = IsDenied line c taken later ⊎ IsAccepted line c taken later
-
-denied : (line : Line) (c : AuthCall) (taken : Work) (status : ℕ) → status ≢ 0 → Comes line c taken (deny_channel taken line c.flags status)
-denied line c taken status fails = inl (record { status = status; fails = fails; denies = refl })
-
-is_refusal : access_denied ≢ 0
-is_refusal is = cc
-
-opened : (right : Bool) (account : Account) (pair : ChallengePair) (line : Line) (c : AuthCall) (taken : Work) →
-    Comes line c taken (open_channel right (channel_for account pair c) line c taken)
-opened false account pair line c taken = denied line c taken access_denied is_refusal
-opened true account pair line c taken =
-    let channel : SecureChannelState = channel_for account pair c in
-    inr (record {
-      channel = channel;
-      opens = refl;
-      stands = lookup-put_same same_name c.computer channel taken.computers.channels (IsSameness-same_name.reflexive c.computer);
-      kind = refl;
-    })
-
-paired : (pair : Option ChallengePair) (account : Account) (line : Line) (c : AuthCall) (taken : Work) → Comes line c taken (judge_pair pair account line c taken)
-paired None account line c taken = denied line c taken access_denied is_refusal
-paired (Some pair) account line c taken =
-    let channel : SecureChannelState = channel_for account pair c in
-    opened (bytes_eq c.credential (cred_of (key_of_channel channel) channel.client)) account pair line c taken
-
-offered : (has_rc4 : Bool) (pair : Option ChallengePair) (account : Account) (line : Line) (c : AuthCall) (taken : Work) →
-    Comes line c taken (judge_offer has_rc4 pair account line c taken)
-offered false pair account line c taken = denied line c taken downgrade_detected (λ is. cc)
-offered true pair account line c taken = paired pair account line c taken
-
-at_account : (account : Option Account) (pair : Option ChallengePair) (line : Line) (c : AuthCall) (taken : Work) →
-    Comes line c taken (judge_account account pair line c taken)
-at_account None pair line c taken = denied line c taken no_trust_sam_account (λ is. cc)
-at_account (Some account) pair line c taken = offered (has_flag c.flags rc4_flag) pair account line c taken
+use Rattle.controller_calls.proofs.OutcomeLaws.{JudgedComes, Passes, Refused, WhyRefused, Bare, Barred, challenge_comes, judged_comes, opening_comes}
 
 -- ---- what is kept
 
 abbrev Entries : List (List ℕ × SecureChannelState) → Type 0
 Entries entries = AllByRecursion (λ (entry : List ℕ × SecureChannelState). HasKind entry.1) entries
 
-put_has : (key : List ℕ) (channel : SecureChannelState) (entries : List (List ℕ × SecureChannelState)) → HasKind channel → Entries entries →
+pub put_has : (key : List ℕ) (channel : SecureChannelState) (entries : List (List ℕ × SecureChannelState)) → HasKind channel → Entries entries →
     Entries (put same_name key channel entries)
 put_has key channel [] has all = (has, tt)
 put_has key channel (entry ∷ entries) has all =
@@ -103,44 +53,47 @@ moved_has : (passes : Bool) (channel : SecureChannelState) (given : Authenticato
 moved_has false channel given has = has
 moved_has true channel given has = has
 
-asked_has : (knows : Bool) (computer : List ℕ) (pair : ChallengePair) (work : Work) → HaveKinds work.computers → HaveKinds (put_pair_if knows computer pair work).computers
-asked_has false computer pair work all = all
-asked_has true computer pair work all = all
+-- where the channels are those, each has its type
+same_has : (before later : List (List ℕ × SecureChannelState)) → later ≡ before → Entries before → Entries later
+same_has before later same all = subst (λ (entries : List (List ℕ × SecureChannelState)). Entries entries) (sym same) all
 
-came_has : (line : Line) (c : AuthCall) (taken later : Work) → HaveKinds taken.computers → Comes line c taken later → HaveKinds later.computers
-came_has line c taken later all (inl refused) = subst (λ (w : Work). HaveKinds w.computers) (sym refused.denies) all
-came_has line c taken later all (inr accepted) =
-    subst (λ (w : Work). HaveKinds w.computers) (sym accepted.opens) (put_has c.computer accepted.channel taken.computers.channels (c.channel, accepted.kind) all)
+-- the channel of a computer has moved on, or was put back
+back_has : (computer : List ℕ) (given : Authenticator) (channel : SecureChannelState) (passes : Bool) (entries : List (List ℕ × SecureChannelState)) → Entries entries →
+    lookup same_name computer entries ≡ Some channel → Entries (put same_name computer (channel_by passes channel given) (take_out same_name computer entries))
+back_has computer given channel passes entries all stands =
+    put_has computer (channel_by passes channel given) (take_out same_name computer entries)
+    (moved_has passes channel given (found_has computer channel entries all stands)) (taken_has computer entries all)
 
--- where the channels stay, each has its type
-same_has : (before later : Computers) → KeepsPairs before later → HaveKinds before → HaveKinds later
-same_has before later same all = subst (λ (entries : List (List ℕ × SecureChannelState)). Entries entries) (sym same.channels) all
+refused_has : (c : JudgedCall) (computers : Computers) (how : Judged) (channels : List (List ℕ × SecureChannelState)) → HaveKinds computers → WhyRefused c computers how channels → Entries channels
+refused_has c computers how channels all (Bare none is same) = same_has computers.channels channels same all
+refused_has c computers how channels all (Barred by is back) =
+    same_has _ channels back (back_has by.computer by.given by.channel false computers.channels all by.stands)
 
-channel_has : (found : Option SecureChannelState) (computer : List ℕ) (given : Authenticator) (what : Asked) (name : List ℕ) (now : ℕ) (line : Line) (d : Desk) →
-    ((channel : SecureChannelState) → found ≡ Some channel → HasKind channel) → HaveKinds d.work.computers →
-    HaveKinds (answer_on found computer given (answers_to what name now line) d).work.computers
-channel_has None computer given what name now line d has all =
-    same_has d.work.computers (refuse_asked what judged.NoChannel line d.work).computers (refused_keeps what judged.NoChannel line d.work) all
-channel_has (Some channel) computer given what name now line d has all =
-    let passes : Bool = passes_on channel given in
-    let moved : SecureChannelState = channel_by passes channel given in
-    let back : Desk = desk d.table (put_channel computer moved d.work) in
-    same_has back.work.computers _ (return_keeps what (return_by passes channel given) computer channel name now line back)
-    (put_has computer moved d.work.computers.channels (moved_has passes channel given (has channel refl)) all)
-
-judged_has : (computer : Option (List ℕ)) (given : Option Authenticator) (what : Asked) (name : List ℕ) (now : ℕ) (line : Line) (d : Desk) →
-    HaveKinds d.work.computers → HaveKinds (answer_named computer given (answers_to what name now line) d).work.computers
-judged_has None given what name now line d all = same_has d.work.computers (refuse_asked what judged.NoChannel line d.work).computers (refused_keeps what judged.NoChannel line d.work) all
-judged_has (Some computer) None what name now line d all = same_has d.work.computers (refuse_asked what judged.NoChannel line d.work).computers (refused_keeps what judged.NoChannel line d.work) all
-judged_has (Some computer) (Some given) what name now line d all =
-    channel_has (lookup same_name computer d.work.computers.channels) computer given what name now line (desk d.table (take_channel computer d.work))
-    (λ channel found. found_has computer channel d.work.computers.channels all found) (taken_has computer d.work.computers.channels all)
+pub judged_has : (c : JudgedCall) (name : List ℕ) (now : ℕ) (line : Line) (d after : Desk) → HaveKinds d.work.computers → JudgedComes c name now line d after → HaveKinds after.work.computers
+judged_has c name now line d after all (Refused how away) = refused_has c d.work.computers how after.work.computers.channels all away.why
+judged_has c name now line d after all (Passes next is) =
+    same_has _ after.work.computers.channels is.channels
+    (back_has next.computer next.given next.channel (passes_on next.channel next.given) d.work.computers.channels all next.stands)
 
 pub channels_have_kinds : ChannelsHaveKinds
 channels_have_kinds = record {
-  opening = λ table line c work. at_account (account_for table c) (lookup same_name c.computer work.computers.pending) line c (take_pair c.computer work);
-  challenge = λ table line c server work all. asked_has (knows_in table.accounts c.computer) c.computer (record { client = c.challenge; server = server }) work all;
+  opening = λ table line c work.
+      opening_comes (λ later. IsDenied line c (take_pair c.computer work) later ⊎ IsAccepted line c (take_pair c.computer work) later)
+      (account_for table c) (lookup same_name c.computer work.computers.pending) line c (take_pair c.computer work) (record {
+        denied = λ status fails none. inl (record { status = status; fails = fails; denies = refl });
+        accepted = λ opens. inr (record {
+          channel = channel_for opens.account opens.pair c;
+          opens = refl;
+          stands = lookup-put_same same_name c.computer _ work.computers.channels (IsSameness-same_name.reflexive c.computer);
+          kind = refl;
+        });
+      });
+  challenge = λ table line c server work all.
+      challenge_comes (λ later. HaveKinds later.work.computers) line c server (desk table work) (record { unknown = λ none. all; known = λ is. all });
   authenticate = λ table line c work all.
-      came_has line c (take_pair c.computer work) _ all (at_account (account_for table c) (lookup same_name c.computer work.computers.pending) line c (take_pair c.computer work));
-  judged = λ c name now line d all. judged_has (computer_named c) (given_in c) (asked_of c) name now line d all;
+      opening_comes (λ later. HaveKinds later.computers) (account_for table c) (lookup same_name c.computer work.computers.pending) line c (take_pair c.computer work) (record {
+        denied = λ status fails none. all;
+        accepted = λ opens. put_has c.computer (channel_for opens.account opens.pair c) work.computers.channels (c.channel, refl) all;
+      });
+  judged = λ c name now line d all. judged_has c name now line d (answer_judged c name now line d) all (judged_comes c name now line d);
 }

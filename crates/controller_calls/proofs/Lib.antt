@@ -3,6 +3,8 @@ pub mod ChannelKindLaws
 pub mod DoneLaws
 pub mod HashLaws
 pub mod LevelLaws
+pub mod OutcomeLaws
 pub mod PassLaws
 pub mod RefusalLaws
+pub mod ReplyLaws
 pub mod StubLaws

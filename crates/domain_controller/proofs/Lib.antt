@@ -12,6 +12,7 @@ pub mod SendLaws
 pub mod SessionLaws
 pub mod SettingLaws
 pub mod StepLaws
+pub mod UnitLaws
 pub mod UnsetLaws
 pub mod WalkLaws
 pub mod WholeLaws

@@ -1,25 +1,16 @@
 -- The sessions that a step leaves are those that its calls make of them.
 -- It serves `sessions_follow_the_calls`.
-use Rattle.std.proofs.Common.{◌≡◌, ◌==◌, ℕ, Bool, true, false, List, [], ◌∷◌, ◌++◌, length, Option, Some, None, is_some, Ok, Err, refl, sym, ap, ◌∙◌, subst, append_assoc, bytes_eq, arith}
+use Rattle.std.proofs.Common.{◌≡◌, ◌==◌, ℕ, Bool, true, false, List, [], ◌∷◌, ◌++◌, length, Option, Some, None, is_some, refl, sym, ap, ◌∙◌, subst, append_assoc, arith}
 use Rattle.std.specs.List.{AllByRecursion, position}
 use Rattle.std.proofs.lemmas.List.{append-nil, length-append}
 use Rattle.std.proofs.lemmas.List.Concat.{flat_map-append}
-use Rattle.wire_base.specs.Maps.{lookup}
-use Rattle.wire_base.specs.Names.{same_name}
-use Rattle.wire_base.specs.declared.authenticator.Authenticator.{Authenticator}
-use Rattle.ntlm_flags.specs.Flags.{has_flag}
-use Rattle.channel_keys.specs.Credentials.{cred_of}
-use Rattle.channel_keys.specs.Flags.{rc4_flag}
-use Rattle.authenticators.specs.Sequences.{return_of}
-use Rattle.authenticators.specs.SecureChannels.{SecureChannelState, channel_by, key_of_channel, passes_on, return_by}
+use Rattle.authenticators.specs.SecureChannels.{key_of_channel}
 use Rattle.outside.specs.declared.action.Action.{Action}
 use Rattle.outside.specs.declared.action.Action.TheVariants as action
 use Rattle.outside.specs.declared.action.Judged.{Judged}
 use Rattle.outside.specs.declared.action.Judged.TheVariants as judged
 use Rattle.outside.specs.declared.event.Event.{Event}
-use Rattle.outside.specs.Machine.{step_by, then_part}
-use Rattle.logon_stubs.specs.declared.calls.AuthCall.{AuthCall}
-use Rattle.logon_stubs.specs.declared.calls.ChallengeCall.{ChallengeCall}
+use Rattle.outside.specs.Machine.{Stepped, whole_step}
 use Rattle.logon_stubs.specs.declared.calls.LogonCall.{LogonCall}
 use Rattle.logon_stubs.specs.declared.info.SamInfo.{SamInfo}
 use Rattle.logon_stubs.specs.declared.info.Verdict.{Verdict}
@@ -29,7 +20,7 @@ use Rattle.interactive_logon.specs.declared.calls.InteractiveInfo.{InteractiveIn
 use Rattle.interactive_logon.specs.declared.sessions.Session.{Session}
 use Rattle.interactive_logon.specs.Sessions.{is_session, session_limit, without}
 use Rattle.account_table.specs.AccountTable.{AccountTable}
-use Rattle.account_table.specs.LookUps.{account_in, knows_in, machine_in, route_in}
+use Rattle.account_table.specs.LookUps.{account_in, machine_in, route_in}
 use Rattle.account_table.specs.declared.account.Account.{Account}
 use Rattle.account_table.specs.declared.table.Route.{Route}
 use Rattle.account_table.specs.declared.table.Route.TheVariants.{Own, Trust, Elsewhere}
@@ -38,32 +29,26 @@ use Rattle.secret_change.specs.declared.calls.SetCall.{SetCall}
 use Rattle.end_loop.specs.Runs.{actions_of}
 use Rattle.sam_logon.specs.Rules.{Rule, Shown, first_refusal, refusal_by, rules_for, shown_by_hash}
 use Rattle.sam_logon.specs.Verdict.{interactive_judgement_of, interactive_verdict_of, verdict_by, verdict_routed, verdict_shown}
-use Rattle.controller_calls.specs.Asking.{answers_to, pass_asked, refuse_asked}
-use Rattle.controller_calls.specs.Calls.{asked_of, computer_named, given_in}
+use Rattle.controller_calls.specs.Calls.{asked_of, computer_named}
 use Rattle.controller_calls.specs.declared.calls.JudgedCall.{JudgedCall}
 use Rattle.controller_calls.specs.declared.calls.JudgedCall.TheVariants.{Interactive, Logoff, Network, NetworkLogoff, Set}
-use Rattle.controller_calls.specs.Desk.{Desk, desk, put_channel, take_channel, take_pair, tell}
-use Rattle.controller_calls.specs.Doing.{Done, IsDoneAs, computer_or_none, done_asked, kept_asked, sessions_after, set_so}
+use Rattle.controller_calls.specs.Desk.{Desk, desk}
+use Rattle.controller_calls.specs.Doing.{Done, computer_or_none, done_asked, kept_asked, sessions_after, set_so, done_by}
 use Rattle.controller_calls.specs.Interactive.{admitted, judge_interactive, judge_interactive_level, logoff_status, shown_hash}
-use Rattle.controller_calls.specs.Judging.{answer_named, answer_on, answer_return}
 use Rattle.controller_calls.specs.Logons.{judge_info, serves_level, status_of}
-use Rattle.controller_calls.specs.Opening.{account_for, answer_challenge, channel_for, judge_account, judge_offer, judge_pair, open_channel, put_pair_if}
-use Rattle.controller_calls.specs.Passing.{IsKeep}
+use Rattle.controller_calls.specs.Passing.{IsKeep, is_passed}
 use Rattle.controller_calls.specs.declared.calls.ControllerCall.{ControllerCall}
 use Rattle.controller_calls.specs.declared.calls.ControllerCall.TheVariants as call
 use Rattle.controller_calls.specs.declared.line.Line.{Line}
-use Rattle.controller_calls.specs.declared.state.ChallengePair.{ChallengePair}
-use Rattle.controller_calls.specs.declared.state.Computers.{Computers}
 use Rattle.controller_calls.specs.declared.state.Work.{Work}
-use Rattle.controller_calls.proofs.DoneLaws.{IsRefusedAs, asked_done, asked_refused, texts_kept}
+use Rattle.controller_calls.proofs.DoneLaws.{texts_kept}
+use Rattle.controller_calls.proofs.OutcomeLaws.{JudgedComes, Passes, Refused, texts_kept}
 use Rattle.domain_controller.specs.Laws.{calls_of}
-use Rattle.domain_controller.specs.Machine.{by_call, draw_challenge}
 use Rattle.domain_controller.specs.Sessions.{AreJudgedOnce, HasSessions, SessionsFollowCalls, is_done, judged_among, judged_in, sessions_by, sessions_from, sessions_if, told_among, told_in}
 use Rattle.domain_controller.specs.State.{State}
-use Rattle.domain_controller.specs.Step.{LinkMap, StepPart, by_event, first_desk, halted, start_turn, state_after, step_on}
+use Rattle.domain_controller.specs.Step.{state_after, step_of}
 use Rattle.domain_controller.specs.declared.state.Running.{Running}
-use Rattle.domain_controller.specs.declared.state.Talk.{Talk}
-use Rattle.domain_controller.proofs.WalkLaws.{CallLeads, LeavesText, StepLeads, Walks, events_lead}
+use Rattle.domain_controller.proofs.WalkLaws.{DeskWalks, desk_leads}
 
 -- ---- no rule refuses with status 0
 
@@ -164,95 +149,21 @@ one_judged c before after kept how link bytes are actions sessions = record {
   sessions = sessions ∙ sym (ap (λ (told : List Judged). sessions_from (c ∷ []) told before.work.computers.sessions) (told_kept kept how link bytes are));
 }
 
--- an answer that judges nothing
-pub record SendsOne (before after : Work) : Type 0 where
-  pub link : ℕ
-  pub bytes : List ℕ
-  pub actions : after.actions ≡ before.actions ++ action.Send link bytes ∷ []
-  pub sessions : after.computers.sessions ≡ before.computers.sessions
+undone : (how : Judged) → is_passed how ≡ false → is_done how ≡ false
+undone (judged.Passed status) not = absurd cc
+undone judged.Forwarded not = refl
+undone (judged.Answered status) not = refl
+undone judged.Barred not = refl
+undone judged.NoChannel not = refl
 
-none_judged : (c : ControllerCall) (before after : Desk) → judged_among (c ∷ []) ≡ [] → SendsOne before.work after.work → SessionsTrail (c ∷ []) before after
-none_judged c before after none one = record {
-  new = action.Send one.link one.bytes ∷ [];
-  actions = one.actions;
-  many = sym (ap length none);
-  sessions = one.sessions ∙ sym (ap (λ (calls : List JudgedCall). sessions_from calls [] before.work.computers.sessions) none);
-}
-
--- ---- a call on a channel
-
-module _ (c : JudgedCall) (name : List ℕ) (now : ℕ) (line : Line) (d : Desk) where
-  refusal_trail : (how : Judged) (between : Work) → is_done how ≡ false → between.actions ≡ d.work.actions → between.computers.sessions ≡ d.work.computers.sessions →
-      SessionsTrail (call.Judged c ∷ []) d (desk d.table (refuse_asked (asked_of c) how line between))
-  refusal_trail how between not actions sessions =
-      let so : IsRefusedAs how line between (refuse_asked (asked_of c) how line between) = asked_refused (asked_of c) how line between in
-      one_judged c d (desk d.table (refuse_asked (asked_of c) how line between)) [] how line.link so.answer tt
-      (so.actions ∙ ap (λ (old : List Action). old ++ action.Judged how ∷ action.Send line.link so.answer ∷ []) actions)
-      (ap (λ (computers : Computers). computers.sessions) so.computers ∙ sessions ∙ sym (ap (λ (done : Bool). sessions_if done c d.work.computers.sessions) not))
-
-  return_trail : (passes : Bool) (computer : List ℕ) (channel moved : SecureChannelState) (given : Authenticator) → computer_named c ≡ Some computer →
-      SessionsTrail (call.Judged c ∷ []) d
-      (answer_return (return_by passes channel given) (answers_to (asked_of c) name now line).refused ((answers_to (asked_of c) name now line).passed computer channel)
-      (desk d.table (put_channel computer moved (take_channel computer d.work))))
-  return_trail false computer channel moved given named = refusal_trail judged.Barred (put_channel computer moved (take_channel computer d.work)) refl refl refl
-  return_trail true computer channel moved given named =
-      let key : List ℕ = key_of_channel channel in
-      let at : Desk = desk d.table (put_channel computer moved (take_channel computer d.work)) in
-      let done : Done = done_asked (asked_of c) computer key name d.table now d.work.computers.sessions in
-      let so : IsDoneAs (asked_of c) line key (return_of key channel.seed given.timestamp) done at (pass_asked (asked_of c) name now line computer key (return_of key channel.seed given.timestamp) at) =
-      asked_done (asked_of c) name now line computer key (return_of key channel.seed given.timestamp) at in
-      one_judged c d (pass_asked (asked_of c) name now line computer key (return_of key channel.seed given.timestamp) at) (kept_asked (asked_of c) done) (judged.Passed done.status) line.link _ (texts_kept (asked_of c) done) so.actions
-      (so.sessions
-      ∙ subst (λ (n : Option (List ℕ)). (done_asked (asked_of c) (computer_or_none n) key name d.table now d.work.computers.sessions).sessions
-      ≡ sessions_by c (judged.Passed (done_asked (asked_of c) (computer_or_none n) key name d.table now d.work.computers.sessions).status) d.work.computers.sessions)
-      named (done_sessions c key name d.table now d.work.computers.sessions))
-
-  channel_trail : (found : Option SecureChannelState) (computer : List ℕ) (given : Authenticator) → computer_named c ≡ Some computer →
-      SessionsTrail (call.Judged c ∷ []) d (answer_on found computer given (answers_to (asked_of c) name now line) (desk d.table (take_channel computer d.work)))
-  channel_trail None computer given named = refusal_trail judged.NoChannel (take_channel computer d.work) refl refl refl
-  channel_trail (Some channel) computer given named =
-      return_trail (passes_on channel given) computer channel (channel_by (passes_on channel given) channel given) given named
-
-  named_trail : (computer : Option (List ℕ)) (given : Option Authenticator) → computer_named c ≡ computer →
-      SessionsTrail (call.Judged c ∷ []) d (answer_named computer given (answers_to (asked_of c) name now line) d)
-  named_trail None given named = refusal_trail judged.NoChannel d.work refl refl refl
-  named_trail (Some computer) None named = refusal_trail judged.NoChannel d.work refl refl refl
-  named_trail (Some computer) (Some given) named = channel_trail (lookup same_name computer d.work.computers.channels) computer given named
-
--- ---- a call that opens a channel
-
-pub pair_sends : (knows : Bool) (computer : List ℕ) (pair : ChallengePair) (work : Work) (link : ℕ) (bytes : List ℕ) → SendsOne work (tell (put_pair_if knows computer pair work) (action.Send link bytes))
-pair_sends false computer pair work link bytes = record { link = link; bytes = bytes; actions = refl; sessions = refl }
-pair_sends true computer pair work link bytes = record { link = link; bytes = bytes; actions = refl; sessions = refl }
-
-draw_trail : (left : List (List ℕ)) (line : Line) (c : ChallengeCall) (talk : Talk) (d : Desk) → CallLeads SessionsTrail (call.Challenge c) d talk (draw_challenge left line c talk d)
-draw_trail [] line c talk d = tt
-draw_trail (server ∷ left) line c talk d = (
-  none_judged (call.Challenge c) d (desk d.table (answer_challenge d.table line c server d.work)) refl
-      (pair_sends (knows_in d.table.accounts c.computer) c.computer (record { client = c.challenge; server = server }) d.work line.link _),
-  refl,
-)
-
-open_sends : (right : Bool) (channel : SecureChannelState) (line : Line) (c : AuthCall) (work : Work) → SendsOne work (open_channel right channel line c work)
-open_sends false channel line c work = record { link = line.link; bytes = _; actions = refl; sessions = refl }
-open_sends true channel line c work = record { link = line.link; bytes = _; actions = refl; sessions = refl }
-
-pairs_send : (pair : Option ChallengePair) (account : Account) (line : Line) (c : AuthCall) (work : Work) → SendsOne work (judge_pair pair account line c work)
-pairs_send None account line c work = record { link = line.link; bytes = _; actions = refl; sessions = refl }
-pairs_send (Some pair) account line c work =
-    open_sends (bytes_eq c.credential (cred_of (key_of_channel (channel_for account pair c)) pair.client)) (channel_for account pair c) line c work
-
-offers_send : (offered : Bool) (pair : Option ChallengePair) (account : Account) (line : Line) (c : AuthCall) (work : Work) → SendsOne work (judge_offer offered pair account line c work)
-offers_send false pair account line c work = record { link = line.link; bytes = _; actions = refl; sessions = refl }
-offers_send true pair account line c work = pairs_send pair account line c work
-
-pub accounts_send : (account : Option Account) (pair : Option ChallengePair) (line : Line) (c : AuthCall) (work : Work) → SendsOne work (judge_account account pair line c work)
-accounts_send None pair line c work = record { link = line.link; bytes = _; actions = refl; sessions = refl }
-accounts_send (Some account) pair line c work = offers_send (has_flag c.flags rc4_flag) pair account line c work
-
--- the computer's pair is taken out, and the sessions stay
-pub taken_sends : (computer : List ℕ) (work after : Work) → SendsOne (take_pair computer work) after → SendsOne work after
-taken_sends computer work after one = record { link = one.link; bytes = one.bytes; actions = one.actions; sessions = one.sessions }
+judged_trail : (c : JudgedCall) (name : List ℕ) (now : ℕ) (line : Line) (d after : Desk) → JudgedComes c name now line d after → SessionsTrail (call.Judged c ∷ []) d after
+judged_trail c name now line d after (Refused how away) =
+    one_judged c d after [] how line.link _ tt away.actions
+    (away.sessions ∙ sym (ap (λ (done : Bool). sessions_if done c d.work.computers.sessions) (undone how away.not_passed)))
+judged_trail c name now line d after (Passes next is) =
+    let done : Done = done_by c next.channel name d.table now d.work.computers.sessions in
+    one_judged c d after (kept_asked (asked_of c) done) (judged.Passed done.status) line.link _ (texts_kept (asked_of c) done) is.actions
+    (is.sessions ∙ done_sessions c (key_of_channel next.channel) name d.table now d.work.computers.sessions)
 
 -- ---- all calls of a step
 
@@ -278,73 +189,53 @@ join_trails one two a b c first second =
           ∙ sym (ap (λ (all : List Judged). sessions_from (judged_among (one ++ two)) all a.work.computers.sessions) told);
     }
 
-acts_trail : (d : Desk) (what : Action) → told_in what ≡ [] → LeavesText what → SessionsTrail [] d (desk d.table (tell d.work what))
-acts_trail d what none leaves = record {
-  new = what ∷ [];
-  actions = refl;
-  many = ap (λ (told : List Judged). length (told ++ [])) none;
-  sessions = refl;
+-- a call that isn't judged is answered once, and leaves the sessions
+one_sent : (c : ControllerCall) (d : Desk) (work : Work) (link : ℕ) (bytes : List ℕ) → judged_among (c ∷ []) ≡ [] → work.actions ≡ d.work.actions ++ action.Send link bytes ∷ [] →
+    work.computers.sessions ≡ d.work.computers.sessions → SessionsTrail (c ∷ []) d (desk d.table work)
+one_sent c d work link bytes none is same = record {
+  new = action.Send link bytes ∷ [];
+  actions = is;
+  many = sym (ap length none);
+  sessions = same ∙ sym (ap (λ (calls : List JudgedCall). sessions_from calls [] d.work.computers.sessions) none);
 }
 
-call_trail : (c : ControllerCall) (line : Line) (talk : Talk) (name : List ℕ) (now : ℕ) (d : Desk) (left : List (List ℕ)) → CallLeads SessionsTrail c d talk (by_call c line talk name now d left)
-call_trail (call.Challenge c) line talk name now d left = draw_trail left line c talk d
-call_trail (call.Authenticate c) line talk name now d left = (
-  none_judged (call.Authenticate c) d _ refl
-      (taken_sends c.computer d.work _ (accounts_send (account_for d.table c) (lookup same_name c.computer d.work.computers.pending) line c (take_pair c.computer d.work))),
-  refl,
-)
-call_trail (call.Judged c) line talk name now d left = (named_trail c name now line d (computer_named c) (given_in c) refl, refl)
-
-sessions_walk : Walks SessionsTrail
-sessions_walk = record {
+sessions_walks : (name : List ℕ) (now : ℕ) → DeskWalks name now SessionsTrail
+sessions_walks name now = record {
   same = λ d. record { new = []; actions = sym (append-nil d.work.actions); many = refl; sessions = refl };
-  acts = acts_trail;
-  call = call_trail;
   join = join_trails;
+  acts = λ d what quiet. record { new = what ∷ []; actions = refl; many = ap (λ (told : List Judged). length (told ++ [])) quiet.told; sessions = refl };
+  unknown = λ line c server d. one_sent (call.Challenge c) d _ _ _ refl refl refl;
+  known = λ line c server d. one_sent (call.Challenge c) d _ _ _ refl refl refl;
+  denied = λ line c status d. one_sent (call.Authenticate c) d _ _ _ refl refl refl;
+  accepted = λ line c d opens. one_sent (call.Authenticate c) d _ _ _ refl refl refl;
+  judged = λ line c d after comes. judged_trail c name now line d after comes;
 }
 
 -- ---- a step
 
-after_event : (part : StepPart) (s : State) (running : Running) (calls : List ControllerCall) (left : List (List ℕ)) → StepLeads SessionsTrail calls (first_desk s.table running) part →
-    HasSessions
-    (sessions_from (judged_among calls)
-    (told_among (actions_of (step_by (λ (after : Desk × LinkMap). after.0.work.actions) (λ (after : Desk × LinkMap). state_after s after) (halted s) left (then_part part (λ after rest. start_turn after rest)))))
-    running.computers.sessions)
-    (step_by (λ (after : Desk × LinkMap). after.0.work.actions) (λ (after : Desk × LinkMap). state_after s after) (halted s) left (then_part part (λ after rest. start_turn after rest))).state.running
-after_event (Err why) s running calls left leads = tt
-after_event (Ok part) s running calls left leads =
-    leads.sessions
-    ∙ ap (λ (actions : List Action). sessions_from (judged_among calls) (told_among actions) running.computers.sessions) (sym leads.actions)
+some_is : (one other : Running) → Some one ≡ Some other → one ≡ other
+some_is one other is = cc
 
-once_after : (part : StepPart) (s : State) (running : Running) (calls : List ControllerCall) (left : List (List ℕ)) → StepLeads SessionsTrail calls (first_desk s.table running) part →
-    AreJudgedOnce (judged_among calls)
-    (told_among (actions_of (step_by (λ (after : Desk × LinkMap). after.0.work.actions) (λ (after : Desk × LinkMap). state_after s after) (halted s) left (then_part part (λ after rest. start_turn after rest)))))
-    (step_by (λ (after : Desk × LinkMap). after.0.work.actions) (λ (after : Desk × LinkMap). state_after s after) (halted s) left (then_part part (λ after rest. start_turn after rest))).state.running
-once_after (Err why) s running calls left leads = tt
-once_after (Ok part) s running calls left leads = ap (λ (actions : List Action). length (told_among actions)) leads.actions ∙ leads.many
+abbrev Follows : Running → Event → Stepped State → Type 0
+Follows running what stepped =
+    HasSessions (sessions_from (judged_among (calls_of what running.links)) (told_among (actions_of stepped)) running.computers.sessions) stepped.state.running
+    × AreJudgedOnce (judged_among (calls_of what running.links)) (told_among (actions_of stepped)) stepped.state.running
 
-steps : (s : State) (running : Running) (what : Event) (now : ℕ) (left : List (List ℕ)) →
-    HasSessions (sessions_from (judged_among (calls_of what running.links)) (told_among (actions_of (step_on (Some running) s what now left))) running.computers.sessions)
-    (step_on (Some running) s what now left).state.running
-steps s running what now left =
-    after_event (by_event what s.name now (first_desk s.table running) running.links left) s running (calls_of what running.links) left
-    (events_lead SessionsTrail sessions_walk what s.name now s.table (record { computers = running.computers; actions = [] }) running.links left)
-
-once : (s : State) (running : Running) (what : Event) (now : ℕ) (left : List (List ℕ)) →
-    AreJudgedOnce (judged_among (calls_of what running.links)) (told_among (actions_of (step_on (Some running) s what now left))) (step_on (Some running) s what now left).state.running
-once s running what now left =
-    once_after (by_event what s.name now (first_desk s.table running) running.links left) s running (calls_of what running.links) left
-    (events_lead SessionsTrail sessions_walk what s.name now s.table (record { computers = running.computers; actions = [] }) running.links left)
+follows : (s : State) (running : Running) (what : Event) (now : ℕ) (left : List (List ℕ)) → s.running ≡ Some running → Follows running what (step_of s what now left)
+follows s running what now left is =
+    desk_leads (Follows running what) SessionsTrail s what now left (sessions_walks s.name now) (record {
+      stopped = λ none. absurd (let never : None ≡ Some running = sym none ∙ is in cc);
+      spent = λ other so. (tt, tt);
+      taken = λ other after links rest so leads.
+          subst (λ (r : Running). Follows r what (whole_step left rest after.work.actions (state_after s (after, links)))) (some_is other running (sym so ∙ is)) (
+            leads.sessions ∙ ap (λ (actions : List Action). sessions_from (judged_among (calls_of what other.links)) (told_among actions) other.computers.sessions) (sym leads.actions),
+            ap (λ (actions : List Action). length (told_among actions)) leads.actions ∙ leads.many,
+          );
+    })
 
 pub sessions_follow : SessionsFollowCalls
 sessions_follow = record {
   first = λ table name. refl;
-  step = λ s running what now left is.
-      subst (λ (r : Option Running). HasSessions
-      (sessions_from (judged_among (calls_of what running.links)) (told_among (actions_of (step_on r s what now left))) running.computers.sessions)
-      (step_on r s what now left).state.running) (sym is) (steps s running what now left);
-  once = λ s running what now left is.
-      subst (λ (r : Option Running). AreJudgedOnce
-      (judged_among (calls_of what running.links)) (told_among (actions_of (step_on r s what now left))) (step_on r s what now left).state.running) (sym is)
-      (once s running what now left);
+  step = λ s running what now left is. (follows s running what now left is).0;
+  once = λ s running what now left is. (follows s running what now left is).1;
 }

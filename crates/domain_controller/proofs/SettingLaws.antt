@@ -1,15 +1,9 @@
 -- Which hashes a step sets: of computers' and trusts' accounts alone, and counts of bad passwords change beside them.
 -- It serves `what_is_kept_is_read_again`.
-use Rattle.std.proofs.Common.{◌≡◌, ℕ, zero, suc, ◌&&◌, Bool, true, false, not, List, [], ◌∷◌, ◌++◌, map, Option, Some, None, Ok, Err, if◌then◌else◌, refl, sym, ap, ◌∙◌, subst, arith}
+use Rattle.std.proofs.Common.{◌≡◌, ℕ, zero, suc, ◌&&◌, Bool, true, false, not, List, [], ◌∷◌, ◌++◌, map, Option, Some, None, refl, sym, ap, ◌∙◌, subst, arith, if◌then◌else◌}
 use Rattle.std.specs.List.{AllByRecursion, slice_get}
 use Rattle.std.specs.Option.{IsSomeAnd, option_map}
-use Rattle.wire_base.specs.Maps.{lookup, place_of}
-use Rattle.wire_base.specs.Names.{same_name}
-use Rattle.wire_base.specs.declared.authenticator.Authenticator.{Authenticator}
-use Rattle.authenticators.specs.SecureChannels.{SecureChannelState, channel_by, key_of_channel, passes_on, return_by}
-use Rattle.outside.specs.declared.event.Event.{Event}
-use Rattle.outside.specs.Machine.{step_by, then_part}
-use Rattle.logon_stubs.specs.declared.calls.ChallengeCall.{ChallengeCall}
+use Rattle.wire_base.specs.Maps.{place_of}
 use Rattle.account_table.specs.AccountTable.{AccountTable}
 use Rattle.account_table.specs.Changes.{DifferInCounts, at_place, is_user, without_state, with_count, with_hash, with_new_hash}
 use Rattle.account_table.specs.Document.{has_name}
@@ -22,26 +16,15 @@ use Rattle.account_table.proofs.ChangeLaws.{counts-states, differs-again, differ
 use Rattle.account_table.proofs.KeptLaws.{secrets_kept}
 use Rattle.secret_change.specs.Hiding.{show_of}
 use Rattle.secret_change.proofs.HideLaws.{shown_is_secret}
-use Rattle.controller_calls.specs.Asking.{answers_to, pass_asked}
-use Rattle.controller_calls.specs.Calls.{asked_of, computer_named, given_in}
-use Rattle.controller_calls.specs.Desk.{Desk, desk, put_channel, take_channel}
-use Rattle.controller_calls.specs.Judging.{answer_named, answer_on, answer_return}
+use Rattle.controller_calls.specs.Calls.{asked_of}
 use Rattle.controller_calls.specs.Logons.{serves_level}
-use Rattle.controller_calls.specs.Setting.{set_at}
-use Rattle.controller_calls.specs.declared.calls.Asked.{Asked}
-use Rattle.controller_calls.specs.declared.calls.Asked.TheVariants as asked
-use Rattle.controller_calls.specs.declared.calls.ControllerCall.{ControllerCall}
-use Rattle.controller_calls.specs.declared.calls.ControllerCall.TheVariants as call
-use Rattle.controller_calls.specs.declared.line.Line.{Line}
+use Rattle.controller_calls.specs.Doing.{done_asked, set_so}
+use Rattle.controller_calls.specs.declared.calls.JudgedCall.{JudgedCall}
+use Rattle.controller_calls.specs.declared.calls.JudgedCall.TheVariants.{Interactive, Logoff, Network, NetworkLogoff, Set}
 use Rattle.domain_controller.specs.Keeping.{HashesAreSet, SetsHashes, secret_if, user_secret}
-use Rattle.domain_controller.specs.Laws.{calls_of}
-use Rattle.domain_controller.specs.Machine.{by_call, draw_challenge}
-use Rattle.domain_controller.specs.State.{State}
-use Rattle.domain_controller.specs.Step.{LinkMap, StepPart, by_event, first_desk, halted, start_turn, state_after, step_on}
-use Rattle.domain_controller.specs.declared.state.Running.{Running}
-use Rattle.domain_controller.specs.declared.state.Talk.{Talk}
 use Rattle.domain_controller.proofs.UnsetLaws.{interactive_levels, levels}
-use Rattle.domain_controller.proofs.WalkLaws.{CallLeads, StepLeads, Walks, events_lead}
+use Rattle.domain_controller.proofs.WalkLaws.{OfTables, TableTrail, TableWalks, desk_leads, table_walks}
+use Rattle.interactive_logon.specs.declared.sessions.Session.{Session}
 
 -- ---- an account that opens a channel isn't a user's
 
@@ -177,87 +160,47 @@ users_stay old new sets =
 
 -- ---- a call
 
-sets_at : (found : Option ℕ) (hash : List ℕ) (line : Line) (credential : List ℕ) (d : Desk) → IsHash hash → ((place : ℕ) → found ≡ Some place → IsSomeAnd (slice_get d.table.accounts place) IsComputer) →
-    SetsHashes d.table (set_at found hash line credential d).table
+sets_at : (found : Option ℕ) (hash : List ℕ) (table : AccountTable) (sessions : List Session) → IsHash hash → ((place : ℕ) → found ≡ Some place → IsSomeAnd (slice_get table.accounts place) IsComputer) →
+    SetsHashes table (set_so found hash table sessions).table
 unfolding with_hash
-sets_at None hash line credential d is computer = sets_none d.table d.table (differs-none d.table)
-sets_at (Some place) hash line credential d is computer = record {
+sets_at None hash table sessions is computer = sets_none table table (differs-none table)
+sets_at (Some place) hash table sessions is computer = record {
   settings = (place, hash) ∷ [];
   computers = (record { computer = computer place refl; hash = is }, tt);
-  states = with_hash-differs place hash d.table;
-  differ = differs-none (with_hash place hash d.table);
+  states = with_hash-differs place hash table;
+  differ = differs-none (with_hash place hash table);
 }
 
-module _ (name : List ℕ) (now : ℕ) (line : Line) where
-  passes : (what : Asked) (computer key credential : List ℕ) (d : Desk) → SetsHashes d.table (pass_asked what name now line computer key credential d).table
-  passes (asked.Network info validation) computer key credential d = sets_none d.table _ (levels (serves_level validation) d.table name info now)
-  passes (asked.Interactive info validation) computer key credential d = sets_none d.table _ (interactive_levels (serves_level validation) d.table name now info key)
-  passes (asked.Logoff info) computer key credential d = sets_none d.table d.table (differs-none d.table)
-  passes asked.NetworkLogoff computer key credential d = sets_none d.table d.table (differs-none d.table)
-  passes (asked.Set account kind hidden) computer key credential d =
-      sets_at (machine_in d.table.accounts account kind computer) (show_of key hidden) line credential d (shown_is_secret key hidden)
-      (λ place found. machine_is d.table.accounts account kind computer place found)
-
-  returns : (what : Asked) (returned : Option (List ℕ)) (computer : List ℕ) (channel : SecureChannelState) (d : Desk) →
-      SetsHashes d.table (answer_return returned (answers_to what name now line).refused ((answers_to what name now line).passed computer channel) d).table
-  returns what None computer channel d = sets_none d.table d.table (differs-none d.table)
-  returns what (Some credential) computer channel d = passes what computer (key_of_channel channel) credential d
-
-  channels : (what : Asked) (found : Option SecureChannelState) (computer : List ℕ) (given : Authenticator) (d : Desk) →
-      SetsHashes d.table (answer_on found computer given (answers_to what name now line) d).table
-  channels what None computer given d = sets_none d.table d.table (differs-none d.table)
-  channels what (Some channel) computer given d =
-      returns what (return_by (passes_on channel given) channel given) computer channel
-      (desk d.table (put_channel computer (channel_by (passes_on channel given) channel given) d.work))
-
-  named_sets : (what : Asked) (computer : Option (List ℕ)) (given : Option Authenticator) (d : Desk) →
-      SetsHashes d.table (answer_named computer given (answers_to what name now line) d).table
-  named_sets what None given d = sets_none d.table d.table (differs-none d.table)
-  named_sets what (Some computer) None d = sets_none d.table d.table (differs-none d.table)
-  named_sets what (Some computer) (Some given) d =
-      channels what (lookup same_name computer d.work.computers.channels) computer given (desk d.table (take_channel computer d.work))
-
--- ---- all calls of a step
-
-abbrev SetTrail : List ControllerCall → Desk → Desk → Type 0
-SetTrail calls before after = SetsHashes before.table after.table
-
-none_set : (d : Desk) (table : AccountTable) → table ≡ d.table → SetsHashes d.table table
-none_set d table same = subst (λ (t : AccountTable). SetsHashes d.table t) (sym same) (sets_none d.table d.table (differs-none d.table))
-
-draws : (left : List (List ℕ)) (line : Line) (c : ChallengeCall) (talk : Talk) (d : Desk) → CallLeads SetTrail (call.Challenge c) d talk (draw_challenge left line c talk d)
-draws [] line c talk d = tt
-draws (server ∷ left) line c talk d = (none_set d d.table refl, refl)
-
-call_sets : (c : ControllerCall) (line : Line) (talk : Talk) (name : List ℕ) (now : ℕ) (d : Desk) (left : List (List ℕ)) → CallLeads SetTrail c d talk (by_call c line talk name now d left)
-call_sets (call.Challenge c) line talk name now d left = draws left line c talk d
-call_sets (call.Authenticate c) line talk name now d left = (none_set d d.table refl, refl)
-call_sets (call.Judged c) line talk name now d left = (named_sets name now line (asked_of c) (computer_named c) (given_in c) d, refl)
-
-set_walk : Walks SetTrail
-set_walk = record {
-  same = λ d. none_set d d.table refl;
-  acts = λ d what none leaves. none_set d d.table refl;
-  call = call_sets;
-  join = λ one two a b c first second. sets_joined a.table b.table c.table first second;
-}
+done_sets : (c : JudgedCall) (computer key name : List ℕ) (now : ℕ) (table : AccountTable) (sessions : List Session) →
+    SetsHashes table (done_asked (asked_of c) computer key name table now sessions).table
+done_sets (Network c) computer key name now table sessions = sets_none table _ (levels (serves_level c.validation) table name c.info now)
+done_sets (Interactive c) computer key name now table sessions = sets_none table _ (interactive_levels (serves_level c.validation) table name now c.info key)
+done_sets (Logoff c) computer key name now table sessions = sets_none table table (differs-none table)
+done_sets (NetworkLogoff c) computer key name now table sessions = sets_none table table (differs-none table)
+done_sets (Set c) computer key name now table sessions =
+    sets_at (machine_in table.accounts c.account c.channel computer) (show_of key c.hidden) table sessions (shown_is_secret key c.hidden)
+    (λ place found. machine_is table.accounts c.account c.channel computer place found)
 
 -- ---- a step
 
-after_event : (part : StepPart) (s : State) (running : Running) (calls : List ControllerCall) (left : List (List ℕ)) → StepLeads SetTrail calls (first_desk s.table running) part →
-    SetsHashes s.table (step_by (λ (after : Desk × LinkMap). after.0.work.actions) (λ (after : Desk × LinkMap). state_after s after) (halted s) left (then_part part (λ after rest. start_turn after rest))).state.table
-after_event (Err why) s running calls left leads = sets_none s.table s.table (differs-none s.table)
-after_event (Ok part) s running calls left leads = leads
+abbrev pub SetTrail : TableTrail
+SetTrail calls before after = SetsHashes before after
 
-steps : (running : Option Running) (s : State) (what : Event) (now : ℕ) (left : List (List ℕ)) → SetsHashes s.table (step_on running s what now left).state.table
-steps None s what now left = sets_none s.table s.table (differs-none s.table)
-steps (Some running) s what now left =
-    after_event (by_event what s.name now (first_desk s.table running) running.links left) s running (calls_of what running.links) left
-    (events_lead SetTrail set_walk what s.name now s.table (record { computers = running.computers; actions = [] }) running.links left)
+pub set_walks : (name : List ℕ) (now : ℕ) → TableWalks name now SetTrail
+set_walks name now = record {
+  same = λ calls table. sets_none table table (differs-none table);
+  join = λ one two a b c first second. sets_joined a b c first second;
+  done = λ c computer key table sessions. done_sets c computer key name now table sessions;
+}
 
 pub hashes_are_set : HashesAreSet
 hashes_are_set = record {
-  step = λ s what now left. steps s.running s what now left;
+  step = λ s what now left.
+      desk_leads (λ stepped. SetsHashes s.table stepped.state.table) (OfTables SetTrail) s what now left (table_walks s.name now SetTrail (set_walks s.name now)) (record {
+        stopped = λ none. sets_none s.table s.table (differs-none s.table);
+        spent = λ running is. sets_none s.table s.table (differs-none s.table);
+        taken = λ running after links rest is leads. leads;
+      });
   joined = sets_joined;
   users = users_stay;
   again = λ table new different fresh sets. (set_by sets.settings table, secrets_kept table new sets.settings different fresh sets.computers sets.differ, sets.differ);
