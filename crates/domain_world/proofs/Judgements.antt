@@ -1,5 +1,6 @@
 -- What holds in every run of the calls that controllers judged.
 pub mod AloneLaws
+pub mod ChainLaws
 pub mod GrantLaws
 pub mod JudgedLaws
 pub mod MovedLaws

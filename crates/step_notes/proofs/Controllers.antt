@@ -7,6 +7,8 @@ pub mod JudgedCallLaws
 pub mod JudgedInRangeLaws
 pub mod JudgedStepLaws
 pub mod KeptNoteLaws
+pub mod NotedLaws
+pub mod OpenedLaws
 pub mod ReadCallLaws
 pub mod ReplySendLaws
 pub mod ReplyStepLaws

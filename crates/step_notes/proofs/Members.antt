@@ -2,6 +2,7 @@
 pub mod CallKeptLaws
 pub mod CallLogonLaws
 pub mod KeptLogonLaws
+pub mod LinkBytesLaws
 pub mod RequestOrderLaws
 pub mod RestLaws
 pub mod SameLogonLaws

@@ -1,44 +1,28 @@
 -- What a controller tells at a step: a judgement of each unit, at most.
 -- It serves `State::put_answered`, `State::shut_link`, `World::new` and 3 more.
-use Rattle.std.proofs.Common.{◌≡◌, ℕ, ◌+◌, ◌*◌, ◌≤◌, Bool, true, false, List, [], ◌∷◌, ◌++◌, length, Option, Some, None, Ok, Err, if◌then◌else◌, nat_le, refl, ap, arith, length-append}
+use Rattle.std.proofs.Common.{◌≡◌, ℕ, ◌+◌, ◌*◌, ◌≤◌, Bool, true, false, List, [], ◌∷◌, ◌++◌, length, Option, Some, None, Ok, Err, if◌then◌else◌, refl, ap, arith, length-append}
 use Rattle.wire_base.specs.Maps.{has_key, lookup, put, take_out, same_number}
-use Rattle.wire_base.specs.Names.{same_name}
-use Rattle.ntlm_flags.specs.Flags.{has_flag}
-use Rattle.channel_keys.specs.Flags.{rc4_flag}
-use Rattle.authenticators.specs.SecureChannels.{SecureChannelState}
 use Rattle.outside.specs.declared.action.Action.{Action}
 use Rattle.outside.specs.declared.action.Action.TheVariants as action
-use Rattle.outside.specs.declared.action.CloseCause.{CloseCause}
 use Rattle.outside.specs.declared.action.CloseCause.TheVariants as close
 use Rattle.outside.specs.declared.event.Event.{Event}
-use Rattle.outside.specs.declared.event.Event.TheVariants as event
-use Rattle.outside.specs.Machine.{step_by, then_part}
 use Rattle.rpc_units.specs.declared.refused.UnitRefused.{UnitRefused}
 use Rattle.rpc_units.specs.Stream.{cut_stream}
 use Rattle.rpc_units.proofs.CutStreamLaws.{units_counted}
-use Rattle.logon_stubs.specs.declared.calls.AuthCall.{AuthCall}
-use Rattle.controller_calls.specs.declared.calls.ControllerCall.{ControllerCall}
-use Rattle.controller_calls.specs.declared.calls.ControllerCall.TheVariants as call
-use Rattle.controller_calls.specs.declared.calls.JudgedCall.{JudgedCall}
 use Rattle.controller_calls.specs.Passing.{IsKeep}
-use Rattle.controller_calls.proofs.PassLaws.{passes_the_next}
+use Rattle.controller_calls.proofs.ReplyLaws.{JudgesOne, judges_one}
 use Rattle.std.specs.List.{AllByRecursion}
-use Rattle.logon_stubs.specs.declared.calls.ChallengeCall.{ChallengeCall}
-use Rattle.account_table.specs.declared.account.Account.{Account}
-use Rattle.account_table.specs.LookUps.{knows_in}
 use Rattle.end_links.specs.Links.{LinkState}
 use Rattle.end_links.specs.Serving.{ServedPart, Service, served_by, served_cut, then_open, then_talk}
-use Rattle.domain_controller.specs.Hearing.{first_talk, hear}
-use Rattle.domain_controller.specs.Machine.{Desk, account_for, answer_judged, by_call, by_heard, channel_for, controller_server, draw_challenge, judge_account, judge_offer, judge_pair, open_channel, put_pair_if, take_pair}
+use Rattle.domain_controller.specs.Hearing.{hear}
+use Rattle.domain_controller.specs.Machine.{Desk, by_heard, controller_server}
 use Rattle.domain_controller.specs.State.{State as ControllerState}
-use Rattle.domain_controller.specs.Step.{LinkMap, StepPart, after_units, by_event, first_desk, halted, keep_link, open_by, serve_on, start_turn, state_after, step_of, step_on}
+use Rattle.domain_controller.specs.Step.{LinkMap, StepPart, after_units, by_event, first_desk, keep_link, step_of}
 use Rattle.domain_controller.specs.declared.hearing.Heard.{Heard}
-use Rattle.domain_controller.specs.declared.hearing.Heard.TheVariants as heard
 use Rattle.controller_calls.specs.declared.line.Line.{Line}
-use Rattle.controller_calls.specs.declared.state.ChallengePair.{ChallengePair}
-use Rattle.domain_controller.specs.declared.state.Running.{Running}
 use Rattle.domain_controller.specs.declared.state.Talk.{Talk}
-use Rattle.controller_calls.specs.declared.state.Work.{Work}
+use Rattle.domain_controller.proofs.UnitLaws.{heard_comes}
+use Rattle.domain_controller.proofs.WalkLaws.{PartSteps, event_comes, fresh_link, step_comes}
 use Rattle.world_moves.specs.Ends.{actions_by}
 use Rattle.world_moves.specs.Telling.{adds_at, bytes_left, rests_on, tells_one, told_by}
 
@@ -59,43 +43,6 @@ abbrev pub Tells : ℕ → ServedPart Desk Talk → Type 0
 Tells most (Err why) = Unit {0}
 Tells most (Ok part) = told_by part.value.0.work.actions ≤ most
 
-sent : (most : ℕ) (actions : List Action) (link : ℕ) (bytes : List ℕ) → told_by actions ≤ most → told_by (actions ++ action.Send link bytes ∷ []) ≤ most
-sent most actions link bytes few = omega (arith, few, told_more actions (action.Send link bytes))
-
-closed : (most : ℕ) (actions : List Action) (link : ℕ) (cause : CloseCause) → told_by actions ≤ most → told_by (actions ++ action.Close link cause ∷ []) ≤ most
-closed most actions link cause few = omega (arith, few, told_more actions (action.Close link cause))
-
-as_before : (actions : List Action) → told_by actions ≤ told_by actions + 1
-as_before actions = omega arith
-
-sends_one : (actions : List Action) (link : ℕ) (bytes : List ℕ) → told_by (actions ++ action.Send link bytes ∷ []) ≤ told_by actions + 1
-sends_one actions link bytes = sent (told_by actions + 1) actions link bytes (as_before actions)
-
-pair_sent : (knows : Bool) (computer : List ℕ) (pair : ChallengePair) (work : Work) (link : ℕ) (bytes : List ℕ) →
-    told_by ((put_pair_if knows computer pair work).actions ++ action.Send link bytes ∷ []) ≤ told_by work.actions + 1
-pair_sent false computer pair work link bytes = sends_one work.actions link bytes
-pair_sent true computer pair work link bytes = sends_one work.actions link bytes
-
-drawn_few : (left : List (List ℕ)) (line : Line) (c : ChallengeCall) (talk : Talk) (d : Desk) → Tells (told_by d.work.actions + 1) (draw_challenge left line c talk d)
-drawn_few [] line c talk d = tt
-drawn_few (server ∷ left) line c talk d = pair_sent (knows_in d.table.accounts c.computer) c.computer _ d.work _ _
-
-opened_few : (right : Bool) (channel : SecureChannelState) (line : Line) (c : AuthCall) (work : Work) → told_by (open_channel right channel line c work).actions ≤ told_by work.actions + 1
-opened_few false channel line c work = sends_one work.actions _ _
-opened_few true channel line c work = sends_one work.actions _ _
-
-pair_few : (pair : Option ChallengePair) (account : Account) (line : Line) (c : AuthCall) (work : Work) → told_by (judge_pair pair account line c work).actions ≤ told_by work.actions + 1
-pair_few None account line c work = sends_one work.actions _ _
-pair_few (Some pair) account line c work = opened_few _ (channel_for account pair c) line c work
-
-offer_few : (offers : Bool) (pair : Option ChallengePair) (account : Account) (line : Line) (c : AuthCall) (work : Work) → told_by (judge_offer offers pair account line c work).actions ≤ told_by work.actions + 1
-offer_few false pair account line c work = sends_one work.actions _ _
-offer_few true pair account line c work = pair_few pair account line c work
-
-account_few : (account : Option Account) (pair : Option ChallengePair) (line : Line) (c : AuthCall) (work : Work) → told_by (judge_account account pair line c work).actions ≤ told_by work.actions + 1
-account_few None pair line c work = sends_one work.actions _ _
-account_few (Some account) pair line c work = offer_few (has_flag c.flags rc4_flag) pair account line c work
-
 -- texts that are kept tell nothing
 kept_tells : (kept : List Action) → AllByRecursion IsKeep kept → told_by kept ≡ 0
 kept_tells [] are = refl
@@ -106,24 +53,28 @@ kept_tells (action.Close at cause ∷ kept) are = absurd are.0
 kept_tells (action.Told at outcome ∷ kept) are = absurd are.0
 kept_tells (action.Judged other ∷ kept) are = absurd are.0
 
-judged_few : (c : JudgedCall) (name : List ℕ) (now : ℕ) (line : Line) (d : Desk) → told_by (answer_judged c name now line d).work.actions ≤ told_by d.work.actions + 1
-judged_few c name now line d =
-    let told = passes_the_next.judged c name now line d in
-    let tail : List Action = told.0 ++ action.Judged told.1 ∷ action.Send line.link told.2 ∷ [] in
-    omega (arith, ap told_by told.4, told_append d.work.actions tail, told_append told.0 (action.Judged told.1 ∷ action.Send line.link told.2 ∷ []), kept_tells told.0 told.3)
-
-call_few : (what : ControllerCall) (line : Line) (talk : Talk) (name : List ℕ) (now : ℕ) (d : Desk) (left : List (List ℕ)) → Tells (told_by d.work.actions + 1) (by_call what line talk name now d left)
-call_few (call.Challenge c) line talk name now d left = drawn_few left line c talk d
-call_few (call.Authenticate c) line talk name now d left =
-    account_few (account_for d.table c) (lookup same_name c.computer d.work.computers.pending) line c (take_pair c.computer d.work)
-call_few (call.Judged c) line talk name now d left = judged_few c name now line d
+-- one judgement more, behind texts that are kept
+judged_few : (line : Line) (before after : Desk) → JudgesOne line before after → told_by after.work.actions ≤ told_by before.work.actions + 1
+judged_few line before after one =
+    let last : List Action = action.Judged one.how ∷ action.Send line.link one.answer ∷ [] in
+    omega (arith, ap told_by one.actions, told_append before.work.actions (one.kept ++ last), told_append one.kept last, kept_tells one.kept one.are_kept)
 
 -- a unit tells one judgement at most
 heard_few : (what : Heard) (link : ℕ) (name : List ℕ) (now : ℕ) (d : Desk) (left : List (List ℕ)) → Tells (told_by d.work.actions + 1) (by_heard what link name now d left)
-heard_few (heard.Close cause) link name now d left = closed (told_by d.work.actions + 1) d.work.actions link cause (as_before d.work.actions)
-heard_few (heard.Answer bytes talk) link name now d left = sends_one d.work.actions link bytes
-heard_few (heard.Waits talk) link name now d left = as_before d.work.actions
-heard_few (heard.Asked line what talk) link name now d left = call_few what line talk name now d left
+heard_few what link name now d left =
+    let sends : (to : ℕ) (bytes : List ℕ) → told_by (d.work.actions ++ action.Send to bytes ∷ []) ≤ told_by d.work.actions + 1 =
+    λ to bytes. omega (arith, told_more d.work.actions (action.Send to bytes)) in
+    heard_comes (λ (one : Heard) (part : ServedPart Desk Talk). Tells (told_by d.work.actions + 1) part) link name now d left (record {
+      close = λ cause. omega (arith, told_more d.work.actions (action.Close link cause));
+      answer = λ bytes talk. sends link bytes;
+      waits = λ talk. omega arith;
+      spent = λ line c talk none. tt;
+      unknown = λ line c talk server rest is none. sends line.link _;
+      known = λ line c talk server rest is known. sends line.link _;
+      denied = λ line c talk status fails none. sends line.link _;
+      accepted = λ line c talk opens. sends line.link _;
+      judged = λ line c talk after comes. judged_few line d after (judges_one c name now line d after comes);
+    }) what
 
 tells_more : (most more : ℕ) (part : ServedPart Desk Talk) → most ≤ more → Tells most part → Tells more part
 tells_more most more (Err why) le few = tt
@@ -143,7 +94,7 @@ part_few most count (Ok part) later few each = talk_few most count part.value.1 
 units_few : (name : List ℕ) (now link : ℕ) (units : List (List ℕ)) (why : Option UnitRefused) (d : Desk) (talk : Talk) (left : List (List ℕ)) →
     Tells (told_by d.work.actions + length units) (served_by (controller_server name now link) units why d talk left)
 units_few name now link [] None d talk left = omega arith
-units_few name now link [] (Some why) d talk left = closed (told_by d.work.actions + 0) d.work.actions link close.BadUnit (omega arith)
+units_few name now link [] (Some why) d talk left = omega (arith, told_more d.work.actions (action.Close link close.BadUnit))
 units_few name now link (bytes ∷ units) why d talk left =
     tells_more (told_by d.work.actions + (1 + length units)) (told_by d.work.actions + length (bytes ∷ units))
     (then_open (by_heard (hear link bytes talk) link name now d left) (λ later said rest. served_by (controller_server name now link) units why later said rest)) (omega arith)
@@ -202,48 +153,39 @@ step_more : (most more : ℕ) (part : StepPart) → most ≤ more → StepTells 
 step_more most more (Err why) le few = tt
 step_more most more (Ok part) le few = omega (arith, le, few)
 
-serve_few : (found : Option (LinkState Talk)) (k : ℕ) (piece name : List ℕ) (now : ℕ) (d : Desk) (links : LinkMap) (left : List (List ℕ)) → told_by d.work.actions ≡ 0 →
-    lookup same_number k links ≡ found → StepTells (rests_on links + length piece) (serve_on found k piece name now d (take_out same_number k links) left)
-serve_few None k piece name now d links left none is = omega (arith, none, rest_out k links)
-serve_few (Some link) k piece name now d links left none is =
-    let stream : List ℕ = link.rest ++ piece in
-    let cut = cut_stream stream in
-    let part : ServedPart Desk Talk = served_cut (controller_server name now k) cut d link.talk left in
-    let count : ℕ = told_by d.work.actions + length cut.units in
-    let others : LinkMap = take_out same_number k links in
-    step_more ((16 * count + length cut.rest) + rests_on others) (rests_on links + length piece) (after_units part cut.rest k others)
-    (omega (arith, none, units_counted stream, length-append link.rest piece, rest_taken k links link is))
-    (stream_few part cut.rest k count others (units_few name now k cut.units cut.refused d link.talk left))
-
-opens_few : (full : Bool) (k : ℕ) (work : Work) (links : LinkMap) → told_by work.actions ≡ 0 → 16 * told_by (open_by full k work links).0.actions + rests_on (open_by full k work links).1 ≤ rests_on links
-opens_few true k work links none = omega (arith, none, told_more work.actions (action.Close k close.TooManyLinks))
-opens_few false k work links none = omega (arith, none, rest_put k (record { rest = []; talk = first_talk }) links)
-
-event_few : (what : Event) (name : List ℕ) (now : ℕ) (d : Desk) (links : LinkMap) (left : List (List ℕ)) → told_by d.work.actions ≡ 0 →
-    StepTells (rests_on links + adds_at what) (by_event what name now d links left)
-event_few (event.Opened link) name now d links left none =
-    omega (arith, rest_out link links, opens_few (nat_le 256 (length (take_out same_number link links))) link d.work (take_out same_number link links) none)
-event_few (event.Bytes link piece) name now d links left none = serve_few (lookup same_number link links) link piece name now d links left none refl
-event_few (event.Closed link) name now d links left none = omega (arith, none, rest_out link links)
-event_few (event.Dialled link) name now d links left none = omega (arith, none)
-event_few event.DialFailed name now d links left none = omega (arith, none)
-event_few event.Stop name now d links left none = omega (arith, none)
-
+-- by what an event comes to
 part_step : (most : ℕ) (c : ControllerState) (left : List (List ℕ)) (part : StepPart) → StepTells most part →
-    16 * told_by (actions_by (step_by (λ (after : Desk × LinkMap). after.0.work.actions) (λ after. state_after c after) (halted c) left (then_part part (λ after rest. start_turn after rest))).answer)
-    + bytes_left (step_by (λ (after : Desk × LinkMap). after.0.work.actions) (λ after. state_after c after) (halted c) left (then_part part (λ after rest. start_turn after rest))).state.running ≤ most
+    PartSteps (λ stepped. 16 * told_by (actions_by stepped.answer) + bytes_left stepped.state.running ≤ most) c left part
 part_step most c left (Err why) few = omega arith
 part_step most c left (Ok part) few = few
-
-running_step : (running : Option Running) (most : ℕ) (c : ControllerState) (what : Event) (now : ℕ) (left : List (List ℕ)) → bytes_left c.running ≤ most → bytes_left running + adds_at what ≤ most →
-    16 * told_by (actions_by (step_on running c what now left).answer) + bytes_left (step_on running c what now left).state.running ≤ most
-running_step None most c what now left was few = omega (arith, was)
-running_step (Some running) most c what now left was few =
-    part_step most c left (by_event what c.name now (first_desk c.table running) running.links left)
-    (step_more (rests_on running.links + adds_at what) most (by_event what c.name now (first_desk c.table running) running.links left) few
-    (event_few what c.name now (first_desk c.table running) running.links left refl))
 
 -- what a controller tells at a step, for 16 bytes each, comes of its rests and of the bytes that come
 pub controller_tells : (c : ControllerState) (what : Event) (now : ℕ) (left : List (List ℕ)) →
     16 * told_by (actions_by (step_of c what now left).answer) + bytes_left (step_of c what now left).state.running ≤ bytes_left c.running + adds_at what
-controller_tells c what now left = running_step c.running (bytes_left c.running + adds_at what) c what now left (omega arith) (omega arith)
+controller_tells c what now left =
+    step_comes (λ stepped. 16 * told_by (actions_by stepped.answer) + bytes_left stepped.state.running ≤ bytes_left c.running + adds_at what) c what now left
+    (λ ends. omega arith)
+    (λ running runs.
+    let d : Desk = first_desk c.table running in
+    let links : LinkMap = running.links in
+    part_step (bytes_left c.running + adds_at what) c left (by_event what c.name now d links left)
+    (step_more (rests_on links + adds_at what) (bytes_left c.running + adds_at what) (by_event what c.name now d links left) (omega (arith, ap bytes_left runs))
+    (event_comes (λ (happens : Event) (part : StepPart). StepTells (rests_on links + adds_at happens) part) c.name now d links left (record {
+      full = λ number is. omega (arith, rest_out number links);
+      opens = λ number is. omega (arith, rest_out number links, rest_put number fresh_link (take_out same_number number links));
+      serves = λ number piece link is.
+          let stream : List ℕ = link.rest ++ piece in
+          let cut = cut_stream stream in
+          let part : ServedPart Desk Talk = served_cut (controller_server c.name now number) cut d link.talk left in
+          let count : ℕ = told_by d.work.actions + length cut.units in
+          let none : told_by d.work.actions ≡ 0 = refl in
+          let others : LinkMap = take_out same_number number links in
+          step_more ((16 * count + length cut.rest) + rests_on others) (rests_on links + length piece) (after_units part cut.rest number others)
+          (omega (arith, none, units_counted stream, length-append link.rest piece, rest_taken number links link is))
+          (stream_few part cut.rest number count others (units_few c.name now number cut.units cut.refused d link.talk left));
+      drops = λ number piece is. omega (arith, rest_out number links);
+      closed = λ number. omega (arith, rest_out number links);
+      dialled = λ number. omega arith;
+      failed = omega arith;
+      stop = omega arith;
+    }) what)))

@@ -1,53 +1,48 @@
 -- What a member writes down of the links that it accepts: which CHALLENGE was sent, by which draw, and for which an
 -- AUTHENTICATE is. It serves `members_leave_nothing_out`, `messages_are_taken_as_sent`, `Proved.messages` and 3 more.
-use Rattle.std.proofs.Common.{◌≡◌, ◌≤◌, ℕ, Bool, true, false, List, [], ◌∷◌, ◌++◌, length, Option, Some, None, Result, Ok, Err, inl, inr, refl, sym, ap, subst, ◌∙◌, arith, slice_get, append_assoc, length-append}
+use Rattle.std.proofs.Common.{◌≡◌, ◌≤◌, ℕ, Bool, true, false, List, [], ◌∷◌, ◌++◌, length, Option, Some, None, Ok, Err, inl, inr, refl, sym, ap, subst, ◌∙◌, arith, slice_get, append_assoc, length-append}
 use Rattle.std.proofs.lemmas.List.{flat_map_more}
 use Rattle.std.specs.Prelude.{flat_map}
 use Rattle.std.specs.List.{AllByRecursion}
 use Rattle.wire_base.specs.Maps.{lookup, same_number}
-use Rattle.outside.specs.declared.action.Action.{Action}
-use Rattle.outside.specs.declared.action.StepRefused.{StepRefused}
 use Rattle.outside.specs.declared.event.Event.TheVariants as event
 use Rattle.outside.specs.Drawing.{IsRest, draws_between}
-use Rattle.outside.specs.Machine.{Part, left_by, step_by, then_part}
+use Rattle.outside.specs.Machine.{left_by}
 use Rattle.outside.proofs.DrawLaws.{IsRest-refl, IsRest-trans, between_front}
-use Rattle.outside.proofs.MachineLaws.{then_part-rest}
 use Rattle.rpc_units.specs.declared.unit.Unit.{Unit as RpcUnit}
-use Rattle.rpc_units.specs.Reading.{unit_of}
 use Rattle.rpc_units.specs.Stream.{Cut, cut_stream}
-use Rattle.end_links.specs.Links.{LinkState}
 use Rattle.end_links.specs.Serving.{ServedPart, served_cut, ServedUnit, served_units}
 use Rattle.end_links.proofs.KeepLaws.{comes_to, unit_served}
 use Rattle.member_server.specs.declared.state.AtLink.{AtLink}
 use Rattle.member_server.specs.declared.state.Bound.{Bound}
-use Rattle.channel_turns.specs.declared.state.Dialling.{Dialling}
 use Rattle.member_server.specs.declared.state.Logon.{Logon}
 use Rattle.member_server.specs.declared.state.Phase.{Phase}
 use Rattle.member_server.specs.declared.state.Phase.TheVariants as phase
-use Rattle.member_server.specs.declared.state.Running.{Running}
 use Rattle.member_server.specs.declared.state.Talk.{Talk}
 use Rattle.member_server.specs.declared.state.Work.{Work}
 use Rattle.member_server.specs.Laws.{is_past}
-use Rattle.member_server.specs.Machine.{actions_in, after_units, bytes_on, bytes_on_link, event_part, halted_state, state_in, step_of, step_on, work_of}
+use Rattle.channel_client.specs.Machine.{needs_challenge}
+use Rattle.member_server.specs.Machine.{serve_alone, serve_dialled, step_of, work_of}
 use Rattle.member_server.specs.Outcomes.{at_link, without_link}
 use Rattle.member_server.specs.Rests.{link_leaves}
 use Rattle.member_server.specs.State.{State as MemberState}
-use Rattle.member_server.specs.Turns.{DialWork, next_turn}
-use Rattle.member_server.specs.Units.{bound_unit, first_unit, is_fresh, link_server, unit_by}
+use Rattle.member_server.specs.Units.{bound_unit, is_fresh, link_server, unit_by}
 use Rattle.member_server.specs.Work.{Served}
 use Rattle.channel_events.specs.Marks.{OneOf}
-use Rattle.step_notes.specs.MemberNotes.{LinkAt, challenge_after, challenge_by, challenge_in, challenge_note, is_challenged, link_if, link_units, link_units_in, link_units_by, link_units_on, is_turn_link, message_after, message_at, message_by, message_kept, message_note, next_draw, taken_after, taken_by, taken_link}
+use Rattle.member_server.proofs.LinkView.{UnitView, Serves, Closes, Naks, Spends, Challenges, bound_view, unit_view}
+use Rattle.member_server.proofs.StepFrame.{WorkFact}
+use Rattle.step_notes.specs.MemberNotes.{LinkAt, challenge_after, challenge_by, challenge_in, challenge_note, is_challenged, link_if, link_units, message_after, message_at, message_by, message_kept, message_note, next_draw, taken_after, taken_by, taken_link}
 use Rattle.step_notes.specs.Records.{ChallengeSent, MessageTaken}
-use Rattle.step_notes.specs.Served.{talk_after, units_if_taken, work_after}
+use Rattle.step_notes.specs.Served.{talk_after, work_after}
 use Rattle.world_moves.specs.declared.links.EndId.TheVariants.{Member}
 use Rattle.world_moves.specs.declared.links.Route.{Route}
 use Rattle.world_moves.specs.Links.{acceptor_of}
 use Rattle.channel_events.proofs.ListLaws.{got_append, got_behind}
 use Rattle.step_notes.proofs.ServedLaws.{served_beside, served_noted}
-use Rattle.step_notes.proofs.Members.RestLaws.{next_rest}
-use Rattle.step_notes.proofs.Members.UnservedLaws.{DialWorkLinks, HasServed, IfUnserved, IfUnservedAfter, IfUnservedPart, LinksIn, Unserved, after_known, bound_serves, bytes_hold, dialled_known, fewer_known, found_known, next_known, none_so}
-use Rattle.domain_world.specs.Claims.LeftOut.{DrawsFor, Takes, TakesOn, challenges_in}
-use Rattle.domain_world.proofs.Challenges.LinkUnitLaws.{challenged_takes, first_sends, unit_at}
+use Rattle.step_notes.proofs.Members.LinkBytesLaws.{bytes_hear, drawn_rest, part_each, part_so, units_then}
+use Rattle.step_notes.proofs.Members.UnservedLaws.{HasServed, IfUnserved, IfUnservedPart, LinksIn, Unserved, WorkLinks, bound_serves, dialled_known, fewer_known, found_known, kept_known, none_so}
+use Rattle.domain_world.specs.Claims.LeftOut.{Takes, TakesOn}
+use Rattle.domain_world.proofs.Challenges.LinkUnitLaws.{unit_at, view_takes}
 use Rattle.domain_world.proofs.Frames.AllLaws.{all_join, all_flat}
 
 -- ---- lists
@@ -224,23 +219,12 @@ AreFor w F D units part = AllByRecursion (λ (one : MessageTaken). F × D one.lo
 
 module _ (w : LinkAt) (F : Type 0) (D : List ℕ → Type 0) where
   -- the challenge that the link has then was written down
-  phase_sent : (p : Phase) (at : AtLink) (left : List (List ℕ)) → F → AllByRecursion (λ (sent : ChallengeSent). D sent.challenge) (challenge_in p w at left) →
-      IfUnserved (IsKnown F D p) p
-  phase_sent phase.Fresh at left its sent = its
-  phase_sent (phase.Challenged bound challenge flags) at left its sent = (its, sent.0)
-  phase_sent (phase.Asked bound place held) at left its sent = tt
-  phase_sent (phase.In on) at left its sent = tt
-  phase_sent (phase.Out bound status) at left its sent = tt
-
-  said_sent : (said : Option Talk) (at : AtLink) (left : List (List ℕ)) → F → AllByRecursion (λ (sent : ChallengeSent). D sent.challenge) (challenge_after said w at left) →
-      IfUnservedAfter (IsKnown F D) said
-  said_sent None at left its sent = tt
-  said_sent (Some talk) at left its sent = phase_sent talk.phase at left its sent
-
-  part_sent : (part : ServedPart AtLink Talk) (at : AtLink) (left : List (List ℕ)) → F →
+  fresh_sent : {bytes : List ℕ} {joiner : Option RpcUnit} (at : AtLink) {left : List (List ℕ)} {part : ServedPart AtLink Talk} → UnitView bytes joiner at phase.Fresh left part → F →
       AllByRecursion (λ (sent : ChallengeSent). D sent.challenge) (challenge_after (talk_after part) w at left) → IfUnservedPart (IsKnown F D) part
-  part_sent (Err refused) at left its sent = tt
-  part_sent (Ok part) at left its sent = said_sent part.value.1 at left its sent
+  fresh_sent at (Serves (Closes cause may)) its sent = tt
+  fresh_sent at (Naks call) its sent = its
+  fresh_sent at Spends its sent = tt
+  fresh_sent at (Challenges offer call receive contexts challenge taken) its sent = (its, sent.0)
 
   -- of one unit
   abbrev IsForUnit : Bool → Phase → List ℕ → Option RpcUnit → AtLink → List (List ℕ) → Type 0
@@ -251,12 +235,12 @@ module _ (w : LinkAt) (F : Type 0) (D : List ℕ → Type 0) where
   unit_for : (p : Phase) (bytes : List ℕ) (joiner : Option RpcUnit) (at : AtLink) (left : List (List ℕ)) → IfUnserved (IsKnown F D p) p →
       AllByRecursion (λ (sent : ChallengeSent). D sent.challenge) (challenge_by (is_fresh p) (unit_at (is_fresh p) p bytes joiner at left) w) →
       IsForUnit (is_challenged p) p bytes joiner at left
-  unit_for phase.Fresh bytes joiner at left known sent = (tt, part_sent (first_unit (unit_of bytes) joiner at left) at left known sent)
+  unit_for phase.Fresh bytes joiner at left known sent = (tt, fresh_sent at (unit_view bytes joiner at phase.Fresh left) known sent)
   unit_for (phase.Challenged bound challenge flags) bytes joiner at left known sent =
       let served : Served = bound_unit (phase.Challenged bound challenge flags) bytes joiner at in (
         all_so (λ (one : MessageTaken). one.logon.challenge ≡ challenge) (λ (one : MessageTaken). F × D one.logon.challenge) (λ one is. (known.0, subst D (sym is) known.1))
             (message_after served.1 (Some served.0) w bytes) (takes_ask served.1 w bytes challenge (message_after served.1 (Some served.0) w bytes) (taken_after served.1 w.link) at served.0
-            (challenged_takes w bytes (unit_of bytes) bound challenge flags joiner at)),
+            (view_takes w bytes at (bound_view bytes joiner at (phase.Challenged bound challenge flags)))),
         none_so (IsKnown F D) served.1 (bound_serves (phase.Challenged bound challenge flags) bytes joiner at),
       )
   unit_for (phase.Asked bound place held) bytes joiner at left known sent = (tt, none_so (IsKnown F D) _ (bound_serves (phase.Asked bound place held) bytes joiner at))
@@ -325,26 +309,17 @@ one_sent (one ∷ []) part sends = tt
 one_sent (one ∷ other ∷ more) part sends = sends
 
 module _ (w : LinkAt) where
-  phase_one : (p : Phase) (joiner : Option RpcUnit) (next at : AtLink) (rest left : List (List ℕ)) →
-      SendsOne (challenge_in p w at left) (comes_to next (Some (record { joiner = joiner; phase = p })) rest)
-  phase_one phase.Fresh joiner next at rest left = tt
-  phase_one (phase.Challenged bound challenge flags) joiner next at rest left = refl
-  phase_one (phase.Asked bound place held) joiner next at rest left = tt
-  phase_one (phase.In on) joiner next at rest left = tt
-  phase_one (phase.Out bound status) joiner next at rest left = tt
-
-  said_one : (said : Option Talk) (next at : AtLink) (rest left : List (List ℕ)) → SendsOne (challenge_after said w at left) (comes_to next said rest)
-  said_one None next at rest left = tt
-  said_one (Some talk) next at rest left = phase_one talk.phase talk.joiner next at rest left
-
-  part_one : (part : ServedPart AtLink Talk) (at : AtLink) (left : List (List ℕ)) → SendsOne (challenge_after (talk_after part) w at left) part
-  part_one (Err why) at left = tt
-  part_one (Ok part) at left = said_one part.value.1 part.value.0 at part.left left
+  fresh_one : {bytes : List ℕ} {joiner : Option RpcUnit} (at : AtLink) {left : List (List ℕ)} {part : ServedPart AtLink Talk} → UnitView bytes joiner at phase.Fresh left part →
+      SendsOne (challenge_after (talk_after part) w at left) part
+  fresh_one at (Serves (Closes cause may)) = tt
+  fresh_one at (Naks call) = tt
+  fresh_one at Spends = tt
+  fresh_one at (Challenges offer call receive contexts challenge taken) = refl
 
   unit_one : (fresh : Bool) (p : Phase) (bytes : List ℕ) (joiner : Option RpcUnit) (at : AtLink) (left : List (List ℕ)) →
       SendsOne (challenge_by fresh (unit_at fresh p bytes joiner at left) w) (unit_by fresh p bytes joiner at left)
   unit_one false p bytes joiner at left = tt
-  unit_one true p bytes joiner at left = part_one (first_unit (unit_of bytes) joiner at left) at left
+  unit_one true p bytes joiner at left = fresh_one at (unit_view bytes joiner at phase.Fresh left)
 
   -- where something is bound, none
   bound_one : (fresh : Bool) (one : ChallengeSent) (p : Phase) (bytes : List ℕ) (joiner : Option RpcUnit) (at : AtLink) (left : List (List ℕ)) → fresh ≡ false →
@@ -396,26 +371,17 @@ module _ (w : LinkAt) (drawn all last : List (List ℕ)) (drew : w.drawn ≡ len
       ∙ ap (λ (n : ℕ). slice_get ((drawn ++ front) ++ more) n) number
       ∙ got_behind (drawn ++ front) challenge after.front
 
-  in_drawn : (p : Phase) (at : AtLink) (left rest : List (List ℕ)) → left ≡ challenges_in (challenge_in p w at left) ++ rest → IsRest left all → IsRest last rest → WereDrawn drawn all last (challenge_in p w at left)
-  in_drawn phase.Fresh at left rest first before after = tt
-  in_drawn (phase.Challenged bound challenge flags) at left rest first before after = (draw_found challenge left rest first before after, tt)
-  in_drawn (phase.Asked bound place held) at left rest first before after = tt
-  in_drawn (phase.In on) at left rest first before after = tt
-  in_drawn (phase.Out bound status) at left rest first before after = tt
-
-  said_drawn : (said : Option Talk) (at : AtLink) (left rest : List (List ℕ)) → left ≡ challenges_in (challenge_after said w at left) ++ rest → IsRest left all → IsRest last rest → WereDrawn drawn all last (challenge_after said w at left)
-  said_drawn None at left rest first before after = tt
-  said_drawn (Some talk) at left rest first before after = in_drawn talk.phase at left rest first before after
-
-  part_drawn : (part : ServedPart AtLink Talk) (at : AtLink) (left : List (List ℕ)) → DrawsFor left (challenge_after (talk_after part) w at left) part → IsRest left all → IsRest last (left_by part) →
-      WereDrawn drawn all last (challenge_after (talk_after part) w at left)
-  part_drawn (Err why) at left first before after = tt
-  part_drawn (Ok part) at left first before after = said_drawn part.value.1 at left part.left first before after
+  fresh_drawn : {bytes : List ℕ} {joiner : Option RpcUnit} (at : AtLink) {left : List (List ℕ)} {part : ServedPart AtLink Talk} → UnitView bytes joiner at phase.Fresh left part →
+      IsRest left all → IsRest last (left_by part) → WereDrawn drawn all last (challenge_after (talk_after part) w at left)
+  fresh_drawn at (Serves (Closes cause may)) before after = tt
+  fresh_drawn at (Naks call) before after = tt
+  fresh_drawn at Spends before after = tt
+  fresh_drawn at (Challenges {left = left} offer call receive contexts challenge taken) before after = (draw_found challenge (challenge ∷ left) left refl before after, tt)
 
   own_drawn : (fresh : Bool) (p : Phase) (bytes : List ℕ) (joiner : Option RpcUnit) (at : AtLink) (left : List (List ℕ)) → IsRest left all →
       IsRest last (left_by (unit_by fresh p bytes joiner at left)) → WereDrawn drawn all last (challenge_by fresh (unit_at fresh p bytes joiner at left) w)
   own_drawn false p bytes joiner at left before after = tt
-  own_drawn true p bytes joiner at left before after = part_drawn (first_unit (unit_of bytes) joiner at left) at left (first_sends w (unit_of bytes) joiner at left).1 before after
+  own_drawn true p bytes joiner at left before after = fresh_drawn at (unit_view bytes joiner at phase.Fresh left) before after
 
 -- whatever is left at the end
 abbrev pub DrawnSoFar : List (List ℕ) → List (List ℕ) → List ChallengeSent → ServedPart AtLink Talk → Type 0
@@ -448,106 +414,80 @@ IsServedOwn challenges links w units After =
     × After
 
 module _ (challenges : List ChallengeSent) (links : List Route) (w : LinkAt) (piece : List ℕ) (now : ℕ) (left : List (List ℕ)) where
-  link_own : (running : Running) (found : Option (LinkState Talk)) (how : Dialling) → Unserved (IsOwn challenges links w.member) running.links → lookup same_number w.link running.links ≡ found →
-      IsServedOwn challenges links w (link_units_on found w.link piece running left) (DialWorkLinks (IsOwn challenges links w.member) (bytes_on_link found w.link piece how (work_of running) left))
-  link_own running None how all there sent = (tt, all)
-  link_own running (Some link) how all there sent =
-      let cut : Cut = cut_stream (link.rest ++ piece) in
-      let at : AtLink = at_link w.link (work_of running) in
-      let own = units_for w (IsLinkIn links w.link w.member) (λ (challenge : List ℕ). OneOf (IsSentOn w.member w.link challenge) challenges) cut at link.talk left
-      (found_known (IsOwn challenges links w.member) w.link running.links link there all) sent in (
-        own.0,
-        after_known (IsOwn challenges links w.member) (served_cut link_server cut at link.talk left) cut.rest w.link how (without_link w.link (work_of running)) own.1
-            (fewer_known (IsOwn challenges links w.member) w.link running.links all),
-      )
+  abbrev Own : ℕ → Phase → Type 0
+  Own = IsOwn challenges links w.member
 
-  dial_work_own : (running : Running) (how : Dialling) → Unserved (IsOwn challenges links w.member) running.links →
-      IsServedOwn challenges links w (link_units_by (is_turn_link how w.link) w.link piece running left)
-      (DialWorkLinks (IsOwn challenges links w.member) (bytes_on how w.link piece (work_of running) left))
-  dial_work_own running how all =
-      bytes_hold (λ units part. IsServedOwn challenges links w units (DialWorkLinks (IsOwn challenges links w.member) part)) w.link piece running left
-      (λ other. link_own running (lookup same_number w.link running.links) other all refl)
-      (λ said sent. (tt, dialled_known (IsOwn challenges links w.member) (cut_stream (said.rest ++ piece)) w.link said.talk (work_of running) left all)) how
+  abbrev ServesOwn : List (ServedUnit AtLink Talk) → WorkFact
+  ServesOwn units how work rest = IsServedOwn challenges links w units (Unserved Own work.links)
 
-  stepped_own : (units : List (ServedUnit AtLink Talk)) (part : Result (Part DialWork) StepRefused) → IsServedOwn challenges links w units (DialWorkLinks (IsOwn challenges links w.member) part) →
-      IsServedOwn challenges links w (units_if_taken (step_by actions_in state_in halted_state left part).answer units)
-      (LinksIn (IsOwn challenges links w.member) (step_by actions_in state_in halted_state left part).state.running)
-  stepped_own units (Err why) own sent = (tt, tt)
-  stepped_own units (Ok part) own sent = own sent
-
-  running_own : (m : MemberState) (r : Option Running) → LinksIn (IsOwn challenges links w.member) m.running → LinksIn (IsOwn challenges links w.member) r →
-      IsServedOwn challenges links w (units_if_taken (step_on r m (event.Bytes w.link piece) now left).answer (link_units_in r w.link piece left))
-      (LinksIn (IsOwn challenges links w.member) (step_on r m (event.Bytes w.link piece) now left).state.running)
-  running_own m None was all sent = (tt, was)
-  running_own m (Some running) was all sent =
-      let dial_work : Result (Part DialWork) StepRefused = bytes_on running.dialling w.link piece (work_of running) left in
-      stepped_own (link_units_in (Some running) w.link piece left) (event_part running (event.Bytes w.link piece) now left)
-      (λ sure. let own = dial_work_own running running.dialling all sure in (own.0, next_known (IsOwn challenges links w.member) dial_work now own.1)) sent
-
-  pub bytes_own : (m : MemberState) → LinksIn (IsOwn challenges links w.member) m.running →
-      IsServedOwn challenges links w (link_units m w.link piece now left) (LinksIn (IsOwn challenges links w.member) (step_of m (event.Bytes w.link piece) now left).state.running)
-  bytes_own m all = running_own m m.running all all
+  pub bytes_own : (m : MemberState) → LinksIn Own m.running →
+      IsServedOwn challenges links w (link_units m w.link piece now left) (LinksIn Own (step_of m (event.Bytes w.link piece) now left).state.running)
+  bytes_own m all =
+      bytes_hear w.link piece now left m ServesOwn (λ units stepped. IsServedOwn challenges links w units (LinksIn Own stepped.state.running)) (record {
+        stopped = λ sent. (tt, all);
+        spent = λ sent. (tt, tt);
+        nowhere = λ running runs sent. (tt, subst (LinksIn Own) runs all);
+        on_link = λ running link how runs is there.
+            let cut : Cut = cut_stream (link.rest ++ piece) in
+            let at : AtLink = at_link w.link (work_of running) in
+            let known : Unserved Own running.links = subst (LinksIn Own) runs all in
+            let alone : Work = without_link w.link (work_of running) in
+            units_then (ServesOwn (served_units link_server cut.units at link.talk left)) (served_cut link_server cut at link.talk left) cut.rest w.link how alone (λ after said rest comes sent.
+            let own = units_for w (IsLinkIn links w.link w.member) (λ (challenge : List ℕ). OneOf (IsSentOn w.member w.link challenge) challenges) cut at link.talk left
+            (found_known Own w.link running.links link there known) sent in (
+              own.0,
+              kept_known Own said cut.rest w.link after alone (subst (IfUnservedPart (Own w.link)) comes own.1) (fewer_known Own w.link running.links known),
+            ));
+        on_turn = λ running said runs is.
+            part_so (WorkLinks Own) (ServesOwn []) (serve_dialled (cut_stream (said.rest ++ piece)) w.link said.talk (work_of running) left) (λ how work rest known sent. (tt, known))
+            (dialled_known Own (cut_stream (said.rest ++ piece)) w.link said.talk (work_of running) left (subst (LinksIn Own) runs all));
+        next = λ units. record { still = λ how work rest can own. own; starts = λ turn frames challenge how work before after can drawn is own. own };
+      })
 
 module _ (w : LinkAt) (piece : List ℕ) (now : ℕ) (left : List (List ℕ)) where
-  link_one : (running : Running) (found : Option (LinkState Talk)) → AtMostOne (flat_map (challenge_note w) (link_units_on found w.link piece running left))
-  link_one running None = tt
-  link_one running (Some link) = units_one w (cut_stream (link.rest ++ piece)) (at_link w.link (work_of running)) link.talk left
+  abbrev HasOne : List (ServedUnit AtLink Talk) → Type 0
+  HasOne units = AtMostOne (flat_map (challenge_note w) units)
 
-  taken_one : (answer : Result (List Action) StepRefused) (units : List (ServedUnit AtLink Talk)) → AtMostOne (flat_map (challenge_note w) units) →
-      AtMostOne (flat_map (challenge_note w) (units_if_taken answer units))
-  taken_one (Err why) units one = tt
-  taken_one (Ok actions) units one = one
-
-  running_one : (r : Option Running) → AtMostOne (flat_map (challenge_note w) (link_units_in r w.link piece left))
-  running_one None = tt
-  running_one (Some running) =
-      bytes_hold (λ units part. AtMostOne (flat_map (challenge_note w) units)) w.link piece running left (λ how. link_one running (lookup same_number w.link running.links)) (λ said. tt)
-      running.dialling
-
-  pub bytes_one : (m : MemberState) → AtMostOne (flat_map (challenge_note w) (link_units m w.link piece now left))
-  bytes_one m = taken_one (step_of m (event.Bytes w.link piece) now left).answer (link_units_in m.running w.link piece left) (running_one m.running)
+  pub bytes_one : (m : MemberState) → HasOne (link_units m w.link piece now left)
+  bytes_one m =
+      bytes_hear w.link piece now left m (λ units how work rest. HasOne units) (λ units stepped. HasOne units) (record {
+        stopped = tt;
+        spent = tt;
+        nowhere = λ running runs. tt;
+        on_link = λ running link how runs is there.
+            let cut : Cut = cut_stream (link.rest ++ piece) in
+            let at : AtLink = at_link w.link (work_of running) in
+            part_each (λ other work rest. HasOne (served_units link_server cut.units at link.talk left)) (serve_alone cut w.link link.talk how (without_link w.link (work_of running)) left)
+            (λ other work rest. units_one w cut at link.talk left);
+        on_turn = λ running said runs is.
+            part_each (λ how work rest. HasOne []) (serve_dialled (cut_stream (said.rest ++ piece)) w.link said.talk (work_of running) left) (λ how work rest. tt);
+        next = λ units. record { still = λ how work rest can one. one; starts = λ turn frames challenge how work before after can drawn is one. one };
+      })
 
 -- the challenges that are written down of units are among those that were drawn before or are not left then
-abbrev pub AreDrawn : List (List ℕ) → List (List ℕ) → LinkAt → List (ServedUnit AtLink Talk) → Result (Part DialWork) StepRefused → Type 0
-AreDrawn drawn all w units part = (last : List (List ℕ)) → IsRest last (left_by part) → AllByRecursion (IsDrawn (drawn ++ draws_between all last)) (flat_map (challenge_note w) units)
-
--- what is left after the units of a link is what is left after its bytes
-after_rest : (part : ServedPart AtLink Talk) (rest : List ℕ) (number : ℕ) (how : Dialling) (work : Work) (last : List (List ℕ)) → IsRest last (left_by (after_units part rest number how work)) →
-    IsRest last (left_by part)
-after_rest (Err why) rest number how work last is = is
-after_rest (Ok part) rest number how work last is = is
+abbrev pub AreDrawn : List (List ℕ) → List (List ℕ) → LinkAt → List (ServedUnit AtLink Talk) → WorkFact
+AreDrawn drawn all w units how work rest =
+    (last : List (List ℕ)) → IsRest last rest → AllByRecursion (IsDrawn (drawn ++ draws_between all last)) (flat_map (challenge_note w) units)
 
 module _ (drawn left : List (List ℕ)) (w : LinkAt) (drew : w.drawn ≡ length drawn) (had : w.left ≡ length left) (piece : List ℕ) (now : ℕ) where
-  link_drawn : (running : Running) (found : Option (LinkState Talk)) (how : Dialling) →
-      AreDrawn drawn left w (link_units_on found w.link piece running left) (bytes_on_link found w.link piece how (work_of running) left)
-  link_drawn running None how last after = tt
-  link_drawn running (Some link) how last after =
-      let cut : Cut = cut_stream (link.rest ++ piece) in
-      let at : AtLink = at_link w.link (work_of running) in
-      (units_drawn w drawn left drew had cut at link.talk).1 last
-      (after_rest (served_cut link_server cut at link.talk left) cut.rest w.link how (without_link w.link (work_of running)) last after)
-
-  dial_work_drawn : (running : Running) (how : Dialling) → AreDrawn drawn left w (link_units_by (is_turn_link how w.link) w.link piece running left) (bytes_on how w.link piece (work_of running) left)
-  dial_work_drawn running how =
-      bytes_hold (AreDrawn drawn left w) w.link piece running left (λ other. link_drawn running (lookup same_number w.link running.links) other) (λ said last after. tt) how
-
-  stepped_drawn : (units : List (ServedUnit AtLink Talk)) (part : Result (Part DialWork) StepRefused) → AreDrawn drawn left w units part →
-      AllByRecursion (IsDrawn (drawn ++ (step_by actions_in state_in halted_state left part).drawn))
-      (flat_map (challenge_note w) (units_if_taken (step_by actions_in state_in halted_state left part).answer units))
-  stepped_drawn units (Err why) all = tt
-  stepped_drawn units (Ok part) all = all part.left (IsRest-refl part.left)
-
-  running_drawn : (m : MemberState) (r : Option Running) →
-      AllByRecursion (IsDrawn (drawn ++ (step_on r m (event.Bytes w.link piece) now left).drawn))
-      (flat_map (challenge_note w) (units_if_taken (step_on r m (event.Bytes w.link piece) now left).answer (link_units_in r w.link piece left)))
-  running_drawn m None = tt
-  running_drawn m (Some running) =
-      let dial_work : Result (Part DialWork) StepRefused = bytes_on running.dialling w.link piece (work_of running) left in
-      stepped_drawn (link_units_in (Some running) w.link piece left) (event_part running (event.Bytes w.link piece) now left)
-      (λ last after.
-      dial_work_drawn running running.dialling last
-      (IsRest-trans last (left_by (then_part dial_work (next_turn now))) (left_by dial_work) after (then_part-rest dial_work (next_turn now) (left_by dial_work) (next_rest now) (IsRest-refl (left_by dial_work)))))
-
   pub bytes_drawn : (m : MemberState) →
       AllByRecursion (IsDrawn (drawn ++ (step_of m (event.Bytes w.link piece) now left).drawn)) (flat_map (challenge_note w) (link_units m w.link piece now left))
-  bytes_drawn m = running_drawn m m.running
+  bytes_drawn m =
+      bytes_hear w.link piece now left m (AreDrawn drawn left w) (λ units stepped. AllByRecursion (IsDrawn (drawn ++ stepped.drawn)) (flat_map (challenge_note w) units)) (record {
+        stopped = tt;
+        spent = tt;
+        nowhere = λ running runs last after. tt;
+        on_link = λ running link how runs is there.
+            let cut : Cut = cut_stream (link.rest ++ piece) in
+            let at : AtLink = at_link w.link (work_of running) in
+            units_then (AreDrawn drawn left w (served_units link_server cut.units at link.talk left)) (served_cut link_server cut at link.talk left) cut.rest w.link how
+            (without_link w.link (work_of running)) (λ after said rest comes last rests.
+            (units_drawn w drawn left drew had cut at link.talk).1 last
+            (subst (λ (part : ServedPart AtLink Talk). IsRest last (left_by part)) (sym comes) rests));
+        on_turn = λ running said runs is.
+            part_each (AreDrawn drawn left w []) (serve_dialled (cut_stream (said.rest ++ piece)) w.link said.talk (work_of running) left) (λ how work rest last after. tt);
+        next = λ units. record {
+          still = λ how work rest can all. all rest (IsRest-refl rest);
+          starts = λ turn frames challenge how work before after can drawn is all. all after (drawn_rest (needs_challenge work.logons.channel.standing) challenge before after drawn);
+        };
+      })

@@ -1,42 +1,27 @@
 -- Where bytes come, what a controller sends goes on their link, before it closes any, once for each mark.
 -- It serves `Proved.marked`, `Proved.ways`, `Proved.replies` and 3 more.
-use Rattle.std.proofs.Common.{◌≡◌, ◌⊎◌, ℕ, suc, ◌+◌, Bool, true, false, List, [], ◌∷◌, ◌++◌, length, map, slice_get, Option, Some, None, Result, Ok, Err, refl, sym, ap, subst, ◌∙◌, bytes_eq}
+use Rattle.std.proofs.Common.{◌≡◌, ◌⊎◌, ℕ, suc, ◌+◌, Bool, true, false, List, [], ◌∷◌, ◌++◌, length, map, slice_get, Option, Some, None, Result, Ok, Err, refl, sym, ap, subst, ◌∙◌}
 use Rattle.std.specs.List.{AllByRecursion}
 use Rattle.std.proofs.lemmas.Bool.Decides.{Decides-eqb}
 use Rattle.std.proofs.lemmas.List.{append-nil, length-map}
 use Rattle.std.proofs.lemmas.List.Concat.{flat_map-append}
 use Rattle.wire_base.specs.Maps.{lookup, same_number, take_out}
-use Rattle.wire_base.specs.Names.{same_name}
-use Rattle.ntlm_flags.specs.Flags.{has_flag}
-use Rattle.channel_keys.specs.Credentials.{cred_of}
-use Rattle.channel_keys.specs.Flags.{rc4_flag}
-use Rattle.authenticators.specs.SecureChannels.{SecureChannelState, key_of_channel}
 use Rattle.outside.specs.declared.action.Action.{Action}
 use Rattle.outside.specs.declared.action.StepRefused.{StepRefused}
 use Rattle.outside.specs.Machine.{step_by, then_part}
-use Rattle.rpc_units.specs.Reading.{unit_of}
 use Rattle.rpc_units.specs.Stream.{Cut, cut_stream}
-use Rattle.logon_stubs.specs.declared.calls.AuthCall.{AuthCall}
-use Rattle.controller_calls.specs.declared.calls.ControllerCall.{ControllerCall}
-use Rattle.controller_calls.specs.declared.calls.JudgedCall.{JudgedCall}
 use Rattle.controller_calls.specs.Passing.{IsKeep}
-use Rattle.controller_calls.proofs.PassLaws.{passes_the_next}
 use Rattle.outside.specs.declared.action.Judged.{Judged}
-use Rattle.logon_stubs.specs.declared.calls.ChallengeCall.{ChallengeCall}
-use Rattle.account_table.specs.LookUps.{knows_in}
-use Rattle.account_table.specs.declared.account.Account.{Account}
 use Rattle.end_links.specs.Links.{LinkState}
 use Rattle.end_links.specs.Serving.{ServedPart, served_cut, ServedUnit}
 use Rattle.domain_controller.specs.Hearing.{hear}
-use Rattle.domain_controller.specs.Machine.{Desk, account_for, answer_judged, by_call, by_heard, channel_for, controller_server, draw_challenge, judge_account, judge_offer, judge_pair, open_channel, put_pair_if, take_pair}
+use Rattle.domain_controller.specs.Machine.{Desk, by_heard, controller_server}
 use Rattle.domain_controller.specs.State.{State as ControllerState}
-use Rattle.domain_controller.specs.Step.{LinkMap, first_desk, halted, serve_on, start_turn, state_after, step_on, step_of}
+use Rattle.domain_controller.specs.Step.{LinkMap, after_units, first_desk, halted, serve_on, start_turn, state_after, step_on, step_of}
 use Rattle.domain_controller.specs.declared.hearing.Heard.{Heard}
 use Rattle.controller_calls.specs.declared.line.Line.{Line}
-use Rattle.controller_calls.specs.declared.state.ChallengePair.{ChallengePair}
 use Rattle.domain_controller.specs.declared.state.Running.{Running}
 use Rattle.domain_controller.specs.declared.state.Talk.{Talk}
-use Rattle.controller_calls.specs.declared.state.Work.{Work}
 use Rattle.channel_events.specs.Marks.{Mark, Plain}
 use Rattle.step_notes.specs.ChannelNames.{links_sent, sends_in, sent_by}
 use Rattle.step_notes.specs.ControllerNotes.{Where, answer_on, units_by, units_of_controller}
@@ -52,7 +37,10 @@ use Rattle.world_moves.specs.Acting.{Heard as Done, done, heard_by}
 use Rattle.world_moves.specs.Ends.{actions_by, controller_step}
 use Rattle.world_moves.specs.Links.{acceptor_of, is_accepted_by, same_end}
 use Rattle.domain_world.specs.Past.{marks_of, numbers_on}
-use Rattle.step_notes.proofs.Channels.MarkLaws.{IsOn, read_on, step_after, units_have_marks}
+use Rattle.controller_calls.proofs.ReplyLaws.{JudgesOne, judges_one}
+use Rattle.domain_controller.proofs.UnitLaws.{heard_comes}
+use Rattle.step_notes.proofs.Channels.MarkLaws.{units_have_marks}
+use Rattle.step_notes.proofs.Controllers.NotedLaws.{IsOn, heard_on}
 use Rattle.world_moves.proofs.LinkFrameLaws.{IsOnLink}
 use Rattle.domain_world.proofs.Frames.MarkPlaceLaws.{IsHere, all_push}
 use Rattle.domain_world.proofs.Frames.NewUnitLaws.{IsFront, IsNewUnit, new_or_plain}
@@ -60,7 +48,6 @@ use Rattle.domain_world.proofs.Frames.OpenMadeLaws.{IsAtSide, side_of}
 use Rattle.end_links.proofs.KeepLaws.{StaysServing, served_stays}
 use Rattle.outside.specs.declared.action.Action.TheVariants as action
 use Rattle.outside.specs.declared.event.Event.TheVariants as event
-use Rattle.controller_calls.specs.declared.calls.ControllerCall.TheVariants as call
 use Rattle.domain_controller.specs.declared.hearing.Heard.TheVariants as heard
 
 abbrev pub AllHere : ℕ → List Action → Type 0
@@ -68,10 +55,6 @@ AllHere link actions = AllByRecursion (IsHere link) actions
 
 sends_here : (link : ℕ) (actions : List Action) (other : ℕ) (bytes : List ℕ) → other ≡ link → AllHere link actions → AllHere link (actions ++ action.Send other bytes ∷ [])
 sends_here link actions other bytes on here = all_push (IsHere link) actions (action.Send other bytes) here on
-
-pair_here : (link : ℕ) (knows : Bool) (computer : List ℕ) (pair : ChallengePair) (work : Work) → AllHere link work.actions → AllHere link (put_pair_if knows computer pair work).actions
-pair_here link false computer pair work here = here
-pair_here link true computer pair work here = here
 
 -- by what is said then: the link is closed, or it stays open
 abbrev pub ClosesLast : ℕ → List Action → Option Talk → Type 0
@@ -81,28 +64,6 @@ ClosesLast link actions None = (front : List Action) × (cause : _) × (actions 
 abbrev pub PartHere : ℕ → ServedPart Desk Talk → Type 0
 PartHere link (Err why) = Unit {0}
 PartHere link (Ok part) = ClosesLast link part.value.0.work.actions part.value.1
-
-draw_here : (link : ℕ) (left : List (List ℕ)) (line : Line) (c : ChallengeCall) (talk : Talk) (d : Desk) → line.link ≡ link → AllHere link d.work.actions → PartHere link (draw_challenge left line c talk d)
-draw_here link [] line c talk d on here = tt
-draw_here link (server ∷ left) line c talk d on here =
-    sends_here link _ line.link _ on (pair_here link (knows_in d.table.accounts c.computer) c.computer (record { client = c.challenge; server = server }) d.work here)
-
-open_here : (link : ℕ) (right : Bool) (channel : SecureChannelState) (line : Line) (c : AuthCall) (work : Work) → line.link ≡ link → AllHere link work.actions → AllHere link (open_channel right channel line c work).actions
-open_here link false channel line c work on here = sends_here link work.actions line.link _ on here
-open_here link true channel line c work on here = sends_here link work.actions line.link _ on here
-
-offer_pair_here : (link : ℕ) (pair : Option ChallengePair) (account : Account) (line : Line) (c : AuthCall) (work : Work) → line.link ≡ link → AllHere link work.actions → AllHere link (judge_pair pair account line c work).actions
-offer_pair_here link None account line c work on here = sends_here link work.actions line.link _ on here
-offer_pair_here link (Some pair) account line c work on here =
-    open_here link (bytes_eq c.credential (cred_of (key_of_channel (channel_for account pair c)) pair.client)) (channel_for account pair c) line c work on here
-
-offer_here : (link : ℕ) (offers : Bool) (pair : Option ChallengePair) (account : Account) (line : Line) (c : AuthCall) (work : Work) → line.link ≡ link → AllHere link work.actions → AllHere link (judge_offer offers pair account line c work).actions
-offer_here link false pair account line c work on here = sends_here link work.actions line.link _ on here
-offer_here link true pair account line c work on here = offer_pair_here link pair account line c work on here
-
-account_here : (link : ℕ) (account : Option Account) (pair : Option ChallengePair) (line : Line) (c : AuthCall) (work : Work) → line.link ≡ link → AllHere link work.actions → AllHere link (judge_account account pair line c work).actions
-account_here link None pair line c work on here = sends_here link work.actions line.link _ on here
-account_here link (Some account) pair line c work on here = offer_here link (has_flag c.flags rc4_flag) pair account line c work on here
 
 -- texts that are kept are done on no link
 kept_here : (link : ℕ) (kept : List Action) (how : Judged) (other : ℕ) (bytes : List ℕ) → other ≡ link → AllByRecursion IsKeep kept →
@@ -119,30 +80,30 @@ all_joined : (link : ℕ) (one two : List Action) → AllHere link one → AllHe
 all_joined link [] two first second = second
 all_joined link (what ∷ one) two first second = (first.0, all_joined link one two first.1 second)
 
-judged_here : (link : ℕ) (c : JudgedCall) (name : List ℕ) (now : ℕ) (line : Line) (d : Desk) → line.link ≡ link → AllHere link d.work.actions →
-    AllHere link (answer_judged c name now line d).work.actions
-judged_here link c name now line d on here =
-    let told = passes_the_next.judged c name now line d in
-    let tail : List Action = told.0 ++ action.Judged told.1 ∷ action.Send line.link told.2 ∷ [] in
-    subst (λ (actions : List Action). AllHere link actions) (sym told.4) (all_joined link d.work.actions tail here (kept_here link told.0 told.1 line.link told.2 on told.3))
-
-call_here : (link : ℕ) (c : ControllerCall) (line : Line) (talk : Talk) (name : List ℕ) (now : ℕ) (d : Desk) (left : List (List ℕ)) → line.link ≡ link → AllHere link d.work.actions →
-    PartHere link (by_call c line talk name now d left)
-call_here link (call.Challenge c) line talk name now d left on here = draw_here link left line c talk d on here
-call_here link (call.Authenticate c) line talk name now d left on here =
-    account_here link (account_for d.table c) (lookup same_name c.computer d.work.computers.pending) line c (take_pair c.computer d.work) on here
-call_here link (call.Judged c) line talk name now d left on here = judged_here link c name now line d on here
+judged_here : (link : ℕ) (line : Line) (before after : Desk) → line.link ≡ link → AllHere link before.work.actions → JudgesOne line before after → AllHere link after.work.actions
+judged_here link line before after on here one =
+    let tail : List Action = one.kept ++ action.Judged one.how ∷ action.Send line.link one.answer ∷ [] in
+    subst (λ (actions : List Action). AllHere link actions) (sym one.actions)
+    (all_joined link before.work.actions tail here (kept_here link one.kept one.how line.link one.answer on one.are_kept))
 
 heard_here : (what : Heard) (link : ℕ) (name : List ℕ) (now : ℕ) (d : Desk) (left : List (List ℕ)) → IsOn link what → AllHere link d.work.actions → PartHere link (by_heard what link name now d left)
-heard_here (heard.Close cause) link name now d left on here = (d.work.actions, cause, refl, here)
-heard_here (heard.Answer bytes talk) link name now d left on here = sends_here link d.work.actions link bytes refl here
-heard_here (heard.Waits talk) link name now d left on here = here
-heard_here (heard.Asked line c talk) link name now d left on here = call_here link c line talk name now d left on here
+heard_here what link name now d left heard_so here =
+    heard_comes (λ (one : Heard) (part : ServedPart Desk Talk). IsOn link one → PartHere link part) link name now d left (record {
+      close = λ cause on. (d.work.actions, cause, refl, here);
+      answer = λ bytes talk on. sends_here link d.work.actions link bytes refl here;
+      waits = λ talk on. here;
+      spent = λ line c talk none on. tt;
+      unknown = λ line c talk server rest is none on. sends_here link d.work.actions line.link _ on here;
+      known = λ line c talk server rest is known on. sends_here link d.work.actions line.link _ on here;
+      denied = λ line c talk status fails none on. sends_here link d.work.actions line.link _ on here;
+      accepted = λ line c talk opens on. sends_here link d.work.actions line.link _ on here;
+      judged = λ line c talk after comes on. judged_here link line d after on here (judges_one c name now line d after comes);
+    }) what heard_so
 
 here_stays : (link : ℕ) (name : List ℕ) (now : ℕ) → StaysServing (controller_server name now link) (PartHere link)
 here_stays link name now = record {
   spent = λ why. tt;
-  unit = λ bytes d talk left here. heard_here (hear link bytes talk) link name now d left (read_on (unit_of bytes) link talk) here;
+  unit = λ bytes d talk left here. heard_here (hear link bytes talk) link name now d left (heard_on link bytes talk) here;
   refusal = λ why d talk left here. (d.work.actions, _, refl, here);
 }
 
@@ -164,7 +125,8 @@ front_by link actions (Some talk) here = record { front = actions; rest = []; is
 front_by link actions None closes = record { front = closes.0; rest = action.Close link closes.1 ∷ []; is = closes.2; here = closes.3; none = refl }
 
 served_front : (link : ℕ) (c : ControllerState) (part : ServedPart Desk Talk) (rest : List ℕ) (others : LinkMap) (left : List (List ℕ)) → PartHere link part →
-    HasFront link (actions_by (step_by (λ (after : Desk × LinkMap). after.0.work.actions) (λ (after : Desk × LinkMap). state_after c after) (halted c) left (step_after c part rest link others)).answer)
+    HasFront link (actions_by (step_by (λ (after : Desk × LinkMap). after.0.work.actions) (λ (after : Desk × LinkMap). state_after c after) (halted c) left
+    (then_part (after_units part rest link others) (λ (after : Desk × LinkMap) (rest : List (List ℕ)). start_turn after rest))).answer)
 served_front link c (Err why) rest others left here = no_front link
 served_front link c (Ok part) rest others left here = front_by link part.value.0.work.actions part.value.1 here
 

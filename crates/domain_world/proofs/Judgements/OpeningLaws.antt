@@ -1,45 +1,30 @@
 -- The channels that a controller accepts at a unit, what it keeps of computers then, and which challenges of servers
 -- wait. It serves `Proved.openings`.
-use Rattle.std.proofs.Common.{◌≡◌, ◌≢◌, ◌⊎◌, ℕ, ◌==◌, ◌&&◌, Bool, true, false, List, [], ◌∷◌, Option, Some, None, Ok, Err, AllPairs, refl, sym, ap, ap₂, subst, ◌∙◌, inl, inr}
+use Rattle.std.proofs.Common.{◌≡◌, ◌≢◌, ◌⊎◌, ℕ, ◌==◌, ◌&&◌, Bool, true, false, List, ◌∷◌, Option, Some, None, AllPairs, refl, sym, ap, ap₂, subst, ◌∙◌, inl, inr}
 use Rattle.std.specs.List.{AllByRecursion}
 use Rattle.std.proofs.lemmas.Bool.{cases_Bool, eq-eqb, ne_eqb}
-use Rattle.wire_base.specs.declared.authenticator.Authenticator.{Authenticator}
-use Rattle.wire_base.specs.Maps.{IsMap, lookup}
+use Rattle.wire_base.specs.Maps.{IsMap, lookup, take_out}
 use Rattle.wire_base.specs.Names.{SameName, same_name}
 use Rattle.wire_base.proofs.MapLaws.{IsMap-put, IsMap-take_out}
 use Rattle.wire_base.proofs.NameLaws.{IsSameness-same_name, same_name-Decides}
-use Rattle.ntlm_flags.specs.Flags.{has_flag}
-use Rattle.channel_keys.specs.Flags.{rc4_flag}
 use Rattle.authenticators.specs.Channels.{ChannelIdentity, SameChannel}
-use Rattle.authenticators.specs.SecureChannels.{SecureChannelState, channel_by, channel_of, passes_on, return_by}
-use Rattle.outside.specs.declared.action.Judged.TheVariants as judged
+use Rattle.authenticators.specs.SecureChannels.{SecureChannelState, channel_of}
 use Rattle.outside.specs.Drawing.{IsRest}
 use Rattle.outside.proofs.DrawLaws.{IsRest-later, IsRest-refl, IsRest-trans}
 use Rattle.logon_stubs.specs.declared.calls.AuthCall.{AuthCall}
 use Rattle.logon_stubs.specs.declared.calls.ChallengeCall.{ChallengeCall}
-use Rattle.controller_calls.specs.declared.calls.ControllerCall.TheVariants as call
-use Rattle.account_table.specs.LookUps.{knows_in}
-use Rattle.account_table.specs.declared.account.Account.{Account}
-use Rattle.end_links.specs.Serving.{ServedPart}
-use Rattle.domain_controller.specs.Machine.{Desk, account_for, answer_authenticate, answer_challenge, answer_judged, answer_named, answer_on, answers_to, by_heard, channel_for, desk, draw_challenge, judge_account, judge_offer, judge_pair, open_channel, put_channel, put_pair_if, refuse_asked, take_channel, take_pair}
-use Rattle.controller_calls.specs.Calls.{asked_of}
-use Rattle.controller_calls.specs.declared.calls.Asked.{Asked}
-use Rattle.controller_calls.proofs.DoneLaws.{KeepsPairs, refused_keeps, return_keeps}
-use Rattle.domain_controller.specs.declared.hearing.Heard.{Heard}
-use Rattle.domain_controller.specs.declared.hearing.Heard.TheVariants as heard
-use Rattle.domain_controller.specs.declared.state.Talk.{Talk}
+use Rattle.account_table.specs.AccountTable.{AccountTable}
+use Rattle.domain_controller.specs.Machine.{Desk, account_for, answer_authenticate, answer_challenge, desk, take_pair}
 use Rattle.controller_calls.specs.declared.line.Line.{Line}
-use Rattle.controller_calls.specs.declared.state.ChallengePair.{ChallengePair}
 use Rattle.controller_calls.specs.declared.state.Computers.{Computers}
 use Rattle.controller_calls.specs.declared.state.Work.{Work}
-use Rattle.step_notes.specs.ControllerNotes.{Where, accepting, channel_in, has_passed, heard_answer, identity_by, judging_by, judging_of, opened_by, opening, passing}
+use Rattle.step_notes.specs.ControllerNotes.{Where, accepting, channel_in, identity_by, judging_by, opening, passing}
 use Rattle.step_notes.specs.KeptNotes.{Accepts, IsKeptBy, KeepsNoMore, WaitsAnew, WaitsIfKnown, keeps_in, waits_in}
-use Rattle.step_notes.specs.Records.{ChannelAccepted, Judging, computer_named, given_in}
-use Rattle.step_notes.specs.Served.{work_after}
+use Rattle.step_notes.specs.Records.{ChannelAccepted, Judging, computer_named}
 use Rattle.domain_world.specs.Claims.Openings.{IsLastAccepted, IsUnused, is_opened_for, last_accepted, newer_if}
 use Rattle.channel_events.proofs.ListLaws.{all_weaker, no_some, not_both, pairs_first, some_is}
 use Rattle.step_notes.proofs.Controllers.ComputerLaws.{lookup_named}
-use Rattle.step_notes.proofs.Controllers.KeptNoteLaws.{calls_are_kept}
+use Rattle.controller_calls.proofs.OutcomeLaws.{challenge_comes, opening_comes, pair_for}
 use Rattle.domain_world.proofs.Judgements.SeedLaws.{AreApart, IsSpent}
 use Rattle.domain_world.proofs.Judgements.SeedStepLaws.{apart_behind, spent_rest}
 
@@ -80,10 +65,6 @@ pub record Goes (accepted now : List ChannelAccepted) (left rest : List (List �
   pub fresh : (server : List ℕ) → IsSpent server left → ((name : List ℕ) → waited name ≡ Some server → ⊥) → IsUnused server accepted → IsUnused server now
   pub others : (at : ℕ) (name : List ℕ) → at ≢ controller → last_accepted at name now ≡ last_accepted at name accepted
 
-abbrev pub PartGoes : List ChannelAccepted → List ChannelAccepted → List (List ℕ) → ℕ → (List ℕ → Option (List ℕ)) → ServedPart Desk Talk → Type 0
-PartGoes accepted now left controller waited (Err why) = Unit {0}
-PartGoes accepted now left controller waited (Ok part) = Goes accepted now left part.left controller waited part.value.0.work.computers
-
 pub stays : (accepted : List ChannelAccepted) (left : List (List ℕ)) (controller : ℕ) (computers : Computers) → AreOrdered accepted left → AreOpened accepted left controller computers →
     Goes accepted accepted left left controller (λ name. waits_in computers name) computers
 stays accepted left controller computers order kept = record {
@@ -95,13 +76,12 @@ stays accepted left controller computers order kept = record {
   others = λ at name differs. refl;
 }
 
-pub goes_on : (accepted middle now : List ChannelAccepted) (left rest : List (List ℕ)) (controller : ℕ) (waited : List ℕ → Option (List ℕ)) (computers : Computers) (part : ServedPart Desk Talk) →
-    Goes accepted middle left rest controller waited computers → PartGoes middle now rest controller (λ name. waits_in computers name) part → PartGoes accepted now left controller waited part
-goes_on accepted middle now left rest controller waited computers (Err why) first second = tt
-goes_on accepted middle now left rest controller waited computers (Ok part) first second = record {
+pub goes_on : (accepted middle now : List ChannelAccepted) (left rest less : List (List ℕ)) (controller : ℕ) (waited : List ℕ → Option (List ℕ)) (computers later : Computers) →
+    Goes accepted middle left rest controller waited computers → Goes middle now rest less controller (λ name. waits_in computers name) later → Goes accepted now left less controller waited later
+goes_on accepted middle now left rest less controller waited computers later first second = record {
   order = second.order;
   kept = second.kept;
-  fewer = IsRest-trans part.left rest left second.fewer first.fewer;
+  fewer = IsRest-trans less rest left second.fewer first.fewer;
   came = λ name server at. elim (second.came name server at) [
     | inl was ↦ first.came name server was
     | inr drawn ↦ inr (λ spent. drawn (spent_rest rest left first.fewer server spent))
@@ -115,7 +95,7 @@ goes_on accepted middle now left rest controller waited computers (Ok part) firs
 -- ---- a call
 
 -- nothing is kept that wasn't
-no_more_goes : (accepted : List ChannelAccepted) (left : List (List ℕ)) (controller : ℕ) (before after : Computers) → KeepsNoMore controller before after → IsMap same_name after.pending →
+pub no_more_goes : (accepted : List ChannelAccepted) (left : List (List ℕ)) (controller : ℕ) (before after : Computers) → KeepsNoMore controller before after → IsMap same_name after.pending →
     AreOrdered accepted left → AreOpened accepted left controller before → Goes accepted accepted left left controller (λ name. waits_in before name) after
 no_more_goes accepted left controller before after same map order kept = record {
   order = order;
@@ -185,7 +165,7 @@ module _ (accepted : List ChannelAccepted) (left : List (List ℕ)) (controller 
         others = λ at name differs. refl;
       })
 
-  challenge_goes : (known : Bool) → WaitsIfKnown known controller computer server before after → IsMap same_name after.pending →
+  pub challenge_goes : (known : Bool) → WaitsIfKnown known controller computer server before after → IsMap same_name after.pending →
       Goes accepted accepted (server ∷ left) left controller (λ name. waits_in before name) after
   challenge_goes false is map = waits_nothing is
   challenge_goes true is map = waits_new is map
@@ -274,50 +254,20 @@ module _ (accepted : List ChannelAccepted) (left : List (List ℕ)) (controller 
 
 -- ---- what waits has one entry a computer
 
-put_map : (known : Bool) (computer : List ℕ) (pair : ChallengePair) (work : Work) → IsMap same_name work.computers.pending → IsMap same_name (put_pair_if known computer pair work).computers.pending
-put_map false computer pair work map = map
-put_map true computer pair work map = IsMap-put same_name computer pair work.computers.pending IsSameness-same_name map
+pub challenge_map : (table : AccountTable) (line : Line) (c : ChallengeCall) (server : List ℕ) (work : Work) → IsMap same_name work.computers.pending →
+    IsMap same_name (answer_challenge table line c server work).computers.pending
+challenge_map table line c server work map =
+    challenge_comes (λ (after : Desk). IsMap same_name after.work.computers.pending) line c server (desk table work) (record {
+      unknown = λ is. map;
+      known = λ is. IsMap-put same_name c.computer (pair_for c server) work.computers.pending IsSameness-same_name map;
+    })
 
-open_map : (right : Bool) (channel : SecureChannelState) (line : Line) (c : AuthCall) (work : Work) → IsMap same_name work.computers.pending → IsMap same_name (open_channel right channel line c work).computers.pending
-open_map false channel line c work map = map
-open_map true channel line c work map = map
-
-pair_map : (pair : Option ChallengePair) (account : Account) (line : Line) (c : AuthCall) (work : Work) → IsMap same_name work.computers.pending → IsMap same_name (judge_pair pair account line c work).computers.pending
-pair_map None account line c work map = map
-pair_map (Some pair) account line c work map = open_map _ (channel_for account pair c) line c work map
-
-offer_map : (offered : Bool) (pair : Option ChallengePair) (account : Account) (line : Line) (c : AuthCall) (work : Work) → IsMap same_name work.computers.pending →
-    IsMap same_name (judge_offer offered pair account line c work).computers.pending
-offer_map false pair account line c work map = map
-offer_map true pair account line c work map = pair_map pair account line c work map
-
-account_map : (account : Option Account) (pair : Option ChallengePair) (line : Line) (c : AuthCall) (work : Work) → IsMap same_name work.computers.pending →
-    IsMap same_name (judge_account account pair line c work).computers.pending
-account_map None pair line c work map = map
-account_map (Some account) pair line c work map = offer_map (has_flag c.flags rc4_flag) pair account line c work map
-
--- what leaves the challenges leaves one entry a computer
-same_map : (before after : Computers) → KeepsPairs before after → IsMap same_name before.pending → IsMap same_name after.pending
-same_map before after same map = subst (λ (pending : List (List ℕ × ChallengePair)). IsMap same_name pending) (sym same.pending) map
-
-found_map : (found : Option SecureChannelState) (computer : List ℕ) (given : Authenticator) (what : Asked) (name : List ℕ) (now : ℕ) (line : Line) (d : Desk) → IsMap same_name d.work.computers.pending →
-    IsMap same_name (answer_on found computer given (answers_to what name now line) (desk d.table (take_channel computer d.work))).work.computers.pending
-found_map None computer given what name now line d map =
-    same_map (take_channel computer d.work).computers (refuse_asked what judged.NoChannel line (take_channel computer d.work)).computers
-    (refused_keeps what judged.NoChannel line (take_channel computer d.work)) map
-found_map (Some channel) computer given what name now line d map =
-    let passes : Bool = passes_on channel given in
-    let back : Desk = desk d.table (put_channel computer (channel_by passes channel given) (take_channel computer d.work)) in
-    same_map back.work.computers _ (return_keeps what (return_by passes channel given) computer channel name now line back) map
-
-named_map : (computer : Option (List ℕ)) (given : Option Authenticator) (what : Asked) (name : List ℕ) (now : ℕ) (line : Line) (d : Desk) → IsMap same_name d.work.computers.pending →
-    IsMap same_name (answer_named computer given (answers_to what name now line) d).work.computers.pending
-named_map None given what name now line d map =
-    same_map d.work.computers (refuse_asked what judged.NoChannel line d.work).computers (refused_keeps what judged.NoChannel line d.work) map
-named_map (Some computer) None what name now line d map =
-    same_map d.work.computers (refuse_asked what judged.NoChannel line d.work).computers (refused_keeps what judged.NoChannel line d.work) map
-named_map (Some computer) (Some given) what name now line d map =
-    found_map (lookup same_name computer d.work.computers.channels) computer given what name now line d map
+pub authenticate_map : (table : AccountTable) (line : Line) (c : AuthCall) (work : Work) → IsMap same_name work.computers.pending →
+    IsMap same_name (answer_authenticate table line c work).computers.pending
+authenticate_map table line c work map =
+    let taken : IsMap same_name (take_out same_name c.computer work.computers.pending) = IsMap-take_out same_name c.computer work.computers.pending map in
+    opening_comes (λ (later : Work). IsMap same_name later.computers.pending) (account_for table c) (lookup same_name c.computer work.computers.pending) line c (take_pair c.computer work)
+    (record { denied = λ status fails none. taken; accepted = λ opens. taken })
 
 -- ---- a unit
 
@@ -330,42 +280,14 @@ passing_none : (channel : Option ChannelIdentity) (j : Judging) → (passing cha
 passing_none None j = refl
 passing_none (Some channel) j = refl
 
-judging_none : (passed : Bool) (j : Judging) → (judging_by passed j).accepted ≡ None
+pub judging_none : (passed : Bool) (j : Judging) → (judging_by passed j).accepted ≡ None
 judging_none false j = refl
 judging_none true j = passing_none (channel_in j.controller (computer_named j.asked) j.checks) j
 
 module _ (accepted : List ChannelAccepted) (w : Where) (d : Desk) where
-  opening_goes : (found : Option ChannelIdentity) (number : ℕ) (computer : List ℕ) (reply : Option ℕ) (left : List (List ℕ)) (after : Computers) → IsKeptBy w.controller computer found d.work.computers after →
+  pub opening_goes : (found : Option ChannelIdentity) (number : ℕ) (computer : List ℕ) (reply : Option ℕ) (left : List (List ℕ)) (after : Computers) → IsKeptBy w.controller computer found d.work.computers after →
       IsMap same_name after.pending → AreOrdered accepted left → AreOpened accepted left w.controller d.work.computers →
       Goes accepted (with_accepted (opening found w number).accepted reply accepted) left left w.controller (λ name. waits_in d.work.computers name) after
   opening_goes None number computer reply left after is map order kept = no_more_goes accepted left w.controller d.work.computers after is.0 map order kept
   opening_goes (Some channel) number computer reply left after is map order kept =
       accepts_goes accepted left w.controller computer (record (accepting w number channel) { reply = reply }) d.work.computers after is map order kept
-
-  drawn_goes : (left : List (List ℕ)) (line : Line) (c : ChallengeCall) (talk : Talk) → AreOrdered accepted left → AreOpened accepted left w.controller d.work.computers →
-      PartGoes accepted accepted left w.controller (λ name. waits_in d.work.computers name) (draw_challenge left line c talk d)
-  drawn_goes [] line c talk order kept = tt
-  drawn_goes (server ∷ left) line c talk order kept =
-      let pair : ChallengePair = record { client = c.challenge; server = server } in
-      challenge_goes accepted left w.controller c.computer server d.work.computers (answer_challenge d.table line c server d.work).computers order kept (knows_in d.table.accounts c.computer)
-      (calls_are_kept.challenge w.controller d.table line c server d.work) (put_map (knows_in d.table.accounts c.computer) c.computer pair d.work kept.map)
-
-  pub heard_goes : (what : Heard) (link : ℕ) (number : Option ℕ) (left : List (List ℕ)) → AreOrdered accepted left → AreOpened accepted left w.controller d.work.computers →
-      PartGoes accepted (with_accepted (heard_answer what w d (work_after (by_heard what link w.name w.moment d left))).accepted number accepted) left w.controller
-      (λ name. waits_in d.work.computers name) (by_heard what link w.name w.moment d left)
-  heard_goes (heard.Close cause) link number left order kept = stays accepted left w.controller d.work.computers order kept
-  heard_goes (heard.Answer bytes talk) link number left order kept = stays accepted left w.controller d.work.computers order kept
-  heard_goes (heard.Waits talk) link number left order kept = stays accepted left w.controller d.work.computers order kept
-  heard_goes (heard.Asked line (call.Challenge c) talk) link number left order kept = drawn_goes left line c talk order kept
-  heard_goes (heard.Asked line (call.Authenticate c) talk) link number left order kept =
-      opening_goes (opened_by w.controller c d) line.call c.computer number left (answer_authenticate d.table line c d.work).computers
-      (calls_are_kept.authenticate w.controller d.table line c d.work kept.map)
-      (account_map (account_for d.table c) (lookup same_name c.computer d.work.computers.pending) line c (take_pair c.computer d.work)
-      (IsMap-take_out same_name c.computer d.work.computers.pending kept.map)) order kept
-  heard_goes (heard.Asked line (call.Judged c) talk) link number left order kept =
-      let after : Desk = answer_judged c w.name w.moment line d in
-      let j : Judging = judging_of w line c d (Some after) in
-      subst (λ (o : Option ChannelAccepted). PartGoes accepted (with_accepted o number accepted) left w.controller (λ name. waits_in d.work.computers name)
-      (by_heard (heard.Asked line (call.Judged c) talk) link w.name w.moment d left)) (sym (judging_none (has_passed j.how) j))
-      (no_more_goes accepted left w.controller d.work.computers after.work.computers (calls_are_kept.judged w.controller c w.name w.moment line d)
-      (named_map (computer_named c) (given_in c) (asked_of c) w.name w.moment line d kept.map) order kept)

@@ -1,50 +1,46 @@
 -- In every run openings are accepted in order, through each step of a controller. It serves `Proved.openings`.
-use Rattle.std.proofs.Common.{◌≡◌, ◌≢◌, ◌⊎◌, ℕ, ◌-◌, zero, suc, true, List, [], ◌∷◌, ◌++◌, map, Option, Some, None, Ok, Err, refl, sym, ap, subst, ◌∙◌, inl, inr, arith, slice_get, slice_set}
-use Rattle.wire_base.specs.Maps.{lookup, same_number, take_out}
-use Rattle.wire_base.specs.Names.{SameName}
+use Rattle.std.proofs.Common.{◌≡◌, ◌≢◌, ◌⊎◌, ℕ, ◌-◌, zero, suc, true, List, [], ◌∷◌, ◌++◌, map, Option, Some, None, refl, sym, ap, subst, ◌∙◌, inl, inr, arith, slice_get, slice_set}
+use Rattle.wire_base.specs.Maps.{IsMap}
+use Rattle.wire_base.specs.Names.{SameName, same_name}
 use Rattle.outside.specs.Counter.{most_draws}
 use Rattle.outside.specs.Drawing.{IsRest}
-use Rattle.outside.specs.Machine.{step_by}
 use Rattle.outside.specs.declared.event.Event.{Event}
 use Rattle.outside.specs.declared.event.Event.TheVariants as event
 use Rattle.outside.proofs.CounterLaws.{challenges_from-distinct}
 use Rattle.outside.proofs.DrawLaws.{IsRest-nothing, IsRest-refl}
-use Rattle.rpc_units.specs.Stream.{Cut, cut_stream}
 use Rattle.account_table.specs.AccountTable.{AccountTable}
-use Rattle.end_links.specs.Links.{LinkState}
-use Rattle.end_links.specs.Serving.{ServedPart, ServedUnit, served_cut, served_units}
-use Rattle.domain_controller.specs.Hearing.{hear}
-use Rattle.domain_controller.specs.Machine.{Desk, by_heard, controller_server}
+use Rattle.account_table.specs.LookUps.{knows_in}
+use Rattle.authenticators.specs.Channels.{ChannelIdentity}
+use Rattle.domain_controller.specs.Machine.{Desk, answer_authenticate, answer_challenge, answer_judged}
 use Rattle.domain_controller.specs.State.{State as ControllerState}
-use Rattle.domain_controller.specs.Step.{LinkMap, first_desk, first_state, halted, state_after, step_of, step_on}
+use Rattle.domain_controller.specs.Step.{first_state, state_after, step_of}
 use Rattle.domain_controller.specs.declared.state.Running.{Running}
-use Rattle.domain_controller.specs.declared.state.Talk.{Talk}
-use Rattle.step_notes.specs.ControllerNotes.{Answered, Where, answer_on, heard_answer, units_at, units_by}
+use Rattle.controller_calls.proofs.OutcomeLaws.{judged_comes}
+use Rattle.controller_calls.specs.declared.state.Computers.{Computers}
+use Rattle.step_notes.specs.ControllerNotes.{Answered, Where, has_passed, judged_answer, judging_of, opened_by, opening, plain, silent}
 use Rattle.step_notes.specs.KeptNotes.{waits_in}
-use Rattle.step_notes.specs.Records.{ChannelAccepted, Source}
-use Rattle.step_notes.specs.Served.{units_if_taken, work_after}
+use Rattle.step_notes.specs.Records.{ChannelAccepted, Judging}
 use Rattle.world_moves.specs.declared.moves.Move.{Move}
 use Rattle.world_moves.specs.declared.plan.Plan.{Plan}
+use Rattle.world_moves.specs.declared.state.State.{State}
 use Rattle.world_moves.specs.World.{first_controllers, first_world}
 use Rattle.domain_world.specs.Claims.Openings.{IsLastAccepted, IsUnused, OpeningsAreInOrder, last_accepted}
-use Rattle.domain_world.specs.Past.{accepted_of, first_of, later_of, numbers_on, onto, past, replied_with}
+use Rattle.domain_world.specs.Past.{Coming, accepted_of, answers_of, at_controller, first_of, later_of, numbers_on, onto, past, replied_with}
 use Rattle.channel_events.proofs.ListLaws.{no_some}
-use Rattle.step_notes.proofs.ServedLaws.{StaysNoted, served_mapped}
+use Rattle.step_notes.proofs.Controllers.ComputerLaws.{judged_pending}
+use Rattle.step_notes.proofs.Controllers.KeptNoteLaws.{calls_are_kept}
+use Rattle.step_notes.proofs.Controllers.NotedLaws.{NotedFact, StaysThrough, step_says}
 use Rattle.domain_world.proofs.Challenges.MessageOnceLaws.{set_cases}
 use Rattle.domain_world.proofs.Frames.ControllerFrameLaws.{AmongControllers, ControllersFact, KeepsControllers, controllers_written}
 use Rattle.domain_world.proofs.Frames.EndNoteLaws.{accepted_so, acceptings_of}
 use Rattle.domain_world.proofs.Frames.FrameLaws.{run_stays}
 use Rattle.domain_world.proofs.Frames.NoBytesLaws.{DoesNothingElse, IsNoBytes, KeepsComputers, does_nothing_else}
-use Rattle.domain_world.proofs.Judgements.OpeningLaws.{AreOpened, AreOrdered, PartGoes, goes_on, heard_goes, ordered_rest, stays, with_accepted}
+use Rattle.domain_world.proofs.Judgements.OpeningLaws.{AreOpened, AreOrdered, Goes, authenticate_map, challenge_goes, challenge_map, goes_on, judging_none, no_more_goes, opening_goes, ordered_rest, stays, with_accepted}
 use Rattle.domain_world.proofs.Judgements.ReplayLaws.{apart_from}
 use Rattle.domain_world.proofs.Judgements.SeedLaws.{IsSpent}
 use Rattle.domain_world.proofs.Judgements.SeedStepLaws.{numbers_left, spent_rest}
-use Rattle.domain_world.proofs.Judgements.ToldLaws.{standing_at, step_after, step_link}
 
 -- ---- the units of a stream
-
-abbrev pub accepted_at : ℕ → Where → List (ServedUnit Desk Talk) → List ℕ → List ChannelAccepted → List ChannelAccepted
-accepted_at link w units numbers accepted = onto (accepted_of (map (answer_on link w) units) numbers) accepted
 
 onto_one : (one : Option ChannelAccepted) (number : Option ℕ) (later accepted : List ChannelAccepted) →
     onto (replied_with one number ++ later) accepted ≡ onto later (with_accepted one number accepted)
@@ -62,30 +58,48 @@ accepted_more (first ∷ answers) one numbers accepted =
     ∙ ap (λ (all : List ChannelAccepted). with_accepted one.accepted (first_of (numbers_left answers later)) all)
     (sym (onto_one first.accepted (first_of numbers) (accepted_of answers later) accepted))
 
-goes_stay : (link : ℕ) (w : Where) (accepted : List ChannelAccepted) (left : List (List ℕ)) (waited : List ℕ → Option (List ℕ)) (numbers : List ℕ) →
-    StaysNoted (controller_server w.name w.moment link) (λ (unit : ServedUnit Desk Talk). answer_on link w unit ∷ [])
-    (λ answers part. PartGoes accepted (onto (accepted_of answers numbers) accepted) left w.controller waited part)
-goes_stay link w accepted left waited numbers = record {
-  unit = λ answers bytes d talk some goes.
-      let part : ServedPart Desk Talk = by_heard (hear link bytes talk) link w.name w.moment d some in
-      let one : Answered = heard_answer (hear link bytes talk) w d (work_after part) in
-      let middle : List ChannelAccepted = onto (accepted_of answers numbers) accepted in
-      let number : Option ℕ = first_of (numbers_left answers numbers) in
-      subst (λ (now : List ChannelAccepted). PartGoes accepted now left w.controller waited part) (sym (accepted_more answers one numbers accepted))
-      (goes_on accepted middle (with_accepted one.accepted number middle) left some w.controller waited d.work.computers part goes
-      (heard_goes middle w d (hear link bytes talk) link number some goes.order goes.kept));
-  refusal = λ answers why d talk some goes. goes;
-}
+module _ (w : Where) (accepted : List ChannelAccepted) (left : List (List ℕ)) (waited : List ℕ → Option (List ℕ)) (numbers : List ℕ) where
+  abbrev written : List Answered → List ChannelAccepted
+  written answers = onto (accepted_of answers numbers) accepted
 
-units_go : (link : ℕ) (w : Where) (cut : Cut) (d : Desk) (talk : Talk) (left : List (List ℕ)) (numbers : List ℕ) (accepted : List ChannelAccepted) → AreOrdered accepted left →
-    AreOpened accepted left w.controller d.work.computers →
-    PartGoes accepted (accepted_at link w (served_units (controller_server w.name w.moment link) cut.units d talk left) numbers accepted) left w.controller (λ name. waits_in d.work.computers name)
-    (served_cut (controller_server w.name w.moment link) cut d talk left)
-units_go link w cut d talk left numbers accepted order kept =
-    served_mapped (controller_server w.name w.moment link) (answer_on link w)
-    (λ answers part. PartGoes accepted (onto (accepted_of answers numbers) accepted) left w.controller (λ name. waits_in d.work.computers name) part)
-    (goes_stay link w accepted left (λ name. waits_in d.work.computers name) numbers) cut d talk left
-    (stays accepted left w.controller d.work.computers order kept)
+  abbrev GoesOn : NotedFact
+  GoesOn answers d some = Goes accepted (written answers) left some w.controller waited d.work.computers
+
+  further : (answers : List Answered) (one : Answered) (d : Desk) (later : Computers) (some less : List (List ℕ)) → GoesOn answers d some →
+      Goes (written answers) (with_accepted one.accepted (first_of (numbers_left answers numbers)) (written answers)) some less w.controller (λ name. waits_in d.work.computers name) later →
+      Goes accepted (written (answers ++ one ∷ [])) left less w.controller waited later
+  further answers one d later some less goes more =
+      subst (λ (now : List ChannelAccepted). Goes accepted now left less w.controller waited later) (sym (accepted_more answers one numbers accepted))
+      (goes_on accepted (written answers) _ left some less w.controller waited d.work.computers later goes more)
+
+  goes_stay : (link : ℕ) → StaysThrough w link w.name w.moment GoesOn
+  goes_stay link = record {
+    closes = λ answers d some cause goes. goes;
+    waits = λ answers d some goes.
+        further answers silent d d.work.computers some some goes (stays (written answers) some w.controller d.work.computers goes.order goes.kept);
+    sends = λ answers d some bytes goes.
+        further answers plain d d.work.computers some some goes (stays (written answers) some w.controller d.work.computers goes.order goes.kept);
+    challenge = λ answers d some line c server on goes.
+        let later : Computers = (answer_challenge d.table line c server d.work).computers in
+        further answers plain d later (server ∷ some) some goes
+        (challenge_goes (written answers) some w.controller c.computer server d.work.computers later goes.order goes.kept (knows_in d.table.accounts c.computer)
+        (calls_are_kept.challenge w.controller d.table line c server d.work) (challenge_map d.table line c server d.work goes.kept.map));
+    authenticate = λ answers d some line c on goes.
+        let later : Computers = (answer_authenticate d.table line c d.work).computers in
+        let opened : Option ChannelIdentity = opened_by w.controller c d in
+        further answers (opening opened w line.call) d later some some goes
+        (opening_goes (written answers) w d opened line.call c.computer (first_of (numbers_left answers numbers)) some later
+        (calls_are_kept.authenticate w.controller d.table line c d.work goes.kept.map) (authenticate_map d.table line c d.work goes.kept.map) goes.order goes.kept);
+    judged = λ answers d some line c on goes.
+        let after : Desk = answer_judged c w.name w.moment line d in
+        let j : Judging = judging_of w line c d (Some after) in
+        let pending : after.work.computers.pending ≡ d.work.computers.pending = judged_pending c w.name w.moment line d after (judged_comes c w.name w.moment line d) in
+        further answers (judged_answer j) d after.work.computers some some goes
+        (subst (λ (o : Option ChannelAccepted). Goes (written answers) (with_accepted o (first_of (numbers_left answers numbers)) (written answers)) some some w.controller
+        (λ name. waits_in d.work.computers name) after.work.computers) (sym (judging_none (has_passed j.how) j))
+        (no_more_goes (written answers) some w.controller d.work.computers after.work.computers (calls_are_kept.judged w.controller c w.name w.moment line d)
+        (subst (λ entries. IsMap same_name entries) (sym pending) goes.kept.map) goes.order goes.kept));
+  }
 
 -- ---- a step of a controller
 
@@ -131,40 +145,24 @@ step_ends accepted left controller waited order = record {
   others = λ at name differs. refl;
 }
 
-part_step : (accepted : List ChannelAccepted) (link : ℕ) (w : Where) (c : ControllerState) (part : ServedPart Desk Talk) (units : List (ServedUnit Desk Talk)) (rest : List ℕ) (others : LinkMap)
-    (left : List (List ℕ)) (waited : List ℕ → Option (List ℕ)) (numbers : List ℕ) → AreOrdered accepted left →
-    PartGoes accepted (accepted_at link w units numbers accepted) left w.controller waited part →
-    StepGoes accepted
-    (accepted_at link w (units_if_taken (step_by (λ after. after.0.work.actions) (λ after. state_after c after) (halted c) left (step_after c part rest link others)).answer units) numbers accepted)
-    left (step_by (λ after. after.0.work.actions) (λ after. state_after c after) (halted c) left (step_after c part rest link others)).left w.controller waited
-    (step_by (λ after. after.0.work.actions) (λ after. state_after c after) (halted c) left (step_after c part rest link others)).state.running
-part_step accepted link w c (Err why) units rest others left waited numbers order goes = step_ends accepted left w.controller waited order
-part_step accepted link w c (Ok part) units rest others left waited numbers order goes =
-    record { order = goes.order; kept = goes.kept; fewer = goes.fewer; came = goes.came; fresh = goes.fresh; others = goes.others }
-
-link_step : (found : Option (LinkState Talk)) (accepted : List ChannelAccepted) (at controller : ℕ) (source : Source) (link : ℕ) (piece : List ℕ) (c : ControllerState) (running : Running) (now : ℕ)
-    (left : List (List ℕ)) (numbers : List ℕ) → AreOrdered accepted left → AreOpened accepted left controller running.computers →
-    StepGoes accepted
-    (accepted_at link (standing_at at controller source c now) (units_if_taken (step_link found link piece c running now left).answer (units_at found link piece c running now left)) numbers accepted)
-    left (step_link found link piece c running now left).left controller (λ name. waits_in running.computers name) (step_link found link piece c running now left).state.running
-link_step None accepted at controller source link piece c running now left numbers order kept =
-    step_stays accepted left controller (λ name. waits_in running.computers name) (step_link None link piece c running now left).state.running order kept (λ name server is. is)
-link_step (Some there) accepted at controller source link piece c running now left numbers order kept =
-    let w : Where = standing_at at controller source c now in
-    let cut = cut_stream (there.rest ++ piece) in
-    part_step accepted link w c (served_cut (controller_server c.name now link) cut (first_desk c.table running) there.talk left) (units_at (Some there) link piece c running now left) cut.rest
-    (take_out same_number link running.links) left (λ name. waits_in running.computers name) numbers order
-    (units_go link w cut (first_desk c.table running) there.talk left numbers accepted order kept)
-
-bytes_step : (running : Option Running) (accepted : List ChannelAccepted) (at controller : ℕ) (source : Source) (link : ℕ) (piece : List ℕ) (c : ControllerState) (now : ℕ) (left : List (List ℕ))
-    (numbers : List ℕ) → c.running ≡ running → AreOrdered accepted left → AreOpenedIf accepted left controller c.running → AreOpenedIf accepted left controller running →
-    StepGoes accepted
-    (accepted_at link (standing_at at controller source c now) (units_if_taken (step_on running c (event.Bytes link piece) now left).answer (units_by running link piece c now left)) numbers accepted)
-    left (step_on running c (event.Bytes link piece) now left).left controller (λ name. waits_if running name) (step_on running c (event.Bytes link piece) now left).state.running
-bytes_step None accepted at controller source link piece c now left numbers is order was kept =
-    step_stays accepted left controller (λ name. None) c.running order was (λ name server waits. sym (ap (λ (r : Option Running). waits_if r name) is) ∙ waits)
-bytes_step (Some running) accepted at controller source link piece c now left numbers is order was kept =
-    link_step (lookup same_number link running.links) accepted at controller source link piece c running now left numbers order kept
+bytes_step : (controller : ℕ) (c : ControllerState) (accepted : List ChannelAccepted) (w : Coming) (piece : List ℕ) (s : State) (numbers : List ℕ) → AreOrdered accepted s.chances.left →
+    AreOpenedIf accepted s.chances.left controller c.running →
+    StepGoes accepted (onto (accepted_of (answers_of controller c w piece s) numbers) accepted) s.chances.left (step_of c (event.Bytes w.link piece) s.moment s.chances.left).left controller
+    (λ name. waits_if c.running name) (step_of c (event.Bytes w.link piece) s.moment s.chances.left).state.running
+bytes_step controller c accepted w piece s numbers order kept =
+    let at : Where = at_controller controller c w s in
+    let left : List (List ℕ) = s.chances.left in
+    step_says at w.link c piece s.moment left (λ running. GoesOn at accepted left (λ name. waits_in running.computers name) numbers)
+    (λ answers stepped. StepGoes accepted (onto (accepted_of answers numbers) accepted) left stepped.left controller (λ name. waits_if c.running name) stepped.state.running) (record {
+      stays = λ running. goes_stay at accepted left (λ name. waits_in running.computers name) numbers w.link;
+      first = λ running runs.
+          stays accepted left controller running.computers order (subst (λ (r : Option Running). AreOpenedIf accepted left controller r) runs kept);
+      stopped = λ ends. step_stays accepted left controller (λ name. waits_if c.running name) c.running order kept (λ name server is. is);
+      spent = step_ends accepted left controller (λ name. waits_if c.running name) order;
+      taken = λ running answers d links rest runs goes.
+          subst (λ (r : Option Running). StepGoes accepted (onto (accepted_of answers numbers) accepted) left rest controller (λ name. waits_if r name) (state_after c (d, links)).running) (sym runs)
+          (record { order = goes.order; kept = goes.kept; fewer = goes.fewer; came = goes.came; fresh = goes.fresh; others = goes.others });
+    })
 
 -- ---- a step at which no bytes come
 
@@ -274,15 +272,13 @@ drawn_follow accepted left rest controllers is follow = record {
 }
 
 -- a controller hears bytes
-bytes_follow : (c : ControllerState) (accepted : List ChannelAccepted) (at controller : ℕ) (source : Source) (link : ℕ) (piece : List ℕ) (now : ℕ) (controllers : List ControllerState)
-    (left : List (List ℕ)) (numbers : List ℕ) → slice_get controllers controller ≡ Some c → OpeningsFollow accepted left controllers →
-    OpeningsFollow
-    (accepted_at link (standing_at at controller source c now) (units_if_taken (step_of c (event.Bytes link piece) now left).answer (units_by c.running link piece c now left)) numbers accepted)
-    (step_of c (event.Bytes link piece) now left).left (slice_set controllers controller (step_of c (event.Bytes link piece) now left).state)
-bytes_follow c accepted at controller source link piece now controllers left numbers is follow =
-    let kept : AreOpenedIf accepted left controller c.running = follow.each controller c is in
-    controller_put accepted _ left _ controllers controller c (step_of c (event.Bytes link piece) now left).state is follow
-    (bytes_step c.running accepted at controller source link piece c now left numbers refl follow.order kept kept)
+bytes_follow : (c : ControllerState) (accepted : List ChannelAccepted) (controller : ℕ) (w : Coming) (piece : List ℕ) (s : State) (numbers : List ℕ) →
+    slice_get s.ends.controllers controller ≡ Some c → OpeningsFollow accepted s.chances.left s.ends.controllers →
+    OpeningsFollow (onto (accepted_of (answers_of controller c w piece s) numbers) accepted) (step_of c (event.Bytes w.link piece) s.moment s.chances.left).left
+    (slice_set s.ends.controllers controller (step_of c (event.Bytes w.link piece) s.moment s.chances.left).state)
+bytes_follow c accepted controller w piece s numbers is follow =
+    controller_put accepted _ s.chances.left _ s.ends.controllers controller c (step_of c (event.Bytes w.link piece) s.moment s.chances.left).state is follow
+    (bytes_step controller c accepted w piece s numbers follow.order (follow.each controller c is))
 
 -- it hears something else
 quiet_follow : (c : ControllerState) (accepted : List ChannelAccepted) (controller : ℕ) (what : Event) (now : ℕ) (controllers : List ControllerState) (left : List (List ℕ)) →
@@ -313,7 +309,7 @@ follow_on = record {
   draws = λ accepted controllers chances later on follow. drawn_follow accepted chances.left later.left controllers on.rest follow;
   hears = λ accepted c at what now controllers chances none is follow. quiet_follow c accepted at what now controllers chances.left is none follow;
   comes = λ c at w piece s after b is follow.
-      bytes_follow c b.accepted w.at at w.source w.link piece s.moment s.ends.controllers s.chances.left (numbers_on w.link true s.bag after.bag) is follow;
+      bytes_follow c b.accepted at w piece s (numbers_on w.link true s.bag after.bag) is follow;
   anew = λ accepted c at controllers chances is follow.
       controller_put accepted accepted chances.left chances.left controllers at c (first_state c.table c.name) is follow (record {
         order = follow.order;

@@ -56,7 +56,7 @@ follow_on = record {
   draws = λ judgings controllers chances later on follow. drawn_follow judgings chances.left later.left controllers on.rest follow;
   hears = λ judgings c at what now controllers chances none is follow. quiet_follow c judgings at what now controllers chances.left is none follow;
   comes = λ c at w piece s after b is follow.
-      bytes_follow c b.judged w.at at w.source w.link piece s.moment s.ends.controllers s.chances.left (numbers_on w.link true s.bag after.bag) is follow;
+      bytes_follow c b.judged at w piece s (numbers_on w.link true s.bag after.bag) is follow;
   anew = λ judgings c at controllers chances is follow.
       controller_put judgings judgings chances.left chances.left controllers at (first_state c.table c.name) follow (record {
         order = follow.order;

@@ -1,45 +1,41 @@
 -- The seed of each channel that a controller keeps: the credential of its client's challenge, moved by the timestamps
 -- that passed on it. It serves `Proved.grants`, `Proved.replays`, `Proved.replies` and 3 more.
-use Rattle.std.proofs.Common.{◌≡◌, ◌≢◌, ℕ, ◌+◌, Bool, true, false, List, [], ◌∷◌, length, drop, Option, Some, None, refl, sym, ap, subst, ◌∙◌, inl, inr, arith, bytes_eq}
+use Rattle.std.proofs.Common.{◌≡◌, ◌≢◌, ℕ, ◌+◌, Bool, true, false, List, [], ◌∷◌, Option, Some, None, refl, sym, ap, subst, ◌∙◌, inl, inr, arith}
 use Rattle.std.specs.List.{AllByRecursion}
 use Rattle.std.proofs.lemmas.Bool.{cases_Bool}
+use Rattle.std.proofs.lemmas.Slice.Eq.{bytes_eq-Decides}
 use Rattle.wire_base.specs.declared.authenticator.Authenticator.{Authenticator}
 use Rattle.wire_base.specs.Maps.{IsMap, lookup, put, take_out}
 use Rattle.wire_base.specs.Names.{SameName, same_name}
 use Rattle.wire_base.proofs.MapLaws.{IsMap-put, IsMap-take_out, lookup-put_same, lookup-take_out_same, put_others, taken_others}
 use Rattle.wire_base.proofs.NameLaws.{IsSameness-same_name, same_name-Decides}
-use Rattle.ntlm_flags.specs.Flags.{has_flag}
 use Rattle.channel_keys.specs.Credentials.{cred_of}
-use Rattle.channel_keys.specs.Flags.{rc4_flag}
 use Rattle.channel_keys.proofs.CredLaws.{IsBlock-cred_of}
 use Rattle.authenticators.specs.Channels.{ChannelIdentity}
-use Rattle.authenticators.specs.Sequences.{add_to, return_of}
-use Rattle.authenticators.specs.SecureChannels.{SecureChannelState, channel_by, key_of_channel, passes_on, return_by, channel_of}
+use Rattle.authenticators.specs.Sequences.{add_to}
+use Rattle.authenticators.specs.SecureChannels.{SecureChannelState, channel_by, key_of_channel, passes_on, channel_of}
 use Rattle.authenticators.proofs.SeedLaws.{add_to-add_to, add_to-zero}
-use Rattle.outside.specs.declared.action.Action.{Action}
 use Rattle.outside.specs.declared.action.Judged.{Judged}
-use Rattle.outside.specs.declared.action.Judged.TheVariants as judged
 use Rattle.logon_stubs.specs.declared.calls.AuthCall.{AuthCall}
+use Rattle.account_table.specs.AccountTable.{AccountTable}
 use Rattle.account_table.specs.declared.account.Account.{Account}
 use Rattle.channel_events.proofs.SameLaws.{itself}
-use Rattle.domain_controller.specs.Laws.{KeepsComputer}
-use Rattle.domain_controller.specs.Machine.{Desk, answer_named, answer_on, answer_return, answers_to, channel_for, desk, judge_account, judge_offer, judge_pair, open_channel, refuse_asked, put_channel, put_pair_if, take_channel, take_pair}
+use Rattle.domain_controller.specs.Laws.{IsNext, KeepsComputer}
+use Rattle.domain_controller.specs.Machine.{Desk, account_for, answer_authenticate, answer_judged, channel_for, open_channel, put_channel, put_pair_if, take_pair}
 use Rattle.controller_calls.specs.declared.line.Line.{Line}
 use Rattle.controller_calls.specs.declared.state.Computers.{Computers}
 use Rattle.controller_calls.specs.declared.state.ChallengePair.{ChallengePair}
 use Rattle.controller_calls.specs.declared.state.Work.{Work}
-use Rattle.step_notes.specs.ControllerNotes.{Where, channel_in, checked_on, has_passed, judged_in}
+use Rattle.step_notes.specs.ControllerNotes.{Where, channel_in, checked_on, has_passed}
 use Rattle.step_notes.specs.ControllerNotes as notes
 use Rattle.step_notes.specs.Judged.{channel_if, passed_channel}
 use Rattle.step_notes.specs.Marking.{is_channel}
 use Rattle.step_notes.specs.Records.{Judging, computer_named, given_in, timestamp_in}
-use Rattle.controller_calls.specs.Calls.{asked_of}
-use Rattle.controller_calls.specs.declared.calls.Asked.{Asked}
 use Rattle.controller_calls.specs.declared.calls.JudgedCall.{JudgedCall}
-use Rattle.controller_calls.proofs.DoneLaws.{KeepsPairs, asked_done, asked_refused, refused_keeps, return_keeps, texts_kept}
+use Rattle.controller_calls.proofs.OutcomeLaws.{opening_comes}
+use Rattle.domain_world.proofs.Judgements.ChainLaws.{its_judging, done_or_refused}
 use Rattle.domain_world.specs.Claims.{moved_if, moved_on, passed_on, judged_timestamp}
-use Rattle.step_notes.proofs.Controllers.ComputerLaws.{lookup_named, taken_none}
-use Rattle.step_notes.proofs.Controllers.JudgedStepLaws.{dropped, told_kept}
+use Rattle.step_notes.proofs.Controllers.ComputerLaws.{lookup_named}
 use Rattle.domain_world.proofs.Judgements.MovedLaws.{IsFound, moved_past, moved_same, not_passed, passed_in}
 
 -- ---- what is known
@@ -199,7 +195,7 @@ module _ (judgings : List Judging) (left : List (List ℕ)) (controller : ℕ) w
       absurd (let none : None ≡ Some pair = sym (lookup-take_out_same same_name name computers.pending IsSameness-same_name map) ∙ waits in cc)
 
   -- a refusal leaves the channel
-  pub taken_kept : (name : List ℕ) (work : Work) → AreKept judgings left controller work.computers → AreKept judgings left controller (take_pair name work).computers
+  taken_kept : (name : List ℕ) (work : Work) → AreKept judgings left controller work.computers → AreKept judgings left controller (take_pair name work).computers
   taken_kept name work kept =
       let new : Computers = (take_pair name work).computers in
       let here : IsKept judgings left controller name new = record {
@@ -215,11 +211,10 @@ module _ (judgings : List Judging) (left : List (List ℕ)) (controller : ℕ) w
             (λ challenge spent. spent) (kept.each other));
       }
 
-  opened_kept : (right : Bool) (pair : ChallengePair) (account : Account) (line : Line) (c : AuthCall) (work : Work) → lookup same_name c.computer work.computers.pending ≡ Some pair →
+  opened_kept : (pair : ChallengePair) (account : Account) (line : Line) (c : AuthCall) (work : Work) → lookup same_name c.computer work.computers.pending ≡ Some pair →
       AreKept judgings left controller work.computers →
-      AreKept judgings left controller (open_channel right (channel_for account pair c) line c (take_pair c.computer work)).computers
-  opened_kept false pair account line c work waits kept = taken_kept c.computer work kept
-  opened_kept true pair account line c work waits kept =
+      AreKept judgings left controller (open_channel true (channel_for account pair c) line c (take_pair c.computer work)).computers
+  opened_kept pair account line c work waits kept =
       let opened : SecureChannelState = channel_for account pair c in
       let name : List ℕ = c.computer in
       let taken : Work = take_pair name work in
@@ -244,21 +239,14 @@ module _ (judgings : List Judging) (left : List (List ℕ)) (controller : ℕ) w
             (λ challenge spent. spent) (was.each other));
       }
 
-  pair_opened : (pair : Option ChallengePair) (account : Account) (line : Line) (c : AuthCall) (work : Work) → lookup same_name c.computer work.computers.pending ≡ pair →
-      AreKept judgings left controller work.computers → AreKept judgings left controller (judge_pair pair account line c (take_pair c.computer work)).computers
-  pair_opened None account line c work waits kept = taken_kept c.computer work kept
-  pair_opened (Some pair) account line c work waits kept =
-      opened_kept (bytes_eq c.credential (first_seed (channel_for account pair c))) pair account line c work waits kept
-
-  offer_opened : (offered : Bool) (pair : Option ChallengePair) (account : Account) (line : Line) (c : AuthCall) (work : Work) → lookup same_name c.computer work.computers.pending ≡ pair →
-      AreKept judgings left controller work.computers → AreKept judgings left controller (judge_offer offered pair account line c (take_pair c.computer work)).computers
-  offer_opened false pair account line c work waits kept = taken_kept c.computer work kept
-  offer_opened true pair account line c work waits kept = pair_opened pair account line c work waits kept
-
-  pub account_opened : (account : Option Account) (pair : Option ChallengePair) (line : Line) (c : AuthCall) (work : Work) → lookup same_name c.computer work.computers.pending ≡ pair →
-      AreKept judgings left controller work.computers → AreKept judgings left controller (judge_account account pair line c (take_pair c.computer work)).computers
-  account_opened None pair line c work waits kept = taken_kept c.computer work kept
-  account_opened (Some account) pair line c work waits kept = offer_opened (has_flag c.flags rc4_flag) pair account line c work waits kept
+  pub authenticate_kept : (table : AccountTable) (line : Line) (c : AuthCall) (work : Work) → AreKept judgings left controller work.computers →
+      AreKept judgings left controller (answer_authenticate table line c work).computers
+  authenticate_kept table line c work kept =
+      opening_comes (λ (later : Work). AreKept judgings left controller later.computers) (account_for table c) (lookup same_name c.computer work.computers.pending) line c
+      (take_pair c.computer work) (record {
+        denied = λ status fails none. taken_kept c.computer work kept;
+        accepted = λ opens. opened_kept opens.pair opens.account line c work opens.is_pair kept;
+      })
 
 -- ---- a Logon call is judged
 
@@ -322,13 +310,13 @@ module _ (judgings : List Judging) (left : List (List ℕ)) (j : Judging) (compu
       ∙ ((kept.each name).pairs pair waits).0 secret client flags
 
   -- a call that passed on no channel
-  none_moved : ((channel : ChannelIdentity) → passed_channel j ≡ Some channel → ⊥) → (new : Computers) → new.pending ≡ computers.pending → new.channels ≡ computers.channels →
-      AreKept (j ∷ judgings) left j.controller new
+  none_moved : ((channel : ChannelIdentity) → passed_channel j ≡ Some channel → ⊥) → (new : Computers) → new.pending ≡ computers.pending →
+      ((name : List ℕ) → lookup same_name name new.channels ≡ lookup same_name name computers.channels) → AreKept (j ∷ judgings) left j.controller new
   none_moved none new pending channels = record {
     map = subst (λ entries. IsMap same_name entries) (sym pending) kept.map;
     each = λ name.
         kept_on judgings (j ∷ judgings) left left j.controller name computers new
-        (record { pair = ap (λ entries. lookup same_name name entries) pending; channel = ap (λ entries. lookup same_name name entries) channels })
+        (record { pair = ap (λ entries. lookup same_name name entries) pending; channel = channels name })
         (λ secret client server flags. moved_past (channel_from j.controller name secret client server flags) j judgings (λ other passed same. none other passed))
         (λ challenge spent. spent) (kept.each name);
   }
@@ -414,66 +402,18 @@ judged_as how number w line c d = record {
   reply = number;
 }
 
--- what is told first after the actions of before
-abbrev pub told_in : Desk → Desk → Option Judged
-told_in before after = judged_in (drop (length before.work.actions) after.work.actions)
-
-refused_told : (what : Asked) (how : Judged) (line : Line) (work : Work) → judged_in (drop (length work.actions) (refuse_asked what how line work).actions) ≡ Some how
-refused_told what how line work =
-    ap (λ (all : List Action). judged_in (drop (length work.actions) all)) (asked_refused what how line work).actions
-    ∙ ap judged_in (dropped work.actions _)
-
-how_passes : (passes : Bool) (what : Asked) (computer : List ℕ) (channel : SecureChannelState) (given : Authenticator) (name : List ℕ) (now : ℕ) (line : Line) (d : Desk) →
-    has_passed (told_in d (answer_return (return_by passes channel given) (answers_to what name now line).refused ((answers_to what name now line).passed computer channel) d)) ≡ passes
-how_passes true what computer channel given name now line d =
-    ap has_passed
-    (ap (λ (all : List Action). judged_in (drop (length d.work.actions) all))
-    (asked_done what name now line computer (key_of_channel channel) (return_of (key_of_channel channel) channel.seed given.timestamp) d).actions
-    ∙ ap judged_in (dropped d.work.actions _)
-    ∙ told_kept _ _ _ (texts_kept what _))
-how_passes false what computer channel given name now line d = ap has_passed (refused_told what judged.Barred line d.work)
-
-none_is : {T : Type 0} (value : T) → None ≡ Some value → ⊥
-none_is value is = absurd cc
-
-module _ (judgings : List Judging) (left : List (List ℕ)) (number : Option ℕ) (w : Where) (line : Line) (c : JudgedCall) (name : List ℕ) (now : ℕ) where
-  channel_judged : (found : Option SecureChannelState) (how : Option Judged) (computer : List ℕ) (given : Authenticator) (d : Desk) → computer_named c ≡ Some computer → given_in c ≡ Some given →
-      lookup same_name computer d.work.computers.channels ≡ found →
-      how ≡ told_in d (answer_on found computer given (answers_to (asked_of c) name now line) (desk d.table (take_channel computer d.work))) → AreKept judgings left w.controller d.work.computers →
-      AreKept (judged_as how number w line c d ∷ judgings) left w.controller
-      (answer_on found computer given (answers_to (asked_of c) name now line) (desk d.table (take_channel computer d.work))).work.computers
-  channel_judged None how computer given d named there stands told kept =
-      let j : Judging = judged_as how number w line c d in
-      let same : KeepsPairs (take_channel computer d.work).computers (refuse_asked (asked_of c) judged.NoChannel line (take_channel computer d.work)).computers =
-      refused_keeps (asked_of c) judged.NoChannel line (take_channel computer d.work) in
-      none_moved judgings left j d.work.computers refl kept (λ channel passed.
-      let found = passed_in j channel passed in
-      none_is found.state (sym stands ∙ sym (ap (λ (name : Option (List ℕ)). checked_on name d.work.computers) named) ∙ found.stands))
-      (refuse_asked (asked_of c) judged.NoChannel line (take_channel computer d.work)).computers same.pending
-      (same.channels ∙ taken_none computer d.work.computers.channels stands)
-  channel_judged (Some channel) how computer given d named there stands told kept =
-      let j : Judging = judged_as how number w line c d in
-      let passes : Bool = passes_on channel given in
-      let put_back : Desk = desk d.table (put_channel computer (channel_by passes channel given) (take_channel computer d.work)) in
-      let after : Desk = answer_return (return_by passes channel given) (answers_to (asked_of c) name now line).refused ((answers_to (asked_of c) name now line).passed computer channel) put_back in
-      let same : KeepsPairs put_back.work.computers after.work.computers = return_keeps (asked_of c) (return_by passes channel given) computer channel name now line put_back in
-      moved_kept judgings left j d.work.computers refl kept passes computer given channel after.work.computers
-      (ap has_passed told ∙ how_passes passes (asked_of c) computer channel given name now line put_back) named there stands same.pending same.channels
-
-  pub logon_kept : (computer : Option (List ℕ)) (given : Option Authenticator) (how : Option Judged) (d : Desk) → computer_named c ≡ computer → given_in c ≡ given →
-      how ≡ told_in d (answer_named computer given (answers_to (asked_of c) name now line) d) → AreKept judgings left w.controller d.work.computers →
-      AreKept (judged_as how number w line c d ∷ judgings) left w.controller (answer_named computer given (answers_to (asked_of c) name now line) d).work.computers
-  logon_kept None given how d named there told kept =
-      let j : Judging = judged_as how number w line c d in
-      let same : KeepsPairs d.work.computers (refuse_asked (asked_of c) judged.NoChannel line d.work).computers = refused_keeps (asked_of c) judged.NoChannel line d.work in
-      none_moved judgings left j d.work.computers refl kept (λ channel passed.
-      let found = passed_in j channel passed in none_is found.name (sym named ∙ found.named))
-      (refuse_asked (asked_of c) judged.NoChannel line d.work).computers same.pending same.channels
-  logon_kept (Some computer) None how d named there told kept =
-      let j : Judging = judged_as how number w line c d in
-      let same : KeepsPairs d.work.computers (refuse_asked (asked_of c) judged.NoChannel line d.work).computers = refused_keeps (asked_of c) judged.NoChannel line d.work in
-      none_moved judgings left j d.work.computers refl kept
-      (λ channel passed. not_passed (has_passed how) j channel (ap has_passed (told ∙ refused_told (asked_of c) judged.NoChannel line d.work)) passed)
-      (refuse_asked (asked_of c) judged.NoChannel line d.work).computers same.pending same.channels
-  logon_kept (Some computer) (Some given) how d named there told kept =
-      channel_judged (lookup same_name computer d.work.computers.channels) how computer given d named there refl told kept
+pub logon_kept : (judgings : List Judging) (left : List (List ℕ)) (number : Option ℕ) (w : Where) (line : Line) (c : JudgedCall) (d : Desk) → AreKept judgings left w.controller d.work.computers →
+    AreKept (judged_as (its_judging w line c d).how number w line c d ∷ judgings) left w.controller (answer_judged c w.name w.moment line d).work.computers
+logon_kept judgings left number w line c d kept =
+    let after : Desk = answer_judged c w.name w.moment line d in
+    let j : Judging = judged_as (its_judging w line c d).how number w line c d in
+    elim (done_or_refused w line c d) [
+      | inl done ↦
+          let next : IsNext d.work.computers (computer_named c) (given_in c) = done.0 in
+          let passes : Bool = passes_on next.channel next.given in
+          moved_kept judgings left j d.work.computers refl kept passes next.computer next.given next.channel after.work.computers
+          (done.1 ∙ sym ((bytes_eq-Decides _ _).1 next.passes)) next.named next.there next.stands done.2.pending done.2.channels
+      | inr refused ↦
+          none_moved judgings left j d.work.computers refl kept (λ channel passed. not_passed (has_passed j.how) j channel refused.0 passed) after.work.computers refused.1.pending
+          refused.1.channels
+    ]

@@ -1,41 +1,28 @@
 -- The seeds of the channels that controllers keep, through each step of an end.
 -- It serves `Proved.grants`, `Proved.replays`, `Proved.replies` and 3 more.
-use Rattle.std.proofs.Common.{◌≡◌, ◌≢◌, ℕ, Bool, true, false, List, [], ◌∷◌, ◌++◌, map, Option, Some, None, Ok, Err, refl, sym, ap, subst, ◌∙◌, inl, inr, slice_get, slice_set}
+use Rattle.std.proofs.Common.{◌≡◌, ◌≢◌, ℕ, List, [], ◌∷◌, ◌++◌, map, Option, Some, None, refl, sym, ap, subst, ◌∙◌, inl, inr, slice_get, slice_set}
 use Rattle.std.specs.List.{AllByRecursion}
-use Rattle.wire_base.specs.Maps.{lookup, same_number, take_out}
-use Rattle.wire_base.specs.Names.{same_name}
 use Rattle.authenticators.specs.Channels.{ChannelIdentity}
 use Rattle.outside.specs.declared.event.Event.{Event}
 use Rattle.outside.specs.Drawing.{IsRest}
-use Rattle.outside.specs.Machine.{step_by}
 use Rattle.outside.proofs.DrawLaws.{IsRest-later, IsRest-nothing, IsRest-refl, IsRest-trans}
-use Rattle.rpc_units.specs.Stream.{Cut, cut_stream}
-use Rattle.logon_stubs.specs.declared.calls.ChallengeCall.{ChallengeCall}
 use Rattle.account_table.specs.LookUps.{knows_in}
-use Rattle.end_links.specs.Links.{LinkState}
-use Rattle.end_links.specs.Serving.{ServedPart, served_cut, ServedUnit, served_units}
-use Rattle.domain_controller.specs.Hearing.{hear}
-use Rattle.domain_controller.specs.Machine.{Desk, account_for, answer_judged, by_heard, controller_server, draw_challenge}
+use Rattle.domain_controller.specs.Machine.{Desk, answer_authenticate, answer_challenge, answer_judged}
 use Rattle.domain_controller.specs.State.{State as ControllerState}
-use Rattle.domain_controller.specs.Step.{LinkMap, first_desk, halted, state_after, step_of, step_on}
-use Rattle.domain_controller.specs.declared.hearing.Heard.{Heard}
-use Rattle.controller_calls.specs.declared.line.Line.{Line}
+use Rattle.domain_controller.specs.Step.{step_of}
 use Rattle.controller_calls.specs.declared.state.Computers.{Computers}
 use Rattle.domain_controller.specs.declared.state.Running.{Running}
-use Rattle.domain_controller.specs.declared.state.Talk.{Talk}
-use Rattle.step_notes.specs.ControllerNotes.{Answered, Where, answer_on, channel_in, has_passed, heard_answer, judged_in, judging_by, judging_of, new_actions, opened_by, opening, passing, units_at, units_by}
-use Rattle.step_notes.specs.Records.{Judging, Source, computer_named, given_in}
-use Rattle.step_notes.specs.Served.{units_if_taken, work_after}
+use Rattle.step_notes.specs.ControllerNotes.{Answered, Where, judged_answer, plain, silent, has_passed, opened_by, opening}
+use Rattle.step_notes.specs.Records.{Judging}
+use Rattle.world_moves.specs.declared.state.State.{State}
 use Rattle.domain_world.specs.Claims.{moved_on}
-use Rattle.domain_world.specs.Past.{first_of, judged_of, later_of, onto, with_reply}
-use Rattle.step_notes.proofs.ServedLaws.{StaysNoted, served_mapped}
+use Rattle.domain_world.specs.Past.{Coming, answers_of, at_controller, first_of, judged_of, later_of, onto, with_reply}
+use Rattle.step_notes.proofs.Controllers.NotedLaws.{NotedFact, StaysThrough, step_says}
 use Rattle.domain_world.proofs.Challenges.MessageOnceLaws.{set_cases}
-use Rattle.domain_world.proofs.Judgements.SeedLaws.{AreApart, AreKept, AreUnheard, IsInOrder, IsSpent, account_opened, channel_from, drawn_order, judged_as, judged_order, keeps_all, kept_on, logon_kept, others_unmoved, pair_kept}
-use Rattle.domain_world.proofs.Judgements.ToldLaws.{standing_at, step_after, step_link}
+use Rattle.domain_world.proofs.Judgements.SeedLaws.{AreApart, AreKept, AreUnheard, IsInOrder, IsSpent, authenticate_kept, channel_from, drawn_order, judged_as, judged_order, keeps_all, kept_on, logon_kept, others_unmoved, pair_kept}
+use Rattle.domain_world.proofs.Judgements.ChainLaws.{its_judging, judged_judging, opening_judging}
 use Rattle.domain_world.proofs.Frames.NoBytesLaws.{DoesNothingElse, IsNoBytes, KeepsComputers, does_nothing_else}
 use Rattle.outside.specs.declared.event.Event.TheVariants as event
-use Rattle.controller_calls.specs.declared.calls.ControllerCall.TheVariants as call
-use Rattle.domain_controller.specs.declared.hearing.Heard.TheVariants as heard
 
 -- ---- fewer challenges are left
 
@@ -80,21 +67,16 @@ pub record Goes (judgings now : List Judging) (left rest : List (List ℕ)) (con
   pub fewer : IsRest rest left
   pub others : (channel : ChannelIdentity) → (channel.controller ≡ controller → ⊥) → moved_on channel now ≡ moved_on channel judgings
 
-abbrev pub PartGoes : List Judging → List Judging → List (List ℕ) → ℕ → ServedPart Desk Talk → Type 0
-PartGoes judgings now left controller (Err why) = Unit {0}
-PartGoes judgings now left controller (Ok part) = Goes judgings now left part.left controller part.value.0.work.computers
-
 stays : (judgings : List Judging) (left : List (List ℕ)) (controller : ℕ) (computers : Computers) → IsInOrder judgings left → AreKept judgings left controller computers →
     Goes judgings judgings left left controller computers
 stays judgings left controller computers order kept = record { order = order; kept = kept; fewer = IsRest-refl left; others = λ channel apart. refl }
 
-goes_on : (judgings middle now : List Judging) (left rest : List (List ℕ)) (controller : ℕ) (computers : Computers) (part : ServedPart Desk Talk) →
-    Goes judgings middle left rest controller computers → PartGoes middle now rest controller part → PartGoes judgings now left controller part
-goes_on judgings middle now left rest controller computers (Err why) first second = tt
-goes_on judgings middle now left rest controller computers (Ok part) first second = record {
+goes_on : (judgings middle now : List Judging) (left rest less : List (List ℕ)) (controller : ℕ) (computers later : Computers) →
+    Goes judgings middle left rest controller computers → Goes middle now rest less controller later → Goes judgings now left less controller later
+goes_on judgings middle now left rest less controller computers later first second = record {
   order = second.order;
   kept = second.kept;
-  fewer = IsRest-trans part.left rest left second.fewer first.fewer;
+  fewer = IsRest-trans less rest left second.fewer first.fewer;
   others = λ channel apart. second.others channel apart ∙ first.others channel apart;
 }
 
@@ -105,57 +87,7 @@ abbrev pub with_judging : Option Judging → Option ℕ → List Judging → Lis
 with_judging None number judgings = judgings
 with_judging (Some j) number judgings = record j { reply = number } ∷ judgings
 
-opening_none : (channel : Option ChannelIdentity) (w : Where) (number : ℕ) → (opening channel w number).judging ≡ None
-opening_none None w number = refl
-opening_none (Some channel) w number = refl
-
-passing_some : (channel : Option ChannelIdentity) (j : Judging) → (passing channel j).judging ≡ Some j
-passing_some None j = refl
-passing_some (Some channel) j = refl
-
-judging_some : (passed : Bool) (j : Judging) → (judging_by passed j).judging ≡ Some j
-judging_some false j = refl
-judging_some true j = passing_some (channel_in j.controller (computer_named j.asked) j.checks) j
-
-module _ (judgings : List Judging) (w : Where) (d : Desk) where
-  drawn_goes : (left : List (List ℕ)) (line : Line) (c : ChallengeCall) (talk : Talk) → IsInOrder judgings left → AreKept judgings left w.controller d.work.computers →
-      PartGoes judgings judgings left w.controller (draw_challenge left line c talk d)
-  drawn_goes [] line c talk order kept = tt
-  drawn_goes (server ∷ left) line c talk order kept = record {
-    order = drawn_order judgings server left order;
-    kept = pair_kept (knows_in d.table.accounts c.computer) judgings server left w.controller c.computer c.challenge d.work order kept;
-    fewer = IsRest-later server left left (IsRest-refl left);
-    others = λ channel apart. refl;
-  }
-
-  heard_goes : (what : Heard) (link : ℕ) (number : Option ℕ) (left : List (List ℕ)) → IsInOrder judgings left → AreKept judgings left w.controller d.work.computers →
-      PartGoes judgings (with_judging (heard_answer what w d (work_after (by_heard what link w.name w.moment d left))).judging number judgings) left w.controller
-      (by_heard what link w.name w.moment d left)
-  heard_goes (heard.Close cause) link number left order kept = stays judgings left w.controller d.work.computers order kept
-  heard_goes (heard.Answer bytes talk) link number left order kept = stays judgings left w.controller d.work.computers order kept
-  heard_goes (heard.Waits talk) link number left order kept = stays judgings left w.controller d.work.computers order kept
-  heard_goes (heard.Asked line (call.Challenge c) talk) link number left order kept = drawn_goes left line c talk order kept
-  heard_goes (heard.Asked line (call.Authenticate c) talk) link number left order kept =
-      subst (λ (j : Option Judging). PartGoes judgings (with_judging j number judgings) left w.controller (by_heard (heard.Asked line (call.Authenticate c) talk) link w.name w.moment d left))
-      (sym (opening_none (opened_by w.controller c d) w line.call))
-      (stays judgings left w.controller _ order
-      (account_opened judgings left w.controller (account_for d.table c) (lookup same_name c.computer d.work.computers.pending) line c d.work refl kept))
-  heard_goes (heard.Asked line (call.Judged c) talk) link number left order kept =
-      let after : Desk = answer_judged c w.name w.moment line d in
-      let how = judged_in (new_actions (Some after) d) in
-      let j : Judging = judged_as how number w line c d in
-      subst (λ (o : Option Judging). PartGoes judgings (with_judging o number judgings) left w.controller (by_heard (heard.Asked line (call.Judged c) talk) link w.name w.moment d left))
-      (sym (judging_some (has_passed how) (judging_of w line c d (Some after)))) (record {
-        order = judged_order judgings left j d.work.computers refl kept order;
-        kept = logon_kept judgings left number w line c w.name w.moment (computer_named c) (given_in c) how d refl refl refl kept;
-        fewer = IsRest-refl left;
-        others = others_unmoved judgings left j d.work.computers refl kept;
-      })
-
 -- ---- the units of a stream
-
-abbrev pub judged_at : ℕ → Where → List (ServedUnit Desk Talk) → List ℕ → List Judging → List Judging
-judged_at link w units numbers judgings = onto (judged_of (map (answer_on link w) units) numbers) judgings
 
 onto_reply : (j : Option Judging) (number : Option ℕ) (later judgings : List Judging) → onto (with_reply j number ++ later) judgings ≡ onto later (with_judging j number judgings)
 onto_reply None number later judgings = refl
@@ -177,29 +109,55 @@ judged_more (first ∷ answers) one numbers judgings =
     ∙ ap (λ (all : List Judging). with_judging one.judging (first_of (numbers_left answers later)) all)
     (sym (onto_reply first.judging (first_of numbers) (judged_of answers later) judgings))
 
-goes_stay : (link : ℕ) (w : Where) (judgings : List Judging) (left : List (List ℕ)) (numbers : List ℕ) →
-    StaysNoted (controller_server w.name w.moment link) (λ (unit : ServedUnit Desk Talk). answer_on link w unit ∷ [])
-    (λ answers part. PartGoes judgings (onto (judged_of answers numbers) judgings) left w.controller part)
-goes_stay link w judgings left numbers = record {
-  unit = λ answers bytes d talk some goes.
-      let part : ServedPart Desk Talk = by_heard (hear link bytes talk) link w.name w.moment d some in
-      let one : Answered = heard_answer (hear link bytes talk) w d (work_after part) in
-      let middle : List Judging = onto (judged_of answers numbers) judgings in
-      let number : Option ℕ = first_of (numbers_left answers numbers) in
-      subst (λ (now : List Judging). PartGoes judgings now left w.controller part) (sym (judged_more answers one numbers judgings))
-      (goes_on judgings middle (with_judging one.judging number middle) left some w.controller d.work.computers part goes
-      (heard_goes middle w d (hear link bytes talk) link number some goes.order goes.kept));
-  refusal = λ answers why d talk some goes. goes;
-}
+module _ (w : Where) (judgings : List Judging) (left : List (List ℕ)) (numbers : List ℕ) where
+  abbrev written : List Answered → List Judging
+  written answers = onto (judged_of answers numbers) judgings
 
-units_go : (link : ℕ) (w : Where) (cut : Cut) (d : Desk) (talk : Talk) (left : List (List ℕ)) (numbers : List ℕ) (judgings : List Judging) → IsInOrder judgings left →
-    AreKept judgings left w.controller d.work.computers →
-    PartGoes judgings (judged_at link w (served_units (controller_server w.name w.moment link) cut.units d talk left) numbers judgings) left w.controller
-    (served_cut (controller_server w.name w.moment link) cut d talk left)
-units_go link w cut d talk left numbers judgings order kept =
-    served_mapped (controller_server w.name w.moment link) (answer_on link w)
-    (λ answers part. PartGoes judgings (onto (judged_of answers numbers) judgings) left w.controller part) (goes_stay link w judgings left numbers) cut d talk left
-    (stays judgings left w.controller d.work.computers order kept)
+  abbrev GoesOn : NotedFact
+  GoesOn answers d some = Goes judgings (written answers) left some w.controller d.work.computers
+
+  further : (answers : List Answered) (one : Answered) (d : Desk) (later : Computers) (some less : List (List ℕ)) → GoesOn answers d some →
+      Goes (written answers) (with_judging one.judging (first_of (numbers_left answers numbers)) (written answers)) some less w.controller later →
+      Goes judgings (written (answers ++ one ∷ [])) left less w.controller later
+  further answers one d later some less goes more =
+      subst (λ (now : List Judging). Goes judgings now left less w.controller later) (sym (judged_more answers one numbers judgings))
+      (goes_on judgings (written answers) _ left some less w.controller d.work.computers later goes more)
+
+  goes_stay : (link : ℕ) → StaysThrough w link w.name w.moment GoesOn
+  goes_stay link = record {
+    closes = λ answers d some cause goes. goes;
+    waits = λ answers d some goes.
+        further answers silent d d.work.computers some some goes (stays (written answers) some w.controller d.work.computers goes.order goes.kept);
+    sends = λ answers d some bytes goes.
+        further answers plain d d.work.computers some some goes (stays (written answers) some w.controller d.work.computers goes.order goes.kept);
+    challenge = λ answers d some line c server on goes.
+        further answers plain d (answer_challenge d.table line c server d.work).computers (server ∷ some) some goes (record {
+          order = drawn_order (written answers) server some goes.order;
+          kept = pair_kept (knows_in d.table.accounts c.computer) (written answers) server some w.controller c.computer c.challenge d.work goes.order goes.kept;
+          fewer = IsRest-later server some some (IsRest-refl some);
+          others = λ channel apart. refl;
+        });
+    authenticate = λ answers d some line c on goes.
+        let later : Computers = (answer_authenticate d.table line c d.work).computers in
+        let opened : Option ChannelIdentity = opened_by w.controller c d in
+        further answers (opening opened w line.call) d later some some goes
+        (subst (λ (j : Option Judging). Goes (written answers) (with_judging j (first_of (numbers_left answers numbers)) (written answers)) some some w.controller later)
+        (sym (opening_judging opened w line.call))
+        (stays (written answers) some w.controller later goes.order (authenticate_kept (written answers) some w.controller d.table line c d.work goes.kept)));
+    judged = λ answers d some line c on goes.
+        let later : Computers = (answer_judged c w.name w.moment line d).work.computers in
+        let one : Judging = its_judging w line c d in
+        let number : Option ℕ = first_of (numbers_left answers numbers) in
+        let j : Judging = judged_as one.how number w line c d in
+        further answers (judged_answer one) d later some some goes
+        (subst (λ (o : Option Judging). Goes (written answers) (with_judging o number (written answers)) some some w.controller later)
+        (sym (judged_judging (has_passed one.how) one)) (record {
+          order = judged_order (written answers) some j d.work.computers refl goes.kept goes.order;
+          kept = logon_kept (written answers) some number w line c d goes.kept;
+          fewer = IsRest-refl some;
+          others = others_unmoved (written answers) some j d.work.computers refl goes.kept;
+        }));
+  }
 
 -- ---- a step of a controller
 
@@ -223,37 +181,23 @@ step_ends : (judgings : List Judging) (left : List (List ℕ)) (controller : ℕ
 step_ends judgings left controller order =
     record { order = order_rest judgings [] left (IsRest-nothing left) order; kept = tt; fewer = IsRest-nothing left; others = λ channel apart. refl }
 
-part_step : (judgings : List Judging) (link : ℕ) (w : Where) (c : ControllerState) (part : ServedPart Desk Talk) (units : List (ServedUnit Desk Talk)) (rest : List ℕ) (others : LinkMap)
-    (left : List (List ℕ)) (numbers : List ℕ) → IsInOrder judgings left → PartGoes judgings (judged_at link w units numbers judgings) left w.controller part →
-    StepGoes judgings
-    (judged_at link w (units_if_taken (step_by (λ after. after.0.work.actions) (λ after. state_after c after) (halted c) left (step_after c part rest link others)).answer units) numbers judgings)
-    left (step_by (λ after. after.0.work.actions) (λ after. state_after c after) (halted c) left (step_after c part rest link others)).left w.controller
-    (step_by (λ after. after.0.work.actions) (λ after. state_after c after) (halted c) left (step_after c part rest link others)).state.running
-part_step judgings link w c (Err why) units rest others left numbers order goes = step_ends judgings left w.controller order
-part_step judgings link w c (Ok part) units rest others left numbers order goes = record { order = goes.order; kept = goes.kept; fewer = goes.fewer; others = goes.others }
-
-link_step : (found : Option (LinkState Talk)) (judgings : List Judging) (at controller : ℕ) (source : Source) (link : ℕ) (piece : List ℕ) (c : ControllerState) (running : Running) (now : ℕ)
-    (left : List (List ℕ)) (numbers : List ℕ) → IsInOrder judgings left → AreKept judgings left controller running.computers →
-    StepGoes judgings
-    (judged_at link (standing_at at controller source c now) (units_if_taken (step_link found link piece c running now left).answer (units_at found link piece c running now left)) numbers judgings)
-    left (step_link found link piece c running now left).left controller (step_link found link piece c running now left).state.running
-link_step None judgings at controller source link piece c running now left numbers order kept =
-    step_stays judgings left controller (step_link None link piece c running now left).state.running order kept
-link_step (Some there) judgings at controller source link piece c running now left numbers order kept =
-    let w : Where = standing_at at controller source c now in
-    let cut = cut_stream (there.rest ++ piece) in
-    part_step judgings link w c (served_cut (controller_server c.name now link) cut (first_desk c.table running) there.talk left) (units_at (Some there) link piece c running now left) cut.rest
-    (take_out same_number link running.links) left numbers order
-    (units_go link w cut (first_desk c.table running) there.talk left numbers judgings order kept)
-
-bytes_step : (running : Option Running) (judgings : List Judging) (at controller : ℕ) (source : Source) (link : ℕ) (piece : List ℕ) (c : ControllerState) (now : ℕ) (left : List (List ℕ))
-    (numbers : List ℕ) → IsInOrder judgings left → AreKeptIf judgings left controller c.running → AreKeptIf judgings left controller running →
-    StepGoes judgings
-    (judged_at link (standing_at at controller source c now) (units_if_taken (step_on running c (event.Bytes link piece) now left).answer (units_by running link piece c now left)) numbers judgings)
-    left (step_on running c (event.Bytes link piece) now left).left controller (step_on running c (event.Bytes link piece) now left).state.running
-bytes_step None judgings at controller source link piece c now left numbers order was kept = step_stays judgings left controller c.running order was
-bytes_step (Some running) judgings at controller source link piece c now left numbers order was kept =
-    link_step (lookup same_number link running.links) judgings at controller source link piece c running now left numbers order kept
+bytes_step : (controller : ℕ) (c : ControllerState) (judgings : List Judging) (w : Coming) (piece : List ℕ) (s : State) (numbers : List ℕ) → IsInOrder judgings s.chances.left →
+    AreKeptIf judgings s.chances.left controller c.running →
+    StepGoes judgings (onto (judged_of (answers_of controller c w piece s) numbers) judgings) s.chances.left (step_of c (event.Bytes w.link piece) s.moment s.chances.left).left controller
+    (step_of c (event.Bytes w.link piece) s.moment s.chances.left).state.running
+bytes_step controller c judgings w piece s numbers order kept =
+    let at : Where = at_controller controller c w s in
+    let left : List (List ℕ) = s.chances.left in
+    step_says at w.link c piece s.moment left (λ running. GoesOn at judgings left numbers)
+    (λ answers stepped. StepGoes judgings (onto (judged_of answers numbers) judgings) left stepped.left controller stepped.state.running) (record {
+      stays = λ running. goes_stay at judgings left numbers w.link;
+      first = λ running runs.
+          stays judgings left controller running.computers order (subst (λ (r : Option Running). AreKeptIf judgings left controller r) runs kept);
+      stopped = λ ends. step_stays judgings left controller c.running order kept;
+      spent = step_ends judgings left controller order;
+      taken = λ running answers d links rest runs goes.
+          record { order = goes.order; kept = goes.kept; fewer = goes.fewer; others = goes.others };
+    })
 
 -- ---- a step at which no bytes come
 
@@ -307,14 +251,13 @@ drawn_follow judgings left rest controllers is follow = record {
 }
 
 -- a controller hears bytes
-pub bytes_follow : (c : ControllerState) (judgings : List Judging) (at controller : ℕ) (source : Source) (link : ℕ) (piece : List ℕ) (now : ℕ) (controllers : List ControllerState)
-    (left : List (List ℕ)) (numbers : List ℕ) → slice_get controllers controller ≡ Some c → SeedsFollow judgings left controllers →
-    SeedsFollow (judged_at link (standing_at at controller source c now) (units_if_taken (step_of c (event.Bytes link piece) now left).answer (units_by c.running link piece c now left)) numbers judgings)
-    (step_of c (event.Bytes link piece) now left).left (slice_set controllers controller (step_of c (event.Bytes link piece) now left).state)
-bytes_follow c judgings at controller source link piece now controllers left numbers is follow =
-    let kept : AreKeptIf judgings left controller c.running = follow.each controller c is in
-    controller_put judgings _ left _ controllers controller (step_of c (event.Bytes link piece) now left).state follow
-    (bytes_step c.running judgings at controller source link piece c now left numbers follow.order kept kept)
+pub bytes_follow : (c : ControllerState) (judgings : List Judging) (controller : ℕ) (w : Coming) (piece : List ℕ) (s : State) (numbers : List ℕ) →
+    slice_get s.ends.controllers controller ≡ Some c → SeedsFollow judgings s.chances.left s.ends.controllers →
+    SeedsFollow (onto (judged_of (answers_of controller c w piece s) numbers) judgings) (step_of c (event.Bytes w.link piece) s.moment s.chances.left).left
+    (slice_set s.ends.controllers controller (step_of c (event.Bytes w.link piece) s.moment s.chances.left).state)
+bytes_follow c judgings controller w piece s numbers is follow =
+    controller_put judgings _ s.chances.left _ s.ends.controllers controller (step_of c (event.Bytes w.link piece) s.moment s.chances.left).state follow
+    (bytes_step controller c judgings w piece s numbers follow.order (follow.each controller c is))
 
 -- it hears something else
 pub quiet_follow : (c : ControllerState) (judgings : List Judging) (controller : ℕ) (what : Event) (now : ℕ) (controllers : List ControllerState) (left : List (List ℕ)) →

@@ -39,7 +39,8 @@ use Rattle.domain_world.proofs.Frames.MoveFrameLaws.{placed_next}
 use Rattle.domain_world.proofs.Frames.NoBytesLaws.{IsNoBytes, KeepsComputers, does_nothing_else}
 use Rattle.domain_world.proofs.Frames.PlacedLaws.{IsPlaced}
 use Rattle.domain_world.proofs.Judgements.OpeningRunLaws.{each_fresh}
-use Rattle.domain_world.proofs.Judgements.SessionStepLaws.{AreChained, IsBy, RunningChains, RunsWith, left_behind, left_of, step_chains}
+use Rattle.domain_world.proofs.Judgements.ChainLaws.{AreChained, IsBy, left_behind, left_of}
+use Rattle.domain_world.proofs.Judgements.SessionStepLaws.{RunningChains, RunsWith, kept_sessions, step_chains}
 
 -- ---- since when
 
@@ -131,26 +132,26 @@ module _ (starts : List ControllerRenewed) (w : Where) (early : Starts w.at star
   Since judgings = sessions_since w.controller (last_start w.controller starts) judgings
 
   -- a call of this controller, by the sessions before it
-  own_call : (j : Judging) (old : List Judging) (sessions : List Session) → IsBy w sessions (Some j) → sessions ≡ Since old →
+  own_call : (j : Judging) (old : List Judging) (sessions : List Session) → IsBy kept_sessions w sessions (Some j) → sessions ≡ Since old →
       j.sessions ≡ sessions_since j.controller (start_before j.controller j.at starts) old
   own_call j old sessions by own =
       by.by ∙ own ∙ ap (λ (start : ℕ). sessions_since w.controller start old) (sym (before_last w.controller w.at starts early))
       ∙ ap₂ (λ (k at : ℕ). sessions_since k (start_before k at starts) old) (sym by.controller) (sym by.at)
 
-  own_more : (j : Judging) (old : List Judging) (sessions : List Session) → IsBy w sessions (Some j) → sessions_behind j ≡ Since (j ∷ old)
+  own_more : (j : Judging) (old : List Judging) (sessions : List Session) → IsBy kept_sessions w sessions (Some j) → sessions_behind j ≡ Since (j ∷ old)
   own_more j old sessions by =
       sym (since_own (is_since w.controller (last_start w.controller starts) j) j (Since old)
       (and_true (j.controller == w.controller) (nat_le (last_start w.controller starts) j.at) (eq-eqb j.controller w.controller by.controller)
       (le-leb (last_start w.controller starts) j.at (subst (λ (at : ℕ). last_start w.controller starts ≤ at) (sym by.at) (last_early w.controller w.at starts early)))))
 
-  one_brings : (found : Option Judging) (number : Option ℕ) (later old : List Judging) (sessions after : List Session) → IsBy w sessions found → AreBySince starts old → sessions ≡ Since old →
+  one_brings : (found : Option Judging) (number : Option ℕ) (later old : List Judging) (sessions after : List Session) → IsBy kept_sessions w sessions found → AreBySince starts old → sessions ≡ Since old →
       AreMade w.at old →
-      ((now : List Judging) → AreBySince starts now → left_of sessions found ≡ Since now → AreMade w.at now → Brings starts w now (onto later now) after) →
+      ((now : List Judging) → AreBySince starts now → left_of kept_sessions sessions found ≡ Since now → AreMade w.at now → Brings starts w now (onto later now) after) →
       Brings starts w old (onto (with_reply found number ++ later) old) after
   one_brings None number later old sessions after by all own made next = next old all own made
   one_brings (Some j) number later old sessions after by all own made next =
       let one : Judging = record j { reply = number } in
-      let its : IsBy w sessions (Some one) = record { controller = by.controller; at = by.at; by = by.by } in
+      let its : IsBy kept_sessions w sessions (Some one) = record { controller = by.controller; at = by.at; by = by.by } in
       let more : Brings starts w (one ∷ old) (onto later (one ∷ old)) after =
       next (one ∷ old) (own_call one old sessions its own, all)
       (sym (left_alike (has_passed j.how) j number) ∙ own_more one old sessions its)
@@ -165,12 +166,12 @@ module _ (starts : List ControllerRenewed) (w : Where) (early : Starts w.at star
         made = more.made;
       }
 
-  answers_bring : (answers : List Answered) (numbers : List ℕ) (old : List Judging) (sessions : List Session) → AreChained w sessions answers → AreBySince starts old → sessions ≡ Since old →
-      AreMade w.at old → Brings starts w old (onto (judged_of answers numbers) old) (left_behind sessions answers)
+  answers_bring : (answers : List Answered) (numbers : List ℕ) (old : List Judging) (sessions : List Session) → AreChained kept_sessions w sessions answers → AreBySince starts old → sessions ≡ Since old →
+      AreMade w.at old → Brings starts w old (onto (judged_of answers numbers) old) (left_behind kept_sessions sessions answers)
   answers_bring [] numbers old sessions chained all own made = record { judged = all; own = own; others = λ other start differs. refl; made = made }
   answers_bring (one ∷ answers) numbers old sessions chained all own made =
-      one_brings one.judging (first_of numbers) (judged_of answers (later_of one.sends numbers)) old sessions (left_behind (left_of sessions one.judging) answers) chained.0 all own made
-      (λ now each its so. answers_bring answers (later_of one.sends numbers) now (left_of sessions one.judging) chained.1 each its so)
+      one_brings one.judging (first_of numbers) (judged_of answers (later_of one.sends numbers)) old sessions (left_behind kept_sessions (left_of kept_sessions sessions one.judging) answers) chained.0 all own made
+      (λ now each its so. answers_bring answers (later_of one.sends numbers) now (left_of kept_sessions sessions one.judging) chained.1 each its so)
 
 -- ---- all controllers
 
@@ -211,11 +212,11 @@ running_comes None starts w answers numbers old after early chains all runs made
       made = made;
     })
 running_comes (Some running) starts w answers numbers old after early chains all runs made =
-    let brings : Brings starts w old (onto (judged_of answers numbers) old) (left_behind running.computers.sessions answers) =
+    let brings : Brings starts w old (onto (judged_of answers numbers) old) (left_behind kept_sessions running.computers.sessions answers) =
     answers_bring starts w early answers numbers old running.computers.sessions chains.chained all runs made in
     record {
       judged = brings.judged;
-      own = runs_same after (left_behind running.computers.sessions answers) _ brings.own chains.runs;
+      own = runs_same after (left_behind kept_sessions running.computers.sessions answers) _ brings.own chains.runs;
       others = brings.others;
       made = brings.made;
     }

@@ -1,46 +1,22 @@
 -- What controllers told in a run are the judgements of the Logon calls that they heard, in their order.
 -- It serves `Proved.credentials`.
-use Rattle.std.proofs.Common.{◌≡◌, ℕ, Bool, true, false, cond, List, [], ◌∷◌, ◌++◌, length, map, Option, Some, None, Ok, Err, refl, sym, ap, ◌∙◌, subst}
+use Rattle.std.proofs.Common.{◌≡◌, ℕ, Bool, true, false, cond, List, [], ◌∷◌, ◌++◌, length, Option, Some, None, refl, sym, ap, ◌∙◌, subst}
 use Rattle.std.specs.List.{AllByRecursion}
 use Rattle.std.specs.Prelude.{flat_map}
-use Rattle.std.proofs.lemmas.List.{append_assoc, append-nil, flat_map_more}
+use Rattle.std.proofs.lemmas.List.{append-nil, flat_map_more}
 use Rattle.std.proofs.lemmas.List.Concat.{flat_map-append}
-use Rattle.wire_base.specs.Maps.{lookup, same_number, take_out}
-use Rattle.wire_base.specs.Names.{same_name}
-use Rattle.ntlm_flags.specs.Flags.{has_flag}
-use Rattle.channel_keys.specs.Flags.{rc4_flag}
-use Rattle.authenticators.specs.Channels.{ChannelIdentity}
 use Rattle.authenticators.specs.SecureChannels.{SecureChannelState}
 use Rattle.outside.specs.declared.action.Action.{Action}
-use Rattle.outside.specs.declared.action.CloseCause.{CloseCause}
 use Rattle.outside.specs.declared.action.Judged.{Judged}
 use Rattle.outside.specs.declared.event.Event.{Event}
-use Rattle.outside.specs.Machine.{Stepped, step_by, then_part}
-use Rattle.rpc_units.specs.Stream.{cut_stream, Cut}
-use Rattle.logon_stubs.specs.declared.calls.AuthCall.{AuthCall}
-use Rattle.logon_stubs.specs.declared.calls.ChallengeCall.{ChallengeCall}
-use Rattle.logon_stubs.specs.declared.calls.Reply.{Reply}
-use Rattle.account_table.specs.declared.account.Account.{Account}
-use Rattle.account_table.specs.LookUps.{knows_in}
-use Rattle.end_links.specs.Links.{LinkState}
-use Rattle.end_links.specs.Serving.{ServedPart, served_cut, ServedUnit, served_units}
-use Rattle.domain_controller.specs.Hearing.{hear}
-use Rattle.domain_controller.specs.Machine.{Desk, account_for, answer_judged, by_heard, channel_for, controller_server, draw_challenge, judge_account, judge_offer, judge_pair, open_channel, put_pair_if, send_reply, take_pair}
+use Rattle.domain_controller.specs.Machine.{Desk, answer_authenticate, answer_challenge, answer_judged}
 use Rattle.domain_controller.specs.Laws.{judges_call}
 use Rattle.domain_controller.specs.State.{State as ControllerState}
-use Rattle.domain_controller.specs.Step.{LinkMap, StepPart, after_units, first_desk, halted, serve_on, start_turn, state_after, step_of, step_on}
-use Rattle.domain_controller.specs.declared.hearing.Heard.{Heard}
-use Rattle.controller_calls.specs.declared.line.Line.{Line}
-use Rattle.controller_calls.specs.declared.state.ChallengePair.{ChallengePair}
-use Rattle.domain_controller.specs.declared.state.Running.{Running}
-use Rattle.domain_controller.specs.declared.state.Talk.{Talk}
-use Rattle.controller_calls.specs.declared.state.Work.{Work}
-use Rattle.step_notes.specs.ControllerNotes.{Answered, Where, answer_on, channel_in, has_passed, heard_answer, judging_by, judging_of, opened_by, opening, passing, units_at, units_by}
+use Rattle.domain_controller.specs.Step.{step_of}
+use Rattle.step_notes.specs.ControllerNotes.{Answered, judged_answer, plain, silent, Where, has_passed, judging_of, opened_by, opening}
 use Rattle.step_notes.specs.Judged.{IsJudgedRight, IsRightOf}
 use Rattle.step_notes.specs.MemberNotes.{turn_units}
-use Rattle.step_notes.specs.Records.{Book, JudgementTold, Judging, Source, computer_named, given_in, unit_in}
-use Rattle.controller_calls.specs.Passing.{IsKeep}
-use Rattle.step_notes.specs.Served.{units_if_taken, work_after}
+use Rattle.step_notes.specs.Records.{Book, JudgementTold, Judging, given_in, unit_in}
 use Rattle.world_moves.specs.declared.links.EndId.{EndId}
 use Rattle.world_moves.specs.declared.links.EndId.TheVariants.{Controller, Member, Client}
 use Rattle.world_moves.specs.declared.moves.Move.{Move}
@@ -51,23 +27,21 @@ use Rattle.world_moves.specs.Ends.{EndStep, actions_by, client_step, member_step
 use Rattle.world_moves.specs.Links.{acceptor_of}
 use Rattle.world_moves.specs.Moving.{begun, with_link}
 use Rattle.domain_world.specs.Claims.{AreRightlyTold, AreTheirJudgements, PassesTheNextCredential, judgements_of_calls}
-use Rattle.domain_world.specs.Past.{Coming, answers_of, controller_of, first_of, judged_of, judgement_by, judgements_in, later_of, note_at, note_client, note_controller, note_member, note_messages, numbers_on, onto, past, with_reply}
+use Rattle.domain_world.specs.Past.{Coming, answers_of, at_controller, controller_of, first_of, judged_of, judgement_by, judgements_in, later_of, note_at, note_client, note_controller, note_member, note_messages, numbers_on, onto, past, with_reply}
 use Rattle.step_notes.proofs.Controllers.JudgedStepLaws.{Told, how_is, told_call}
 use Rattle.domain_world.proofs.Judgements.JudgedLaws.{AreRight, judged_rightly}
 use Rattle.domain_world.proofs.Frames.TurnFrameLaws.{turns_judgements}
 use Rattle.domain_world.proofs.Frames.EndFrameLaws.{EndFact, KeepsEnds, ends_after}
-use Rattle.step_notes.proofs.ServedLaws.{StaysNoted, served_mapped}
+use Rattle.step_notes.proofs.Controllers.NotedLaws.{NotedFact, StaysThrough, step_says}
+use Rattle.controller_calls.proofs.ReplyLaws.{Replies, authenticate_replies, challenge_replies, read_behind}
+use Rattle.domain_world.proofs.Judgements.ChainLaws.{judged_judging, opening_judging}
 use Rattle.wire_base.specs.declared.authenticator.Authenticator.{Authenticator}
 use Rattle.domain_world.proofs.Frames.NoBytesLaws.{IsBeside, IsNoBytes, does_nothing_else}
 use Rattle.domain_world.proofs.Frames.EndNoteLaws.{judged_so, noted_by}
 use Rattle.domain_world.proofs.Frames.EventLaws.{calm_no_bytes}
 use Rattle.outside.specs.declared.action.Action.TheVariants as action
-use Rattle.outside.specs.declared.action.CloseCause.TheVariants as close
 use Rattle.outside.specs.declared.action.Judged.TheVariants as judged
 use Rattle.outside.specs.declared.event.Event.TheVariants as event
-use Rattle.controller_calls.specs.declared.calls.ControllerCall.TheVariants as call
-use Rattle.logon_stubs.specs.declared.calls.Reply.TheVariants as reply
-use Rattle.domain_controller.specs.declared.hearing.Heard.TheVariants as heard
 use Rattle.world_moves.specs.Acting as acting
 use Rattle.world_moves.proofs.EndKindLaws.{is_controller, step_by as end_by}
 
@@ -96,184 +70,72 @@ judgements_append given later at = flat_map-append (λ (one : EndId × Action). 
 
 -- ---- actions of a controller
 
--- what a controller told by these actions
-abbrev pub acted : Where → List Action → List JudgementTold
-acted w actions = judgements_in (given_by (Controller w.controller) actions) w.at
+-- what a controller tells by one
+abbrev told_of : Where → Action → List JudgementTold
+told_of w what = judgement_by (Controller w.controller) what w.at
 
-acted_append : (w : Where) (actions later : List Action) → acted w (actions ++ later) ≡ acted w actions ++ acted w later
-acted_append w [] later = refl
-acted_append w (what ∷ actions) later =
-    ap (λ rest. judgement_by (Controller w.controller) what w.at ++ rest) (acted_append w actions later)
-    ∙ sym (append_assoc (judgement_by (Controller w.controller) what w.at) (acted w actions) (acted w later))
-
-one_silent : (w : Where) (actions : List Action) (what : Action) → acted w (what ∷ []) ≡ [] → acted w (actions ++ what ∷ []) ≡ acted w actions
-one_silent w actions what none =
-    acted_append w actions (what ∷ []) ∙ ap (λ rest. acted w actions ++ rest) none ∙ append-nil (acted w actions)
-
-sends : (w : Where) (actions : List Action) (link : ℕ) (bytes : List ℕ) → acted w (actions ++ action.Send link bytes ∷ []) ≡ acted w actions
-sends w actions link bytes = one_silent w actions (action.Send link bytes) refl
-
-closes : (w : Where) (actions : List Action) (link : ℕ) (cause : CloseCause) → acted w (actions ++ action.Close link cause ∷ []) ≡ acted w actions
-closes w actions link cause = one_silent w actions (action.Close link cause) refl
-
--- texts that are kept tell nothing
-kept_silent : (w : Where) (kept : List Action) → AllByRecursion IsKeep kept → acted w kept ≡ []
-kept_silent w [] are = refl
-kept_silent w (action.Keep text ∷ kept) are = kept_silent w kept are.1
-kept_silent w (action.Send at more ∷ kept) are = absurd are.0
-kept_silent w (action.Dial peer ∷ kept) are = absurd are.0
-kept_silent w (action.Close at cause ∷ kept) are = absurd are.0
-kept_silent w (action.Told at outcome ∷ kept) are = absurd are.0
-kept_silent w (action.Judged other ∷ kept) are = absurd are.0
-
-judges : (w : Where) (actions kept : List Action) (how : Judged) (link : ℕ) (answer : List ℕ) → AllByRecursion IsKeep kept →
-    acted w (actions ++ (kept ++ action.Judged how ∷ action.Send link answer ∷ [])) ≡ acted w actions ++ telling_by w.at w.controller (Some how)
-judges w actions kept how link answer are =
-    acted_append w actions (kept ++ action.Judged how ∷ action.Send link answer ∷ [])
-    ∙ ap (λ rest. acted w actions ++ rest)
-    (acted_append w kept (action.Judged how ∷ action.Send link answer ∷ [])
-    ∙ ap (λ (front : List JudgementTold). front ++ acted w (action.Judged how ∷ action.Send link answer ∷ [])) (kept_silent w kept are))
-
--- ---- a unit
-
--- what the part tells, where it is whole
-abbrev pub Follows : Where → List JudgementTold → ServedPart Desk Talk → Type 0
-Follows w told (Err why) = Unit {0}
-Follows w told (Ok part) = acted w part.value.0.work.actions ≡ told
-
-pair_actions : (knows : Bool) (computer : List ℕ) (pair : ChallengePair) (work : Work) → (put_pair_if knows computer pair work).actions ≡ work.actions
-pair_actions false computer pair work = refl
-pair_actions true computer pair work = refl
-
-no_more : (told base : List JudgementTold) → told ≡ base → told ≡ base ++ []
-no_more told base same = same ∙ sym (append-nil base)
-
-reply_sent : (w : Where) (work : Work) (line : Line) (answer : Reply) → acted w (send_reply work line answer).actions ≡ acted w work.actions
-reply_sent w work line answer = sends w work.actions _ _
-
-drawn_told : (left : List (List ℕ)) (w : Where) (line : Line) (c : ChallengeCall) (talk : Talk) (d : Desk) → Follows w (acted w d.work.actions ++ []) (draw_challenge left line c talk d)
-drawn_told [] w line c talk d = tt
-drawn_told (server ∷ left) w line c talk d =
-    let pair : ChallengePair = record { client = c.challenge; server = server } in
-    no_more _ (acted w d.work.actions)
-    (reply_sent w (put_pair_if (knows_in d.table.accounts c.computer) c.computer pair d.work) line (reply.Challenge (record { challenge = server; status = 0 }))
-    ∙ ap (λ (actions : List Action). acted w actions) (pair_actions (knows_in d.table.accounts c.computer) c.computer pair d.work))
-
-opened_told : (right : Bool) (w : Where) (channel : SecureChannelState) (line : Line) (c : AuthCall) (work : Work) → acted w (open_channel right channel line c work).actions ≡ acted w work.actions
-opened_told false w channel line c work = sends w work.actions _ _
-opened_told true w channel line c work = sends w work.actions _ _
-
-pair_told : (pair : Option ChallengePair) (w : Where) (account : Account) (line : Line) (c : AuthCall) (work : Work) → acted w (judge_pair pair account line c work).actions ≡ acted w work.actions
-pair_told None w account line c work = sends w work.actions _ _
-pair_told (Some pair) w account line c work = opened_told _ w (channel_for account pair c) line c work
-
-offer_told : (offers : Bool) (pair : Option ChallengePair) (w : Where) (account : Account) (line : Line) (c : AuthCall) (work : Work) →
-    acted w (judge_offer offers pair account line c work).actions ≡ acted w work.actions
-offer_told false pair w account line c work = sends w work.actions _ _
-offer_told true pair w account line c work = pair_told pair w account line c work
-
-account_told : (account : Option Account) (pair : Option ChallengePair) (w : Where) (line : Line) (c : AuthCall) (work : Work) →
-    acted w (judge_account account pair line c work).actions ≡ acted w work.actions
-account_told None pair w line c work = sends w work.actions _ _
-account_told (Some account) pair w line c work = offer_told (has_flag c.flags rc4_flag) pair w account line c work
-
-opening_silent : (channel : Option ChannelIdentity) (w : Where) (number : ℕ) → telling_if (opening channel w number).judging ≡ []
-opening_silent None w number = refl
-opening_silent (Some channel) w number = refl
-
-passing_told : (channel : Option ChannelIdentity) (j : Judging) → telling_if (passing channel j).judging ≡ telling j
-passing_told None j = refl
-passing_told (Some channel) j = refl
-
-judging_told : (passed : Bool) (j : Judging) → telling_if (judging_by passed j).judging ≡ telling j
-judging_told false j = refl
-judging_told true j = passing_told (channel_in j.controller (computer_named j.asked) j.checks) j
-
-heard_told : (what : Heard) (w : Where) (link : ℕ) (d : Desk) (left : List (List ℕ)) →
-    Follows w (acted w d.work.actions ++ telling_if (heard_answer what w d (work_after (by_heard what link w.name w.moment d left))).judging)
-    (by_heard what link w.name w.moment d left)
-heard_told (heard.Close cause) w link d left = no_more _ (acted w d.work.actions) (closes w d.work.actions link cause)
-heard_told (heard.Answer bytes talk) w link d left = no_more _ (acted w d.work.actions) (sends w d.work.actions link bytes)
-heard_told (heard.Waits talk) w link d left = sym (append-nil (acted w d.work.actions))
-heard_told (heard.Asked line (call.Challenge c) talk) w link d left = drawn_told left w line c talk d
-heard_told (heard.Asked line (call.Authenticate c) talk) w link d left =
-    account_told (account_for d.table c) (lookup same_name c.computer d.work.computers.pending) w line c (take_pair c.computer d.work)
-    ∙ sym (append-nil (acted w d.work.actions))
-    ∙ ap (λ rest. acted w d.work.actions ++ rest) (sym (opening_silent (opened_by w.controller c d) w line.call))
-heard_told (heard.Asked line (call.Judged c) talk) w link d left =
-    let after : Desk = answer_judged c w.name w.moment line d in
-    let j : Judging = judging_of w line c d (Some after) in
-    let told : Told line d.work.actions after.work.actions j.checks (given_in c) = told_call c w.name w.moment line d in
-    ap (acted w) told.is
-    ∙ judges w d.work.actions told.kept told.how line.link told.answer told.are_kept
-    ∙ ap (λ how. acted w d.work.actions ++ telling_by w.at w.controller how) (sym (how_is d.work.actions after.work.actions j.checks (given_in c) line told))
-    ∙ ap (λ rest. acted w d.work.actions ++ rest) (sym (judging_told (has_passed j.how) j))
+told_by : (w : Where) (actions : List Action) → judgements_in (given_by (Controller w.controller) actions) w.at ≡ flat_map (told_of w) actions
+told_by w [] = refl
+told_by w (what ∷ actions) = ap (λ (rest : List JudgementTold). told_of w what ++ rest) (told_by w actions)
 
 -- ---- the units of a stream
 
-abbrev pub all_told : ℕ → Where → List (ServedUnit Desk Talk) → List JudgementTold
-all_told link w units = answered (map (answer_on link w) units)
+-- what was told is what the calls were judged
+abbrev Follows : Where → NotedFact
+Follows w answers d left = flat_map (told_of w) d.work.actions ≡ answered answers
 
-told_more : (w : Where) (told own : List JudgementTold) (old : List Action) (part : ServedPart Desk Talk) → acted w old ≡ told → Follows w (acted w old ++ own) part → Follows w (told ++ own) part
-told_more w told own old part is follows = subst (λ (before : List JudgementTold). Follows w (before ++ own) part) is follows
+further : (w : Where) (answers : List Answered) (one : Answered) (old new : List Action) → flat_map (told_of w) old ≡ answered answers →
+    flat_map (told_of w) new ≡ flat_map (told_of w) old ++ telling_if one.judging → flat_map (told_of w) new ≡ answered (answers ++ one ∷ [])
+further w answers one old new follows is =
+    is
+    ∙ ap (λ (told : List JudgementTold). told ++ telling_if one.judging) follows
+    ∙ flat_map_more (λ (one : Answered). telling_if one.judging) [] answers one
 
-told_stays : (w : Where) (link : ℕ) →
-    StaysNoted (controller_server w.name w.moment link) (λ (unit : ServedUnit Desk Talk). answer_on link w unit ∷ []) (λ answers part. Follows w (answered answers) part)
+told_stays : (w : Where) (link : ℕ) → StaysThrough w link w.name w.moment (Follows w)
 told_stays w link = record {
-  unit = λ answers bytes d talk left is.
-      let part : ServedPart Desk Talk = by_heard (hear link bytes talk) link w.name w.moment d left in
-      let one : Answered = heard_answer (hear link bytes talk) w d (work_after part) in
-      subst (λ (told : List JudgementTold). Follows w told part) (flat_map_more (λ (one : Answered). telling_if one.judging) [] answers one)
-      (told_more w (answered answers) (telling_if one.judging) d.work.actions part is (heard_told (hear link bytes talk) w link d left));
-  refusal = λ answers why d talk left is. closes w d.work.actions link close.BadUnit ∙ is;
+  closes = λ answers d left cause follows.
+      flat_map-append (told_of w) d.work.actions (action.Close link cause ∷ []) ∙ append-nil (flat_map (told_of w) d.work.actions) ∙ follows;
+  waits = λ answers d left follows. further w answers silent d.work.actions d.work.actions follows (sym (append-nil (flat_map (told_of w) d.work.actions)));
+  sends = λ answers d left bytes follows.
+      let what : List Action = action.Send link bytes ∷ [] in
+      further w answers plain d.work.actions (d.work.actions ++ what) follows (flat_map-append (told_of w) d.work.actions what);
+  challenge = λ answers d left line c server on follows.
+      let its : Replies line d.work (answer_challenge d.table line c server d.work) = challenge_replies d.table line c server d.work in
+      further w answers plain d.work.actions (answer_challenge d.table line c server d.work).actions follows
+      (ap (flat_map (told_of w)) its.actions ∙ flat_map-append (told_of w) d.work.actions (action.Send line.link its.bytes ∷ []));
+  authenticate = λ answers d left line c on follows.
+      let its : Replies line d.work (answer_authenticate d.table line c d.work) = authenticate_replies d.table line c d.work in
+      further w answers (opening (opened_by w.controller c d) w line.call) d.work.actions (answer_authenticate d.table line c d.work).actions follows
+      (ap (flat_map (told_of w)) its.actions
+      ∙ flat_map-append (told_of w) d.work.actions (action.Send line.link its.bytes ∷ [])
+      ∙ ap (λ (j : Option Judging). flat_map (told_of w) d.work.actions ++ telling_if j) (sym (opening_judging (opened_by w.controller c d) w line.call)));
+  judged = λ answers d left line c on follows.
+      let after : Desk = answer_judged c w.name w.moment line d in
+      let j : Judging = judging_of w line c d (Some after) in
+      let told : Told line d.work.actions after.work.actions j.checks (given_in c) = told_call c w.name w.moment line d in
+      further w answers (judged_answer j) d.work.actions after.work.actions follows
+      (ap (flat_map (told_of w)) told.is
+      ∙ read_behind (told_of w) (λ text. refl) d.work.actions told.kept told.how line.link told.answer told.are_kept
+      ∙ ap (λ (how : Option Judged). flat_map (told_of w) d.work.actions ++ telling_by w.at w.controller how) (sym (how_is d.work.actions after.work.actions j.checks (given_in c) line told))
+      ∙ ap (λ (one : Option Judging). flat_map (told_of w) d.work.actions ++ telling_if one) (sym (judged_judging (has_passed j.how) j)));
 }
-
-units_told : (w : Where) (link : ℕ) (cut : Cut) (d : Desk) (talk : Talk) (left : List (List ℕ)) → acted w d.work.actions ≡ [] →
-    Follows w (all_told link w (served_units (controller_server w.name w.moment link) cut.units d talk left)) (served_cut (controller_server w.name w.moment link) cut d talk left)
-units_told w link cut d talk left none =
-    served_mapped (controller_server w.name w.moment link) (answer_on link w) (λ answers part. Follows w (answered answers) part) (told_stays w link) cut d talk left none
 
 -- ---- a step of a controller, when bytes come
 
--- the step, by what its units come to
-abbrev pub step_after : ControllerState → ServedPart Desk Talk → List ℕ → ℕ → LinkMap → StepPart
-step_after c part rest number others = then_part (after_units part rest number others) (λ after left. start_turn after left)
-
-bytes_told : (w : Where) (link : ℕ) (c : ControllerState) (part : ServedPart Desk Talk) (units : List (ServedUnit Desk Talk)) (rest : List ℕ) (others : LinkMap) (left : List (List ℕ)) →
-    Follows w (all_told link w units) part →
-    acted w (actions_by (step_by (λ after. after.0.work.actions) (λ after. state_after c after) (halted c) left (step_after c part rest link others)).answer)
-    ≡ all_told link w
-    (units_if_taken (step_by (λ after. after.0.work.actions) (λ after. state_after c after) (halted c) left (step_after c part rest link others)).answer units)
-bytes_told w link c (Err why) units rest others left is = refl
-bytes_told w link c (Ok part) units rest others left is = is
-
--- where a controller stands as bytes come
-abbrev pub standing_at : ℕ → ℕ → Source → ControllerState → ℕ → Where
-standing_at at controller source c now = record { at = at; controller = controller; source = source; name = c.name; moment = now }
-
-abbrev pub step_link : Option (LinkState Talk) → ℕ → List ℕ → ControllerState → Running → ℕ → List (List ℕ) → Stepped ControllerState
-step_link found link piece c running now left =
-    step_by (λ after. after.0.work.actions) (λ after. state_after c after) (halted c) left
-    (then_part (serve_on found link piece c.name now (first_desk c.table running) (take_out same_number link running.links) left) (λ after rest. start_turn after rest))
-
-link_told : (found : Option (LinkState Talk)) (at controller : ℕ) (source : Source) (link : ℕ) (piece : List ℕ) (c : ControllerState) (running : Running) (now : ℕ) (left : List (List ℕ)) →
-    acted (standing_at at controller source c now) (actions_by (step_link found link piece c running now left).answer)
-    ≡ all_told link (standing_at at controller source c now)
-    (units_if_taken (step_link found link piece c running now left).answer (units_at found link piece c running now left))
-link_told None at controller source link piece c running now left = refl
-link_told (Some there) at controller source link piece c running now left =
-    bytes_told (standing_at at controller source c now) link c
-    (served_cut (controller_server c.name now link) (cut_stream (there.rest ++ piece)) (first_desk c.table running) there.talk left)
-    (units_at (Some there) link piece c running now left) (cut_stream (there.rest ++ piece)).rest (take_out same_number link running.links) left
-    (units_told (standing_at at controller source c now) link (cut_stream (there.rest ++ piece)) (first_desk c.table running) there.talk left refl)
-
-step_told : (running : Option Running) (at controller : ℕ) (source : Source) (link : ℕ) (piece : List ℕ) (c : ControllerState) (now : ℕ) (left : List (List ℕ)) →
-    acted (standing_at at controller source c now) (actions_by (step_on running c (event.Bytes link piece) now left).answer)
-    ≡ all_told link (standing_at at controller source c now)
-    (units_if_taken (step_on running c (event.Bytes link piece) now left).answer (units_by running link piece c now left))
-step_told None at controller source link piece c now left = refl
-step_told (Some running) at controller source link piece c now left =
-    link_told (lookup same_number link running.links) at controller source link piece c running now left
+step_told : (controller : ℕ) (c : ControllerState) (w : Coming) (piece : List ℕ) (s : State) →
+    judgements_in (given_by (Controller controller) (actions_by (step_of c (event.Bytes w.link piece) s.moment s.chances.left).answer)) w.at
+    ≡ answered (answers_of controller c w piece s)
+step_told controller c w piece s =
+    let at : Where = at_controller controller c w s in
+    told_by at (actions_by (step_of c (event.Bytes w.link piece) s.moment s.chances.left).answer)
+    ∙ step_says at w.link c piece s.moment s.chances.left (λ running. Follows at)
+    (λ answers stepped. flat_map (told_of at) (actions_by stepped.answer) ≡ answered answers) (record {
+      stays = λ running. told_stays at w.link;
+      first = λ running runs. refl;
+      stopped = λ ends. refl;
+      spent = refl;
+      taken = λ running answers d links rest runs follows. follows;
+    })
 
 -- ---- steps that tell no judgement
 
@@ -357,7 +219,7 @@ controller_told c controller w piece s after given b told =
     more_told w.at given _ b (note_controller (Some c) controller w piece s after b) told
     (tellings_onto (judged_of (answers_of controller c w piece s) numbers) b.judged
     ∙ ap (λ all. onto all (tellings b.judged)) (judged_told (answers_of controller c w piece s) numbers
-    ∙ sym (step_told c.running w.at controller w.source w.link piece c s.moment s.chances.left)))
+    ∙ sym (step_told controller c w piece s)))
     refl
 
 end_told : (end : EndId) (w : Coming) (piece : List ℕ) (s after : State) (given : Given) (b : Book) → AreTold w.at given b →

@@ -7,11 +7,8 @@ use Rattle.authenticators.specs.Channels.{ChannelIdentity, channel_key}
 use Rattle.authenticators.specs.Sequences.{authenticator_of}
 use Rattle.outside.specs.declared.action.Action.{Action}
 use Rattle.outside.specs.declared.action.Action.TheVariants as action
-use Rattle.rpc_units.specs.declared.refused.JoinRefused.{JoinRefused}
-use Rattle.rpc_units.specs.declared.refused.JoinRefused.TheVariants as join
 use Rattle.rpc_units.specs.declared.refused.UnitRefused.{UnitRefused}
 use Rattle.rpc_units.specs.declared.unit.Unit.{Unit as RpcUnit}
-use Rattle.rpc_units.specs.Joining.{answer_of, open_after}
 use Rattle.rpc_units.specs.Reading.{unit_of}
 use Rattle.rpc_units.specs.Stream.{cut_stream}
 use Rattle.end_links.specs.Links.{LinkState}
@@ -23,6 +20,7 @@ use Rattle.channel_client.specs.declared.hearing.Hearing.TheVariants as hearing
 use Rattle.channel_client.specs.declared.judging.Judgement.{Judgement}
 use Rattle.channel_client.specs.declared.judging.Judgement.TheVariants as judgement
 use Rattle.channel_client.specs.Effects.{seed_in}
+use Rattle.channel_client.specs.State.{Requester}
 use Rattle.channel_client.specs.Machine.{act, hear, judge, settle}
 use Rattle.member_server.specs.declared.plan.MemberPlan.{MemberPlan}
 use Rattle.member_server.specs.declared.state.Logon.{Logon}
@@ -31,7 +29,7 @@ use Rattle.member_server.specs.declared.state.Running.{Running}
 use Rattle.channel_turns.specs.declared.state.TurnTalk.{TurnTalk}
 use Rattle.member_server.specs.Machine.{at_turn, work_of}
 use Rattle.member_server.specs.State.{State as MemberState}
-use Rattle.member_server.specs.Turns.{AtTurn, TurnServed, do_taken, turn_by_join, turn_server, turn_unit}
+use Rattle.member_server.specs.Turns.{AtTurn, TurnServed, do_taken, turn_server, turn_unit}
 use Rattle.channel_events.specs.Marks.{Calling, Mark, Opened, Opening, Plain, ReplyTo}
 use Rattle.step_notes.specs.CallLogons.{AreFirst, AreForLogon, CarriesItsLogon, IfCalling, IsFirstBy, IsForItsLogon, call_for, info_at}
 use Rattle.step_notes.specs.ChannelNames.{AreFramesOf, sends_in}
@@ -48,7 +46,7 @@ use Rattle.step_notes.proofs.Members.CallKeptLaws.{at_channel}
 use Rattle.step_notes.proofs.Members.CallLogonLaws.{calls_carry}
 use Rattle.step_notes.proofs.Members.KeptLogonLaws.{HasFor, IsFor, KeptIn, OfEach, each_found, turn_keeps}
 use Rattle.step_notes.proofs.Members.RequestOrderLaws.{requests_first}
-use Rattle.step_notes.proofs.Members.TurnUnitLaws.{turn_units_such}
+use Rattle.step_notes.proofs.Members.TurnUnitLaws.{taking_by, turn_units_such}
 use Rattle.domain_world.proofs.Accepting.LetInLaws.{HoldsOf, run_holds}
 use Rattle.domain_world.proofs.Accepting.Messages.MessageNoteLaws.{one_so}
 use Rattle.domain_world.proofs.Requests.KeptAskLaws.{members_ask, one_asks}
@@ -139,19 +137,15 @@ module _ (r : Option Running) where
       as_settled (judge q reply at.work.logons.channel.standing at.work.logons.channel.caller.secret) joiner at
   as_acted (hearing.Drop cause) joiner at alike = tt
 
-  as_joined : (whole : Result (Option RpcUnit) JoinRefused) (after : Option RpcUnit) (at : AtTurn) → AreAsBefore r at.work.logons →
-      HoldsBy (AreAsBefore r) (turn_by_join whole after at).1 (turn_by_join whole after at).0.work.logons
-  as_joined (Err join.OutOfPlace) after at alike = tt
-  as_joined (Err join.CallTooLong) after at alike = tt
-  as_joined (Err join.Memory) after at alike = tt
-  as_joined (Ok None) after at alike = alike
-  as_joined (Ok (Some unit)) after at alike =
-      as_acted (hear at.work.logons.channel.turn unit at.work.logons.channel.next_call) after at alike
-
   as_kept : (unit : Result RpcUnit UnitRefused) (joiner : Option RpcUnit) (at : AtTurn) → AreAsBefore r at.work.logons →
       HoldsBy (AreAsBefore r) (turn_unit unit joiner at).1 (turn_unit unit joiner at).0.work.logons
-  as_kept (Err why) joiner at alike = tt
-  as_kept (Ok unit) joiner at alike = as_joined (answer_of joiner unit) (open_after joiner unit) at alike
+  as_kept unit joiner at alike =
+      let s : Requester = at.work.logons.channel in
+      taking_by at (λ taking served. HoldsBy (AreAsBefore r) served.1 served.0.work.logons) (record {
+        waits = λ after. alike;
+        takes = λ unit after. as_acted (hear s.turn unit s.next_call) after at alike;
+        breaks = λ cause. tt;
+      }) unit joiner
 
 for_same : (controller : ℕ) (one other : Logons) (channel : ChannelIdentity) (number timestamp : ℕ) (frames : List (List ℕ)) → one.plan ≡ other.plan → one.asked ≡ other.asked →
     one.channel.standing ≡ other.channel.standing → one.channel.caller ≡ other.channel.caller → AreForLogon controller one channel number timestamp frames → AreForLogon controller other channel number timestamp frames

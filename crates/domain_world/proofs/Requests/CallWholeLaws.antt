@@ -4,12 +4,10 @@ use Rattle.std.proofs.Common.{◌≡◌, ℕ, ◌<◌, ◌≤◌, ◌^◌, Bool,
 use Rattle.std.specs.List.{AllByRecursion}
 use Rattle.wire_base.specs.Maps.{lookup, same_number}
 use Rattle.outside.specs.declared.action.Action.TheVariants as action
-use Rattle.rpc_units.specs.declared.refused.JoinRefused.{JoinRefused}
-use Rattle.rpc_units.specs.declared.refused.JoinRefused.TheVariants as join
 use Rattle.rpc_units.specs.declared.refused.UnitRefused.{UnitRefused}
 use Rattle.rpc_units.specs.declared.unit.Unit.{Unit as RpcUnit}
 use Rattle.rpc_units.specs.Calls.{IsHeard}
-use Rattle.rpc_units.specs.Joining.{answer_of, cut_of, open_after}
+use Rattle.rpc_units.specs.Joining.{cut_of}
 use Rattle.rpc_units.specs.Reading.{unit_of}
 use Rattle.rpc_units.specs.Stream.{cut_stream}
 use Rattle.rpc_units.proofs.CuttingLaws.{call_heard}
@@ -23,7 +21,6 @@ use Rattle.end_links.specs.Links.{LinkState}
 use Rattle.end_links.specs.Sending.{frames_of, joined_frames, request_of}
 use Rattle.end_links.specs.Serving.{ServedPart, ServedUnit, served_units}
 use Rattle.end_links.proofs.BoundLaws.{frames_joined}
-use Rattle.channel_client.specs.declared.answers.Taken.{Taken}
 use Rattle.channel_client.specs.declared.answers.Taken.TheVariants as taken
 use Rattle.channel_client.specs.declared.hearing.Hearing.{Hearing}
 use Rattle.channel_client.specs.declared.hearing.Hearing.TheVariants as hearing
@@ -37,7 +34,7 @@ use Rattle.channel_client.specs.declared.state.Standing.TheVariants as standing
 use Rattle.channel_client.specs.declared.state.Step.TheVariants as step
 use Rattle.channel_client.specs.declared.state.Waiting.{Waiting}
 use Rattle.channel_client.specs.Effects.{IsForFirst, MatchesStep, step_in}
-use Rattle.channel_client.specs.Machine.{act, hear, judge, place_of, question_of, settle, take_of, wait_for}
+use Rattle.channel_client.specs.Machine.{act, hear, judge, place_of, question_of, settle, wait_for}
 use Rattle.channel_client.specs.State.{Requester}
 use Rattle.channel_client.specs.Whole.{HasRoom, InRangeRequester, InRangeTurn}
 use Rattle.channel_turns.specs.declared.state.Dialling.{Dialling}
@@ -48,16 +45,17 @@ use Rattle.member_server.specs.declared.state.Running.{Running}
 use Rattle.channel_turns.specs.declared.state.TurnTalk.{TurnTalk}
 use Rattle.member_server.specs.Machine.{at_turn, work_of}
 use Rattle.member_server.specs.State.{State as MemberState}
-use Rattle.member_server.specs.Turns.{AtTurn, TurnServed, do_taken, turn_by_join, turn_server, turn_unit}
+use Rattle.member_server.specs.Turns.{AtTurn, TurnServed, do_taken, turn_server, turn_unit}
 use Rattle.step_notes.specs.CallLogons.{AsksForKept, IsStamped, IsStampedStep, info_at}
-use Rattle.step_notes.specs.MemberNotes.{TurnNote, asked_note, taken_note, taking_joined, taking_note, taking_read, turn_note, turn_units}
+use Rattle.step_notes.specs.MemberNotes.{TurnNote, asked_note, taken_note, taking_note, taking_read, turn_note, turn_units}
 use Rattle.step_notes.specs.Served.{work_after}
 use Rattle.step_notes.proofs.ServedLaws.{served_such}
 use Rattle.step_notes.proofs.Channels.ChannelNameLaws.{bound_at}
+use Rattle.member_server.proofs.StepFrame.{KeepsTurn, TurnHolds, each_taken, turn_keeps as unit_keeps}
 use Rattle.step_notes.proofs.Members.CallKeptLaws.{TurnAsksBy, at_channel, turn_asks}
 use Rattle.step_notes.proofs.Members.TurnRequestLaws.{HasLogon, IsOfTurn, asked_after, first_logon, of_turn}
 use Rattle.step_notes.proofs.Members.KeptLogonLaws.{OfEach, turn_keeps}
-use Rattle.step_notes.proofs.Members.TurnUnitLaws.{turn_units_such}
+use Rattle.step_notes.proofs.Members.TurnUnitLaws.{taking_by, turn_units_such}
 
 -- ---- what goes out
 
@@ -188,17 +186,15 @@ module _ (controller : ℕ) (at : AtTurn) (kept : AsksForKept true at.work.logon
       let s : Requester = at.work.logons.channel in settled_out (judge q r s.standing s.caller.secret) _
   acted_out (hearing.Drop cause) joiner is = tt
 
-  joined_out : (whole : Result (Option RpcUnit) JoinRefused) (after : Option RpcUnit) →
-      CallsOut (taking_note (taking_joined whole at.work.logons.channel) controller at.work.logons.channel) at (Some (turn_by_join whole after at).0)
-  joined_out (Err why) after = tt
-  joined_out (Ok None) after = tt
-  joined_out (Ok (Some unit)) after =
-      let s : Requester = at.work.logons.channel in acted_out (hear s.turn unit s.next_call) after (of_turn s.turn unit s.next_call)
-
   read_out : (read : Result RpcUnit UnitRefused) (joiner : Option RpcUnit) →
       CallsOut (taking_note (taking_read read joiner at.work.logons.channel) controller at.work.logons.channel) at (Some (turn_unit read joiner at).0)
-  read_out (Err why) joiner = tt
-  read_out (Ok unit) joiner = joined_out (answer_of joiner unit) (open_after joiner unit)
+  read_out read joiner =
+      let s : Requester = at.work.logons.channel in
+      taking_by at (λ taking served. CallsOut (taking_note taking controller s) at (Some served.0)) (record {
+        waits = λ after. tt;
+        takes = λ unit after. acted_out (hear s.turn unit s.next_call) after (of_turn s.turn unit s.next_call);
+        breaks = λ cause. tt;
+      }) read joiner
 
 -- ---- what is known before each unit of the turn
 
@@ -232,28 +228,23 @@ abbrev InRangeBy : ℕ → Option TurnTalk → AtTurn → Type 0
 InRangeBy link None at = Unit {0}
 InRangeBy link (Some talk) at = InRangeTurnAt link at
 
-taken_range : (link : ℕ) (what : Taken) (joiner : Option RpcUnit) (at : AtTurn) → InRangeTurnAt link at → InRangeBy link (do_taken what joiner at).1 (do_taken what joiner at).0
-taken_range link (taken.Skip right) joiner at known = known
-taken_range link (taken.Next right frames) joiner at known = record { on = known.on; range = known.range }
-taken_range link taken.Half joiner at known = tt
-taken_range link taken.Opened joiner at known = tt
-taken_range link (taken.Answer place verdict) joiner at known = tt
-taken_range link (taken.Dropped place cause) joiner at known = tt
+range_turn : (link : ℕ) → KeepsTurn (λ units at. InRangeTurnAt link at) (λ w. Unit {0})
+range_turn link = record {
+  skips = λ right unit units at is known. record { on = known.on; range = (requesters_send_whole.take at.work.logons.channel unit known.range).0 };
+  sends = λ right frames unit units at is known. record { on = known.on; range = (requesters_send_whole.take at.work.logons.channel unit known.range).0 };
+  ends = λ how unit units at is known. tt;
+  breaks = λ cause at known. tt;
+}
 
-joined_range : (link : ℕ) (whole : Result (Option RpcUnit) JoinRefused) (after : Option RpcUnit) (at : AtTurn) → InRangeTurnAt link at →
-    InRangeBy link (turn_by_join whole after at).1 (turn_by_join whole after at).0
-joined_range link (Err join.OutOfPlace) after at known = tt
-joined_range link (Err join.CallTooLong) after at known = tt
-joined_range link (Err join.Memory) after at known = tt
-joined_range link (Ok None) after at known = known
-joined_range link (Ok (Some unit)) after at known =
-    let s : Requester = at.work.logons.channel in
-    taken_range link (take_of s unit).taken after (at_channel at (take_of s unit).state) (record { on = known.on; range = (requesters_send_whole.take s unit known.range).0 })
+range_by : (link : ℕ) (served : TurnServed) → TurnHolds (λ units at. InRangeTurnAt link at) (λ w. Unit {0}) [] served → InRangeBy link served.1 served.0
+range_by link (at, None) known = tt
+range_by link (at, Some talk) known = known
 
 read_range : (link : ℕ) (read : Result RpcUnit UnitRefused) (joiner : Option RpcUnit) (at : AtTurn) → InRangeTurnAt link at →
     InRangeBy link (turn_unit read joiner at).1 (turn_unit read joiner at).0
-read_range link (Err why) joiner at known = tt
-read_range link (Ok unit) joiner at known = joined_range link (answer_of joiner unit) (open_after joiner unit) at known
+read_range link read joiner at known =
+    let Out : List RpcUnit → AtTurn → Type 0 = λ units at. InRangeTurnAt link at in
+    range_by link (turn_unit read joiner at) (unit_keeps Out (λ w. Unit {0}) (each_taken Out (λ w. Unit {0}) (range_turn link)) read joiner [] at known)
 
 -- ---- the units of the link of the turn
 

@@ -5,7 +5,7 @@ use Rattle.std.specs.Prelude.{flat_map}
 use Rattle.std.specs.List.{AllByRecursion}
 use Rattle.std.proofs.lemmas.Bool.Decides.{Decides-eqb}
 use Rattle.wire_base.specs.Maps.{lookup, same_number}
-use Rattle.outside.specs.Machine.{Part, step_by, then_part}
+use Rattle.outside.specs.Machine.{Part, step_by}
 use Rattle.outside.specs.declared.action.StepRefused.{StepRefused}
 use Rattle.outside.specs.declared.event.Event.{Event}
 use Rattle.outside.specs.declared.event.Event.TheVariants as event
@@ -28,15 +28,14 @@ use Rattle.channel_events.specs.Marks.{Calling, OneOf}
 use Rattle.channel_events.proofs.ListLaws.{one_weaker}
 use Rattle.member_server.specs.ChannelSteps.{ChannelSteps, ComesCalmly, IsCalm, IsNextTurn, StepsIfTaken}
 use Rattle.member_server.specs.Laws.{Asks, Doing, Loses, Starts, Takes, heard_if, heard_in, is_dialled, state_after}
-use Rattle.member_server.specs.Machine.{actions_in, by_event, bytes_by, bytes_on, event_part, halted_state, state_in, step_of, work_of}
-use Rattle.member_server.specs.Turns.{DialWork, next_turn, turn_by}
+use Rattle.member_server.specs.Machine.{actions_in, by_event, event_part, halted_state, state_in, step_of, work_of}
+use Rattle.member_server.specs.Turns.{DialWork}
 use Rattle.channel_turns.specs.declared.state.Dialling.{Dialling}
 use Rattle.channel_turns.specs.declared.state.Dialling.TheVariants as dialling
 use Rattle.member_server.specs.declared.state.Logon.{Logon}
 use Rattle.member_server.specs.declared.state.Logons.{Logons}
 use Rattle.member_server.specs.declared.state.Running.{Running}
 use Rattle.channel_turns.specs.declared.state.TurnTalk.{TurnTalk}
-use Rattle.member_server.specs.declared.state.Work.{Work}
 use Rattle.member_server.proofs.ChannelStepLaws.{channel_steps}
 use Rattle.step_notes.specs.CallLogons.{AsksForKept, AsksUnlessStopped, waiting_for}
 use Rattle.step_notes.specs.ChannelNames.{standing_channel}
@@ -47,7 +46,8 @@ use Rattle.step_notes.proofs.Members.KeptLogonLaws.{Dials, HasFor, IfDialled, Is
 use Rattle.step_notes.proofs.Members.UnservedLaws.{LinksIn, Opens, bytes_took, in_so, step_known, took_known}
 use Rattle.world_moves.specs.declared.links.Route.{Route}
 use Rattle.domain_world.proofs.Accepting.LetInStepLaws.{IsAcceptedBy, IsDialledBy}
-use Rattle.domain_world.proofs.Requests.KeptFirstLaws.{Leads, PartLeads, on_link_leads}
+use Rattle.domain_world.proofs.Requests.KeptFirstLaws.{LeadsAfter, bytes_lead}
+use Rattle.member_server.proofs.StepFrame.{PartHolds}
 
 -- ---- what is known of a member
 
@@ -355,38 +355,13 @@ heard_not dialling.Nothing number piece is = refl
 heard_not (dialling.Waits turn frames) number piece is = refl
 heard_not (dialling.On other said) number piece is = heard_if_not (other == number) said piece is
 
-module _ (pending : Pending) (kept : Logon) where
-  bytes_if_lead : (hit : Bool) (said : LinkState TurnTalk) (number : ℕ) (piece : List ℕ) (how : Dialling) (w : Work) (left : List (List ℕ)) → hit ≡ false → Leads pending kept w.logons →
-      PartLeads pending kept (bytes_by hit said number piece how w left)
-  bytes_if_lead false said number piece how w left is leads = on_link_leads pending kept (lookup same_number number w.links) number piece how w left leads
-  bytes_if_lead true said number piece how w left is leads = let x = is in cc
-
-  bytes_lead : (how : Dialling) (number : ℕ) (piece : List ℕ) (w : Work) (left : List (List ℕ)) → is_turn_link how number ≡ false → Leads pending kept w.logons →
-      PartLeads pending kept (bytes_on how number piece w left)
-  bytes_lead dialling.Nothing number piece w left is leads = on_link_leads pending kept (lookup same_number number w.links) number piece dialling.Nothing w left leads
-  bytes_lead (dialling.Waits turn frames) number piece w left is leads =
-      on_link_leads pending kept (lookup same_number number w.links) number piece (dialling.Waits turn frames) w left leads
-  bytes_lead (dialling.On other said) number piece w left is leads = bytes_if_lead (other == number) said number piece (dialling.On other said) w left is leads
-
-  turn_leads : (starts needs : Bool) (now : ℕ) (w : Work) (how : Dialling) (left : List (List ℕ)) → starts ≡ false → Leads pending kept w.logons → PartLeads pending kept (turn_by starts needs now w how left)
-  turn_leads false needs now w how left is leads = leads
-  turn_leads true needs now w how left is leads = let x = is in cc
-
-  next_leads : (part : Result (Part DialWork) StepRefused) (now : ℕ) → PartLeads pending kept part → PartLeads pending kept (then_part part (next_turn now))
-  next_leads (Err why) now leads = tt
-  next_leads (Ok part) now leads =
-      let c : Requester = part.value.0.logons.channel in
-      turn_leads (can_start c.turn c.waiting) (needs_challenge c.standing) now part.value.0 part.value.1 part.left
-      (ap (λ turn. can_start turn c.waiting) leads.turn) leads
-
 bytes_back : (running : Running) (number : ℕ) (piece : List ℕ) (now : ℕ) (left : List (List ℕ)) → is_turn_link running.dialling number ≡ false →
     AsksForKept (is_dialled running.dialling) running.logons → KeptBack (event_part running (event.Bytes number piece) now left) running
 bytes_back running number piece now left other asks pending logon after turn is there =
     let one : IsOnly pending.place running.logons.asked = only_kept (is_dialled running.dialling) running.logons pending asks turn in
-    let leads : PartLeads pending one.logon (Ok after) =
-    subst (λ (p : Result (Part DialWork) StepRefused). PartLeads pending one.logon p) is
-    (next_leads pending one.logon (bytes_on running.dialling number piece (work_of running) left) now
-    (bytes_lead pending one.logon running.dialling number piece (work_of running) left other (record { coherent = asks.coherent; turn = turn; kept = one.kept }))) in
+    let leads : PartHolds (LeadsAfter pending one.logon) (Ok after) =
+    subst (PartHolds (LeadsAfter pending one.logon)) is
+    (bytes_lead pending one.logon running number piece now left other (record { coherent = asks.coherent; turn = turn; kept = one.kept })) in
     one.kept ∙ sym leads.kept ∙ there
 
 bytes_out : (units : List Sent) (messages : List MessageTaken) (controller member : ℕ) (r : Option Running) (number : ℕ) (piece : List ℕ) (now : ℕ) (left : List (List ℕ)) →

@@ -12,12 +12,10 @@ use Rattle.outside.specs.declared.event.Event.TheVariants as event
 use Rattle.authenticators.specs.Channels.{ChannelIdentity}
 use Rattle.authenticators.specs.SecureChannels.{channel_of}
 use Rattle.rpc_units.specs.Calls.{IsHeard}
-use Rattle.rpc_units.specs.Stream.{cut_stream}
 use Rattle.rpc_units.specs.declared.unit.Unit.{Unit as RpcUnit}
 use Rattle.end_links.specs.Links.{LinkState}
-use Rattle.end_links.specs.Serving.{ServedPart}
 use Rattle.channel_client.specs.Effects.{IsCoherent, MatchesStep, stands_in, step_in}
-use Rattle.channel_client.specs.Machine.{act, can_start, hear, judge, needs_challenge, place_of, settle, take_of}
+use Rattle.channel_client.specs.Machine.{act, can_start, hear, judge, place_of, settle, take_of}
 use Rattle.channel_client.specs.State.{Requester}
 use Rattle.channel_client.specs.declared.hearing.Hearing.{Hearing}
 use Rattle.channel_client.specs.declared.hearing.Hearing.TheVariants as hearing
@@ -33,8 +31,10 @@ use Rattle.channel_client.proofs.EffectLaws.{steps_have_effects}
 use Rattle.channel_events.specs.Marks.{Calling, OneOf}
 use Rattle.channel_events.proofs.ListLaws.{one_found, one_weaker, one_with}
 use Rattle.member_server.specs.ChannelSteps.{ComesCalmly, StepsIfTaken}
-use Rattle.member_server.specs.Machine.{actions_in, after_turn, at_turn, by_event, bytes_by, event_part, halted_state, serve_dialled, state_in, step_of, work_of}
-use Rattle.member_server.specs.Turns.{AtTurn, DialWork, dial_work_part, next_turn, take_by, turn_by, dial_for, with_requester}
+use Rattle.member_server.proofs.ChannelStepLaws.{taken_part, whole_comes}
+use Rattle.member_server.proofs.StepFrame.{PartHolds, WorkFact, next_keeps}
+use Rattle.member_server.specs.Machine.{actions_in, at_turn, by_event, event_part, halted_state, state_in, step_of, work_of}
+use Rattle.member_server.specs.Turns.{AtTurn, DialWork, dial_work_part, next_turn, take_by}
 use Rattle.channel_turns.specs.declared.state.Dialling.{Dialling}
 use Rattle.channel_turns.specs.declared.state.Dialling.TheVariants as dialling
 use Rattle.member_server.specs.declared.state.Logon.{Logon}
@@ -48,7 +48,6 @@ use Rattle.step_notes.specs.MemberNotes.{LinkAt, TurnNote, asked_note, link_of_l
 use Rattle.step_notes.specs.Records.{MessageTaken, Sent}
 use Rattle.step_notes.proofs.Members.CallKeptLaws.{step_asks}
 use Rattle.step_notes.proofs.Members.KeptLogonLaws.{KeptIn, each_found, kept_so, one_before}
-use Rattle.step_notes.proofs.Members.TurnHeardLaws.{members_take}
 use Rattle.world_moves.specs.declared.links.EndId.TheVariants.{Member}
 use Rattle.world_moves.specs.declared.links.Route.{Route}
 use Rattle.world_moves.specs.Links.{acceptor_of}
@@ -125,34 +124,16 @@ module _ (controller : ℕ) (c : Requester) where
 
 -- ---- the step: the unit is taken, and no turn starts
 
-next_same : (starts needs : Bool) (now : ℕ) (w : Work) (how : Dialling) (left : List (List ℕ)) (part : Part DialWork) → starts ≡ false → turn_by starts needs now w how left ≡ Ok part →
-    part.value.0.logons ≡ w.logons
-next_same false needs now w how left part none is =
-    let same : record { value = dial_for None (with_requester w w.logons.channel) how; left = left } ≡ part = (let x = is in cc) in
-    sym (ap (λ (p : Part DialWork). p.value.0.logons) same)
-next_same true needs now w how left part none is = let x = none in cc
-
 event_same : (first : Result (Part DialWork) StepRefused) (now : ℕ) (before part : Part DialWork) → first ≡ Ok before →
     can_start before.value.0.logons.channel.turn before.value.0.logons.channel.waiting ≡ false → then_part first (next_turn now) ≡ Ok part → part.value.0.logons ≡ before.value.0.logons
 event_same first now before part is none done =
-    let c : Requester = before.value.0.logons.channel in
-    next_same (can_start c.turn c.waiting) (needs_challenge c.standing) now before.value.0 before.value.1 before.left part none
-    (sym (ap (λ (p : Result (Part DialWork) StepRefused). then_part p (next_turn now)) is) ∙ done)
-
--- what the event comes to
-abbrev taken_part : ℕ → List ℕ → RpcUnit → Work → List (List ℕ) → Result (Part DialWork) StepRefused
-taken_part number bytes unit w left =
-    after_turn (Ok (record { value = take_by (take_of w.logons.channel unit) None (at_turn number w); left = left })) (cut_stream bytes).rest number
-
-whole_part : (running : Running) (number : ℕ) (said : LinkState TurnTalk) (bytes : List ℕ) (frames : List RpcUnit) (unit : RpcUnit) (left : List (List ℕ)) →
-    running.dialling ≡ dialling.On number said → said.rest ≡ [] → said.talk.joiner ≡ None → IsHeard bytes frames unit →
-    by_event (event.Bytes number bytes) running.dialling (work_of running) left ≡ taken_part number bytes unit (work_of running) left
-whole_part running number said bytes frames unit left on rest none heard =
-    let w : Work = work_of running in
-    ap (λ (how : Dialling). by_event (event.Bytes number bytes) how w left) on
-    ∙ ap (λ (hit : Bool). bytes_by hit said number bytes (dialling.On number said) w left) ((Decides-eqb number number).1 refl)
-    ∙ ap (λ (r : List ℕ). serve_dialled (cut_stream (r ++ bytes)) number said.talk w left) rest
-    ∙ ap (λ (p : ServedPart AtTurn TurnTalk). after_turn p (cut_stream bytes).rest number) (members_take.comes bytes frames unit (at_turn number w) said.talk left heard none)
+    let Same : WorkFact = λ how w left. w.logons ≡ before.value.0.logons in
+    subst (PartHolds Same) (sym (ap (λ (p : Result (Part DialWork) StepRefused). then_part p (next_turn now)) is) ∙ done)
+    (next_keeps now Same Same (record {
+      still = λ how w left can same. same;
+      starts = λ turn frames challenge how w old left can drawn answer same.
+          absurd (let x = sym can ∙ ap (λ (l : Logons). can_start l.channel.turn l.channel.waiting) same ∙ none in cc);
+    }) before.value.1 before.value.0 before.left refl)
 
 logons_of : (part : Part DialWork) (w : Work) (how : Dialling) (left : List (List ℕ)) → dial_work_part w how left ≡ Ok part → part.value.0.logons ≡ w.logons
 logons_of part w how left is =
@@ -270,7 +251,7 @@ module _ (units more : List Sent) (grown : (k : ℕ) (unit : Sent) → slice_get
       let known : StepsIfTaken first (ComesCalmly t) now (Ok part) =
       subst (λ (p : Result (Part DialWork) StepRefused). StepsIfTaken first (ComesCalmly t) now p) is (channel_steps.whole running link said bytes frames unit now left on rest none heard) in
       let so : OutSteps t first new pending = out_steps t first now new part.left pending question.Logon known turn reply in
-      let same : taken_part link bytes unit w left ≡ Ok so.part = sym (whole_part running link said bytes frames unit left on rest none heard) ∙ so.is in
+      let same : taken_part link bytes unit w left ≡ Ok so.part = sym (whole_comes running.dialling link said bytes frames unit w left on rest none heard) ∙ so.is in
       let logons : so.part.value.0.logons ≡ (take_by (take_of c unit) None (at_turn link w)).0.work.logons = logons_of so.part (take_by (take_of c unit) None (at_turn link w)).0.work _ left same in
       let asked : part.value.0.logons.asked ≡ running.logons.asked =
       ap (λ (l : Logons). l.asked) (event_same first now so.part part so.is so.none is ∙ logons)

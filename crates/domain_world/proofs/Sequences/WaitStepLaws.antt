@@ -1,28 +1,22 @@
 -- Where the dial of a turn waits after a step in which no turn started, it waited before, and the turn is the same.
 -- It serves `Proved.sequences`.
-use Rattle.std.proofs.Common.{◌≡◌, ℕ, ◌==◌, Bool, true, false, List, ◌++◌, Option, Some, None, Result, Ok, Err, subst, arith}
-use Rattle.wire_base.specs.Maps.{lookup, same_number}
+use Rattle.std.proofs.Common.{◌≡◌, ℕ, Bool, true, false, List, ◌++◌, Result, Ok, subst, arith}
 use Rattle.outside.specs.Machine.{Part}
 use Rattle.outside.specs.declared.action.StepRefused.{StepRefused}
 use Rattle.outside.specs.declared.event.Event.{Event}
 use Rattle.outside.specs.declared.event.Event.TheVariants as event
 use Rattle.rpc_units.specs.Stream.{cut_stream}
-use Rattle.end_links.specs.Links.{LinkState}
-use Rattle.end_links.specs.Serving.{ServedPart, served_cut}
 use Rattle.channel_client.specs.Machine.{can_start}
 use Rattle.member_server.specs.Dials.{IsDialledBy, IsNoAnswer, IsWaiting, StaysOut, StaysOutIfTaken, TurnSteps, dials_in}
 use Rattle.member_server.specs.Laws.{IsInOrder, is_dialled}
-use Rattle.member_server.specs.Machine.{after_turn, after_units, at_turn, by_event, bytes_by, bytes_on_link, close_turn, event_part, keep_turn, work_of}
-use Rattle.member_server.specs.Outcomes.{at_link, without_link}
-use Rattle.member_server.specs.Turns.{AtTurn, DialWork, turn_server}
-use Rattle.member_server.specs.Units.{link_server}
-use Rattle.member_server.specs.declared.state.AtLink.{AtLink}
+use Rattle.member_server.specs.Machine.{by_event, event_part, work_of}
+use Rattle.member_server.specs.Outcomes.{without_link}
+use Rattle.member_server.specs.Turns.{DialWork}
 use Rattle.channel_turns.specs.declared.state.Dialling.{Dialling}
 use Rattle.channel_turns.specs.declared.state.Dialling.TheVariants as dialling
 use Rattle.member_server.specs.declared.state.Running.{Running}
-use Rattle.member_server.specs.declared.state.Talk.{Talk}
-use Rattle.channel_turns.specs.declared.state.TurnTalk.{TurnTalk}
 use Rattle.member_server.specs.declared.state.Work.{Work}
+use Rattle.member_server.proofs.StepFrame.{KeepsEvent, PartHolds, WorkFact, dial_stays, dial_turns, event_keeps}
 use Rattle.member_server.proofs.DialLaws.{turns_dialled}
 use Rattle.step_notes.specs.MemberNotes.{turn_of}
 use Rattle.step_notes.specs.Records.{OfMember}
@@ -30,56 +24,27 @@ use Rattle.domain_world.proofs.Sequences.Own.OwnTurnLaws.{turn_same, waits_diall
 
 -- ---- the dial after an event
 
--- no dial waits after it
-abbrev NotAfter : Result (Part DialWork) StepRefused → Type 0
-NotAfter (Err why) = Unit {0}
-NotAfter (Ok part) = IsWaiting part.value.1 → ⊥
-
-units_not : (part : ServedPart AtLink Talk) (rest : List ℕ) (number : ℕ) (how : Dialling) (w : Work) → (IsWaiting how → ⊥) → NotAfter (after_units part rest number how w)
-units_not (Err why) rest number how w none = tt
-units_not (Ok part) rest number how w none = none
-
-link_not : (found : Option (LinkState Talk)) (number : ℕ) (piece : List ℕ) (how : Dialling) (w : Work) (left : List (List ℕ)) → (IsWaiting how → ⊥) → NotAfter (bytes_on_link found number piece how w left)
-link_not None number piece how w left none = none
-link_not (Some link) number piece how w left none =
-    let cut = cut_stream (link.rest ++ piece) in
-    units_not (served_cut link_server cut (at_link number (without_link number w)) link.talk left) cut.rest number how (without_link number w) none
-
-kept_not : (talk : Option TurnTalk) (rest : List ℕ) (number : ℕ) → IsWaiting (keep_turn talk rest number) → ⊥
-kept_not None rest number waits = waits
-kept_not (Some talk) rest number waits = waits
-
-turn_not : (part : ServedPart AtTurn TurnTalk) (rest : List ℕ) (number : ℕ) → NotAfter (after_turn part rest number)
-turn_not (Err why) rest number = tt
-turn_not (Ok part) rest number = kept_not part.value.1 rest number
-
-bytes_not : (hit : Bool) (said other : LinkState TurnTalk) (on number : ℕ) (piece : List ℕ) (w : Work) (left : List (List ℕ)) → NotAfter (bytes_by hit said number piece (dialling.On on other) w left)
-bytes_not true said other on number piece w left =
-    let cut = cut_stream (said.rest ++ piece) in turn_not (served_cut turn_server cut (at_turn number w) said.talk left) cut.rest number
-bytes_not false said other on number piece w left = link_not (lookup same_number number w.links) number piece (dialling.On on other) w left (λ waits. waits)
-
-close_not : (hit : Bool) (link on : ℕ) (said : LinkState TurnTalk) (w : Work) → IsWaiting (close_turn hit link (dialling.On on said) w).1 → ⊥
-close_not false link on said w waits = waits
-close_not true link on said w waits = waits
+-- no dial waits
+abbrev Never : WorkFact
+Never how w left = IsWaiting how → ⊥
 
 -- one that didn't wait doesn't after the event
-event_not : (what : Event) (how : Dialling) (w : Work) (left : List (List ℕ)) → (IsWaiting how → ⊥) → NotAfter (by_event what how w left)
-event_not what (dialling.Waits turn frames) w left none = absurd (none tt)
-event_not (event.Opened link) dialling.Nothing w left none = λ waits. waits
-event_not (event.Bytes link piece) dialling.Nothing w left none = link_not (lookup same_number link w.links) link piece dialling.Nothing w left (λ waits. waits)
-event_not (event.Closed link) dialling.Nothing w left none = λ waits. waits
-event_not (event.Dialled link) dialling.Nothing w left none = λ waits. waits
-event_not event.DialFailed dialling.Nothing w left none = λ waits. waits
-event_not event.Stop dialling.Nothing w left none = λ waits. waits
-event_not (event.Opened link) (dialling.On on said) w left none = close_not (on == link) link on said w
-event_not (event.Bytes link piece) (dialling.On on said) w left none = bytes_not (on == link) said said on link piece w left
-event_not (event.Closed link) (dialling.On on said) w left none = close_not (on == link) link on said w
-event_not (event.Dialled link) (dialling.On on said) w left none = λ waits. waits
-event_not event.DialFailed (dialling.On on said) w left none = λ waits. waits
-event_not event.Stop (dialling.On on said) w left none = λ waits. waits
+never_waits : (what : Event) → KeepsEvent what Never Never
+never_waits what = record {
+  still = λ how w left never. never;
+  closes = λ link how w left never. never;
+  loses = λ cause how w left lost none never. λ waits. waits;
+  full = λ link how w left is never. never;
+  opens = λ link how w left is never. never;
+  answers = λ link turn frames w left is never. λ waits. waits;
+  link = λ number piece link how w left is there never.
+      dial_stays (λ how. IsWaiting how → ⊥) (cut_stream (link.rest ++ piece)) number link.talk how (without_link number w) left never;
+  turn = λ number piece said w left is never.
+      dial_turns (λ how. IsWaiting how → ⊥) (cut_stream (said.rest ++ piece)) number said.talk w left (λ rest later. λ waits. waits) (λ waits. waits);
+}
 
 -- nor where its answer came
-answer_not : (what : Event) (how : Dialling) (w : Work) (left : List (List ℕ)) → (IsNoAnswer what → ⊥) → NotAfter (by_event what how w left)
+answer_not : (what : Event) (how : Dialling) (w : Work) (left : List (List ℕ)) → (IsNoAnswer what → ⊥) → PartHolds Never (by_event what how w left)
 answer_not (event.Opened link) how w left none = absurd (none tt)
 answer_not (event.Bytes link piece) how w left none = absurd (none tt)
 answer_not (event.Closed link) how w left none = absurd (none tt)
@@ -91,8 +56,8 @@ answer_not event.DialFailed dialling.Nothing w left none = λ waits. waits
 answer_not event.DialFailed (dialling.Waits turn frames) w left none = λ waits. waits
 answer_not event.DialFailed (dialling.On on said) w left none = λ waits. waits
 
-never_after : (first : Result (Part DialWork) StepRefused) (part : Part DialWork) → first ≡ Ok part → NotAfter first → IsWaiting part.value.1 → ⊥
-never_after first part is none = subst NotAfter is none
+never_after : (first : Result (Part DialWork) StepRefused) (part : Part DialWork) → first ≡ Ok part → PartHolds Never first → IsWaiting part.value.1 → ⊥
+never_after first part is none = subst (PartHolds Never) is none
 
 -- ---- a step
 
@@ -135,4 +100,4 @@ same_turn controller k running what now left after is steps order none waits =
           (turns_dialled.waits running what now left was quiet (subst (λ (b : Bool). IsInOrder b running.logons) (waits_dialled running.dialling was) order)),
     ))
     (λ answers. absurd (never_after first steps.part steps.is (answer_not what running.dialling (work_of running) left answers) left_so)))
-    (λ never. absurd (never_after first steps.part steps.is (event_not what running.dialling (work_of running) left never) left_so))
+    (λ never. absurd (never_after first steps.part steps.is (event_keeps Never Never what (never_waits what) running.dialling (work_of running) left never) left_so))

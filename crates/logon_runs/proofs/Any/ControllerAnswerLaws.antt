@@ -1,8 +1,8 @@
 -- What a controller answers to the calls of a member's turn, whatever it keeps.
 -- Of `controllers_answer`.
-use Rattle.std.proofs.Common.{◌≡◌, ℕ, zero, suc, ◌<◌, ◌≤◌, ◌^◌, Bool, true, false, List, [], ◌∷◌, ◌++◌, length-append, Option, Some, None, refl, subst, ◌∙◌, arith, inr, length, sym}
+use Rattle.std.proofs.Common.{◌≡◌, ℕ, zero, suc, ◌<◌, ◌≤◌, ◌^◌, Bool, true, false, List, [], ◌∷◌, ◌++◌, length-append, Option, Some, None, refl, ap, subst, ◌∙◌, arith, inr, length, sym}
 use Rattle.std.specs.Prelude.{bytes_eq, replicate}
-use Rattle.wire_base.specs.Maps.{lookup, put}
+use Rattle.wire_base.specs.Maps.{lookup, put, take_out}
 use Rattle.wire_base.specs.Names.{IsName, same_name}
 use Rattle.wire_base.specs.Units.{AreUnits}
 use Rattle.wire_base.specs.declared.authenticator.Authenticator.{Authenticator}
@@ -13,11 +13,13 @@ use Rattle.channel_keys.specs.Hidden.{crypt_key, is_zero}
 use Rattle.authenticators.specs.Sequences.{authenticator_of, return_of}
 use Rattle.outside.specs.declared.action.Judged.TheVariants as judged
 use Rattle.outside.specs.declared.event.Event.TheVariants as event
-use Rattle.outside.specs.Machine.{Stepped}
+use Rattle.outside.specs.Machine.{Stepped, whole_step}
+use Rattle.outside.specs.declared.action.Action.{Action}
 use Rattle.rpc_units.specs.Calls.{bytes_of_call}
 use Rattle.logon_stubs.specs.Ranges.{InRangeReply, InRangeSamInfo, HasShortTexts, IsBlock}
 use Rattle.logon_stubs.specs.Status.{access_denied}
 use Rattle.logon_stubs.specs.Writing.{CanWriteReply}
+use Rattle.logon_stubs.specs.declared.calls.LogonCall.{LogonCall}
 use Rattle.logon_stubs.specs.declared.calls.Reply.{Reply}
 use Rattle.logon_stubs.specs.declared.calls.Reply.TheVariants as reply
 use Rattle.logon_stubs.specs.declared.info.NetworkInfo.{NetworkInfo}
@@ -27,7 +29,6 @@ use Rattle.logon_stubs.specs.declared.info.Verdict.TheVariants as verdict
 use Rattle.logon_stubs.proofs.WrittenLaws.{written_reply-few}
 use Rattle.account_table.specs.AccountTable.{AccountTable}
 use Rattle.account_table.specs.Changes.{DifferInCounts}
-use Rattle.account_table.specs.LookUps.{knows_in}
 use Rattle.account_table.specs.declared.account.Account.{Account}
 use Rattle.account_table.proofs.ChangeLaws.{differs-none}
 use Rattle.sam_logon.specs.Verdict.{IfGranted, judgement_of}
@@ -36,13 +37,15 @@ use Rattle.end_links.specs.Serving.{ServedPart}
 use Rattle.channel_client.specs.declared.caller.Caller.{Caller}
 use Rattle.channel_client.specs.declared.state.Question.TheVariants as question
 use Rattle.channel_client.specs.Machine.{auth_call, challenge_call, level_asked, logon_call, offered_flags}
-use Rattle.authenticators.specs.SecureChannels.{SecureChannelState, key_of_channel, channel_by, passes_on, return_by}
+use Rattle.authenticators.specs.SecureChannels.{SecureChannelState, key_of_channel, channel_by, passes_on}
 use Rattle.authenticators.proofs.BlockLaws.{cred_block, zeros_block}
 use Rattle.domain_controller.specs.Hearing.{bound_talk}
-use Rattle.domain_controller.specs.Machine.{Desk, account_for, channel_for, desk, goes_on, judge_account, judge_channel, judge_info, judge_pair, judge_return as return_judged, open_channel, put_channel, put_pair_if, reply_info, send_reply, status_of, take_channel, take_pair}
+use Rattle.domain_controller.specs.Machine.{Desk, account_for, channel_for, desk, goes_on, judge_account, judge_info, judge_pair, open_channel, reply_info, send_reply, status_of, take_pair}
 use Rattle.domain_controller.specs.State.{State}
 use Rattle.domain_controller.specs.Step.{after_units, first_desk, step_of}
 use Rattle.domain_controller.specs.Whole.{InRangeTable}
+use Rattle.controller_calls.specs.Asking.{answer_judged}
+use Rattle.controller_calls.specs.declared.calls.JudgedCall.TheVariants.{Network}
 use Rattle.controller_calls.specs.declared.line.Line.{Line}
 use Rattle.controller_calls.specs.declared.state.Computers.{Computers}
 use Rattle.controller_calls.specs.declared.state.ChallengePair.{ChallengePair}
@@ -50,12 +53,14 @@ use Rattle.domain_controller.specs.declared.state.Talk.{Talk}
 use Rattle.controller_calls.specs.declared.state.Work.{Work}
 use Rattle.controller_calls.proofs.LevelLaws.{short_at}
 use Rattle.domain_controller.proofs.WholeParts.{Fits, crypt_block, judged_fits, judged_table}
+use Rattle.controller_calls.proofs.DoneLaws.{channels_left}
+use Rattle.controller_calls.proofs.OutcomeLaws.{JudgedComes, Passes, Refused, challenge_comes, judged_comes}
 use Rattle.logon_steps.specs.Answering.{auth_value, pair_of}
 use Rattle.logon_steps.specs.ControllerTurns.{controller_at, passed_reply, turn_link}
-use Rattle.logon_steps.specs.Turning.{IsTurnReply, turn_agreed, turn_request}
+use Rattle.logon_steps.specs.Turning.{IsTurnCall, IsTurnReply, turn_agreed, turn_request}
 use Rattle.logon_steps.proofs.ControllerTurnLaws.{asked_steps, running, stepped}
 use Rattle.logon_steps.proofs.KnowingLaws.{computers_are_known}
-use Rattle.logon_runs.specs.Any.ControllerAnswers.{ControllersAnswer, KeepsBut, TellsShort, ToldChallenge, ToldLogon, ToldProof}
+use Rattle.logon_runs.specs.Any.ControllerAnswers.{ControllersAnswer, TellsShort, ToldChallenge, ToldLogon, ToldProof}
 use Rattle.logon_runs.specs.Any.GrantRests.{HasShortName}
 use Rattle.logon_runs.proofs.Any.JudgingLaws.{IsLogonJudged, IsNamedIn, info_in, logon_judged}
 use Rattle.logon_runs.proofs.Failing.TurnedAwayLaws.{IsRefusalOf, verdict_refuses}
@@ -79,18 +84,17 @@ answered table name computers link left part = stepped table name computers (tur
 
 -- ---- NetrServerReqChallenge
 
-challenge_told : (known : Bool) (table : AccountTable) (name : List ℕ) (computers : Computers) (link now number : ℕ) (caller : Caller) (client server : List ℕ) (left : List (List ℕ)) →
+challenge_told : (table : AccountTable) (name : List ℕ) (computers : Computers) (link now number : ℕ) (caller : Caller) (client server : List ℕ) (left : List (List ℕ)) → number < 2 ^ 32 →
+    IsTurnCall (challenge_call caller client) → ToldChallenge table name computers link now number caller client server left
+challenge_told table name computers link now number caller client server left below is =
+    challenge_comes (λ (after : Desk).
     step_of (controller_at table name computers (turn_link link)) (event.Bytes link (bytes_of_call (turn_request number (challenge_call caller client)) 5840)) now (server ∷ left)
-    ≡ answered table name computers link (server ∷ left) (goes_on (desk table
-    (send_reply (put_pair_if known caller.computer (pair_of client server) (desk_at table computers link).work) (line_at link number)
-    (reply.Challenge (record { challenge = server; status = 0 })))) talk_at left) →
-    ToldChallenge table name computers link now number caller client server left
-challenge_told true table name computers link now number caller client server left is = record {
-  later = record computers { pending = put same_name caller.computer (pair_of client server) computers.pending };
-  kept = refl;
-  steps = is;
-}
-challenge_told false table name computers link now number caller client server left is = record { later = computers; kept = refl; steps = is }
+    ≡ answered table name computers link (server ∷ left) (goes_on after talk_at left) → ToldChallenge table name computers link now number caller client server left)
+    (line_at link number) (record { primary = None; computer = caller.computer; challenge = client }) server (desk_at table computers link) (record {
+      unknown = λ unknown steps. record { later = computers; kept = refl; steps = steps };
+      known = λ known steps.
+          record { later = record computers { pending = put same_name caller.computer (pair_of client server) computers.pending }; kept = refl; steps = steps };
+    }) (asked_steps table name computers link now number (challenge_call caller client) (server ∷ left) below is)
 
 -- ---- NetrServerAuthenticate2
 
@@ -224,21 +228,20 @@ module _ (table : AccountTable) (name : List ℕ) (computers : Computers) (link 
   abbrev given : Authenticator
   given = authenticator_of (key_of_channel o) o.seed timestamp
 
-  abbrev logon_desk : Desk
-  logon_desk = desk table (take_channel caller.computer (desk_at table computers link).work)
+  abbrev call_asked : LogonCall
+  call_asked = record {
+    server = None;
+    computer = Some caller.computer;
+    authenticator = Some given;
+    returned = Some (record { credential = replicate 8 0; timestamp = 0 });
+    info = info;
+    validation = level_asked;
+  }
 
   abbrev IsLogon : Desk → Type 0
   IsLogon d =
       step_of (controller_at table name computers (turn_link link)) (event.Bytes link (bytes_of_call (turn_request number (logon_call caller o timestamp info)) 5840)) now left
       ≡ answered table name computers link left (goes_on d talk_at left)
-
-  -- without its channel, or with it as it was or moved
-  taken_out : KeepsBut caller.computer logon_desk.work.computers computers
-  taken_out = λ other apart. taken_others same_name caller.computer other computers.channels IsSameness-same_name apart
-
-  put_back : (channel : SecureChannelState) → KeepsBut caller.computer (put_channel caller.computer channel logon_desk.work).computers computers
-  put_back channel = λ other apart.
-      put_others same_name caller.computer other channel logon_desk.work.computers.channels IsSameness-same_name apart ∙ taken_out other apart
 
   differs_so : DifferInCounts table (judge_info table name now info level_asked).table
   unfolding judgement_of
@@ -248,65 +251,61 @@ module _ (table : AccountTable) (name : List ℕ) (computers : Computers) (link 
   unfolding judgement_of
   refuses_so = verdict_refuses table name info now
 
-  return_told : (passes : Bool) (channel : SecureChannelState) →
-      IsLogon (return_judged (return_by passes channel given) (key_of_channel channel) name now (line_at link number) info level_asked
-      (desk table (put_channel caller.computer (channel_by passes channel given) logon_desk.work))) →
+  -- by what is done then
+  told_by : (after : Desk) (actions : List Action) → IsLogon after → after.work.actions ≡ actions →
+      step_of (controller_at table name computers (turn_link link)) (event.Bytes link (bytes_of_call (turn_request number (logon_call caller o timestamp info)) 5840)) now left
+      ≡ whole_step left left actions (controller_at after.table name after.work.computers (turn_link link))
+  told_by after actions steps same = steps ∙ ap (λ (all : List Action). whole_step left left all (controller_at after.table name after.work.computers (turn_link link))) same
+
+  logon_told : (after : Desk) → JudgedComes (Network call_asked) name now (line_at link number) (desk_at table computers link) after → IsLogon after →
       ToldLogon table name computers link now number timestamp caller o info left
-  return_told false channel is = record {
-    later = (put_channel caller.computer channel logon_desk.work).computers;
-    others = put_back channel;
-    accounts = table;
-    differs = differs-none table;
-    ranged = ranged;
-    how = judged.Barred;
+  logon_told after (Refused how away) steps = record {
+    later = after.work.computers;
+    others = λ other apart. channels_left (Network call_asked) computers how after.work.computers.channels other away.why;
+    accounts = after.table;
+    differs = subst (DifferInCounts table) (sym away.table) (differs-none table);
+    ranged = subst InRangeTable (sym away.table) ranged;
+    how = how;
     answer = refusal_reply;
     is = refusal_goes;
     names = tells_short refusal_reply tt;
-    steps = is;
+    steps = told_by after _ steps away.actions;
   }
-  return_told true channel is =
+  logon_told after (Passes next done) steps =
       let found : Verdict = (judge_info table name now info level_asked).verdict in
-      let credential : List ℕ = return_of (key_of_channel channel) channel.seed given.timestamp in
-      let goes : PassedGoes (key_of_channel channel) credential found =
-      passed_goes (key_of_channel channel) credential found (cred_block _ _) (judged_fits table name now ranged is_name below info level_asked) refuses_so in
+      let key : List ℕ = key_of_channel next.channel in
+      let credential : List ℕ = return_of key next.channel.seed next.given.timestamp in
+      let goes : PassedGoes key credential found =
+      passed_goes key credential found (cred_block _ _) (judged_fits table name now ranged is_name below info level_asked) refuses_so in
+      let own : caller.computer ≡ next.computer = let both : Some caller.computer ≡ Some next.computer = next.named in cc in
+      let moved : SecureChannelState = channel_by (passes_on next.channel next.given) next.channel next.given in
       record {
-        later = (put_channel caller.computer (channel_by true channel given) logon_desk.work).computers;
-        others = put_back (channel_by true channel given);
-        accounts = (judge_info table name now info level_asked).table;
-        differs = differs_so;
-        ranged = judged_table table name now info level_asked ranged;
+        later = after.work.computers;
+        others = λ other apart.
+            let differs : same_name next.computer other ≡ false = subst (λ (computer : List ℕ). same_name computer other ≡ false) own apart in
+            ap (lookup same_name other) done.channels
+            ∙ put_others same_name next.computer other moved (take_out same_name next.computer computers.channels) IsSameness-same_name differs
+            ∙ taken_others same_name next.computer other computers.channels IsSameness-same_name differs;
+        accounts = after.table;
+        differs = subst (DifferInCounts table) (sym done.table) differs_so;
+        ranged = subst InRangeTable (sym done.table) (judged_table table name now info level_asked ranged);
         how = judged.Passed (status_of found);
-        answer = passed_reply (key_of_channel channel) credential found;
+        answer = passed_reply key credential found;
         is = goes.is;
         names = goes.names;
-        steps = is;
+        steps = told_by after _ steps done.actions;
       }
-
-  channel_told : (found : Option SecureChannelState) → IsLogon (judge_channel found caller.computer given name now (line_at link number) info level_asked logon_desk) →
-      ToldLogon table name computers link now number timestamp caller o info left
-  channel_told None is = record {
-    later = logon_desk.work.computers;
-    others = taken_out;
-    accounts = table;
-    differs = differs-none table;
-    ranged = ranged;
-    how = judged.NoChannel;
-    answer = refusal_reply;
-    is = refusal_goes;
-    names = tells_short refusal_reply tt;
-    steps = is;
-  }
-  channel_told (Some channel) is = return_told (passes_on channel given) channel is
 
 pub controllers_answer : ControllersAnswer
 controllers_answer = record {
   challenge = λ table name computers link now number caller client server left below is.
-      challenge_told (knows_in table.accounts caller.computer) table name computers link now number caller client server left
-      (asked_steps table name computers link now number (challenge_call caller client) (server ∷ left) below is);
+      challenge_told table name computers link now number caller client server left below is;
   proof = λ table name computers link now number caller client server left below is.
       account_told table name computers link now number caller client server left (account_for table (auth_value caller client server)) (lookup same_name caller.computer computers.pending)
       (asked_steps table name computers link now number (auth_call caller client server) left below is);
   logon = λ table name computers link now number timestamp caller o info left below is ranged is_name moment.
-      channel_told table name computers link now number timestamp caller o info left ranged is_name moment (lookup same_name caller.computer computers.channels)
+      let c : LogonCall = call_asked table name computers link now number timestamp caller o info left ranged is_name moment in
+      logon_told table name computers link now number timestamp caller o info left ranged is_name moment (answer_judged (Network c) name now (line_at link number) (desk_at table computers link))
+      (judged_comes (Network c) name now (line_at link number) (desk_at table computers link))
       (asked_steps table name computers link now number (logon_call caller o timestamp info) left below is);
 }

@@ -116,21 +116,6 @@ let_in_still task sent next on session has is = record { bound = is.bound; name 
 abbrev limit_of : Bound → ℕ
 limit_of bound = bound.binding.limit
 
-plain_reply : (task : ClientPlan) (sent call : ℕ) (stub : List ℕ) (on : LoggedOn) → call < 2 ^ 32 → length stub ≤ 5792 → IsLetIn task sent on →
-    Serves task sent (λ at. send_reply true call 0 stub on None at)
-unfolding Serves
-plain_reply task sent call stub on below short is =
-    let can : CanBeSent (response_at call stub None) 5840 = response_can call stub None below short tt in
-    inr (record {
-      bytes = written (response_at call stub None);
-      later = on;
-      fits = written_single call (Response (length stub) 0 stub) None (one_sends (response_at call stub None) can short);
-      let_in = let_in_still task sent (suc sent) on on.session (more_sent sent on.session is.session) is;
-      replies = λ at.
-          ap (λ (b : Bound). stay (send at (bytes_of_call (response_at call stub None) (limit_of b))) (talk_in None on)) is.bound
-          ∙ ap (λ (bytes : List ℕ). stay (send at bytes) (talk_in None on)) (one_bytes (response_at call stub None) can short);
-    })
-
 signed_by : (task : ClientPlan) (sent call : ℕ) (stub : List ℕ) (on : LoggedOn) (s : SessionState) → sent < 2 ^ 32 - 1 → call < 2 ^ 32 → length stub ≤ 5792 → is_plain task.level ≡ false →
     on.session ≡ Some s → HasSent sent (Some s) → IsLetIn task sent on →
     Travels (is_sealed task.level) (signed_reply_at task.level call stub) s (mirror s) → Serves task sent (λ at. send_reply (is_plain task.level) call 0 stub on None at)
@@ -153,22 +138,30 @@ signed_by task sent call stub on s few below short plain is_session has is t =
           signed_reply_sent task.level call stub (mirror s) s short plain t on at (ap Bound.level is.bound) (ap Bound.context is.bound) (ap limit_of is.bound) is_session;
     })
 
-signed_reply : (task : ClientPlan) (sent call : ℕ) (stub : List ℕ) (on : LoggedOn) (session : Option SessionState) → sent < 2 ^ 32 - 1 → call < 2 ^ 32 → length stub ≤ 5792 →
-    is_plain task.level ≡ false → on.session ≡ session → IsLetIn task sent on → Serves task sent (λ at. send_reply (is_plain task.level) call 0 stub on None at)
-signed_reply task sent call stub on None few below short plain is_session is =
+-- the arguments: whether the level is the one without signatures, and the session
+stub_reply : (plain : Bool) (session : Option SessionState) (task : ClientPlan) (sent call : ℕ) (stub : List ℕ) (on : LoggedOn) → is_plain task.level ≡ plain → on.session ≡ session →
+    sent < 2 ^ 32 - 1 → call < 2 ^ 32 → length stub ≤ 5792 → IsLetIn task sent on → Serves task sent (λ at. send_reply (is_plain task.level) call 0 stub on None at)
+unfolding Serves
+stub_reply true session task sent call stub on plain is_session few below short is =
+    let can : CanBeSent (response_at call stub None) 5840 = response_can call stub None below short tt in
+    inr (record {
+      bytes = written (response_at call stub None);
+      later = on;
+      fits = written_single call (Response (length stub) 0 stub) None (one_sends (response_at call stub None) can short);
+      let_in = let_in_still task sent (suc sent) on on.session (more_sent sent on.session is.session) is;
+      replies = λ at.
+          ap (λ (p : Bool). send_reply p call 0 stub on None at) plain
+          ∙ ap (λ (b : Bound). stay (send at (bytes_of_call (response_at call stub None) (limit_of b))) (talk_in None on)) is.bound
+          ∙ ap (λ (bytes : List ℕ). stay (send at bytes) (talk_in None on)) (one_bytes (response_at call stub None) can short);
+    })
+stub_reply false None task sent call stub on plain is_session few below short is =
     carried task sent _ (λ at. shut close.BadAuthentication at)
     (λ at. ap (λ (p : Bool). send_reply p call 0 stub on None at) plain ∙ ap (λ (s : Option SessionState). secure_reply s call 0 stub on None at) is_session)
     (closes task sent close.BadAuthentication)
-signed_reply task sent call stub on (Some s) few below short plain is_session is =
+stub_reply false (Some s) task sent call stub on plain is_session few below short is =
     let has : HasSent sent (Some s) = subst (HasSent sent) is_session is.session in
     signed_by task sent call stub on s few below short plain is_session has is
     (secured_is_opened (is_sealed task.level) (signed_reply_at task.level call stub) s (mirror s) (reply_room task.level call stub below short) (mirrored s has.0) (omega (arith, has.1, few)))
-
-stub_reply : (plain : Bool) (task : ClientPlan) (sent call : ℕ) (stub : List ℕ) (on : LoggedOn) → is_plain task.level ≡ plain → sent < 2 ^ 32 - 1 → call < 2 ^ 32 → length stub ≤ 5792 →
-    IsLetIn task sent on → Serves task sent (λ at. send_reply (is_plain task.level) call 0 stub on None at)
-stub_reply true task sent call stub on plain few below short is =
-    carried task sent _ (λ at. send_reply true call 0 stub on None at) (λ at. ap (λ (p : Bool). send_reply p call 0 stub on None at) plain) (plain_reply task sent call stub on below short is)
-stub_reply false task sent call stub on plain few below short is = signed_reply task sent call stub on on.session few below short plain refl is
 
 replied : (task : ClientPlan) (sent call : ℕ) (what : Answer) (on : LoggedOn) → sent < 2 ^ 32 - 1 → call < 2 ^ 32 → AnswerFits what → IsLetIn task sent on →
     Serves task sent (λ at. reply what call 0 on None at)
@@ -184,7 +177,7 @@ replied task sent call (answer.Fault status) on few below fits is =
 replied task sent call (answer.Stub stub) on few below fits is =
     carried task sent _ (λ at. send_reply (is_plain task.level) call 0 stub on None at)
     (λ at. ap (λ (b : Bound). send_reply (is_plain b.level) call 0 stub on None at) is.bound)
-    (stub_reply (is_plain task.level) task sent call stub on refl few below fits is)
+    (stub_reply (is_plain task.level) on.session task sent call stub on refl refl few below fits is)
 
 -- ---- the answer of each operation
 
@@ -227,11 +220,6 @@ joined_if true task sent call hint opnum stub trailer on bytes fits read few bel
     (λ at. ap (λ (u : Result RpcUnit UnitRefused). join_unit u on None at) read ∙ ap (λ (f : Bool). join_by (answer_by (joined_by true f unit) true) None on at) fits)
     (replied task sent call what on few below (answer_fits (accepts on.bound.binding 0) opnum on.name stub is.name is.units) is)
 
-joined : (task : ClientPlan) (sent call hint opnum : ℕ) (stub : List ℕ) (trailer : Option Trailer) (on : LoggedOn) (bytes : List ℕ) →
-    unit_of bytes ≡ Ok (single_unit call (Request hint 0 opnum stub) trailer) → sent < 2 ^ 32 - 1 → call < 2 ^ 32 → IsLetIn task sent on → Serves task sent (λ at. join_unit (unit_of bytes) on None at)
-joined task sent call hint opnum stub trailer on bytes read few below is =
-    joined_if (nat_le (length stub) 65536) task sent call hint opnum stub trailer on bytes refl read few below is
-
 -- ---- a request that the session opens, where it takes it
 
 opened_by : (opened : Option Secured) (task : ClientPlan) (sent call hint opnum : ℕ) (stub : List ℕ) (trailer : Option Trailer) (on : LoggedOn) (s : SessionState) (bytes : List ℕ) →
@@ -245,7 +233,7 @@ opened_by (Some secured) task sent call hint opnum stub trailer on s bytes opens
     let taken = what_opens (is_sealed on.bound.level) s bytes (single_unit call (Request hint 0 opnum stub) trailer) sent secured read has.1 opens in
     carried task sent _ (λ at. join_unit (unit_of secured.bytes) (with_session on secured.session) None at)
     (λ at. ap (λ (o : Option Secured). join_opened o on None at) opens)
-    (joined task sent call hint opnum taken.0.0 trailer (with_session on secured.session) secured.bytes taken.0.1 few below
+    (joined_if (nat_le (length taken.0.0) 65536) task sent call hint opnum taken.0.0 trailer (with_session on secured.session) secured.bytes refl taken.0.1 few below
     (let_in_still task sent sent on (Some secured.session) taken.1 is))
 
 opened : (session : Option SessionState) (task : ClientPlan) (sent call hint opnum : ℕ) (stub : List ℕ) (trailer : Option Trailer) (on : LoggedOn) (bytes : List ℕ) → on.session ≡ session →
@@ -279,7 +267,7 @@ served_if : (plain : Bool) (task : ClientPlan) (sent call opnum : ℕ) (on : Log
     IsLetIn task sent on → Serves task sent (λ at. unit_in (is_plain on.bound.level) bytes on None at)
 served_if true task sent call opnum on bytes plain r few below is =
     carried task sent _ (λ at. join_unit (unit_of bytes) on None at) (λ at. ap (λ (p : Bool). unit_in p bytes on None at) plain)
-    (joined task sent call r.hint opnum r.stub r.trailer on bytes r.read few below is)
+    (joined_if (nat_le (length r.stub) 65536) task sent call r.hint opnum r.stub r.trailer on bytes refl r.read few below is)
 served_if false task sent call opnum on bytes plain r few below is =
     carried task sent _ (λ at. unit_in false bytes on None at) (λ at. ap (λ (p : Bool). unit_in p bytes on None at) plain)
     (signed_if (is_due on.bound.level r.trailer) task sent call r.hint opnum r.stub r.trailer on bytes refl r.read few below is)

@@ -2,12 +2,11 @@
 -- It serves `channels_are_named_alike`.
 use Rattle.std.proofs.Common.{◌≡◌, ◌==◌, ◌&&◌, not, ℕ, Bool, true, false, List, [], ◌∷◌, length, nat_le, Option, Some, None, Ok, Err, inl, inr, if◌then◌else◌, refl, sym, ap, ap₂, ◌∙◌, subst, bytes_eq}
 use Rattle.std.specs.Int.Bits.{and_self}
-use Rattle.std.proofs.lemmas.Bool.{cases_Bool}
 use Rattle.std.proofs.lemmas.Slice.Eq.{bytes_eq-Decides}
-use Rattle.wire_base.specs.Maps.{lookup, put}
+use Rattle.wire_base.specs.Maps.{lookup}
 use Rattle.wire_base.specs.Names.{same_name}
 use Rattle.wire_base.specs.declared.authenticator.Authenticator.{Authenticator}
-use Rattle.wire_base.proofs.MapLaws.{lookup-put_same, put_others, taken_others}
+use Rattle.wire_base.proofs.MapLaws.{lookup-put_same, put_others}
 use Rattle.wire_base.proofs.NameLaws.{IsSameness-same_name}
 use Rattle.authenticators.specs.Channels.{ChannelIdentity}
 use Rattle.authenticators.proofs.ChannelLaws.{same_channel-Decides}
@@ -15,7 +14,7 @@ use Rattle.ntlm_flags.specs.Flags.{has_flag}
 use Rattle.channel_keys.specs.Credentials.{cred_of}
 use Rattle.channel_keys.specs.Flags.{rc4_flag, supported_flags}
 use Rattle.channel_keys.specs.SessionKeys.{key_of}
-use Rattle.authenticators.specs.SecureChannels.{channel_of, SecureChannelState, after_return, fresh_channel, is_awaited, channel_by, key_of_channel, passes_on, return_by}
+use Rattle.authenticators.specs.SecureChannels.{channel_of, SecureChannelState, after_return, fresh_channel, is_awaited, channel_by, key_of_channel}
 use Rattle.rpc_units.specs.declared.unit.Body.{Body}
 use Rattle.rpc_units.specs.declared.unit.Body.TheVariants.{Bind, BindAck, BindNak, Auth3, Request, Response, Fault}
 use Rattle.rpc_units.specs.declared.unit.Unit.{Unit as RpcUnit}
@@ -23,13 +22,13 @@ use Rattle.logon_stubs.specs.Status.{access_denied}
 use Rattle.logon_stubs.specs.declared.calls.AuthCall.{AuthCall}
 use Rattle.logon_stubs.specs.declared.calls.Call.{Call}
 use Rattle.logon_stubs.specs.declared.calls.Call.TheVariants as call
-use Rattle.logon_stubs.specs.declared.calls.ChallengeCall.{ChallengeCall}
 use Rattle.logon_stubs.specs.declared.calls.ChallengeReply.{ChallengeReply}
 use Rattle.logon_stubs.specs.declared.calls.LogonCall.{LogonCall}
 use Rattle.logon_stubs.specs.declared.calls.Reply.{Reply}
 use Rattle.logon_stubs.specs.declared.calls.Reply.TheVariants as reply
 use Rattle.logon_stubs.specs.declared.info.NetworkInfo.{NetworkInfo}
 use Rattle.logon_stubs.specs.declared.info.SamInfo.{SamInfo}
+use Rattle.account_table.specs.AccountTable.{AccountTable}
 use Rattle.account_table.specs.LookUps.{knows_in}
 use Rattle.account_table.specs.declared.account.Account.{Account}
 use Rattle.end_links.specs.Binding.{limit_of}
@@ -51,15 +50,8 @@ use Rattle.channel_client.specs.declared.state.Standing.TheVariants as standing
 use Rattle.channel_client.specs.declared.state.Step.TheVariants as step
 use Rattle.channel_client.specs.declared.state.Waiting.{Waiting}
 use Rattle.domain_controller.specs.Hearing.{hear as hear_unit}
-use Rattle.domain_controller.specs.Machine.{Desk, account_for, answer_authenticate, answer_challenge, answer_named, answer_on, answers_to, by_call, by_heard, channel_for, desk, draw_challenge, grant_flags, judge_account, judge_offer, judge_pair, open_channel, put_channel, put_pair_if, send_reply, take_channel, take_pair}
-use Rattle.controller_calls.specs.Calls.{asked_of, given_in}
-use Rattle.controller_calls.specs.declared.calls.Asked.{Asked}
-use Rattle.controller_calls.specs.declared.calls.ControllerCall.{ControllerCall}
-use Rattle.controller_calls.specs.declared.calls.ControllerCall.TheVariants as served
-use Rattle.controller_calls.proofs.DoneLaws.{refused_keeps, return_keeps}
-use Rattle.outside.specs.declared.action.Judged.TheVariants as judged
+use Rattle.domain_controller.specs.Machine.{Desk, account_for, answer_authenticate, answer_challenge, by_heard, channel_for, desk, grant_flags, open_channel, send_reply, take_pair}
 use Rattle.domain_controller.specs.declared.hearing.Heard.{Heard}
-use Rattle.domain_controller.specs.declared.hearing.Heard.TheVariants as heard
 use Rattle.controller_calls.specs.declared.line.Line.{Line}
 use Rattle.controller_calls.specs.declared.state.Computers.{Computers}
 use Rattle.controller_calls.specs.declared.state.ChallengePair.{ChallengePair}
@@ -67,12 +59,17 @@ use Rattle.domain_controller.specs.declared.state.Talk.{Talk}
 use Rattle.controller_calls.specs.declared.state.Work.{Work}
 use Rattle.channel_events.specs.Marks.{Calling, Opening}
 use Rattle.channel_events.proofs.SameLaws.{same_self}
-use Rattle.step_notes.specs.ChannelNames.{AreFramesOf, CallsAreNamedAlike, ChallengesAreShared, ChannelsAreNamedAlike, ChannelsStandAsAsked, ExchangesHaveNoClash, Expects, HasChannel, IsOfOther, OpeningsAreNamedAlike, OwnUnitsAreNoClash, StandsOrGoes, WillAsk, WillCall, WillOpen, frames_sent, opened_call, opened_unit, channel_marked, passed_note, place_answered, standing_channel}
-use Rattle.step_notes.specs.ControllerNotes.{Answered, identity_by, channel_in, checked_on, has_passed, judging_by, opened_account, opened_by, opened_if, opened_offer, opened_pair, opening, passing}
+use Rattle.step_notes.specs.ChannelNames.{AreFramesOf, CallsAreNamedAlike, ChallengesAreShared, ChannelsAreNamedAlike, ChannelsStandAsAsked, ExchangesHaveNoClash, Expects, HasChannel, IsOfOther, OpeningsAreNamedAlike, OwnUnitsAreNoClash, StandsOrGoes, WillAsk, WillCall, WillOpen, frames_sent, opened_unit, channel_marked, passed_note, place_answered, standing_channel}
+use Rattle.step_notes.specs.ControllerNotes.{Answered, identity_by, channel_in, checked_on, has_passed, judging_by, opened_account, opened_by, opened_if, opened_offer, opening, passing}
 use Rattle.step_notes.specs.Marking.{clashes, is_channel}
 use Rattle.step_notes.specs.MemberNotes.{TurnNote, asked_note, half_channel, request_note, taking_note, timestamp_bound}
 use Rattle.step_notes.specs.Records.{Judging, Sent, computer_named, timestamp_in, unit_in}
 use Rattle.step_notes.specs.Served.{work_after}
+use Rattle.controller_calls.proofs.OutcomeLaws.{challenge_comes}
+use Rattle.domain_controller.proofs.UnitLaws.{heard_comes}
+use Rattle.step_notes.proofs.Controllers.ComputerLaws.{judged_finds}
+use Rattle.step_notes.proofs.Controllers.KeptNoteLaws.{moved_alike}
+use Rattle.step_notes.proofs.Controllers.OpenedLaws.{opened_is, opening_noted}
 
 some_is : {T : Type 0} (one other : T) → Some one ≡ Some other → one ≡ other
 some_is one other is = cc
@@ -199,19 +196,16 @@ IsChallenged s client server line before later =
     × (later.work.actions ≡ (send_reply before.work line (reply.Challenge (record { challenge = server; status = 0 }))).actions)
     × (later.table ≡ before.table)
 
-known_waits : (knows : Bool) (s : Requester) (client server : List ℕ) (line : Line) (d : Desk) → knows ≡ true →
-    IsChallenged s client server line d
-    (desk d.table (send_reply (put_pair_if knows s.caller.computer (pair_of client server) d.work) line (reply.Challenge (record { challenge = server; status = 0 }))))
-known_waits false s client server line d known = absurd cc
-known_waits true s client server line d known =
-    (lookup-put_same same_name s.caller.computer (pair_of client server) d.work.computers.pending (IsSameness-same_name.reflexive s.caller.computer), refl, refl)
-
 waits_then : (s : Requester) (client server : List ℕ) (line : Line) (before later : Desk) → knows_in before.table.accounts s.caller.computer ≡ true →
     Some (desk before.table (answer_challenge before.table line (record { primary = None; computer = s.caller.computer; challenge = client }) server before.work)) ≡ Some later →
     IsChallenged s client server line before later
 waits_then s client server line before later known is =
     subst (λ (d : Desk). IsChallenged s client server line before d) (some_is _ _ is)
-    (known_waits (knows_in before.table.accounts s.caller.computer) s client server line before known)
+    (challenge_comes (λ (d : Desk). IsChallenged s client server line before d) line (record { primary = None; computer = s.caller.computer; challenge = client }) server before (record {
+      unknown = λ unknown. absurd (let never : false ≡ true = sym unknown ∙ known in cc);
+      known = λ is.
+          (lookup-put_same same_name s.caller.computer (pair_of client server) before.work.computers.pending (IsSameness-same_name.reflexive s.caller.computer), refl, refl);
+    }))
 
 -- ---- the call that opens a channel goes out
 
@@ -456,35 +450,19 @@ opens_named controller s client server d expects =
     ∙ opened_known expects.account s client server expects.secret)
     ∙ ap Some (named_alike controller expects.account s client server expects.secret)
 
--- the channels that the controller keeps then
-put_known : (account : Account) (s : Requester) (client server : List ℕ) (line : Line) (work : Work) → account.hash ≡ s.caller.secret →
-    (judge_account (Some account) (Some (pair_of client server)) line (auth_of s client server) work).computers.channels
-    ≡ put same_name s.caller.computer (channel_opened account s client server) work.computers.channels
-put_known account s client server line work same =
-    ap (λ (offered : Bool). (judge_offer offered (Some (pair_of client server)) account line (auth_of s client server) work).computers.channels) offers
-    ∙ ap (λ (right : Bool). (open_channel right (channel_opened account s client server) line (auth_of s client server) work).computers.channels) (accepted account s client server same)
-
-put_named : (s : Requester) (client server : List ℕ) (line : Line) (d : Desk) → (expects : Expects d s client server) →
-    (answer_authenticate d.table line (auth_of s client server) d.work).computers.channels
-    ≡ put same_name s.caller.computer (channel_opened expects.account s client server) d.work.computers.channels
-put_named s client server line d expects =
-    ap₂ (λ (account : Option Account) (pair : Option ChallengePair). (judge_account account pair line (auth_of s client server) (take_pair s.caller.computer d.work)).computers.channels) expects.found expects.pair
-    ∙ put_known expects.account s client server line (take_pair s.caller.computer d.work) expects.secret
-
-keeps_named : (controller : ℕ) (s : Requester) (client server : List ℕ) (line : Line) (d : Desk) → Expects d s client server →
-    HasChannel (answer_authenticate d.table line (auth_of s client server) d.work).computers (half_channel controller s client server)
-keeps_named controller s client server line d expects = record {
-  state = channel_opened expects.account s client server;
-  kept = ap (lookup same_name s.caller.computer) (put_named s client server line d expects)
-      ∙ lookup-put_same same_name s.caller.computer (channel_opened expects.account s client server) d.work.computers.channels (IsSameness-same_name.reflexive s.caller.computer);
-  is = named_alike controller expects.account s client server expects.secret;
-}
-
-opening_kept : (controller : ℕ) (s : Requester) (client server : List ℕ) (line : Line) (before later : Desk) → Expects before s client server →
-    Some (desk before.table (answer_authenticate before.table line (auth_of s client server) before.work)) ≡ Some later →
-    HasChannel later.work.computers (half_channel controller s client server)
-opening_kept controller s client server line before later expects is =
-    subst (λ (d : Desk). HasChannel d.work.computers (half_channel controller s client server)) (some_is _ _ is) (keeps_named controller s client server line before expects)
+-- the channel that an opening opens is kept then
+opening_keeps : (controller : ℕ) (table : AccountTable) (line : Line) (c : AuthCall) (work : Work) (channel : ChannelIdentity) → opened_by controller c (desk table work) ≡ Some channel →
+    HasChannel (answer_authenticate table line c work).computers channel
+opening_keeps controller table line c work channel =
+    opening_noted (λ opened later. identity_by controller c.computer opened ≡ Some channel → HasChannel later.computers channel) (account_for table c)
+    (lookup same_name c.computer work.computers.pending) line c (take_pair c.computer work) (record {
+      denied = λ status fails is. absurd cc;
+      accepted = λ opens is.
+          let state : SecureChannelState = channel_for opens.account opens.pair c in
+          subst (λ (own : ChannelIdentity). HasChannel (open_channel true state line c (take_pair c.computer work)).computers own)
+          (some_is (channel_of controller c.computer state) channel is)
+          (record { state = state; kept = lookup-put_same same_name c.computer state work.computers.channels (IsSameness-same_name.reflexive c.computer); is = refl });
+    })
 
 pub openings : OpeningsAreNamedAlike
 openings = record {
@@ -494,7 +472,10 @@ openings = record {
       (bind_heard s.turn will.asks.number will.asks.place (auth_call s.caller client server) unit s.next_call will.asks.turn) will.half sent;
   opens = λ s client server w line before later expects.
       ap (λ (channel : Option ChannelIdentity). opening channel w line.call) (opens_named w.controller s client server before expects);
-  keeps = λ controller s client server line talk name now before later left expects is. opening_kept controller s client server line before later expects is;
+  keeps = λ controller s client server line talk name now before later left expects is.
+      subst (λ (d : Desk). HasChannel d.work.computers (half_channel controller s client server)) (some_is _ _ is)
+      (opening_keeps controller before.table line (auth_of s client server) before.work (half_channel controller s client server)
+      (opens_named controller s client server before expects));
 }
 
 pub standings : ChannelsStandAsAsked
@@ -512,146 +493,43 @@ same_channels : (old new : Computers) (channel : ChannelIdentity) → new.channe
 same_channels old new channel same has =
     record { state = has.state; kept = ap (lookup same_name channel.computer) same ∙ has.kept; is = has.is }
 
-pair_keeps : (knows : Bool) (computer : List ℕ) (pair : ChallengePair) (work : Work) → (put_pair_if knows computer pair work).computers.channels ≡ work.computers.channels
-pair_keeps false computer pair work = refl
-pair_keeps true computer pair work = refl
-
 -- the part keeps it, where it is whole
 abbrev pub PartHas : ChannelIdentity → ServedPart Desk Talk → Type 0
 PartHas channel (Err why) = Unit {0}
 PartHas channel (Ok part) = HasChannel part.value.0.work.computers channel
 
-draw_has : (left : List (List ℕ)) (line : Line) (c : ChallengeCall) (talk : Talk) (d : Desk) (channel : ChannelIdentity) → HasChannel d.work.computers channel → PartHas channel (draw_challenge left line c talk d)
-draw_has [] line c talk d channel has = tt
-draw_has (server ∷ left) line c talk d channel has =
-    same_channels d.work.computers _ channel (pair_keeps (knows_in d.table.accounts c.computer) c.computer (record { client = c.challenge; server = server }) d.work) has
-
--- another opening leaves it, unless it is accepted for that computer
-open_has : (right : Bool) (controller : ℕ) (state : SecureChannelState) (line : Line) (c : AuthCall) (work : Work) (channel : ChannelIdentity) → HasChannel work.computers channel →
-    IsOfOther channel.computer (identity_by controller c.computer (opened_if right state)) → HasChannel (open_channel right state line c work).computers channel
-open_has false controller state line c work channel has other = same_channels work.computers _ channel refl has
-open_has true controller state line c work channel has other = record {
-  state = has.state;
-  kept = put_others same_name c.computer channel.computer state work.computers.channels IsSameness-same_name other ∙ has.kept;
-  is = has.is;
-}
-
-pair_has : (pair : Option ChallengePair) (controller : ℕ) (account : Account) (line : Line) (c : AuthCall) (work : Work) (channel : ChannelIdentity) → HasChannel work.computers channel →
-    IsOfOther channel.computer (identity_by controller c.computer (opened_pair pair account c)) → HasChannel (judge_pair pair account line c work).computers channel
-pair_has None controller account line c work channel has other = same_channels work.computers _ channel refl has
-pair_has (Some pair) controller account line c work channel has other =
-    open_has (bytes_eq c.credential (cred_of (key_of_channel (channel_for account pair c)) pair.client)) controller (channel_for account pair c) line c work channel has other
-
-offer_has : (offered : Bool) (pair : Option ChallengePair) (controller : ℕ) (account : Account) (line : Line) (c : AuthCall) (work : Work) (channel : ChannelIdentity) → HasChannel work.computers channel →
-    IsOfOther channel.computer (identity_by controller c.computer (opened_offer offered pair account c)) → HasChannel (judge_offer offered pair account line c work).computers channel
-offer_has false pair controller account line c work channel has other = same_channels work.computers _ channel refl has
-offer_has true pair controller account line c work channel has other = pair_has pair controller account line c work channel has other
-
-account_has : (account : Option Account) (pair : Option ChallengePair) (controller : ℕ) (line : Line) (c : AuthCall) (work : Work) (channel : ChannelIdentity) → HasChannel work.computers channel →
-    IsOfOther channel.computer (identity_by controller c.computer (opened_account account pair c)) → HasChannel (judge_account account pair line c work).computers channel
-account_has None pair controller line c work channel has other = same_channels work.computers _ channel refl has
-account_has (Some account) pair controller line c work channel has other = offer_has (has_flag c.flags rc4_flag) pair controller account line c work channel has other
-
-auth_has : (controller : ℕ) (line : Line) (c : AuthCall) (d : Desk) (channel : ChannelIdentity) → HasChannel d.work.computers channel → IsOfOther channel.computer (opened_by controller c d) →
-    HasChannel (answer_authenticate d.table line c d.work).computers channel
-auth_has controller line c d channel has other =
-    account_has (account_for d.table c) (lookup same_name c.computer d.work.computers.pending) controller line c (take_pair c.computer d.work) channel
-    (same_channels d.work.computers _ channel refl has) other
-
--- ---- a call on a secure channel leaves it
-
-tests_alike : (one other key : List ℕ) → same_name one other ≡ true → same_name one key ≡ same_name other key
-tests_alike one other key is =
-    elim (cases_Bool (same_name other key)) [
-      | inl pass ↦ IsSameness-same_name.transitive one other key is pass ∙ sym pass
-      | inr fail ↦
-          elim (cases_Bool (same_name one key)) [
-            | inl also ↦
-                absurd (let back : same_name other key ≡ true = IsSameness-same_name.transitive other one key (IsSameness-same_name.symmetric one other is) also in cc)
-            | inr neither ↦ neither ∙ sym fail
-          ]
-    ]
-
-found_alike : (one other : List ℕ) (entries : List (List ℕ × SecureChannelState)) → same_name one other ≡ true → lookup same_name one entries ≡ lookup same_name other entries
-found_alike one other [] is = refl
-found_alike one other (entry ∷ entries) is =
-    ap (λ (hit : Bool). if hit then Some entry.1 else lookup same_name one entries) (tests_alike one other entry.0 is)
-    ∙ ap (λ (rest : Option SecureChannelState). if same_name other entry.0 then Some entry.1 else rest) (found_alike one other entries is)
-
-moved_named : (passes : Bool) (controller : ℕ) (computer : List ℕ) (state : SecureChannelState) (given : Authenticator) → channel_of controller computer (channel_by passes state given) ≡ channel_of controller computer state
-moved_named false controller computer state given = refl
-moved_named true controller computer state given = refl
-
--- the channel of another computer
-other_has : (found : Option SecureChannelState) (computer : List ℕ) (given : Authenticator) (what : Asked) (name : List ℕ) (now : ℕ) (line : Line) (d : Desk) (channel : ChannelIdentity) →
-    same_name computer channel.computer ≡ false → HasChannel d.work.computers channel → HasChannel (answer_on found computer given (answers_to what name now line) d).work.computers channel
-other_has None computer given what name now line d channel differs has =
-    same_channels d.work.computers _ channel (refused_keeps what judged.NoChannel line d.work).channels has
-other_has (Some state) computer given what name now line d channel differs has =
-    let moved : SecureChannelState = channel_by (passes_on state given) state given in
-    let later : Desk = desk d.table (put_channel computer moved d.work) in
-    let same = return_keeps what (return_by (passes_on state given) state given) computer state name now line later in
-    record {
-      state = has.state;
-      kept = ap (λ (channels : List (List ℕ × SecureChannelState)). lookup same_name channel.computer channels) same.channels
-          ∙ put_others same_name computer channel.computer moved d.work.computers.channels IsSameness-same_name differs ∙ has.kept;
-      is = has.is;
-    }
-
--- the channel itself, which was taken out
-own_has : (state : SecureChannelState) (computer : List ℕ) (given : Authenticator) (what : Asked) (name : List ℕ) (now : ℕ) (line : Line) (d : Desk) (channel : ChannelIdentity) →
-    same_name computer channel.computer ≡ true → channel_of channel.controller channel.computer state ≡ channel →
-    HasChannel (answer_on (Some state) computer given (answers_to what name now line) d).work.computers channel
-own_has state computer given what name now line d channel same is =
-    let moved : SecureChannelState = channel_by (passes_on state given) state given in
-    let later : Desk = desk d.table (put_channel computer moved d.work) in
-    let kept = return_keeps what (return_by (passes_on state given) state given) computer state name now line later in
-    record {
-      state = moved;
-      kept = ap (λ (channels : List (List ℕ × SecureChannelState)). lookup same_name channel.computer channels) kept.channels
-          ∙ sym (found_alike computer channel.computer (put same_name computer moved d.work.computers.channels) same)
-          ∙ lookup-put_same same_name computer moved d.work.computers.channels (IsSameness-same_name.reflexive computer);
-      is = moved_named (passes_on state given) channel.controller channel.computer state given ∙ is;
-    }
-
-named_has : (computer : List ℕ) (given : Authenticator) (what : Asked) (name : List ℕ) (now : ℕ) (line : Line) (d : Desk) (channel : ChannelIdentity) → HasChannel d.work.computers channel →
-    HasChannel (answer_named (Some computer) (Some given) (answers_to what name now line) d).work.computers channel
-named_has computer given what name now line d channel has =
-    let after_taking : Desk = desk d.table (take_channel computer d.work) in
-    elim (cases_Bool (same_name computer channel.computer)) [
-      | inl same ↦
-          subst (λ (found : Option SecureChannelState). HasChannel (answer_on found computer given (answers_to what name now line) after_taking).work.computers channel)
-          (sym (found_alike computer channel.computer d.work.computers.channels same ∙ has.kept))
-          (own_has has.state computer given what name now line after_taking channel same has.is)
-      | inr differs ↦
-          other_has (lookup same_name computer d.work.computers.channels) computer given what name now line after_taking channel differs
-          (record {
-            state = has.state;
-            kept = taken_others same_name computer channel.computer d.work.computers.channels IsSameness-same_name differs ∙ has.kept;
-            is = has.is;
-          })
-    ]
-
-judged_has : (computer : Option (List ℕ)) (given : Option Authenticator) (what : Asked) (name : List ℕ) (now : ℕ) (line : Line) (d : Desk) (channel : ChannelIdentity) → HasChannel d.work.computers channel →
-    HasChannel (answer_named computer given (answers_to what name now line) d).work.computers channel
-judged_has None given what name now line d channel has = same_channels d.work.computers _ channel (refused_keeps what judged.NoChannel line d.work).channels has
-judged_has (Some computer) None what name now line d channel has = same_channels d.work.computers _ channel (refused_keeps what judged.NoChannel line d.work).channels has
-judged_has (Some computer) (Some given) what name now line d channel has = named_has computer given what name now line d channel has
-
--- ---- a unit leaves it
-
-call_has : (c : ControllerCall) (controller : ℕ) (line : Line) (talk : Talk) (name : List ℕ) (now : ℕ) (d : Desk) (left : List (List ℕ)) (channel : ChannelIdentity) → HasChannel d.work.computers channel →
-    IsOfOther channel.computer (opened_call controller c d) → PartHas channel (by_call c line talk name now d left)
-call_has (served.Challenge c) controller line talk name now d left channel has other = draw_has left line c talk d channel has
-call_has (served.Authenticate c) controller line talk name now d left channel has other = auth_has controller line c d channel has other
-call_has (served.Judged c) controller line talk name now d left channel has other = judged_has (computer_named c) (given_in c) (asked_of c) name now line d channel has
-
-heard_has : (what : Heard) (controller link : ℕ) (name : List ℕ) (now : ℕ) (d : Desk) (left : List (List ℕ)) (channel : ChannelIdentity) → HasChannel d.work.computers channel →
+unit_has : (controller link : ℕ) (name : List ℕ) (now : ℕ) (d : Desk) (left : List (List ℕ)) (channel : ChannelIdentity) → HasChannel d.work.computers channel → (what : Heard) →
     IsOfOther channel.computer (opened_unit controller what d) → PartHas channel (by_heard what link name now d left)
-heard_has (heard.Close cause) controller link name now d left channel has other = same_channels d.work.computers _ channel refl has
-heard_has (heard.Answer bytes talk) controller link name now d left channel has other = same_channels d.work.computers _ channel refl has
-heard_has (heard.Waits talk) controller link name now d left channel has other = has
-heard_has (heard.Asked line c talk) controller link name now d left channel has other = call_has c controller line talk name now d left channel has other
+unit_has controller link name now d left channel has =
+    heard_comes (λ (what : Heard) (part : ServedPart Desk Talk). IsOfOther channel.computer (opened_unit controller what d) → PartHas channel part) link name now d left (record {
+      close = λ cause other. same_channels d.work.computers _ channel refl has;
+      answer = λ bytes talk other. same_channels d.work.computers _ channel refl has;
+      waits = λ talk other. has;
+      spent = λ line c talk none other. tt;
+      unknown = λ line c talk server rest is none other. same_channels d.work.computers _ channel refl has;
+      known = λ line c talk server rest is known other. same_channels d.work.computers _ channel refl has;
+      denied = λ line c talk status fails none other. same_channels d.work.computers _ channel refl has;
+      -- another channel is put
+      accepted = λ line c talk opens other. record {
+        state = has.state;
+        kept = put_others same_name c.computer channel.computer (channel_for opens.account opens.pair c) d.work.computers.channels IsSameness-same_name
+            (subst (λ (opened : Option SecureChannelState). IsOfOther channel.computer (identity_by controller c.computer opened))
+            (opened_is (account_for d.table c) (lookup same_name c.computer d.work.computers.pending) c opens) other)
+            ∙ has.kept;
+        is = has.is;
+      };
+      -- it may have moved on
+      judged = λ line c talk after comes other. elim (judged_finds c name now line d after channel.computer comes) [
+        | inl same ↦ record { state = has.state; kept = same ∙ has.kept; is = has.is }
+        | inr moves ↦
+            let own : moves.channel ≡ has.state = some_is _ _ (sym moves.was ∙ has.kept) in
+            record {
+              state = channel_by moves.passes moves.channel moves.given;
+              kept = moves.now;
+              is = moved_alike moves.passes channel.controller channel.computer moves.channel moves.given ∙ ap (channel_of channel.controller channel.computer) own ∙ has.is;
+            }
+      ];
+    })
 
 part_has : (part : ServedPart Desk Talk) (channel : ChannelIdentity) (later : Desk) → PartHas channel part → work_after part ≡ Some later → HasChannel later.work.computers channel
 part_has (Err why) channel later has is = absurd cc
@@ -676,7 +554,7 @@ calls = record {
       (bind_heard s.turn ask.number ask.place (call.Logon logon) unit s.next_call ask.turn) stands ask.turn sent;
   keeps = λ controller name now link bytes before later talk left channel has other is.
       part_has (by_heard (hear_unit link bytes talk) link name now before left) channel later
-      (heard_has (hear_unit link bytes talk) controller link name now before left channel has other) is;
+      (unit_has controller link name now before left channel has (hear_unit link bytes talk) other) is;
   passes = λ j computers channel checks at names has passed. passes_named j computers channel checks at names has passed;
   takes = λ controller s unit place is. answer_acts (hear s.turn unit s.next_call) controller s place is;
 }

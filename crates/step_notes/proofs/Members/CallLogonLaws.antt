@@ -1,14 +1,12 @@
 -- Each Logon call that goes out at a member carries the logon that it keeps under the place of the turn.
 -- It serves `calls_carry_their_logon`.
-use Rattle.std.proofs.Common.{◌≡◌, ℕ, true, List, ◌++◌, Option, Some, None, Result, Ok, Err, refl, sym, ap, ap₂, subst, ◌∙◌}
+use Rattle.std.proofs.Common.{◌≡◌, ℕ, true, List, ◌++◌, Option, Some, Result, refl, sym, ap, ap₂, subst, ◌∙◌}
 use Rattle.std.specs.List.{AllByRecursion}
 use Rattle.authenticators.specs.Channels.{ChannelIdentity, channel_key}
 use Rattle.authenticators.specs.Sequences.{authenticator_of, next_seed}
 use Rattle.authenticators.specs.SecureChannels.{channel_of, SecureChannelState, after_call, key_of_channel}
-use Rattle.rpc_units.specs.declared.refused.JoinRefused.{JoinRefused}
 use Rattle.rpc_units.specs.declared.refused.UnitRefused.{UnitRefused}
 use Rattle.rpc_units.specs.declared.unit.Unit.{Unit as RpcUnit}
-use Rattle.rpc_units.specs.Joining.{answer_of, open_after}
 use Rattle.rpc_units.specs.Reading.{unit_of}
 use Rattle.rpc_units.specs.Stream.{cut_stream}
 use Rattle.logon_stubs.specs.declared.calls.Call.{Call}
@@ -38,15 +36,15 @@ use Rattle.member_server.specs.declared.state.Running.{Running}
 use Rattle.channel_turns.specs.declared.state.TurnTalk.{TurnTalk}
 use Rattle.member_server.specs.Laws.{is_dialled}
 use Rattle.member_server.specs.Machine.{at_turn, caller_of, work_of}
-use Rattle.member_server.specs.Turns.{AtTurn, do_taken, turn_by_join, turn_server, turn_unit}
+use Rattle.member_server.specs.Turns.{AtTurn, do_taken, turn_server, turn_unit}
 use Rattle.step_notes.specs.CallLogons.{AsksForKept, AsksUnlessStopped, CallsCarryTheirLogon, CarriesItsLogon, CarriesNoted, HasSecret, IsForItsLogon, IsStamped, IsStampedStep, call_for, info_at}
 use Rattle.step_notes.specs.ChannelNames.{AreFramesOf}
-use Rattle.step_notes.specs.MemberNotes.{asked_note, taken_note, taking_joined, taking_note, taking_read, timestamp_bound}
+use Rattle.step_notes.specs.MemberNotes.{asked_note, taken_note, taking_note, taking_read, timestamp_bound}
 use Rattle.step_notes.proofs.Channels.ChannelNameLaws.{bound_at}
 use Rattle.step_notes.proofs.Members.TurnRequestLaws.{HasLogon, IsOfTurn, asked_after, first_logon, of_turn}
 use Rattle.step_notes.proofs.Members.CallKeptLaws.{TurnPartAsks, at_channel, fresh_asks, step_asks, turn_asks}
 use Rattle.step_notes.proofs.ServedLaws.{served_such}
-use Rattle.step_notes.proofs.Members.TurnUnitLaws.{turn_units_such}
+use Rattle.step_notes.proofs.Members.TurnUnitLaws.{taking_by, turn_units_such}
 
 -- ---- a request that goes out
 
@@ -134,17 +132,15 @@ module _ (controller : ℕ) (at : AtTurn) (kept : AsksForKept true at.work.logon
       let s : Requester = at.work.logons.channel in settled_carries (judge q r s.standing s.caller.secret) _
   acted_carries (hearing.Drop cause) joiner is = tt
 
-  joined_carries : (whole : Result (Option RpcUnit) JoinRefused) (after : Option RpcUnit) →
-      CarriesNoted (taking_note (taking_joined whole at.work.logons.channel) controller at.work.logons.channel) controller at (Some (turn_by_join whole after at).0)
-  joined_carries (Err why) after = tt
-  joined_carries (Ok None) after = tt
-  joined_carries (Ok (Some unit)) after =
-      let s : Requester = at.work.logons.channel in acted_carries (hear s.turn unit s.next_call) after (of_turn s.turn unit s.next_call)
-
   read_carries : (read : Result RpcUnit UnitRefused) (joiner : Option RpcUnit) →
       CarriesNoted (taking_note (taking_read read joiner at.work.logons.channel) controller at.work.logons.channel) controller at (Some (turn_unit read joiner at).0)
-  read_carries (Err why) joiner = tt
-  read_carries (Ok unit) joiner = joined_carries (answer_of joiner unit) (open_after joiner unit)
+  read_carries read joiner =
+      let s : Requester = at.work.logons.channel in
+      taking_by at (λ taking served. CarriesNoted (taking_note taking controller s) controller at (Some served.0)) (record {
+        waits = λ after. tt;
+        takes = λ unit after. acted_carries (hear s.turn unit s.next_call) after (of_turn s.turn unit s.next_call);
+        breaks = λ cause. tt;
+      }) read joiner
 
 -- ---- the units of the link of the turn
 

@@ -1,6 +1,6 @@
 -- The logons that a member keeps, through its steps: each is that of a message that it took. And the link of its turn
 -- is one that it dialled. It serves `Proved.asked`, `Proved.let_in`, `Proved.sends`.
-use Rattle.std.proofs.Common.{◌≡◌, ℕ, ◌==◌, ◌<◌, Bool, true, false, List, [], ◌∷◌, ◌++◌, replicate, ◌⊎◌, inl, inr, Option, Some, None, Result, Ok, Err, refl, sym, subst, ◌∙◌, nat_le, length, if◌then◌else◌}
+use Rattle.std.proofs.Common.{◌≡◌, ℕ, ◌<◌, Bool, true, false, List, [], ◌∷◌, ◌++◌, ◌⊎◌, inl, inr, Option, Some, None, Result, Ok, Err, refl, sym, subst, ◌∙◌, if◌then◌else◌}
 use Rattle.std.specs.Prelude.{flat_map}
 use Rattle.std.specs.List.{AllByRecursion}
 use Rattle.std.proofs.lemmas.Bool.{eqb-true}
@@ -8,36 +8,16 @@ use Rattle.std.proofs.lemmas.List.{append_assoc}
 use Rattle.wire_base.specs.Maps.{has_key, lookup, put, take_out, same_number}
 use Rattle.wire_base.proofs.MapLaws.{lookup-put_same}
 use Rattle.wire_base.proofs.NameLaws.{IsSameness-same_number}
-use Rattle.outside.specs.declared.action.CloseCause.{CloseCause}
-use Rattle.outside.specs.declared.action.CloseCause.TheVariants as close
-use Rattle.outside.specs.declared.action.DropCause.{DropCause}
 use Rattle.outside.specs.declared.action.DropCause.TheVariants as drop_cause
-use Rattle.outside.specs.declared.action.StepRefused.{StepRefused}
 use Rattle.outside.specs.declared.event.Event.{Event}
 use Rattle.outside.specs.declared.event.Event.TheVariants as event
-use Rattle.outside.specs.Machine.{Part, step_by, then_part}
-use Rattle.ntlm_flags.specs.Flags.{agreed_flags}
-use Rattle.ntlm_messages.specs.declared.messages.Authenticate.{Authenticate}
-use Rattle.ntlm_messages.specs.declared.refused.MessageRefused.{MessageRefused}
-use Rattle.ntlm_messages.specs.Authenticate.{authenticate_of}
-use Rattle.rpc_units.specs.declared.refused.JoinRefused.{JoinRefused}
-use Rattle.rpc_units.specs.declared.refused.JoinRefused.TheVariants as join
 use Rattle.rpc_units.specs.declared.refused.UnitRefused.{UnitRefused}
-use Rattle.rpc_units.specs.declared.unit.Body.{Body}
-use Rattle.rpc_units.specs.declared.unit.Body.TheVariants.{Bind, BindAck, BindNak, Auth3, Request, Response, Fault}
-use Rattle.rpc_units.specs.declared.unit.Trailer.{Trailer}
 use Rattle.rpc_units.specs.declared.unit.Unit.{Unit as RpcUnit}
-use Rattle.rpc_units.specs.Joining.{answer_of, open_after}
 use Rattle.rpc_units.specs.Reading.{unit_of}
 use Rattle.rpc_units.specs.Stream.{Cut, cut_stream}
-use Rattle.end_links.specs.Links.{LinkState}
-use Rattle.end_links.specs.Serving.{ServedPart, served_by, served_cut, ServedUnit, served_units}
-use Rattle.end_links.proofs.KeepLaws.{StaysServing, served_stays, unit_served}
-use Rattle.channel_client.specs.declared.answers.AskRefused.{AskRefused}
-use Rattle.channel_client.specs.declared.answers.AskRefused.TheVariants as ask_refused
-use Rattle.channel_client.specs.declared.answers.Taken.{Taken}
-use Rattle.channel_client.specs.declared.answers.Taken.TheVariants as taken
-use Rattle.channel_client.specs.Machine.{ask_of, can_start, lose_of, needs_challenge, start_of, take_of}
+use Rattle.end_links.specs.Serving.{ServedPart, served_cut, ServedUnit, served_units}
+use Rattle.end_links.proofs.KeepLaws.{unit_served}
+use Rattle.channel_client.specs.Machine.{lose_of}
 use Rattle.member_server.specs.declared.outcomes.Ending.{Ending}
 use Rattle.member_server.specs.declared.outcomes.Ending.TheVariants as ending
 use Rattle.member_server.specs.declared.state.AtLink.{AtLink}
@@ -52,21 +32,22 @@ use Rattle.member_server.specs.declared.state.Running.{Running}
 use Rattle.member_server.specs.declared.state.Talk.{Talk}
 use Rattle.channel_turns.specs.declared.state.TurnTalk.{TurnTalk}
 use Rattle.member_server.specs.declared.state.Work.{Work}
-use Rattle.rpc_units.specs.Numbers.{ntlm_provider}
-use Rattle.member_server.specs.Machine.{actions_in, after_turn, after_units, answer_dial, at_turn, by_event, bytes_by, bytes_on, bytes_on_link, close_link, close_turn, event_part, fail_dial, halted_state, keep_turn, open_by, serve_dialled, state_in, step_of, step_on, work_of}
-use Rattle.member_server.specs.Messages.{ask_by, info_of, is_fit, take_auth3, take_message, take_trailer, wait_by, with_channel}
-use Rattle.member_server.specs.Outcomes.{after_link, at_link, end_found, end_logon, keep_link, phase_after, reach_link, tell_outcome, reach_in_map, reach_waiting, waiting_at, without_link, without_logon}
+use Rattle.member_server.specs.Machine.{serve_dialled, step_of, work_of}
+use Rattle.member_server.specs.Outcomes.{after_link, at_link, end_logon, keep_link, phase_after, tell_outcome, without_link, without_logon}
 use Rattle.member_server.specs.State.{State as MemberState}
-use Rattle.member_server.specs.Turns.{AtTurn, DialWork, break_turn, dial_for, do_taken, ending_of, lose_turn, next_turn, tell_turn_closed, timestamp_of, turn_by, turn_by_join, turn_server, turn_unit, with_requester, with_work}
-use Rattle.member_server.specs.Units.{body_challenged, bound_unit, first_unit, is_fresh, link_server, serve_held, unit_by, unit_challenged}
+use Rattle.member_server.specs.Turns.{AtTurn, TurnServed, turn_unit}
+use Rattle.member_server.specs.Units.{bound_unit, first_unit, is_fresh, link_server, serve_held, unit_by}
 use Rattle.member_server.specs.Work.{Served}
+use Rattle.member_server.proofs.LinkView.{BoundView, Closes, Asks, Overflows, bound_view, logon_at}
+use Rattle.member_server.proofs.OutcomeView.{EndView, Unknown, Tells, Reaches, end_view}
+use Rattle.member_server.proofs.StepFrame.{KeepsEvent, KeepsNext, PartHolds, TakesTurn, TurnHolds, WorkFact, dialled_keeps, each_taken, part_keeps, step_keeps as step_holds, turn_ended, turn_keeps as turn_holds}
 use Rattle.channel_events.specs.Marks.{OneOf}
-use Rattle.step_notes.specs.MemberNotes.{LinkAt, is_challenged, is_turn_link, link_units, link_units_by, link_units_in, link_units_on, message_after, message_by, message_kept, message_note}
+use Rattle.step_notes.specs.MemberNotes.{LinkAt, is_challenged, link_units, message_after, message_by, message_kept, message_note}
 use Rattle.step_notes.specs.Records.{MessageTaken}
-use Rattle.step_notes.specs.Served.{units_if_taken}
 use Rattle.step_notes.proofs.ServedLaws.{served_noted}
+use Rattle.step_notes.proofs.Members.LinkBytesLaws.{bytes_hear, units_then}
 use Rattle.step_notes.proofs.Members.SameLogonLaws.{IsIdle, IsIdlePart, bound_idle, first_idle, held_idle}
-use Rattle.step_notes.proofs.Members.UnservedLaws.{IfUnserved, IfUnservedAfter, IfUnservedPart, LinksIn, Unserved, bound_serves, ended_serves, found_known, none_so, part_known}
+use Rattle.step_notes.proofs.Members.UnservedLaws.{IfUnserved, IfUnservedAfter, IfUnservedPart, LinksIn, bound_serves, ended_serves, found_known, none_so, part_known}
 
 -- ---- one of a list
 
@@ -142,20 +123,8 @@ kept_so Fits Later Own More so also None kept = tt
 kept_so Fits Later Own More so also (Some running) kept =
     (each_so Fits Later so running.logons.asked kept.0, dialled_so Own More also running.dialling kept.1)
 
-abbrev pub LinkKeeps : (ℕ → Logon → Type 0) → ServedPart AtLink Talk → Type 0
-LinkKeeps Fits (Err why) = Unit {0}
-LinkKeeps Fits (Ok part) = OfEach Fits part.value.0.logons.asked
-
-abbrev pub TurnKeeps : (ℕ → Logon → Type 0) → ServedPart AtTurn TurnTalk → Type 0
-TurnKeeps Fits (Err why) = Unit {0}
-TurnKeeps Fits (Ok part) = OfEach Fits part.value.0.work.logons.asked
-
-abbrev pub DialWorkKeeps : (ℕ → Logon → Type 0) → (ℕ → Type 0) → DialWork → Type 0
-DialWorkKeeps Fits Own desk = OfEach Fits desk.0.logons.asked × IfDialled Own desk.1
-
-abbrev pub PartKeeps : (ℕ → Logon → Type 0) → (ℕ → Type 0) → Result (Part DialWork) StepRefused → Type 0
-PartKeeps Fits Own (Err why) = Unit {0}
-PartKeeps Fits Own (Ok part) = DialWorkKeeps Fits Own part.value
+abbrev pub WorkKeeps : (ℕ → Logon → Type 0) → (ℕ → Type 0) → WorkFact
+WorkKeeps Fits Own how w left = OfEach Fits w.logons.asked × IfDialled Own how
 
 module _ (Fits : ℕ → Logon → Type 0) (Own : ℕ → Type 0) where
   -- ---- an outcome
@@ -164,135 +133,51 @@ module _ (Fits : ℕ → Logon → Type 0) (Own : ℕ → Type 0) where
   put_back None rest number at w all = all
   put_back (Some talk) rest number at w all = all
 
-  waiting_keeps : (x : Bound × List (List ℕ)) (link : LinkState Talk) (how : Ending) (logon : Logon) (w : Work) → OfEach Fits w.logons.asked →
-      OfEach Fits (reach_waiting x link how logon w).logons.asked
-  waiting_keeps x link how logon w all =
-      let at : AtLink = at_link logon.link w in
-      let talk : Talk = record { joiner = link.talk.joiner; phase = phase_after how logon x.0 } in
-      let served : Served = serve_held x.1 at talk in
-      put_back served.1 link.rest logon.link served.0 w (subst (λ (l : Logons). OfEach Fits l.asked) (sym (held_idle x.1 at talk (ended_serves how logon x.0)).0) all)
-
-  link_keeps : (x : Option (Bound × List (List ℕ))) (link : LinkState Talk) (how : Ending) (logon : Logon) (w : Work) → OfEach Fits w.logons.asked →
-      OfEach Fits (reach_in_map x link how logon w).logons.asked
-  link_keeps None link how logon w all = all
-  link_keeps (Some x) link how logon w all = waiting_keeps x link how logon (without_link logon.link w) all
-
-  reach_keeps : (found : Option (LinkState Talk)) (place : ℕ) (how : Ending) (logon : Logon) (w : Work) → OfEach Fits w.logons.asked →
-      OfEach Fits (reach_link found place how logon w).logons.asked
-  reach_keeps None place how logon w all = all
-  reach_keeps (Some link) place how logon w all = link_keeps (waiting_at place link.talk.phase) link how logon w all
-
-  end_by : (found : Option Logon) (place : ℕ) (how : Ending) (w : Work) → OfEach Fits w.logons.asked → OfEach Fits (end_found found place how w).logons.asked
-  end_by None place how w all = all
-  end_by (Some logon) place how w all = reach_keeps (lookup same_number logon.link w.links) place how logon (tell_outcome how logon w) all
+  ended_keeps : (place : ℕ) (how : Ending) (w after : Work) → EndView place how w after → OfEach Fits w.logons.asked → OfEach Fits after.logons.asked
+  ended_keeps place how w after (Unknown none) all = each_out Fits place w.logons.asked all
+  ended_keeps place how w after (Tells logon kept) all = each_out Fits place w.logons.asked all
+  ended_keeps place how w after (Reaches logon link bound held kept there is) all =
+      let alone : Work = without_link logon.link (tell_outcome how logon (without_logon place w)) in
+      let at : AtLink = at_link logon.link alone in
+      let talk : Talk = record { joiner = link.talk.joiner; phase = phase_after how logon bound } in
+      let served : Served = serve_held held at talk in
+      put_back served.1 link.rest logon.link served.0 alone
+      (subst (λ (l : Logons). OfEach Fits l.asked) (sym (held_idle held at talk (ended_serves how logon bound)).0) (each_out Fits place w.logons.asked all))
 
   end_keeps : (place : ℕ) (how : Ending) (w : Work) → OfEach Fits w.logons.asked → OfEach Fits (end_logon place how w).logons.asked
-  end_keeps place how w all =
-      end_by (lookup same_number place w.logons.asked) place how (without_logon place w) (each_out Fits place w.logons.asked all)
+  end_keeps place how w all = ended_keeps place how w (end_logon place how w) (end_view place how w) all
 
   -- ---- the turn
 
-  lost_keeps : (cause : DropCause) (w : Work) → OfEach Fits w.logons.asked → OfEach Fits (lose_turn cause w).logons.asked
-  lost_keeps cause w all =
-      let losing = lose_of w.logons.channel in end_keeps losing.place (ending.NoController cause) (with_requester w losing.state) all
+  turn_frame : TakesTurn (λ units at. OfEach Fits at.work.logons.asked) (λ w. OfEach Fits w.logons.asked)
+  turn_frame = each_taken (λ units at. OfEach Fits at.work.logons.asked) (λ w. OfEach Fits w.logons.asked) (record {
+    skips = λ right unit units at is all. all;
+    sends = λ right frames unit units at is all. all;
+    ends = λ how unit units at is all. turn_ended how _ (λ w. OfEach Fits w.logons.asked) (λ none. all) (λ place ends some. end_keeps place ends _ all);
+    breaks = λ cause at all. end_keeps (lose_of at.work.logons.channel).place (ending.NoController drop_cause.BadReply) _ all;
+  })
 
-  break_keeps : (cause : CloseCause) (at : AtTurn) → OfEach Fits at.work.logons.asked → OfEach Fits (break_turn cause at).0.work.logons.asked
-  break_keeps cause at all = lost_keeps drop_cause.BadReply (tell_turn_closed cause at) all
-
-  done_keeps : (t : Taken) (joiner : Option RpcUnit) (at : AtTurn) → OfEach Fits at.work.logons.asked → OfEach Fits (do_taken t joiner at).0.work.logons.asked
-  done_keeps (taken.Skip turn) joiner at all = all
-  done_keeps (taken.Next turn frames) joiner at all = all
-  done_keeps taken.Half joiner at all = all
-  done_keeps taken.Opened joiner at all = all
-  done_keeps (taken.Answer place verdict) joiner at all = end_keeps place (ending_of verdict) (tell_turn_closed close.CallDone at) all
-  done_keeps (taken.Dropped place cause) joiner at all = end_keeps place (ending.NoController cause) (tell_turn_closed close.CallDone at) all
-
-  joined_keeps : (whole : Result (Option RpcUnit) JoinRefused) (after : Option RpcUnit) (at : AtTurn) → OfEach Fits at.work.logons.asked →
-      OfEach Fits (turn_by_join whole after at).0.work.logons.asked
-  joined_keeps (Err join.OutOfPlace) after at all = break_keeps close.OutOfPlace at all
-  joined_keeps (Err join.CallTooLong) after at all = break_keeps close.TooMuchHeld at all
-  joined_keeps (Err join.Memory) after at all = break_keeps close.OutOfPlace at all
-  joined_keeps (Ok None) after at all = all
-  joined_keeps (Ok (Some unit)) after at all =
-      let taking = take_of at.work.logons.channel unit in done_keeps taking.taken after (with_work at (with_requester at.work taking.state)) all
+  served_keeps : (served : TurnServed) → TurnHolds (λ units at. OfEach Fits at.work.logons.asked) (λ w. OfEach Fits w.logons.asked) [] served →
+      OfEach Fits served.0.work.logons.asked
+  served_keeps (at, None) all = all
+  served_keeps (at, Some talk) all = all
 
   pub turn_keeps : (unit : Result RpcUnit UnitRefused) (joiner : Option RpcUnit) (at : AtTurn) → OfEach Fits at.work.logons.asked →
       OfEach Fits (turn_unit unit joiner at).0.work.logons.asked
-  turn_keeps (Err why) joiner at all = break_keeps close.BadUnit at all
-  turn_keeps (Ok unit) joiner at all = joined_keeps (answer_of joiner unit) (open_after joiner unit) at all
+  turn_keeps unit joiner at all =
+      served_keeps (turn_unit unit joiner at)
+      (turn_holds (λ units at. OfEach Fits at.work.logons.asked) (λ w. OfEach Fits w.logons.asked) turn_frame unit joiner [] at all)
 
-  turns_stay : StaysServing turn_server (TurnKeeps Fits)
-  turns_stay = record {
-    spent = λ why. tt;
-    unit = λ bytes at talk left all. turn_keeps (unit_of bytes) talk.joiner at all;
-    refusal = λ why at talk left all. break_keeps close.BadUnit at all;
-  }
-
-  turn_on : (said : Option TurnTalk) (rest : List ℕ) (number : ℕ) → Own number → IfDialled Own (keep_turn said rest number)
-  turn_on None rest number own = tt
-  turn_on (Some talk) rest number own = own
-
-  turn_done : (part : ServedPart AtTurn TurnTalk) (rest : List ℕ) (number : ℕ) → Own number → TurnKeeps Fits part → PartKeeps Fits Own (after_turn part rest number)
-  turn_done (Err why) rest number own all = tt
-  turn_done (Ok part) rest number own all = (all, turn_on part.value.1 rest number own)
-
-  dialled_keeps : (cut : Cut) (number : ℕ) (talk : TurnTalk) (w : Work) (left : List (List ℕ)) → Own number → OfEach Fits w.logons.asked →
-      PartKeeps Fits Own (serve_dialled cut number talk w left)
-  dialled_keeps cut number talk w left own all =
-      turn_done (served_by turn_server cut.units cut.refused (at_turn number w) talk left) cut.rest number own
-      (served_stays turn_server (TurnKeeps Fits) turns_stay cut (at_turn number w) talk left all)
-
-  -- ---- the other events
-
-  close_if : (hit : Bool) (link on : ℕ) (said : LinkState TurnTalk) (w : Work) → Own on → OfEach Fits w.logons.asked →
-      DialWorkKeeps Fits Own (close_turn hit link (dialling.On on said) w)
-  close_if false link on said w own all = (all, own)
-  close_if true link on said w own all = (lost_keeps drop_cause.LinkClosed w all, tt)
-
-  close_keeps : (how : Dialling) (link : ℕ) (w : Work) → IfDialled Own how → OfEach Fits w.logons.asked → DialWorkKeeps Fits Own (close_link how link w)
-  close_keeps dialling.Nothing link w own all = (all, tt)
-  close_keeps (dialling.Waits turn frames) link w own all = (all, tt)
-  close_keeps (dialling.On on said) link w own all = close_if (on == link) link on said w own all
-
-  opens_keep : (full : Bool) (link : ℕ) (w : Work) → OfEach Fits w.logons.asked → OfEach Fits (open_by full link w).logons.asked
-  opens_keep true link w all = all
-  opens_keep false link w all = all
-
-  answer_keeps : (how : Dialling) (link : ℕ) (w : Work) → Own link → IfDialled Own how → OfEach Fits w.logons.asked → DialWorkKeeps Fits Own (answer_dial how link w)
-  answer_keeps dialling.Nothing link w new own all = (all, tt)
-  answer_keeps (dialling.On number said) link w new own all = (all, own)
-  answer_keeps (dialling.Waits turn frames) link w new own all = (all, new)
-
-  fail_keeps : (how : Dialling) (w : Work) → IfDialled Own how → OfEach Fits w.logons.asked → DialWorkKeeps Fits Own (fail_dial how w)
-  fail_keeps dialling.Nothing w own all = (all, tt)
-  fail_keeps (dialling.On number said) w own all = (all, own)
-  fail_keeps (dialling.Waits turn frames) w own all = (lost_keeps drop_cause.DialFailed w all, tt)
+  turn_dialled : (cut : Cut) (number : ℕ) (talk : TurnTalk) (w : Work) (left : List (List ℕ)) → Own number → OfEach Fits w.logons.asked →
+      PartHolds (WorkKeeps Fits Own) (serve_dialled cut number talk w left)
+  turn_dialled cut number talk w left own all =
+      dialled_keeps (λ units at. OfEach Fits at.work.logons.asked) (λ w. OfEach Fits w.logons.asked) (WorkKeeps Fits Own) turn_frame cut number talk w left (λ rest later at all. (all, own))
+      (λ w all. (all, tt)) all
 
   -- ---- the next turn
 
-  dial_keeps : (start : Option (Unit {0} × List (List ℕ))) (w : Work) (how : Dialling) → IfDialled Own how → OfEach Fits w.logons.asked → DialWorkKeeps Fits Own (dial_for start w how)
-  dial_keeps None w how own all = (all, own)
-  dial_keeps (Some start) w how own all = (all, tt)
-
-  turn_if : (starts needs : Bool) (now : ℕ) (w : Work) (how : Dialling) (left : List (List ℕ)) → IfDialled Own how → OfEach Fits w.logons.asked →
-      PartKeeps Fits Own (turn_by starts needs now w how left)
-  turn_if false needs now w how left own all = (all, own)
-  turn_if true false now w how left own all =
-      let starting = start_of w.logons.channel (timestamp_of now) (replicate 8 0) in dial_keeps starting.answer (with_requester w starting.state) how own all
-  turn_if true true now w how [] own all = tt
-  turn_if true true now w how (challenge ∷ left) own all =
-      let starting = start_of w.logons.channel (timestamp_of now) challenge in dial_keeps starting.answer (with_requester w starting.state) how own all
-
-  next_keeps : (part : Result (Part DialWork) StepRefused) (now : ℕ) → PartKeeps Fits Own part → PartKeeps Fits Own (then_part part (next_turn now))
-  next_keeps (Err why) now kept = tt
-  next_keeps (Ok part) now kept =
-      let w : Work = part.value.0 in
-      turn_if (can_start w.logons.channel.turn w.logons.channel.waiting) (needs_challenge w.logons.channel.standing) now w part.value.1 part.left kept.1 kept.0
-
-  after_keeps : (part : ServedPart AtLink Talk) (rest : List ℕ) (number : ℕ) (how : Dialling) (w : Work) → IfDialled Own how → LinkKeeps Fits part →
-      PartKeeps Fits Own (after_units part rest number how w)
-  after_keeps (Err why) rest number how w own all = tt
-  after_keeps (Ok part) rest number how w own all = (put_back part.value.1 rest number part.value.0 w all, own)
+  next_keeps : (now : ℕ) → KeepsNext now (WorkKeeps Fits Own) (WorkKeeps Fits Own)
+  next_keeps now = record { still = λ how w left can kept. kept; starts = λ turn frames challenge how w before after can drawn is kept. (kept.0, tt) }
 
 -- ---- a step at which no bytes come
 
@@ -305,33 +190,24 @@ Dials Own (event.Dialled link) = Own link
 Dials Own event.DialFailed = Unit {0}
 Dials Own event.Stop = Unit {0}
 
-event_keeps : (Fits : ℕ → Logon → Type 0) (Own : ℕ → Type 0) (what : Event) (running : Running) (left : List (List ℕ)) → Dials Own what → IfDialled Own running.dialling →
-    OfEach Fits running.logons.asked → PartKeeps Fits Own (by_event what running.dialling (work_of running) left)
-event_keeps Fits Own (event.Opened link) running left dials own all =
-    let closed : DialWork = close_link running.dialling link (work_of running) in
-    let kept = close_keeps Fits Own running.dialling link (work_of running) own all in
-    (opens_keep Fits Own (nat_le 256 (length closed.0.links)) link closed.0 kept.0, kept.1)
-event_keeps Fits Own (event.Bytes link piece) running left dials own all = absurd dials
-event_keeps Fits Own (event.Closed link) running left dials own all = close_keeps Fits Own running.dialling link (work_of running) own all
-event_keeps Fits Own (event.Dialled link) running left dials own all = answer_keeps Fits Own running.dialling link (work_of running) dials own all
-event_keeps Fits Own event.DialFailed running left dials own all = fail_keeps Fits Own running.dialling (work_of running) own all
-event_keeps Fits Own event.Stop running left dials own all = (all, own)
-
-stepped_keeps : (Fits : ℕ → Logon → Type 0) (Own : ℕ → Type 0) (left : List (List ℕ)) (part : Result (Part DialWork) StepRefused) → PartKeeps Fits Own part →
-    KeptIn Fits Own (step_by actions_in state_in halted_state left part).state.running
-stepped_keeps Fits Own left (Err why) kept = tt
-stepped_keeps Fits Own left (Ok part) kept = kept
-
-running_keeps : (Fits : ℕ → Logon → Type 0) (Own : ℕ → Type 0) (what : Event) (now : ℕ) (left : List (List ℕ)) (s : MemberState) (r : Option Running) → Dials Own what →
-    KeptIn Fits Own s.running → KeptIn Fits Own r → KeptIn Fits Own (step_on r s what now left).state.running
-running_keeps Fits Own what now left s None dials was kept = was
-running_keeps Fits Own what now left s (Some running) dials was kept =
-    stepped_keeps Fits Own left (event_part running what now left)
-    (next_keeps Fits Own (by_event what running.dialling (work_of running) left) now (event_keeps Fits Own what running left dials kept.1 kept.0))
+event_keeps : (Fits : ℕ → Logon → Type 0) (Own : ℕ → Type 0) (what : Event) → Dials Own what → KeepsEvent what (WorkKeeps Fits Own) (WorkKeeps Fits Own)
+event_keeps Fits Own what dials = record {
+  still = λ how w left kept. kept;
+  closes = λ link how w left kept. kept;
+  loses = λ cause how w left lost none kept. (end_keeps Fits Own (lose_of w.logons.channel).place (ending.NoController cause) _ kept.0, tt);
+  full = λ link how w left is kept. kept;
+  opens = λ link how w left is kept. kept;
+  answers = λ link turn frames w left is kept. (kept.0, subst (Dials Own) is dials);
+  link = λ number piece link how w left is there kept. absurd (subst (Dials Own) is dials);
+  turn = λ number piece said w left is kept. absurd (subst (Dials Own) is dials);
+}
 
 pub step_keeps : (Fits : ℕ → Logon → Type 0) (Own : ℕ → Type 0) (what : Event) (m : MemberState) (now : ℕ) (left : List (List ℕ)) → Dials Own what → KeptIn Fits Own m.running →
     KeptIn Fits Own (step_of m what now left).state.running
-step_keeps Fits Own what m now left dials kept = running_keeps Fits Own what now left m m.running dials kept kept
+step_keeps Fits Own what m now left dials kept =
+    step_holds (KeptIn Fits Own) what now left m tt kept (λ running runs.
+    part_keeps (WorkKeeps Fits Own) (WorkKeeps Fits Own) (WorkKeeps Fits Own) running what now left (event_keeps Fits Own what dials) (next_keeps Fits Own now)
+    (subst (KeptIn Fits Own) runs kept))
 
 -- ---- a message
 
@@ -366,66 +242,19 @@ noted X w bytes place logon asked messages link late =
     (one_behind (λ (message : MessageTaken). IsFor X w.at w.member place logon message) messages (message_kept (Some logon) place w bytes)
     (inl (record { same_member = refl; same_place = refl; same_logon = refl; link = sym link; before = inr (late, refl) })))
 
-wait_notes : (X : Type 0) (answer : Result ℕ AskRefused) (logons : Logons) (logon : Logon) (bound : Bound) (joiner : Option RpcUnit) (w : LinkAt) (bytes : List ℕ) (at : AtLink) →
-    logons.asked ≡ at.logons.asked → logon.link ≡ w.link → X → Notes X w bytes at (wait_by answer logons logon bound joiner at)
-wait_notes X (Ok place) logons logon bound joiner w bytes at same link late = record {
+view_notes : (X : Type 0) (bytes : List ℕ) (joiner : Option RpcUnit) (w : LinkAt) (at : AtLink) (bound : Bound) (challenge : List ℕ) (flags : ℕ) (served : Served) →
+    BoundView bytes joiner at (phase.Challenged bound challenge flags) served → at.link ≡ w.link → X → Notes X w bytes at served
+view_notes X bytes joiner w at bound challenge flags served (Closes cause may) link late = record { link = refl; keeps = λ messages all. each_more X w messages [] at.logons.asked all }
+view_notes X bytes joiner w at bound challenge flags served (Asks message place fit is) link late = record {
   link = refl;
   keeps = λ messages all.
-      let more : List MessageTaken = message_kept (lookup same_number place (put same_number place logon logons.asked)) place w bytes in
-      each_put (HasFor X w.at w.member (messages ++ more)) place logon logons.asked (noted X w bytes place logon logons.asked messages link late)
-      (subst (λ (asked : List (ℕ × Logon)). OfEach (HasFor X w.at w.member (messages ++ more)) asked) (sym same) (each_more X w messages more at.logons.asked all));
+      let logon : Logon = logon_at at challenge flags message in
+      let more : List MessageTaken = message_kept (lookup same_number place (put same_number place logon at.logons.asked)) place w bytes in
+      each_put (HasFor X w.at w.member (messages ++ more)) place logon at.logons.asked (noted X w bytes place logon at.logons.asked messages link late)
+      (each_more X w messages more at.logons.asked all);
 }
-wait_notes X (Err ask_refused.QueueFull) logons logon bound joiner w bytes at same link late = record {
-  link = refl;
-  keeps = λ messages all.
-      subst (λ (asked : List (ℕ × Logon)). OfEach (HasFor X w.at w.member (messages ++ [])) asked) (sym same) (each_more X w messages [] at.logons.asked all);
-}
-wait_notes X (Err ask_refused.Memory) logons logon bound joiner w bytes at same link late =
+view_notes X bytes joiner w at bound challenge flags served (Overflows message fit is) link late =
     record { link = refl; keeps = λ messages all. each_more X w messages [] at.logons.asked all }
-
-ask_notes : (X : Type 0) (fit : Bool) (message : Authenticate) (agreed : ℕ) (challenge : List ℕ) (bound : Bound) (joiner : Option RpcUnit) (w : LinkAt) (bytes : List ℕ) (at : AtLink) →
-    at.link ≡ w.link → X → Notes X w bytes at (ask_by fit message agreed challenge bound joiner at)
-ask_notes X false message agreed challenge bound joiner w bytes at link late = record { link = refl; keeps = λ messages all. each_more X w messages [] at.logons.asked all }
-ask_notes X true message agreed challenge bound joiner w bytes at link late =
-    let asking = ask_of at.logons.channel (info_of message agreed challenge) in
-    wait_notes X asking.answer (with_channel at.logons asking.state) (record { link = at.link; challenge = challenge; message = message; agreed = agreed }) bound joiner w bytes at refl link late
-
-message_notes : (X : Type 0) (message : Result Authenticate MessageRefused) (bound : Bound) (challenge : List ℕ) (flags : ℕ) (joiner : Option RpcUnit) (w : LinkAt) (bytes : List ℕ) (at : AtLink) →
-    at.link ≡ w.link → X → Notes X w bytes at (take_message message bound challenge flags joiner at)
-message_notes X (Err why) bound challenge flags joiner w bytes at link late = record { link = refl; keeps = λ messages all. each_more X w messages [] at.logons.asked all }
-message_notes X (Ok message) bound challenge flags joiner w bytes at link late =
-    ask_notes X (is_fit bound.level (agreed_flags flags message.flags) message) message (agreed_flags flags message.flags) challenge bound joiner w bytes at link late
-
-trailer_notes : (X : Type 0) (is_ntlm : Bool) (trailer : Trailer) (bound : Bound) (challenge : List ℕ) (flags : ℕ) (joiner : Option RpcUnit) (w : LinkAt) (bytes : List ℕ) (at : AtLink) →
-    at.link ≡ w.link → X → Notes X w bytes at (take_trailer is_ntlm trailer bound challenge flags joiner at)
-trailer_notes X false trailer bound challenge flags joiner w bytes at link late = record { link = refl; keeps = λ messages all. each_more X w messages [] at.logons.asked all }
-trailer_notes X true trailer bound challenge flags joiner w bytes at link late = message_notes X (authenticate_of trailer.value) bound challenge flags joiner w bytes at link late
-
-auth3_notes : (X : Type 0) (trailer : Option Trailer) (bound : Bound) (challenge : List ℕ) (flags : ℕ) (joiner : Option RpcUnit) (w : LinkAt) (bytes : List ℕ) (at : AtLink) →
-    at.link ≡ w.link → X → Notes X w bytes at (take_auth3 trailer bound challenge flags joiner at)
-auth3_notes X None bound challenge flags joiner w bytes at link late = record { link = refl; keeps = λ messages all. each_more X w messages [] at.logons.asked all }
-auth3_notes X (Some trailer) bound challenge flags joiner w bytes at link late = trailer_notes X (trailer.kind == ntlm_provider) trailer bound challenge flags joiner w bytes at link late
-
-challenged_body : (X : Type 0) (body : Body) (trailer : Option Trailer) (bound : Bound) (challenge : List ℕ) (flags : ℕ) (joiner : Option RpcUnit) (w : LinkAt) (bytes : List ℕ) (at : AtLink) →
-    at.link ≡ w.link → X → Notes X w bytes at (body_challenged body trailer bound challenge flags joiner at)
-challenged_body X Auth3 trailer bound challenge flags joiner w bytes at link late = auth3_notes X trailer bound challenge flags joiner w bytes at link late
-challenged_body X (Bind send receive group contexts) trailer bound challenge flags joiner w bytes at link late =
-    record { link = refl; keeps = λ messages all. each_more X w messages [] at.logons.asked all }
-challenged_body X (BindAck send receive group results) trailer bound challenge flags joiner w bytes at link late =
-    record { link = refl; keeps = λ messages all. each_more X w messages [] at.logons.asked all }
-challenged_body X (BindNak reason) trailer bound challenge flags joiner w bytes at link late =
-    record { link = refl; keeps = λ messages all. each_more X w messages [] at.logons.asked all }
-challenged_body X (Request hint context opnum stub) trailer bound challenge flags joiner w bytes at link late =
-    record { link = refl; keeps = λ messages all. each_more X w messages [] at.logons.asked all }
-challenged_body X (Response hint context stub) trailer bound challenge flags joiner w bytes at link late =
-    record { link = refl; keeps = λ messages all. each_more X w messages [] at.logons.asked all }
-challenged_body X (Fault hint context status) trailer bound challenge flags joiner w bytes at link late =
-    record { link = refl; keeps = λ messages all. each_more X w messages [] at.logons.asked all }
-
-challenged_notes : (X : Type 0) (unit : Result RpcUnit UnitRefused) (bound : Bound) (challenge : List ℕ) (flags : ℕ) (joiner : Option RpcUnit) (w : LinkAt) (bytes : List ℕ) (at : AtLink) →
-    at.link ≡ w.link → X → Notes X w bytes at (unit_challenged unit bound challenge flags joiner at)
-challenged_notes X (Err why) bound challenge flags joiner w bytes at link late = record { link = refl; keeps = λ messages all. each_more X w messages [] at.logons.asked all }
-challenged_notes X (Ok unit) bound challenge flags joiner w bytes at link late = challenged_body X unit.body unit.trailer bound challenge flags joiner w bytes at link late
 
 -- ---- the units of a stream
 
@@ -434,10 +263,6 @@ abbrev pub AreNoted : Type 0 → LinkAt → List MessageTaken → ServedPart AtL
 AreNoted X w messages (Err why) = Unit {0}
 AreNoted X w messages (Ok part) =
     IfUnservedAfter (λ (p : Phase). X) part.value.1 × (part.value.0.link ≡ w.link) × OfEach (HasFor X w.at w.member messages) part.value.0.logons.asked
-
-keeps_noted : (X : Type 0) (w : LinkAt) (messages : List MessageTaken) (part : ServedPart AtLink Talk) → AreNoted X w messages part → LinkKeeps (HasFor X w.at w.member messages) part
-keeps_noted X w messages (Err why) noted = tt
-keeps_noted X w messages (Ok part) noted = noted.2
 
 module _ (X : Type 0) (w : LinkAt) where
   idle_notes : (messages : List MessageTaken) (part : ServedPart AtLink Talk) (at : AtLink) → IfUnservedPart (λ (p : Phase). X) part → IsIdlePart at part → at.link ≡ w.link →
@@ -463,7 +288,8 @@ module _ (X : Type 0) (w : LinkAt) where
       idle_notes messages part at (part_known X part known) (first_idle (unit_of bytes) joiner at left) link all
   unit_notes (phase.Challenged bound challenge flags) bytes joiner talk messages at left known link all =
       let served : Served = bound_unit (phase.Challenged bound challenge flags) bytes joiner at in
-      let own : Notes X w bytes at served = challenged_notes X (unit_of bytes) bound challenge flags joiner w bytes at link known in
+      let own : Notes X w bytes at served =
+      view_notes X bytes joiner w at bound challenge flags served (bound_view bytes joiner at (phase.Challenged bound challenge flags)) link known in
       (none_so (λ (p : Phase). X) served.1 (bound_serves (phase.Challenged bound challenge flags) bytes joiner at), own.link ∙ link, own.keeps messages all)
   unit_notes (phase.Asked bound place held) bytes joiner talk messages at left known link all = bound_notes (phase.Asked bound place held) bytes joiner messages at left tt link all
   unit_notes (phase.In on) bytes joiner talk messages at left known link all = bound_notes (phase.In on) bytes joiner messages at left tt link all
@@ -484,65 +310,36 @@ module _ (X : Type 0) (w : LinkAt) where
 
 -- ---- a step at which bytes come
 
--- the fact of the link is known where its challenge hasn't served
-module _ (May Own : ℕ → Type 0) (w : LinkAt) (piece : List ℕ) (running : Running) (left : List (List ℕ)) (messages : List MessageTaken) (links : Unserved (λ (number : ℕ) (p : Phase). May number) running.links)
-    (all : OfEach (HasFor (May w.link) w.at w.member messages) running.logons.asked) where
-  on_link_keeps : (found : Option (LinkState Talk)) (how : Dialling) → lookup same_number w.link running.links ≡ found → IfDialled Own how →
-      PartKeeps (HasFor (May w.link) w.at w.member (messages ++ flat_map (message_note w) (link_units_on found w.link piece running left))) Own
-      (bytes_on_link found w.link piece how (work_of running) left)
-  on_link_keeps None how there own = (each_more (May w.link) w messages [] running.logons.asked all, own)
-  on_link_keeps (Some link) how there own =
-      let cut : Cut = cut_stream (link.rest ++ piece) in
-      let at : AtLink = at_link w.link (work_of running) in
-      after_keeps (HasFor (May w.link) w.at w.member (messages ++ flat_map (message_note w) (served_units link_server cut.units at link.talk left))) Own
-      (served_cut link_server cut at link.talk left) cut.rest w.link how (without_link w.link (work_of running)) own
-      (keeps_noted (May w.link) w (messages ++ flat_map (message_note w) (served_units link_server cut.units at link.talk left)) (served_cut link_server cut at link.talk left)
-      (units_note (May w.link) w cut messages at link.talk left (found_known (λ (number : ℕ) (p : Phase). May number) w.link running.links link there links) refl all))
-
-  bytes_if : (hit : Bool) (other : ℕ) (said : LinkState TurnTalk) (how : Dialling) → (other == w.link) ≡ hit → Own other → IfDialled Own how →
-      PartKeeps (HasFor (May w.link) w.at w.member (messages ++ flat_map (message_note w) (link_units_by hit w.link piece running left))) Own
-      (bytes_by hit said w.link piece how (work_of running) left)
-  bytes_if true other said how is mine own =
-      dialled_keeps (HasFor (May w.link) w.at w.member (messages ++ [])) Own (cut_stream (said.rest ++ piece)) w.link said.talk (work_of running) left
-      (subst (λ (n : ℕ). Own n) (eqb-true other w.link is) mine) (each_more (May w.link) w messages [] running.logons.asked all)
-  bytes_if false other said how is mine own = on_link_keeps (lookup same_number w.link running.links) how refl own
-
-  bytes_keep_by : (how : Dialling) → IfDialled Own how →
-      PartKeeps (HasFor (May w.link) w.at w.member (messages ++ flat_map (message_note w) (link_units_by (is_turn_link how w.link) w.link piece running left))) Own
-      (bytes_on how w.link piece (work_of running) left)
-  bytes_keep_by dialling.Nothing own = on_link_keeps (lookup same_number w.link running.links) dialling.Nothing refl own
-  bytes_keep_by (dialling.Waits turn frames) own = on_link_keeps (lookup same_number w.link running.links) (dialling.Waits turn frames) refl own
-  bytes_keep_by (dialling.On other said) own = bytes_if (other == w.link) other said (dialling.On other said) refl own own
-
-stepped_notes : (X : Type 0) (Own : ℕ → Type 0) (w : LinkAt) (left : List (List ℕ)) (messages : List MessageTaken) (units : List (ServedUnit AtLink Talk)) (part : Result (Part DialWork) StepRefused) →
-    PartKeeps (HasFor X w.at w.member (messages ++ flat_map (message_note w) units)) Own part →
-    KeptIn (HasFor X w.at w.member (messages ++ flat_map (message_note w) (units_if_taken (step_by actions_in state_in halted_state left part).answer units))) Own
-    (step_by actions_in state_in halted_state left part).state.running
-stepped_notes X Own w left messages units (Err why) kept = tt
-stepped_notes X Own w left messages units (Ok part) kept = kept
-
 kept_more : (X : Type 0) (Own : ℕ → Type 0) (w : LinkAt) (messages more : List MessageTaken) (r : Option Running) → KeptIn (HasFor X w.at w.member messages) Own r →
     KeptIn (HasFor X w.at w.member (messages ++ more)) Own r
 kept_more X Own w messages more r kept =
     kept_so (HasFor X w.at w.member messages) (HasFor X w.at w.member (messages ++ more)) Own Own
     (λ place logon one. one_before (λ (message : MessageTaken). IsFor X w.at w.member place logon message) messages more one) (λ number own. own) r kept
 
-running_notes : (May Own : ℕ → Type 0) (w : LinkAt) (piece : List ℕ) (now : ℕ) (left : List (List ℕ)) (messages : List MessageTaken) (s : MemberState) (r : Option Running) →
-    LinksIn (λ (number : ℕ) (p : Phase). May number) r → KeptIn (HasFor (May w.link) w.at w.member messages) Own s.running → KeptIn (HasFor (May w.link) w.at w.member messages) Own r →
-    KeptIn (HasFor (May w.link) w.at w.member (messages
-    ++ flat_map (message_note w) (units_if_taken (step_on r s (event.Bytes w.link piece) now left).answer (link_units_in r w.link piece left)))) Own
-    (step_on r s (event.Bytes w.link piece) now left).state.running
-running_notes May Own w piece now left messages s None links was kept = kept_more (May w.link) Own w messages [] s.running was
-running_notes May Own w piece now left messages s (Some running) links was kept =
-    let what : Event = event.Bytes w.link piece in
-    stepped_notes (May w.link) Own w left messages (link_units_in (Some running) w.link piece left) (event_part running what now left)
-    (next_keeps (HasFor (May w.link) w.at w.member (messages ++ flat_map (message_note w) (link_units_in (Some running) w.link piece left))) Own
-    (bytes_on running.dialling w.link piece (work_of running) left) now
-    (bytes_keep_by May Own w piece running left messages links kept.0 running.dialling kept.1))
-
 -- with the messages that are written down as bytes come, on a link of which the fact is known where its challenge
 -- hasn't served
 pub bytes_keep : (May Own : ℕ → Type 0) (w : LinkAt) (m : MemberState) (piece : List ℕ) (now : ℕ) (left : List (List ℕ)) (messages : List MessageTaken) →
     LinksIn (λ (number : ℕ) (p : Phase). May number) m.running → KeptIn (HasFor (May w.link) w.at w.member messages) Own m.running →
     KeptIn (HasFor (May w.link) w.at w.member (messages ++ flat_map (message_note w) (link_units m w.link piece now left))) Own (step_of m (event.Bytes w.link piece) now left).state.running
-bytes_keep May Own w m piece now left messages links kept = running_notes May Own w piece now left messages m m.running links kept kept
+bytes_keep May Own w m piece now left messages links kept =
+    let Noted : List (ServedUnit AtLink Talk) → ℕ → Logon → Type 0 = λ units. HasFor (May w.link) w.at w.member (messages ++ flat_map (message_note w) units) in
+    let more : KeptIn (Noted []) Own m.running = kept_more (May w.link) Own w messages [] m.running kept in
+    bytes_hear w.link piece now left m (λ units. WorkKeeps (Noted units) Own) (λ units stepped. KeptIn (Noted units) Own stepped.state.running) (record {
+      stopped = more;
+      spent = tt;
+      nowhere = λ running runs. subst (KeptIn (Noted []) Own) runs more;
+      on_link = λ running link how runs is there.
+          let cut : Cut = cut_stream (link.rest ++ piece) in
+          let at : AtLink = at_link w.link (work_of running) in
+          let units : List (ServedUnit AtLink Talk) = served_units link_server cut.units at link.talk left in
+          let part : ServedPart AtLink Talk = served_cut link_server cut at link.talk left in
+          let here : KeptIn (HasFor (May w.link) w.at w.member messages) Own (Some running) = subst (KeptIn (HasFor (May w.link) w.at w.member messages) Own) runs kept in
+          let known = found_known (λ (number : ℕ) (p : Phase). May number) w.link running.links link there (subst (LinksIn (λ (number : ℕ) (p : Phase). May number)) runs links) in
+          units_then (WorkKeeps (Noted units) Own) part cut.rest w.link how (without_link w.link (work_of running)) (λ after said rest comes.
+          let noted = subst (AreNoted (May w.link) w (messages ++ flat_map (message_note w) units)) comes (units_note (May w.link) w cut messages at link.talk left known refl here.0) in
+          (put_back (Noted units) Own said cut.rest w.link after (without_link w.link (work_of running)) noted.2, subst (IfDialled Own) is here.1));
+      on_turn = λ running said runs is.
+          let here : KeptIn (Noted []) Own (Some running) = subst (KeptIn (Noted []) Own) runs more in
+          turn_dialled (Noted []) Own (cut_stream (said.rest ++ piece)) w.link said.talk (work_of running) left (subst (IfDialled Own) is here.1) here.0;
+      next = λ units. record { still = λ how w left can kept. kept; starts = λ turn frames challenge how w before after can drawn is kept. (kept.0, tt) };
+    })

@@ -7,9 +7,10 @@ use Rattle.rpc_units.specs.Reading.{unit_of}
 use Rattle.rpc_units.specs.Writing.{written}
 use Rattle.rpc_units.specs.declared.refused.JoinRefused.{JoinRefused}
 use Rattle.rpc_units.specs.declared.unit.Unit.{Unit as RpcUnit}
-use Rattle.end_links.specs.Serving.{ServedPart, served_by, served_cut, then_open, then_talk, ServedUnit, served_units, units_on, units_then}
+use Rattle.end_links.specs.Serving.{ServedPart, ServedUnit, served_units, units_on, units_then}
 use Rattle.member_server.specs.Turns.{AtTurn, take_by, turn_by_join, turn_server, turn_talk, turn_unit}
 use Rattle.channel_turns.specs.declared.state.TurnTalk.{TurnTalk}
+use Rattle.member_server.proofs.ChannelStepLaws.{whole_served}
 use Rattle.step_notes.specs.MemberNotes.{taking_joined, taking_read}
 use Rattle.step_notes.specs.TakenWhole.{MembersTakeWhole, TakesWhole}
 use Rattle.step_notes.proofs.Controllers.HeardLaws.{AreRead, each_read, none_open}
@@ -36,23 +37,6 @@ one_taken : (frame unit : RpcUnit) (at : AtTurn) (talk : TurnTalk) → unit_of (
     taking_read (unit_of (written frame)) talk.joiner at.work.logons.channel ≡ Some (take_of at.work.logons.channel unit)
 one_taken frame unit at talk read adds =
     ap (λ (r : _). taking_read r talk.joiner at.work.logons.channel) read ∙ ap (λ (a : Result (Option RpcUnit) JoinRefused). taking_joined a at.work.logons.channel) adds
-
--- ---- what all frames come to
-
-no_more : (at : AtTurn) (said : Option TurnTalk) (left : List (List ℕ)) →
-    then_talk at said left (λ later t rest. served_by turn_server [] None later t rest) ≡ Ok (record { value = (at, said); left = left })
-no_more at None left = refl
-no_more at (Some talk) left = refl
-
-frames_come : (unit : RpcUnit) (frames : List RpcUnit) (at : AtTurn) (talk : TurnTalk) (left : List (List ℕ)) → AreRead frames → AddsTo talk.joiner frames unit →
-    served_by turn_server (map written frames) None at talk left ≡ Ok (record { value = take_by (take_of at.work.logons.channel unit) None at; left = left })
-frames_come unit [] at talk left read adds = absurd adds
-frames_come unit (frame ∷ []) at talk left read adds =
-    ap (λ (p : ServedPart AtTurn TurnTalk). then_open p (λ later t rest. served_by turn_server [] None later t rest)) (last_served frame unit at talk left read.0 adds)
-    ∙ no_more (take_by (take_of at.work.logons.channel unit) None at).0 (take_by (take_of at.work.logons.channel unit) None at).1 left
-frames_come unit (frame ∷ next ∷ frames) at talk left read adds =
-    ap (λ (p : ServedPart AtTurn TurnTalk). then_open p (λ later t rest. served_by turn_server (map written (next ∷ frames)) None later t rest)) (part_served frame at talk left read.0 adds.0)
-    ∙ frames_come unit (next ∷ frames) at (turn_talk (open_after talk.joiner frame)) left read.1 adds.1
 
 -- ---- the units that are served
 
@@ -98,7 +82,5 @@ members_take = record {
   units = λ bytes frames unit at talk left is none.
       subst (λ (cut : _). TakesWhole at unit left (served_units turn_server cut.units at talk left)) (sym is.stream)
       (frames_served unit frames at talk left (each_read frames is.read) (subst (λ (joiner : Option RpcUnit). AddsTo joiner frames unit) (sym none) is.joined));
-  comes = λ bytes frames unit at talk left is none.
-      ap (λ (cut : _). served_cut turn_server cut at talk left) is.stream
-      ∙ frames_come unit frames at talk left (each_read frames is.read) (subst (λ (joiner : Option RpcUnit). AddsTo joiner frames unit) (sym none) is.joined);
+  comes = whole_served;
 }

@@ -1,22 +1,55 @@
--- What holds of each unit that a member serves on the link of its turn: there is one only where that link is open and
--- the bytes come on it. It serves `calls_carry_their_logon`.
+-- What a unit on the link of a member's turn comes to, beside what is taken of it; and what holds of each unit that is
+-- served there: there is one only where that link is open and the bytes come on it.
+-- It serves `calls_carry_their_logon`, `requests_come_first`.
 use Rattle.std.proofs.Common.{◌≡◌, ◌==◌, ◌++◌, ℕ, Bool, true, false, List, Option, Some, None, Result, Ok, Err, refl}
 use Rattle.std.specs.List.{AllByRecursion}
 use Rattle.outside.specs.declared.action.Action.{Action}
 use Rattle.outside.specs.declared.action.StepRefused.{StepRefused}
 use Rattle.outside.specs.declared.event.Event.TheVariants as event
+use Rattle.outside.specs.declared.action.CloseCause.{CloseCause}
+use Rattle.outside.specs.declared.action.CloseCause.TheVariants as close
+use Rattle.rpc_units.specs.declared.refused.JoinRefused.{JoinRefused}
+use Rattle.rpc_units.specs.declared.refused.JoinRefused.TheVariants as join
+use Rattle.rpc_units.specs.declared.refused.UnitRefused.{UnitRefused}
+use Rattle.rpc_units.specs.declared.unit.Unit.{Unit as RpcUnit}
+use Rattle.rpc_units.specs.Joining.{answer_of, open_after}
 use Rattle.rpc_units.specs.Stream.{cut_stream}
+use Rattle.channel_client.specs.Machine.{Taking, take_of}
 use Rattle.end_links.specs.Links.{LinkState}
 use Rattle.end_links.specs.Serving.{ServedUnit, served_units}
 use Rattle.member_server.specs.Machine.{at_turn, step_of, work_of}
 use Rattle.member_server.specs.State.{State as MemberState}
-use Rattle.member_server.specs.Turns.{AtTurn, turn_server}
+use Rattle.member_server.specs.Turns.{AtTurn, TurnServed, break_turn, do_taken, turn_by_join, turn_server, turn_talk, turn_unit}
+use Rattle.member_server.proofs.StepFrame.{taken_at}
 use Rattle.channel_turns.specs.declared.state.Dialling.{Dialling}
 use Rattle.channel_turns.specs.declared.state.Dialling.TheVariants as dialling
 use Rattle.member_server.specs.declared.state.Running.{Running}
 use Rattle.channel_turns.specs.declared.state.TurnTalk.{TurnTalk}
-use Rattle.step_notes.specs.MemberNotes.{turn_units, turn_units_by, turn_units_in, turn_units_on}
+use Rattle.step_notes.specs.MemberNotes.{taking_joined, taking_read, turn_units, turn_units_by, turn_units_in, turn_units_on}
 use Rattle.step_notes.specs.Served.{units_if_taken}
+
+-- ---- a unit
+
+-- it is no whole unit yet; or it is taken; or it is refused
+pub record ByTaking (at : AtTurn) (Holds : Option Taking → TurnServed → Type 0) : Type 0 where
+  pub waits : (joiner : Option RpcUnit) → Holds None (at, Some (turn_talk joiner))
+  pub takes : (unit : RpcUnit) (after : Option RpcUnit) →
+      Holds (Some (take_of at.work.logons.channel unit)) (do_taken (take_of at.work.logons.channel unit).taken after (taken_at at unit))
+  pub breaks : (cause : CloseCause) → Holds None (break_turn cause at)
+
+module _ (at : AtTurn) (Holds : Option Taking → TurnServed → Type 0) (by : ByTaking at Holds) where
+  joined_by : (whole : Result (Option RpcUnit) JoinRefused) (after : Option RpcUnit) → Holds (taking_joined whole at.work.logons.channel) (turn_by_join whole after at)
+  joined_by (Err join.OutOfPlace) after = by.breaks close.OutOfPlace
+  joined_by (Err join.CallTooLong) after = by.breaks close.TooMuchHeld
+  joined_by (Err join.Memory) after = by.breaks close.OutOfPlace
+  joined_by (Ok None) after = by.waits after
+  joined_by (Ok (Some unit)) after = by.takes unit after
+
+  pub taking_by : (read : Result RpcUnit UnitRefused) (joiner : Option RpcUnit) → Holds (taking_read read joiner at.work.logons.channel) (turn_unit read joiner at)
+  taking_by (Err why) joiner = by.breaks close.BadUnit
+  taking_by (Ok unit) joiner = joined_by (answer_of joiner unit) (open_after joiner unit)
+
+-- ---- the units of a piece
 
 -- what is known of a member by its dial gives it of the units of a piece, where that is the link
 module _ (P : ServedUnit AtTurn TurnTalk → Type 0) (Known : Dialling → Running → Type 0) (number : ℕ) (piece : List ℕ) (left : List (List ℕ))

@@ -1,7 +1,7 @@
 -- What a member reads where it takes an answer in its turn, and what it tells then: the reply, how it is judged on the
 -- channel that stands, the outcome of the logon of the place, and which logons it keeps.
 -- It serves `schedules_are_heard`.
-use Rattle.std.proofs.Common.{◌≡◌, ◌≢◌, ℕ, ◌==◌, Bool, true, false, List, [], ◌∷◌, ◌++◌, map, replicate, Option, Some, None, Result, Ok, Err, refl, sym, ap, subst, ◌∙◌, if◌then◌else◌}
+use Rattle.std.proofs.Common.{◌≡◌, ◌≢◌, ℕ, ◌==◌, Bool, true, false, List, [], ◌∷◌, ◌++◌, map, Option, Some, None, Result, Ok, Err, refl, sym, ap, subst, ◌∙◌, if◌then◌else◌}
 use Rattle.std.specs.List.{AllByRecursion}
 use Rattle.std.proofs.lemmas.Bool.Decides.{Decides-eqb}
 use Rattle.wire_base.specs.Maps.{has_key, lookup, same_number, take_out}
@@ -29,9 +29,8 @@ use Rattle.logon_stubs.specs.declared.calls.Reply.TheVariants as reply
 use Rattle.logon_stubs.specs.declared.info.Verdict.{Verdict}
 use Rattle.logon_stubs.specs.declared.refused.StubRefused.{StubRefused}
 use Rattle.end_links.specs.Links.{LinkState}
-use Rattle.end_links.specs.Serving.{ServedPart}
 use Rattle.channel_client.specs.Effects.{ArePlacesApart}
-use Rattle.channel_client.specs.Machine.{Starting, Taking, act, can_start, hear, hear_ack, hear_body, hear_by, hear_reply, hear_stub, is_accepting, judge, judge_auth, judge_challenge, judge_credential, judge_flags, judge_logon, needs_challenge, opnum_asked, settle, start_of, take_of}
+use Rattle.channel_client.specs.Machine.{Taking, act, hear, hear_ack, hear_body, hear_by, hear_reply, hear_stub, is_accepting, judge, judge_auth, judge_challenge, judge_credential, judge_flags, judge_logon, opnum_asked, settle, take_of}
 use Rattle.channel_client.specs.State.{Requester}
 use Rattle.channel_client.specs.declared.answers.Taken.{Taken}
 use Rattle.channel_client.specs.declared.answers.Taken.TheVariants as taken
@@ -47,29 +46,25 @@ use Rattle.channel_client.specs.declared.state.Step.{Step}
 use Rattle.channel_client.specs.declared.state.Step.TheVariants as step
 use Rattle.channel_client.specs.declared.state.Waiting.{Waiting}
 use Rattle.member_server.specs.Laws.{heard_if, heard_in, then_whole, whole_by, whole_units}
-use Rattle.member_server.specs.Machine.{after_turn, at_turn, by_event, bytes_by, event_part, keep_turn, serve_dialled, work_of}
-use Rattle.member_server.specs.Outcomes.{after_link, at_link, end_found, end_logon, keep_link, outcome_of, phase_after, reach_link, tell_outcome, reach_in_map, reach_waiting, waiting_at, without_link, without_logon}
-use Rattle.member_server.specs.Turns.{AtTurn, DialWork, dial_work_part, dial_by, dial_for, do_taken, ending_of, next_turn, take_by, tell_turn_closed, timestamp_of, turn_by, with_requester, with_work}
-use Rattle.member_server.specs.Units.{serve_held}
+use Rattle.member_server.specs.Machine.{at_turn, by_event, event_part, work_of}
+use Rattle.member_server.specs.Outcomes.{tell_at, end_logon, outcome_of, tell_outcome}
+use Rattle.member_server.specs.Turns.{AtTurn, DialWork, do_taken, ending_of, next_turn, take_by, timestamp_of, with_requester, with_work}
 use Rattle.member_server.specs.declared.outcomes.Ending.{Ending}
-use Rattle.member_server.specs.declared.state.AtLink.{AtLink}
-use Rattle.member_server.specs.declared.state.Bound.{Bound}
 use Rattle.channel_turns.specs.declared.state.Dialling.{Dialling}
 use Rattle.channel_turns.specs.declared.state.Dialling.TheVariants as dialling
 use Rattle.member_server.specs.declared.state.Logon.{Logon}
 use Rattle.member_server.specs.declared.state.Running.{Running}
-use Rattle.member_server.specs.declared.state.Talk.{Talk}
 use Rattle.channel_turns.specs.declared.state.TurnTalk.{TurnTalk}
 use Rattle.member_server.specs.declared.state.Work.{Work}
-use Rattle.member_server.specs.Work.{Served}
 use Rattle.channel_events.specs.Marks.{OneOf}
-use Rattle.channel_events.proofs.ListLaws.{one_last, some_is}
+use Rattle.channel_events.proofs.ListLaws.{one_last}
 use Rattle.step_notes.specs.CallLogons.{waiting_for}
 use Rattle.step_notes.proofs.Controllers.HeardLaws.{AreRead, each_read}
 use Rattle.step_notes.proofs.Members.KeptLogonLaws.{OfEach, one_before}
-use Rattle.step_notes.proofs.Members.SameLogonLaws.{Grows, grows_not, held_idle}
-use Rattle.step_notes.proofs.Members.TurnHeardLaws.{members_take}
-use Rattle.step_notes.proofs.Members.UnservedLaws.{ended_serves}
+use Rattle.member_server.proofs.ChannelStepLaws.{taken_part, whole_comes}
+use Rattle.member_server.proofs.StepFrame.{KeepsNext, PartHolds, dialling_at, next_follows}
+use Rattle.member_server.specs.declared.state.Logons.{Logons}
+use Rattle.step_notes.proofs.Members.SameLogonLaws.{Grows, grows_not, grows_then, logon_ended, outcome_told, told}
 
 -- ---- the reply that is taken as an answer
 
@@ -263,68 +258,25 @@ heard_whole running number bytes unit hears =
 
 -- ---- what the event comes to
 
-abbrev taken_part : ℕ → List ℕ → RpcUnit → Work → List (List ℕ) → Result (Part DialWork) StepRefused
-taken_part number bytes unit w left =
-    after_turn (Ok (record { value = take_by (take_of w.logons.channel unit) None (at_turn number w); left = left })) (cut_stream bytes).rest number
-
 event_takes : (running : Running) (number : ℕ) (bytes : List ℕ) (unit : RpcUnit) (left : List (List ℕ)) → HearsWhole running number bytes unit →
     by_event (event.Bytes number bytes) running.dialling (work_of running) left ≡ taken_part number bytes unit (work_of running) left
 event_takes running number bytes unit left hears =
-    let w : Work = work_of running in
-    let said : LinkState TurnTalk = hears.said in
-    ap (λ (how : Dialling). by_event (event.Bytes number bytes) how w left) hears.on
-    ∙ ap (λ (hit : Bool). bytes_by hit said number bytes (dialling.On number said) w left) ((Decides-eqb number number).1 refl)
-    ∙ ap (λ (r : List ℕ). serve_dialled (cut_stream (r ++ bytes)) number said.talk w left) hears.rest
-    ∙ ap (λ (p : ServedPart AtTurn TurnTalk). after_turn p (cut_stream bytes).rest number)
-    (members_take.comes bytes hears.frames unit (at_turn number w) said.talk left hears.heard hears.none)
+    whole_comes running.dialling number hears.said bytes hears.frames unit (work_of running) left hears.on hears.rest hears.none hears.heard
 
--- ---- what is done behind the outcome, and when the next turn starts: logons are kept, and actions come behind
+-- ---- what is done when the next turn starts: logons are kept, and actions come behind
 
 record IsDone (before after : Work) : Type 0 where
   asked : after.logons.asked ≡ before.logons.asked
   grows : Grows before.actions after.actions
 
-kept_done : (said : Option Talk) (rest : List ℕ) (number : ℕ) (at : AtLink) (w : Work) → at.logons ≡ w.logons → Grows w.actions at.actions → IsDone w (keep_link said rest number (after_link at w))
-kept_done None rest number at w same grows = record { asked = ap (λ (l : _). l.asked) same; grows = grows }
-kept_done (Some talk) rest number at w same grows = record { asked = ap (λ (l : _). l.asked) same; grows = grows }
-
-waiting_done : (x : Bound × List (List ℕ)) (link : LinkState Talk) (how : Ending) (logon : Logon) (w : Work) → IsDone w (reach_waiting x link how logon w)
-waiting_done x link how logon w =
-    let at : AtLink = at_link logon.link w in
-    let talk : Talk = record { joiner = link.talk.joiner; phase = phase_after how logon x.0 } in
-    let served : Served = serve_held x.1 at talk in
-    let idle = held_idle x.1 at talk (ended_serves how logon x.0) in
-    kept_done served.1 link.rest logon.link served.0 w idle.0 idle.2
-
-link_done : (x : Option (Bound × List (List ℕ))) (link : LinkState Talk) (how : Ending) (logon : Logon) (w : Work) → IsDone w (reach_in_map x link how logon w)
-link_done None link how logon w = record { asked = refl; grows = grows_not w.actions }
-link_done (Some x) link how logon w =
-    let done : IsDone (without_link logon.link w) (reach_waiting x link how logon (without_link logon.link w)) = waiting_done x link how logon (without_link logon.link w) in
-    record { asked = done.asked; grows = done.grows }
-
-reach_done : (found : Option (LinkState Talk)) (place : ℕ) (how : Ending) (logon : Logon) (w : Work) → IsDone w (reach_link found place how logon w)
-reach_done None place how logon w = record { asked = refl; grows = grows_not w.actions }
-reach_done (Some link) place how logon w = link_done (waiting_at place link.talk.phase) link how logon w
-
-dialled_done : (start : Option (Unit {0} × List (List ℕ))) (w : Work) (how : Dialling) → IsDone w (dial_for start w how).0
-dialled_done None w how = record { asked = refl; grows = grows_not w.actions }
-dialled_done (Some start) w how = record { asked = refl; grows = record { more = action.Dial w.logons.plan.controller ∷ []; is = refl } }
-
-started_done : (starting : Starting) (w : Work) (how : Dialling) → IsDone w (dial_by starting w how).0
-started_done starting w how =
-    let done : IsDone (with_requester w starting.state) (dial_by starting w how).0 = dialled_done starting.answer (with_requester w starting.state) how in
-    record { asked = done.asked; grows = done.grows }
-
-same_done : (w : Work) (dial_work : DialWork) (left : List (List ℕ)) (part : Part DialWork) → IsDone w dial_work.0 → dial_work_part dial_work.0 dial_work.1 left ≡ Ok part → IsDone w part.value.0
-same_done w dial_work left part done is =
-    let same : record { value = dial_work; left = left } ≡ part = (let x = is in cc) in
-    subst (λ (p : Part DialWork). IsDone w p.value.0) same done
-
-next_done : (starts needs : Bool) (now : ℕ) (w : Work) (how : Dialling) (left : List (List ℕ)) (part : Part DialWork) → turn_by starts needs now w how left ≡ Ok part → IsDone w part.value.0
-next_done false needs now w how left part is = same_done w (w, how) left part (record { asked = refl; grows = grows_not w.actions }) is
-next_done true false now w how left part is = same_done w (dial_by (start_of w.logons.channel (timestamp_of now) (replicate 8 0)) w how) left part (started_done _ w how) is
-next_done true true now w how [] part is = let x = is in cc
-next_done true true now w how (challenge ∷ left) part is = same_done w (dial_by (start_of w.logons.channel (timestamp_of now) challenge) w how) left part (started_done _ w how) is
+next_done : (now : ℕ) (before : Work) → KeepsNext now (λ how w left. IsDone before w) (λ how w left. IsDone before w)
+next_done now before = record {
+  still = λ how w left can done. done;
+  starts = λ turn frames challenge how w old left can drawn answer done. record {
+    asked = done.asked;
+    grows = grows_then before.actions w.actions (dialling_at w (timestamp_of now) challenge).actions done.grows (told w.actions _);
+  };
+}
 
 -- ---- the outcome of the logon of an answer
 
@@ -333,19 +285,14 @@ pub record TellsAnswer (running : Running) (place : ℕ) (logon : Logon) (verdic
   pub told : OneOf (λ (what : Action). what ≡ action.Told logon.link (outcome_of (ending_of verdict) logon)) part.value.0.actions
   pub asked : part.value.0.logons.asked ≡ take_out same_number place running.logons.asked
 
-ended : (found : Option Logon) (place : ℕ) (how : Ending) (logon : Logon) (w : Work) → found ≡ Some logon →
-    OneOf (λ (what : Action). what ≡ action.Told logon.link (outcome_of how logon)) (end_found found place how w).actions × ((end_found found place how w).logons.asked ≡ w.logons.asked)
-ended None place how logon w is = let x = is in cc
-ended (Some other) place how logon w is =
-    let same : other ≡ logon = some_is other logon is in
+-- behind the outcome, which is told first
+ended : (place : ℕ) (how : Ending) (logon : Logon) (w : Work) → lookup same_number place w.logons.asked ≡ Some logon →
+    OneOf (λ (what : Action). what ≡ action.Told logon.link (outcome_of how logon)) (end_logon place how w).actions
+ended place how logon w kept =
     let tells : Action → Type 0 = λ (what : Action). what ≡ action.Told logon.link (outcome_of how logon) in
-    let told : Work = tell_outcome how other w in
-    let done : IsDone told (end_found (Some other) place how w) = reach_done (lookup same_number other.link w.links) place how other told in (
-      subst (λ (actions : List Action). OneOf tells actions) (sym done.grows.is)
-          (one_before tells told.actions done.grows.more
-          (one_last tells w.actions (action.Told other.link (outcome_of how other)) (ap (λ (l : Logon). action.Told l.link (outcome_of how l)) same))),
-      done.asked,
-    )
+    let grows = outcome_told place how w logon kept in
+    subst (λ (actions : List Action). OneOf tells actions) (sym grows.is)
+    (one_before tells (tell_outcome how logon w).actions grows.more (one_last tells w.actions (action.Told logon.link (outcome_of how logon)) refl))
 
 pub answer_tells : (running : Running) (number : ℕ) (bytes : List ℕ) (unit : RpcUnit) (now : ℕ) (left : List (List ℕ)) (part : Part DialWork) (place : ℕ) (verdict : Verdict) (logon : Logon) →
     HearsWhole running number bytes unit → event_part running (event.Bytes number bytes) now left ≡ Ok part →
@@ -354,21 +301,20 @@ answer_tells running number bytes unit now left part place verdict logon hears i
     let w : Work = work_of running in
     let taking : Taking = take_of running.logons.channel unit in
     let at : AtTurn = with_work (at_turn number w) (with_requester w taking.state) in
-    let closed : Work = without_logon place (tell_turn_closed close.CallDone at) in
-    let after : Work = end_logon place (ending_of verdict) (tell_turn_closed close.CallDone at) in
-    let taken_work : (do_taken taking.taken None at).0.work ≡ after = ap (λ (t : Taken). (do_taken t None at).0.work) answers in
+    let closed : Work = tell_at at.work (action.Close number close.CallDone) in
+    let after : Work = end_logon place (ending_of verdict) closed in
     let mid : Work = (take_by taking None (at_turn number w)).0.work in
-    let how : Dialling = keep_turn (take_by taking None (at_turn number w)).1 (cut_stream bytes).rest number in
-    let next : turn_by (can_start mid.logons.channel.turn mid.logons.channel.waiting) (needs_challenge mid.logons.channel.standing) now mid how left ≡ Ok part =
-    sym (ap (λ (p : Result (Part DialWork) StepRefused). then_part p (next_turn now)) (event_takes running number bytes unit left hears)) ∙ is in
-    let done : IsDone mid part.value.0 =
-    next_done (can_start mid.logons.channel.turn mid.logons.channel.waiting) (needs_challenge mid.logons.channel.standing) now mid how left part next in
+    let taken_work : mid ≡ after = ap (λ (t : Taken). (do_taken t None at).0.work) answers in
+    let holds : PartHolds (λ how w left. IsDone mid w) (Ok part) =
+    subst (PartHolds (λ how w left. IsDone mid w)) (ap (λ (p : Result (Part DialWork) StepRefused). then_part p (next_turn now)) (sym (event_takes running number bytes unit left hears)) ∙ is)
+    (next_follows now (λ how w left. IsDone mid w) (λ how w left. IsDone mid w) (next_done now mid) (taken_part number bytes unit w left)
+    (record { asked = refl; grows = grows_not mid.actions })) in
     let tells : Action → Type 0 = λ (what : Action). what ≡ action.Told logon.link (outcome_of (ending_of verdict) logon) in
-    let its = ended (lookup same_number place running.logons.asked) place (ending_of verdict) logon closed there in
     record {
-      told = subst (λ (actions : List Action). OneOf tells actions) (sym done.grows.is)
-          (one_before tells mid.actions done.grows.more (subst (λ (x : Work). OneOf tells x.actions) (sym taken_work) its.0));
-      asked = done.asked ∙ ap (λ (x : Work). x.logons.asked) taken_work ∙ its.1;
+      told = subst (λ (actions : List Action). OneOf tells actions) (sym holds.grows.is)
+          (one_before tells mid.actions holds.grows.more
+          (subst (λ (x : Work). OneOf tells x.actions) (sym taken_work) (ended place (ending_of verdict) logon closed there)));
+      asked = holds.asked ∙ ap (λ (x : Work). x.logons.asked) taken_work ∙ ap (λ (l : Logons). l.asked) (logon_ended place (ending_of verdict) closed).logons;
     }
 
 -- ---- the other logons have other places

@@ -1,6 +1,6 @@
 -- The CHALLENGE that a member sends is read again as it was written, and a message that the member takes is the one
 -- that it read. It serves `messages_are_taken_as_sent`.
-use Rattle.std.proofs.Common.{◌≡◌, ◌==◌, ◌&&◌, ◌+◌, ◌≤◌, ◌<◌, ◌^◌, ℕ, Bool, true, false, List, [], ◌∷◌, ◌++◌, length, replicate, Option, Some, None, Result, Ok, Err, refl, sym, ap, subst, arith, length-append}
+use Rattle.std.proofs.Common.{◌≡◌, ◌==◌, ◌&&◌, ◌+◌, ◌≤◌, ◌<◌, ◌^◌, ℕ, Bool, true, false, List, [], ◌∷◌, ◌++◌, length, replicate, Option, Some, None, Result, Ok, Err, refl, sym, ap, subst, ◌∙◌, arith, length-append}
 use Rattle.std.specs.Prelude.{bit_and}
 use Rattle.std.specs.Int.{w32, w64, to_le_bytes}
 use Rattle.std.specs.List.{AllByRecursion}
@@ -22,36 +22,23 @@ use Rattle.ntlm_messages.specs.declared.refused.MessageRefused.{MessageRefused}
 use Rattle.ntlm_messages.proofs.ChallengeWritten.{challenge_back}
 use Rattle.ntlm_messages.proofs.TextLaws.{IsText-written}
 use Rattle.rpc_units.specs.Numbers.{ntlm_provider}
-use Rattle.rpc_units.specs.Reading.{unit_of}
 use Rattle.rpc_units.specs.Writing.{pad_for, written, written_body, written_tail, zeros}
-use Rattle.rpc_units.specs.declared.refused.UnitRefused.{UnitRefused}
-use Rattle.rpc_units.specs.declared.unit.Body.{Body}
-use Rattle.rpc_units.specs.declared.unit.Body.TheVariants.{Bind, BindAck, BindNak, Auth3, Request, Response, Fault}
 use Rattle.rpc_units.specs.declared.unit.Syntax.{Syntax}
 use Rattle.rpc_units.specs.declared.unit.Trailer.{Trailer}
 use Rattle.rpc_units.specs.declared.unit.Unit.{Unit as RpcUnit}
 use Rattle.rpc_units.proofs.WritingLaws.{length_written}
-use Rattle.end_links.specs.Serving.{ServedPart}
-use Rattle.channel_client.specs.declared.answers.AskRefused.{AskRefused}
-use Rattle.channel_client.specs.declared.answers.AskRefused.TheVariants as ask_refused
-use Rattle.channel_client.specs.Machine.{ask_of}
-use Rattle.member_server.specs.Binds.{ack_fits, answer_bind, bind_by, challenge_ack, challenge_message, challenge_trailer, fresh_unit, is_enough, offer_at, offer_by, offer_if, offer_in}
+use Rattle.member_server.specs.Binds.{ack_fits, challenge_ack, challenge_message, challenge_trailer, is_enough, offer_at, offer_by, offer_if, offer_in}
 use Rattle.unit_security.specs.Levels.{is_level}
-use Rattle.member_server.specs.Messages.{ask_by, info_of, is_fit, take_auth3, take_message, take_trailer, wait_by, with_channel}
-use Rattle.member_server.specs.Units.{body_challenged, first_unit, unit_challenged}
 use Rattle.member_server.specs.Work.{Served}
 use Rattle.member_server.specs.declared.binds.Offer.{Offer}
 use Rattle.member_server.specs.declared.plan.MemberPlan.{MemberPlan}
 use Rattle.member_server.specs.declared.state.AtLink.{AtLink}
 use Rattle.member_server.specs.declared.state.Bound.{Bound}
 use Rattle.member_server.specs.declared.state.Logon.{Logon}
-use Rattle.member_server.specs.declared.state.Logons.{Logons}
-use Rattle.member_server.specs.declared.state.Phase.{Phase}
 use Rattle.member_server.specs.declared.state.Phase.TheVariants as phase
-use Rattle.member_server.specs.declared.state.Talk.{Talk}
+use Rattle.member_server.proofs.LinkView.{BoundView, Closes, Asks, Overflows, IsFitMessage, IsTakenUp, logon_at}
 use Rattle.step_notes.specs.MemberNotes.{LinkAt, message_after, message_in, message_kept, message_read, trailer_value}
 use Rattle.step_notes.specs.Records.{MessageTaken}
-use Rattle.domain_world.proofs.Frames.LeftLaws.{AreEights}
 
 -- ---- a CHALLENGE is read again
 
@@ -147,50 +134,14 @@ in_below : (trailer : Option Trailer) → OffersBelow (offer_in trailer)
 in_below None = tt
 in_below (Some trailer) = at_below ((trailer.kind == ntlm_provider) && is_level trailer.level) trailer
 
--- where the link has its challenge then, the CHALLENGE can be read
-abbrev pub CanBeReadAt : MemberPlan → Phase → Type 0
-CanBeReadAt plan phase.Fresh = Unit {0}
-CanBeReadAt plan (phase.Challenged bound challenge flags) = CanBeRead plan challenge flags
-CanBeReadAt plan (phase.Asked bound place held) = Unit {0}
-CanBeReadAt plan (phase.In on) = Unit {0}
-CanBeReadAt plan (phase.Out bound status) = Unit {0}
-
-abbrev pub CanBeReadAfter : MemberPlan → Option Talk → Type 0
-CanBeReadAfter plan None = Unit {0}
-CanBeReadAfter plan (Some talk) = CanBeReadAt plan talk.phase
-
-abbrev pub CanBeReadPart : MemberPlan → ServedPart AtLink Talk → Type 0
-CanBeReadPart plan (Err why) = Unit {0}
-CanBeReadPart plan (Ok part) = CanBeReadAfter plan part.value.1
-
-answer_reads : (fits : Bool) (offer : Offer) (call receive : ℕ) (contexts : List (ℕ × Syntax × List Syntax)) (joiner : Option RpcUnit) (at : AtLink) (left : List (List ℕ)) →
-    ack_fits offer at.logons.plan call receive contexts ≡ fits → offer.flags < 2 ^ 32 → AreEights left →
-    CanBeReadPart at.logons.plan (answer_bind fits offer call receive contexts joiner at left)
-answer_reads false offer call receive contexts joiner at left fits below eights = tt
-answer_reads true offer call receive contexts joiner at [] fits below eights = tt
-answer_reads true offer call receive contexts joiner at (challenge ∷ left) fits below eights =
-    record { eight = eights.0; below = below; fit = fields_fit offer at.logons.plan call receive contexts challenge fits }
-
-bind_reads : (offer : Option Offer) (call receive : ℕ) (contexts : List (ℕ × Syntax × List Syntax)) (joiner : Option RpcUnit) (at : AtLink) (left : List (List ℕ)) → OffersBelow offer →
-    AreEights left → CanBeReadPart at.logons.plan (bind_by offer call receive contexts joiner at left)
-bind_reads None call receive contexts joiner at left below eights = tt
-bind_reads (Some offer) call receive contexts joiner at left below eights =
-    answer_reads (ack_fits offer at.logons.plan call receive contexts) offer call receive contexts joiner at left refl below eights
-
-fresh_reads : (body : Body) (trailer : Option Trailer) (call : ℕ) (joiner : Option RpcUnit) (at : AtLink) (left : List (List ℕ)) → AreEights left →
-    CanBeReadPart at.logons.plan (fresh_unit body trailer call joiner at left)
-fresh_reads (Bind send receive group contexts) trailer call joiner at left eights = bind_reads (offer_in trailer) call receive contexts joiner at left (in_below trailer) eights
-fresh_reads (BindAck send receive group results) trailer call joiner at left eights = tt
-fresh_reads (BindNak reason) trailer call joiner at left eights = tt
-fresh_reads Auth3 trailer call joiner at left eights = tt
-fresh_reads (Request hint context opnum stub) trailer call joiner at left eights = tt
-fresh_reads (Response hint context stub) trailer call joiner at left eights = tt
-fresh_reads (Fault hint context status) trailer call joiner at left eights = tt
-
-pub first_reads : (unit : Result RpcUnit UnitRefused) (joiner : Option RpcUnit) (at : AtLink) (left : List (List ℕ)) → AreEights left →
-    CanBeReadPart at.logons.plan (first_unit unit joiner at left)
-first_reads (Err why) joiner at left eights = tt
-first_reads (Ok unit) joiner at left eights = fresh_reads unit.body unit.trailer unit.call joiner at left eights
+-- a bind that is taken up is answered with a CHALLENGE that can be read
+pub taken_reads : (bytes : List ℕ) (plan : MemberPlan) (offer : Offer) (call receive : ℕ) (contexts : List (ℕ × Syntax × List Syntax)) (challenge : List ℕ) →
+    IsTakenUp bytes plan offer call receive contexts → length challenge ≡ 8 → CanBeRead plan challenge offer.flags
+taken_reads bytes plan offer call receive contexts challenge taken eight = record {
+  eight = eight;
+  below = subst OffersBelow taken.offers (in_below taken.unit.trailer);
+  fit = fields_fit offer plan call receive contexts challenge taken.fits;
+}
 
 -- ---- a message that is taken
 
@@ -209,52 +160,18 @@ module _ (Sent : List ℕ → ℕ → Type 0) (w : LinkAt) (bytes : List ℕ) wh
   kept_with None place logon is its = tt
   kept_with (Some other) place logon is its = (subst (λ (l : Logon). IsTakenWith Sent (message_in bytes) l) (sym (same_Some other logon is)) its, tt)
 
-  wait_with : (answer : Result ℕ AskRefused) (logons : Logons) (logon : Logon) (bound : Bound) (joiner : Option RpcUnit) (at : AtLink) → IsTakenWith Sent (message_in bytes) logon →
-      AreTakenWith Sent (message_after (wait_by answer logons logon bound joiner at).1 (Some (wait_by answer logons logon bound joiner at).0) w bytes)
-  wait_with (Ok place) logons logon bound joiner at its =
-      kept_with (lookup same_number place (put same_number place logon logons.asked)) place logon (lookup-put_same same_number place logon logons.asked (eq-eqb place place refl)) its
-  wait_with (Err ask_refused.QueueFull) logons logon bound joiner at its = tt
-  wait_with (Err ask_refused.Memory) logons logon bound joiner at its = tt
-
   -- what is written down of what a unit comes to
   abbrev pub TakesWith : Served → Type 0
   TakesWith served = AreTakenWith Sent (message_after served.1 (Some served.0) w bytes)
 
-  ask_with : (fit : Bool) (message : Authenticate) (challenge : List ℕ) (flags : ℕ) (bound : Bound) (joiner : Option RpcUnit) (at : AtLink) → Sent challenge flags →
-      authenticate_of (message_in bytes) ≡ Ok message → TakesWith (ask_by fit message (agreed_flags flags message.flags) challenge bound joiner at)
-  ask_with false message challenge flags bound joiner at sent read = tt
-  ask_with true message challenge flags bound joiner at sent read =
-      let asking = ask_of at.logons.channel (info_of message (agreed_flags flags message.flags) challenge) in
-      wait_with asking.answer (with_channel at.logons asking.state) (record { link = at.link; challenge = challenge; message = message; agreed = agreed_flags flags message.flags }) bound joiner at
-      (record { read = read; flags = flags; sent = sent; agreed = refl })
+  message_read_of : {bound : Bound} {flags : ℕ} {message : Authenticate} → IsFitMessage bytes bound flags message → authenticate_of (message_in bytes) ≡ Ok message
+  message_read_of fit = ap authenticate_of (ap message_read fit.unit_read ∙ ap trailer_value fit.carries) ∙ fit.message_read
 
-  message_with : (found : Result Authenticate MessageRefused) (bound : Bound) (challenge : List ℕ) (flags : ℕ) (joiner : Option RpcUnit) (at : AtLink) → Sent challenge flags →
-      authenticate_of (message_in bytes) ≡ found → TakesWith (take_message found bound challenge flags joiner at)
-  message_with (Err why) bound challenge flags joiner at sent read = tt
-  message_with (Ok message) bound challenge flags joiner at sent read =
-      ask_with (is_fit bound.level (agreed_flags flags message.flags) message) message challenge flags bound joiner at sent read
-
-  trailer_with : (is_ntlm : Bool) (trailer : Trailer) (bound : Bound) (challenge : List ℕ) (flags : ℕ) (joiner : Option RpcUnit) (at : AtLink) → Sent challenge flags →
-      message_in bytes ≡ trailer.value → TakesWith (take_trailer is_ntlm trailer bound challenge flags joiner at)
-  trailer_with false trailer bound challenge flags joiner at sent is = tt
-  trailer_with true trailer bound challenge flags joiner at sent is = message_with (authenticate_of trailer.value) bound challenge flags joiner at sent (ap authenticate_of is)
-
-  auth3_with : (trailer : Option Trailer) (bound : Bound) (challenge : List ℕ) (flags : ℕ) (joiner : Option RpcUnit) (at : AtLink) → Sent challenge flags →
-      message_in bytes ≡ trailer_value trailer → TakesWith (take_auth3 trailer bound challenge flags joiner at)
-  auth3_with None bound challenge flags joiner at sent is = tt
-  auth3_with (Some trailer) bound challenge flags joiner at sent is = trailer_with (trailer.kind == ntlm_provider) trailer bound challenge flags joiner at sent is
-
-  body_with : (body : Body) (trailer : Option Trailer) (bound : Bound) (challenge : List ℕ) (flags : ℕ) (joiner : Option RpcUnit) (at : AtLink) → Sent challenge flags →
-      message_in bytes ≡ trailer_value trailer → TakesWith (body_challenged body trailer bound challenge flags joiner at)
-  body_with Auth3 trailer bound challenge flags joiner at sent is = auth3_with trailer bound challenge flags joiner at sent is
-  body_with (Bind send receive group contexts) trailer bound challenge flags joiner at sent is = tt
-  body_with (BindAck send receive group results) trailer bound challenge flags joiner at sent is = tt
-  body_with (BindNak reason) trailer bound challenge flags joiner at sent is = tt
-  body_with (Request hint context opnum stub) trailer bound challenge flags joiner at sent is = tt
-  body_with (Response hint context stub) trailer bound challenge flags joiner at sent is = tt
-  body_with (Fault hint context status) trailer bound challenge flags joiner at sent is = tt
-
-  pub challenged_with : (unit : Result RpcUnit UnitRefused) (bound : Bound) (challenge : List ℕ) (flags : ℕ) (joiner : Option RpcUnit) (at : AtLink) → Sent challenge flags →
-      unit_of bytes ≡ unit → TakesWith (unit_challenged unit bound challenge flags joiner at)
-  challenged_with (Err why) bound challenge flags joiner at sent is = tt
-  challenged_with (Ok unit) bound challenge flags joiner at sent is = body_with unit.body unit.trailer bound challenge flags joiner at sent (ap message_read is)
+  pub view_with : {joiner : Option RpcUnit} (at : AtLink) {bound : Bound} {challenge : List ℕ} {flags : ℕ} {served : Served} →
+      BoundView bytes joiner at (phase.Challenged bound challenge flags) served → Sent challenge flags → TakesWith served
+  view_with at (Closes cause may) sent = tt
+  view_with at (Asks {challenge = challenge} {flags = flags} message place fit is) sent =
+      let logon : Logon = logon_at at challenge flags message in
+      kept_with (lookup same_number place (put same_number place logon at.logons.asked)) place logon (lookup-put_same same_number place logon at.logons.asked (eq-eqb place place refl))
+      (record { read = message_read_of fit; flags = flags; sent = sent; agreed = refl })
+  view_with at (Overflows message fit is) sent = tt

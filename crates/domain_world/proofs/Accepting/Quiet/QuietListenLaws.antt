@@ -1,23 +1,21 @@
 -- The links of a controller through each step: nothing stays open on those that members dialled, where what comes on
 -- them are whole units. It serves `runs_stand_so`.
-use Rattle.std.proofs.Common.{◌≡◌, ℕ, Bool, true, false, List, [], ◌∷◌, ◌++◌, length, nat_le, Option, Some, None, Ok, Err, if◌then◌else◌, refl, sym, ap, subst, ◌∙◌}
+use Rattle.std.proofs.Common.{◌≡◌, ℕ, Bool, true, false, List, [], ◌∷◌, ◌++◌, Option, Some, None, Ok, Err, if◌then◌else◌, refl, sym, ap, subst, ◌∙◌}
 use Rattle.std.specs.List.{AllByRecursion}
 use Rattle.std.proofs.lemmas.Bool.{eqb-true}
 use Rattle.wire_base.specs.Maps.{has_key, lookup, put, same_number, take_out}
-use Rattle.outside.specs.Machine.{step_by, then_part}
 use Rattle.outside.specs.declared.event.Event.{Event}
 use Rattle.outside.specs.declared.event.Event.TheVariants as event
-use Rattle.rpc_units.specs.Stream.{cut_stream}
+use Rattle.rpc_units.specs.Stream.{Cut, cut_stream}
 use Rattle.end_links.specs.Links.{LinkState}
 use Rattle.end_links.specs.Serving.{ServedPart, served_cut}
-use Rattle.domain_controller.specs.Hearing.{first_talk}
 use Rattle.domain_controller.specs.Machine.{Desk, controller_server}
 use Rattle.domain_controller.specs.State.{State as ControllerState}
-use Rattle.domain_controller.specs.Step.{LinkMap, StepPart, after_units, by_event, first_desk, halted, keep_link, open_by, serve_on, start_turn, state_after, step_of, step_on}
+use Rattle.domain_controller.specs.Step.{LinkMap, StepPart, after_units, by_event, first_desk, keep_link, step_of}
 use Rattle.domain_controller.specs.declared.state.Running.{Running}
 use Rattle.domain_controller.specs.declared.state.Talk.{Talk}
-use Rattle.controller_calls.specs.declared.state.Work.{Work}
 use Rattle.step_notes.specs.HeardWhole.{LeavesNothingOpen, NothingOpen}
+use Rattle.domain_controller.proofs.WalkLaws.{PartSteps, event_comes, fresh_link, step_comes}
 use Rattle.step_notes.proofs.Controllers.HeardLaws.{controllers_hear}
 use Rattle.domain_world.proofs.Accepting.Quiet.QuietTurnLaws.{IsOneUnit}
 
@@ -87,11 +85,6 @@ OpensWell Own Made (event.Bytes link piece) = Own link → IsOneUnit piece
 OpensWell Own Made _ = Unit {0}
 
 module _ (Own Made : ℕ → Type 0) where
-  opened_well : (full : Bool) (link : ℕ) (work : Work) (links : LinkMap) → Made link → LinksWell Own Made links → LinksWell Own Made (open_by full link work links).1
-  opened_well true link work links made well = well
-  opened_well false link work links made well =
-      entries_put (ListensWell Own Made) link (record { rest = []; talk = first_talk }) links (record { made = made; rest = λ own. refl; joiner = λ own. refl }) well
-
   kept_well : (said : Option Talk) (rest : List ℕ) (number : ℕ) (links : LinkMap) → Made number → (Own number → rest ≡ []) → (Own number → NothingOpen said) → LinksWell Own Made links →
       LinksWell Own Made (keep_link said rest number links)
   kept_well None rest number links made none open_none well = well
@@ -103,46 +96,38 @@ module _ (Own Made : ℕ → Type 0) where
   units_well (Err why) rest number links made none open_none well = tt
   units_well (Ok part) rest number links made none open_none well = kept_well part.value.1 rest number links made none open_none well
 
-  serves_well : (found : Option (LinkState Talk)) (number : ℕ) (piece name : List ℕ) (now : ℕ) (d : Desk) (others : LinkMap) (left : List (List ℕ)) →
-      ((link : LinkState Talk) → found ≡ Some link → ListensWell Own Made number link) → (Own number → IsOneUnit piece) → LinksWell Own Made others →
-      PartWell Own Made (serve_on found number piece name now d others left)
-  serves_well None number piece name now d others left there one well = well
-  serves_well (Some link) number piece name now d others left there one well =
-      let listens : ListensWell Own Made number link = there link refl in
-      let bytes : Own number → link.rest ++ piece ≡ piece = λ own. ap (λ (rest : List ℕ). rest ++ piece) (listens.rest own) in
-      units_well (served_cut (controller_server name now number) (cut_stream (link.rest ++ piece)) d link.talk left) (cut_stream (link.rest ++ piece)).rest number others listens.made
-      (λ own. let unit : IsOneUnit piece = one own in
-      ap (λ (all : List ℕ). (cut_stream all).rest) (bytes own) ∙ controllers_hear.rest piece unit.frames unit.unit unit.heard)
-      (λ own. let unit : IsOneUnit piece = one own in
-      subst (λ (all : List ℕ). LeavesNothingOpen (served_cut (controller_server name now number) (cut_stream all) d link.talk left)) (sym (bytes own))
-      (controllers_hear.after name now number piece unit.frames unit.unit d link.talk left unit.heard (listens.joiner own)))
-      well
-
-  event_well : (what : Event) (name : List ℕ) (now : ℕ) (d : Desk) (links : LinkMap) (left : List (List ℕ)) → OpensWell Own Made what → LinksWell Own Made links →
-      PartWell Own Made (by_event what name now d links left)
-  event_well (event.Opened link) name now d links left opens well =
-      opened_well (nat_le 256 (length (take_out same_number link links))) link d.work (take_out same_number link links) opens (entries_out (ListensWell Own Made) link links well)
-  event_well (event.Bytes link piece) name now d links left opens well =
-      serves_well (lookup same_number link links) link piece name now d (take_out same_number link links) left
-      (λ one there. entries_found (ListensWell Own Made) link links one there well) opens (entries_out (ListensWell Own Made) link links well)
-  event_well (event.Closed link) name now d links left opens well = entries_out (ListensWell Own Made) link links well
-  event_well (event.Dialled link) name now d links left opens well = well
-  event_well event.DialFailed name now d links left opens well = well
-  event_well event.Stop name now d links left opens well = well
-
-  stepped_well : (part : StepPart) (s : ControllerState) (left : List (List ℕ)) → PartWell Own Made part →
-      WellUnlessStopped Own Made
-      (step_by (λ (after : Desk × LinkMap). after.0.work.actions) (λ after. state_after s after) (halted s) left (then_part part (λ after rest. start_turn after rest))).state.running
-  stepped_well (Err why) s left well = tt
-  stepped_well (Ok part) s left well = well
-
-  running_well : (r : Option Running) (s : ControllerState) (what : Event) (now : ℕ) (left : List (List ℕ)) → OpensWell Own Made what → WellUnlessStopped Own Made s.running →
-      WellUnlessStopped Own Made r → WellUnlessStopped Own Made (step_on r s what now left).state.running
-  running_well None s what now left opens was well = was
-  running_well (Some running) s what now left opens was well =
-      stepped_well (by_event what s.name now (first_desk s.table running) running.links left) s left
-      (event_well what s.name now (first_desk s.table running) running.links left opens well)
+  part_well : (part : StepPart) (s : ControllerState) (left : List (List ℕ)) → PartWell Own Made part →
+      PartSteps (λ stepped. WellUnlessStopped Own Made stepped.state.running) s left part
+  part_well (Err why) s left well = tt
+  part_well (Ok part) s left well = well
 
   pub listens_on : (s : ControllerState) (what : Event) (now : ℕ) (left : List (List ℕ)) → OpensWell Own Made what → WellUnlessStopped Own Made s.running →
       WellUnlessStopped Own Made (step_of s what now left).state.running
-  listens_on s what now left opens well = running_well s.running s what now left opens well well
+  listens_on s what now left opens well =
+      step_comes (λ stepped. WellUnlessStopped Own Made stepped.state.running) s what now left (λ ends. well) (λ running runs.
+      let d : Desk = first_desk s.table running in
+      let links : LinkMap = running.links in
+      let all : LinksWell Own Made links = subst (WellUnlessStopped Own Made) runs well in
+      let without : (number : ℕ) → LinksWell Own Made (take_out same_number number links) = λ number. entries_out (ListensWell Own Made) number links all in
+      part_well (by_event what s.name now d links left) s left
+      (event_comes (λ (happens : Event) (part : StepPart). OpensWell Own Made happens → PartWell Own Made part) s.name now d links left (record {
+        full = λ number is made. without number;
+        opens = λ number is made.
+            entries_put (ListensWell Own Made) number fresh_link (take_out same_number number links) (record { made = made; rest = λ own. refl; joiner = λ own. refl }) (without number);
+        serves = λ number piece link is one.
+            let cut : Cut = cut_stream (link.rest ++ piece) in
+            let listens : ListensWell Own Made number link = entries_found (ListensWell Own Made) number links link is all in
+            let bytes : Own number → link.rest ++ piece ≡ piece = λ own. ap (λ (rest : List ℕ). rest ++ piece) (listens.rest own) in
+            units_well (served_cut (controller_server s.name now number) cut d link.talk left) cut.rest number (take_out same_number number links) listens.made
+            (λ own. let unit : IsOneUnit piece = one own in
+            ap (λ (all : List ℕ). (cut_stream all).rest) (bytes own) ∙ controllers_hear.rest piece unit.frames unit.unit unit.heard)
+            (λ own. let unit : IsOneUnit piece = one own in
+            subst (λ (all : List ℕ). LeavesNothingOpen (served_cut (controller_server s.name now number) (cut_stream all) d link.talk left)) (sym (bytes own))
+            (controllers_hear.after s.name now number piece unit.frames unit.unit d link.talk left unit.heard (listens.joiner own)))
+            (without number);
+        drops = λ number piece is one. without number;
+        closed = λ number made. without number;
+        dialled = λ number made. all;
+        failed = λ made. all;
+        stop = λ made. all;
+      }) what opens))
