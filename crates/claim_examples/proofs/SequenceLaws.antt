@@ -1,6 +1,6 @@
 -- Runs that were written down by hand, of the two ends of a channel, that meet a claim, and some that don't.
 -- It serves `claims_tell_apart`, `grants_tell_apart`, `own_challenges_tell_apart`, `replies_tell_apart`.
-use Rattle.std.proofs.Common.{◌≡◌, ℕ, zero, suc, true, false, List, [], ◌∷◌, ◌++◌, length, inl, inr, Option, Some, None, refl, sym, ap, ◌∙◌, subst, arith, slice_get}
+use Rattle.std.proofs.Common.{◌≡◌, ℕ, zero, suc, true, false, List, [], ◌∷◌, ◌++◌, length, inl, inr, Option, Some, None, refl, sym, ap, ◌∙◌, subst, arith, ap₂}
 use Rattle.std.specs.Prelude.{◌%◌, ◌^◌, AllPairs, codes, ◌⊎◌}
 use Rattle.wire_base.specs.Maps.{lookup}
 use Rattle.wire_base.specs.Names.{same_name}
@@ -10,20 +10,18 @@ use Rattle.authenticators.proofs.SeedLaws.{IsBlock-add_to, add_to-same}
 use Rattle.channel_keys.proofs.CredLaws.{IsBlock-cred_of}
 use Rattle.authenticators.specs.SecureChannels.{channel_of, SecureChannelState}
 use Rattle.channel_client.specs.declared.state.Pending.{Pending}
-use Rattle.member_server.specs.State.{State as MemberState}
-use Rattle.member_server.specs.declared.state.Running.{Running as MemberRunning}
 use Rattle.domain_controller.specs.State.{State as ControllerState}
 use Rattle.domain_controller.specs.declared.state.Running.{Running as ControllerRunning}
 use Rattle.channel_events.specs.Seeds.{channel_seed}
-use Rattle.step_notes.specs.Records.{Book, InUnit, OfMember, Outside, blank}
+use Rattle.step_notes.specs.Records.{Book, InUnit, OfMember, Outside, blank, RequesterId}
 use Rattle.domain_world.specs.Claims.SharedSequences.{IsBeforeTurn, Keeps, SequencesAreShared, Stands, any_foreign, timestamps_on}
-use Rattle.domain_world.specs.Past.{controller_of}
-use Rattle.claim_examples.specs.ClaimExamples.{OfSequences, keeping_controller, keeping_running, one_turn, small_channel, open_member, open_running, passed_from, run_open, seed_after_one, seed_after_two, small_computers, small_name, small_seed, small_turn, turn_out, two_turns, world_open}
+use Rattle.domain_world.specs.Past.{controller_asked, requester_at}
+use Rattle.claim_examples.specs.ClaimExamples.{OfSequences, keeping_controller, keeping_running, one_turn, small_channel, open_running, passed_from, run_open, seed_after_one, seed_after_two, small_computers, small_name, small_seed, small_turn, turn_out, two_turns, world_open}
 use Rattle.channel_events.proofs.ListLaws.{moved_none}
 use Rattle.channel_events.proofs.SameLaws.{same_self}
-use Rattle.domain_world.proofs.Frames.RequesterLaws.{StandsAtMember, stands_at}
 use Rattle.wire_base.specs.Names as names
 use Rattle.channel_client.specs.declared.state.Standing.TheVariants as standing
+use Rattle.channel_client.specs.State.{Requester}
 
 pub one_apart : {T : Type 0} (R : T → T → Type 0) (x : T) → AllPairs R (x ∷ [])
 one_apart R x i j d before within = absurd (omega arith)
@@ -34,27 +32,24 @@ pub kept_small : (seed : List ℕ) → lookup same_name (codes "FILE1") (small_c
 unfolding same_name names.upper_of
 kept_small seed = refl
 
-one_member : (turn : Option Pending) (seed other : List ℕ) (member : ℕ) (state : MemberState) → slice_get (world_open turn seed other).state.ends.members member ≡ Some state → (member ≡ 0) × (open_member turn seed ≡ state)
-one_member turn seed other zero state at = (refl, cc)
-one_member turn seed other (suc member) state at = absurd cc
+one_asker : (turn : Option Pending) (seed other : List ℕ) (who : RequesterId) (requester : Requester) → requester_at (world_open turn seed other).state who ≡ Some requester →
+    (who ≡ OfMember 0) × ((open_running turn seed).logons.channel ≡ requester)
+one_asker turn seed other (OfMember zero) requester at = (refl, let one : Some (open_running turn seed).logons.channel ≡ Some requester = at in cc)
+one_asker turn seed other (OfMember (suc member)) requester at = absurd (let never : None ≡ Some requester = at in cc)
 
--- the channel that stands at the member is this one
-the_channel : (turn : Option Pending) (seed other : List ℕ) (member : ℕ) (channel : ChannelIdentity) (o : SecureChannelState) → (its : Stands (world_open turn seed other).state (OfMember member) channel o) →
-    (member ≡ 0) × (channel ≡ small_name) × (o.seed ≡ seed) × (its.turn ≡ turn)
-the_channel turn seed other member channel o its =
-    let stands : StandsAtMember (world_open turn seed other).state member channel o its.turn = stands_at (world_open turn seed other).state member channel o its in
-    let one = one_member turn seed other member stands.state stands.at in
-    let runs : Some (open_running turn seed) ≡ Some stands.running = ap MemberState.running one.1 ∙ stands.runs in
-    let running : open_running turn seed ≡ stands.running = cc in
-    let open_so : standing.Open (small_channel seed) ≡ standing.Open o = ap (λ (r : MemberRunning). r.logons.channel.standing) running ∙ stands.open_so in
+-- the channel that stands is this one, and it is the member's
+the_channel : (turn : Option Pending) (seed other : List ℕ) (who : RequesterId) (channel : ChannelIdentity) (o : SecureChannelState) → (stands : Stands (world_open turn seed other).state who channel o) →
+    (who ≡ OfMember 0) × (channel ≡ small_name) × (o.seed ≡ seed) × (stands.turn ≡ turn)
+the_channel turn seed other who channel o stands =
+    let one = one_asker turn seed other who stands.requester stands.at in
+    let open_so : standing.Open (small_channel seed) ≡ standing.Open o = ap (λ (r : Requester). r.standing) one.1 ∙ stands.open_so in
     let state : small_channel seed ≡ o = cc in (
       one.0,
       stands.is
-          ∙ ap (λ (r : MemberRunning). channel_of (controller_of member (world_open turn seed other).state) r.logons.channel.caller.computer o) (sym running)
-          ∙ ap (λ (m : ℕ). channel_of (controller_of m (world_open turn seed other).state) (codes "FILE1") o) one.0
-          ∙ ap (λ (s : SecureChannelState). channel_of (controller_of 0 (world_open turn seed other).state) (codes "FILE1") s) (sym state),
+          ∙ ap₂ (λ (asks : RequesterId) (r : Requester). channel_of (controller_asked asks (world_open turn seed other).state) r.caller.computer o) one.0 (sym one.1)
+          ∙ ap (λ (s : SecureChannelState). channel_of (controller_asked (OfMember 0) (world_open turn seed other).state) (codes "FILE1") s) (sym state),
       ap SecureChannelState.seed (sym state),
-      sym (ap (λ (r : MemberRunning). r.logons.channel.turn) running ∙ stands.is_turn),
+      sym (ap (λ (r : Requester). r.turn) one.1 ∙ stands.is_turn),
     )
 
 the_kept : (turn : Option Pending) (seed other : List ℕ) (channel : ChannelIdentity) (c : SecureChannelState) → channel ≡ small_name → Keeps (world_open turn seed other).state channel.controller channel.computer c → c.seed ≡ other
@@ -83,16 +78,16 @@ same_small = same_self small_name
 -- a run shares its sequence where its one channel does
 pub shares_by : (book : Book) (turn : Option Pending) (seed other timestamps : List ℕ) → timestamps_on (OfMember 0) small_name book.turns ≡ timestamps → seed ≡ channel_seed small_name timestamps →
     (any_foreign small_name book.judged ≡ false → (other ≡ seed) ⊎ IsBeforeTurn turn other small_name timestamps) → SequencesAreShared (run_open book turn seed other)
-shares_by book turn seed other timestamps are own each (OfMember member) = record {
+shares_by book turn seed other timestamps are own each who = record {
   own = λ channel o stands.
-      let it = the_channel turn seed other member channel o stands in
+      let it = the_channel turn seed other who channel o stands in
       it.2
       ∙ own
       ∙ ap (λ (all : List ℕ). channel_seed small_name all) (sym are)
       ∙ ap (λ (one : ChannelIdentity). channel_seed one (timestamps_on (OfMember 0) one book.turns)) (sym it.1)
-      ∙ ap (λ (m : ℕ). channel_seed channel (timestamps_on (OfMember m) channel book.turns)) (sym it.0);
+      ∙ ap (λ (asks : RequesterId). channel_seed channel (timestamps_on asks channel book.turns)) (sym it.0);
   other = λ channel o c stands keeps same none.
-      let it = the_channel turn seed other member channel o stands in
+      let it = the_channel turn seed other who channel o stands in
       let kept : c.seed ≡ other = the_kept turn seed other channel c it.1 keeps in
       elim (each (ap (λ (one : ChannelIdentity). any_foreign one book.judged) (sym it.1) ∙ none)) [
         | inl is ↦ inl (kept ∙ is ∙ sym it.2)
@@ -101,7 +96,7 @@ shares_by book turn seed other timestamps are own each (OfMember member) = recor
           is_out = it.3 ∙ before.is_out;
           earlier = before.earlier;
           last = before.last;
-          all = ap (λ (m : ℕ). timestamps_on (OfMember m) channel book.turns) it.0 ∙ ap (λ (one : ChannelIdentity). timestamps_on (OfMember 0) one book.turns) it.1 ∙ are ∙ before.all;
+          all = ap (λ (asks : RequesterId). timestamps_on asks channel book.turns) it.0 ∙ ap (λ (one : ChannelIdentity). timestamps_on (OfMember 0) one book.turns) it.1 ∙ are ∙ before.all;
           seed_before = kept ∙ before.seed_before ∙ ap (λ (one : ChannelIdentity). channel_seed one before.earlier) (sym it.1);
         })
       ];

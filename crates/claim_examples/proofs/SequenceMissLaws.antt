@@ -1,6 +1,6 @@
 -- Near misses of the claim on sequences, and of what it rests on.
 -- It serves `sequences_tell_apart`.
-use Rattle.std.proofs.Common.{◌≡◌, ℕ, zero, suc, true, false, List, [], ◌∷◌, ◌++◌, length, inl, inr, Option, Some, None, refl, sym, ap, ◌∙◌, subst, arith, slice_get}
+use Rattle.std.proofs.Common.{◌≡◌, ℕ, zero, suc, true, false, List, [], ◌∷◌, ◌++◌, length, inl, inr, Option, Some, None, refl, sym, ap, ◌∙◌, subst, arith, slice_get, ap₂}
 use Rattle.std.specs.Prelude.{◌%◌, ◌^◌, codes, ◌⊎◌}
 use Rattle.std.specs.List.{AllByRecursion}
 use Rattle.wire_base.specs.Maps.{lookup}
@@ -17,20 +17,20 @@ use Rattle.member_server.specs.declared.state.Running.{Running as MemberRunning}
 use Rattle.channel_events.specs.Marks.{Calling, OneOf, Plain, ReplyTo}
 use Rattle.channel_events.proofs.ListLaws.{got_nothing, one_weaker, some_is}
 use Rattle.step_notes.specs.ControllerNotes.{has_passed}
-use Rattle.step_notes.specs.Records.{Book, ChannelTurn, InUnit, Judging, OfMember, Sent, blank}
+use Rattle.step_notes.specs.Records.{Book, ChannelTurn, InUnit, Judging, OfMember, Sent, blank, RequesterId}
 use Rattle.world_moves.specs.declared.links.EndId.TheVariants.{Member, Client}
 use Rattle.world_moves.specs.declared.state.State.{State}
 use Rattle.domain_world.specs.Accepting.Sequences.{AnswersCall, AreSoFar, CallsOfTurns, HavePassed, IsMadeOn, IsPassedIn, TurnsAreCalled, stamps_of}
 use Rattle.channel_events.specs.Seeds.{channel_seed}
 use Rattle.domain_world.specs.Claims.SharedSequences.{HasOneTurnOut, IsBeforeTurn, Keeps, SequencesAreOwn, SequencesAreShared, Stands, any_foreign, dials_of, timestamps_on}
-use Rattle.domain_world.specs.Past.{controller_of, sent_at}
+use Rattle.domain_world.specs.Past.{sent_at, controller_asked, requester_at}
 use Rattle.claim_examples.specs.ClaimExamples.{elsewhere, judged_as, on_channel, one_turn, small_channel, open_running, seed_after_one, small_name, small_seed, small_turn, turn_out}
 use Rattle.claim_examples.specs.SequenceMisses.{OfCalls, OfOneTurn, OfReplyCalls, OfSequenceMisses, SequencesTellApart, called_once, controller_on, empty_unit, in_unit, judged_outside, kept_whole, member_on, mixed_turns, moved_seed, passed_then, replied, replied_for, run_by, run_dials, run_small, sent_as, whole_name}
 use Rattle.claim_examples.proofs.SequenceLaws.{no_turn, not_one_byte, one_stamp, same_small, shared_small}
-use Rattle.domain_world.proofs.Frames.RequesterLaws.{StandsAtMember, stands_at}
 use Rattle.wire_base.specs.Names as names
 use Rattle.outside.specs.declared.action.Judged.TheVariants as judged
 use Rattle.channel_client.specs.declared.state.Standing.TheVariants as standing
+use Rattle.channel_client.specs.State.{Requester}
 
 -- ---- one member, whose channel stands
 
@@ -43,39 +43,40 @@ one_member : (turn : Option Pending) (o : SecureChannelState) (member : ℕ) (st
 one_member turn o zero state at = (refl, cc)
 one_member turn o (suc member) state at = absurd cc
 
+one_asker : (book : Book) (turn : Option Pending) (o : SecureChannelState) (name : List ℕ) (c : SecureChannelState) (who : RequesterId) (requester : Requester) →
+    requester_at (run_by book turn o name c).world.state who ≡ Some requester → (who ≡ OfMember 0) × ((running_on turn o).logons.channel ≡ requester)
+one_asker book turn o name c (OfMember zero) requester at = (refl, let one : Some (running_on turn o).logons.channel ≡ Some requester = at in cc)
+one_asker book turn o name c (OfMember (suc member)) requester at = absurd (let never : None ≡ Some requester = at in cc)
+
 module _ (book : Book) (turn : Option Pending) (o : SecureChannelState) (name : List ℕ) (c : SecureChannelState) where
   -- the channel that stands at the member is this one
   abbrev its_name : ChannelIdentity
   its_name = channel_of 0 (codes "FILE1") o
 
-  the_channel : (member : ℕ) (channel : ChannelIdentity) (p : SecureChannelState) → (its : Stands (run_by book turn o name c).world.state (OfMember member) channel p) →
-      (member ≡ 0) × (channel ≡ its_name) × (o ≡ p) × (its.turn ≡ turn)
-  the_channel member channel p its =
-      let stands : StandsAtMember (run_by book turn o name c).world.state member channel p its.turn = stands_at (run_by book turn o name c).world.state member channel p its in
-      let one = one_member turn o member stands.state stands.at in
-      let runs : Some (running_on turn o) ≡ Some stands.running = ap MemberState.running one.1 ∙ stands.runs in
-      let running : running_on turn o ≡ stands.running = cc in
-      let open_so : standing.Open o ≡ standing.Open p = ap (λ (r : MemberRunning). r.logons.channel.standing) running ∙ stands.open_so in
+  the_channel : (who : RequesterId) (channel : ChannelIdentity) (p : SecureChannelState) → (stands : Stands (run_by book turn o name c).world.state who channel p) →
+      (who ≡ OfMember 0) × (channel ≡ its_name) × (o ≡ p) × (stands.turn ≡ turn)
+  the_channel who channel p stands =
+      let one = one_asker book turn o name c who stands.requester stands.at in
+      let open_so : standing.Open o ≡ standing.Open p = ap (λ (r : Requester). r.standing) one.1 ∙ stands.open_so in
       let state : o ≡ p = cc in (
         one.0,
         stands.is
-            ∙ ap (λ (r : MemberRunning). channel_of (controller_of member (run_by book turn o name c).world.state) r.logons.channel.caller.computer p) (sym running)
-            ∙ ap (λ (m : ℕ). channel_of (controller_of m (run_by book turn o name c).world.state) (codes "FILE1") p) one.0
-            ∙ ap (λ (s : SecureChannelState). channel_of (controller_of 0 (run_by book turn o name c).world.state) (codes "FILE1") s) (sym state),
+            ∙ ap₂ (λ (asks : RequesterId) (r : Requester). channel_of (controller_asked asks (run_by book turn o name c).world.state) r.caller.computer p) one.0 (sym one.1)
+            ∙ ap (λ (s : SecureChannelState). channel_of (controller_asked (OfMember 0) (run_by book turn o name c).world.state) (codes "FILE1") s) (sym state),
         state,
-        sym (ap (λ (r : MemberRunning). r.logons.channel.turn) running ∙ stands.is_turn),
+        sym (ap (λ (r : Requester). r.turn) one.1 ∙ stands.is_turn),
       )
 
   its_own : SequencesAreOwn (run_by book turn o name c) → o.seed ≡ channel_seed its_name (timestamps_on (OfMember 0) its_name book.turns)
   its_own claim = claim (OfMember 0) its_name o (record { requester = (running_on turn o).logons.channel; at = refl; open_so = refl; is = refl; turn = turn; is_turn = refl })
 
   own_by : o.seed ≡ channel_seed its_name (timestamps_on (OfMember 0) its_name book.turns) → SequencesAreOwn (run_by book turn o name c)
-  own_by own (OfMember member) channel p stands =
-      let it = the_channel member channel p stands in
+  own_by own who channel p stands =
+      let it = the_channel who channel p stands in
       ap SecureChannelState.seed (sym it.2)
       ∙ own
       ∙ ap (λ (one : ChannelIdentity). channel_seed one (timestamps_on (OfMember 0) one book.turns)) (sym it.1)
-      ∙ ap (λ (m : ℕ). channel_seed channel (timestamps_on (OfMember m) channel book.turns)) (sym it.0)
+      ∙ ap (λ (asks : RequesterId). channel_seed channel (timestamps_on asks channel book.turns)) (sym it.0)
 
   -- what is kept of it at the controller
   the_kept : (channel : ChannelIdentity) (d : SecureChannelState) → channel ≡ its_name → Keeps (run_by book turn o name c).world.state channel.controller channel.computer d →
@@ -93,10 +94,10 @@ module _ (book : Book) (turn : Option Pending) (o : SecureChannelState) (name : 
   shares_by : (timestamps : List ℕ) → timestamps_on (OfMember 0) its_name book.turns ≡ timestamps → o.seed ≡ channel_seed its_name timestamps →
       ((d : SecureChannelState) → lookup same_name (codes "FILE1") ((name, c) ∷ []) ≡ Some d → SameChannel (channel_of 0 (codes "FILE1") d) its_name →
       any_foreign its_name book.judged ≡ false → (d.seed ≡ o.seed) ⊎ IsBeforeTurn turn d.seed its_name timestamps) → SequencesAreShared (run_by book turn o name c)
-  shares_by timestamps are own each (OfMember member) = record {
-    own = λ channel p stands. own_by (own ∙ ap (λ (all : List ℕ). channel_seed its_name all) (sym are)) (OfMember member) channel p stands;
+  shares_by timestamps are own each who = record {
+    own = λ channel p stands. own_by (own ∙ ap (λ (all : List ℕ). channel_seed its_name all) (sym are)) who channel p stands;
     other = λ channel p d stands keeps same none.
-        let it = the_channel member channel p stands in
+        let it = the_channel who channel p stands in
         let same_its : SameChannel (channel_of 0 (codes "FILE1") d) its_name = subst (λ (one : ChannelIdentity). SameChannel (channel_of one.controller one.computer d) one) it.1 same in
         elim (each d (the_kept channel d it.1 keeps) same_its (ap (λ (one : ChannelIdentity). any_foreign one book.judged) (sym it.1) ∙ none)) [
           | inl is ↦ inl (is ∙ ap SecureChannelState.seed it.2)
@@ -105,7 +106,7 @@ module _ (book : Book) (turn : Option Pending) (o : SecureChannelState) (name : 
             is_out = it.3 ∙ before.is_out;
             earlier = before.earlier;
             last = before.last;
-            all = ap (λ (m : ℕ). timestamps_on (OfMember m) channel book.turns) it.0 ∙ ap (λ (one : ChannelIdentity). timestamps_on (OfMember 0) one book.turns) it.1 ∙ are ∙ before.all;
+            all = ap (λ (asks : RequesterId). timestamps_on asks channel book.turns) it.0 ∙ ap (λ (one : ChannelIdentity). timestamps_on (OfMember 0) one book.turns) it.1 ∙ are ∙ before.all;
             seed_before = before.seed_before ∙ ap (λ (one : ChannelIdentity). channel_seed one before.earlier) (sym it.1);
           })
         ];
@@ -289,9 +290,9 @@ stands_small book turn = record { requester = (running_on turn o_small).logons.c
 
 -- the calls of the one channel are those of all
 calls_by : (book : Book) (turn : Option Pending) → CallsOfTurns (run_small book turn) small_name turn (timestamps_on (OfMember 0) small_name book.turns) → TurnsAreCalled (run_small book turn)
-calls_by book turn calls (OfMember member) channel o stands =
-    let it = the_channel book turn o_small (codes "FILE1") (small_channel seed_after_one) member channel o stands in
-    subst (λ (k : ℕ). CallsOfTurns (run_small book turn) channel stands.turn (timestamps_on (OfMember k) channel book.turns)) (sym it.0)
+calls_by book turn calls who channel o stands =
+    let it = the_channel book turn o_small (codes "FILE1") (small_channel seed_after_one) who channel o stands in
+    subst (λ (asks : RequesterId). CallsOfTurns (run_small book turn) channel stands.turn (timestamps_on asks channel book.turns)) (sym it.0)
     (subst (λ (one : ChannelIdentity). CallsOfTurns (run_small book turn) one stands.turn (timestamps_on (OfMember 0) one book.turns)) (sym it.1)
     (subst (λ (t : Option Pending). CallsOfTurns (run_small book turn) small_name t (timestamps_on (OfMember 0) small_name book.turns)) (sym it.3) calls))
 

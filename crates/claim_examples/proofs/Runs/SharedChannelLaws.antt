@@ -21,7 +21,7 @@ use Rattle.world_moves.specs.Ends.{EndStates}
 use Rattle.world_moves.specs.Forms.{HasForms}
 use Rattle.world_moves.specs.Moving.{end_of_peer}
 use Rattle.world_moves.specs.World.{IsPlan, World, first_world, happens, run}
-use Rattle.domain_world.specs.Past.{controller_number, controller_of, controller_of_plan, past, requester_in, running_in}
+use Rattle.domain_world.specs.Past.{controller_number, controller_of_plan, past, requester_in, running_in, controller_asked}
 use Rattle.logon_steps.specs.Answering.{moved}
 use Rattle.logon_steps.specs.MemberLinks.{logons_at_rest}
 use Rattle.logon_runs.specs.First.FirstLogonRuns.{after_first}
@@ -72,7 +72,7 @@ module _ (plan : Plan) (client member controller number : ℕ) (is : IsPlan plan
   abbrev c : SecureChannelState
   c = moved (channel_as (joined g []) can.machine (draw plan 4) (draw plan 5)) stamp
 
-  its_controller : controller_of member s ≡ controller
+  its_controller : controller_asked (OfMember member) s ≡ controller
   its_controller =
       let stays : HasSameEnds (first_world plan).state s = same_ends moves (first_world plan) in
       controllers_alike plan.members s.member_plans member s.ends stays.members

@@ -27,7 +27,7 @@ use Rattle.channel_turns.specs.declared.state.TurnTalk.{TurnTalk}
 use Rattle.member_server.proofs.KeptLaws.{lets_in_the_granted}
 use Rattle.channel_events.specs.Marks.{OneOf}
 use Rattle.step_notes.specs.MemberNotes.{link_units, message_note, taken_link, turn_units, turn_units_by, turn_units_in, turn_units_on}
-use Rattle.step_notes.specs.Records.{Book, InUnit, MessageTaken, OutcomeTold, Outside, Source, blank, unit_in}
+use Rattle.step_notes.specs.Records.{Book, InUnit, MessageTaken, OutcomeTold, Outside, Source, blank, unit_in, OfMember}
 use Rattle.step_notes.specs.Served.{units_if_taken}
 use Rattle.world_moves.specs.declared.links.EndId.{EndId}
 use Rattle.world_moves.specs.declared.links.EndId.TheVariants.{Controller, Member, Client}
@@ -43,7 +43,7 @@ use Rattle.world_moves.specs.Links.{acceptor_of}
 use Rattle.world_moves.specs.Moving.{begun, with_link}
 use Rattle.world_moves.specs.World.{World, first_world}
 use Rattle.domain_world.specs.Claims.LetIn.{IsLetInBy, LetsInWhoAsked}
-use Rattle.domain_world.specs.Past.{Coming, at_member, controller_of, note_at, note_client, note_controller, note_member, note_messages, note_turns, numbers_on, past, told_by, told_in, Past}
+use Rattle.domain_world.specs.Past.{Coming, at_member, note_at, note_client, note_controller, note_member, note_messages, note_turns, numbers_on, past, told_by, told_in, Past, controller_asked}
 use Rattle.step_notes.proofs.Members.KeptLogonLaws.{HasFor, IfDialled, IsFor, KeptIn, bytes_keep, each_found, kept_so, one_before}
 use Rattle.step_notes.proofs.Members.TurnAnswerLaws.{HasAnswer, link_answers, none_whole}
 use Rattle.step_notes.proofs.Members.UnservedLaws.{LinksIn, bytes_took, took_known}
@@ -270,7 +270,7 @@ member_goes m member w piece s after given b is carries kept =
     let units : List (ServedUnit AtTurn TurnTalk) = turn_units m w.link piece s.moment s.chances.left in
     let first : Book = note_messages member m w piece s b in
     let later : Book = note_member (Some m) member w piece s after b in
-    let controller : ℕ = controller_of member s in
+    let controller : ℕ = controller_asked (OfMember member) s in
     let numbers : List ℕ = numbers_on w.link false s.bag after.bag in
     let more : List MessageTaken = flat_map (message_note (at_member member w s)) (link_units m w.link piece s.moment s.chances.left) in
     let late : ℕ → Type 0 = λ k. IsLate w.link s.links k in
@@ -294,7 +294,7 @@ member_goes m member w piece s after given b is carries kept =
     (running_known m.running w.at member s.links b.messages w.link piece m s.moment s.chances.left controller numbers first (unit_in w.source) refl carries (noted member) mine)
     (λ told known.
     notes_grow (IsLetInBy told) (let_in_stable told) controller units (unit_in w.source) numbers first all (one_before (IsLetInBy told) b.messages more known))
-    (turns_told controller units (unit_in w.source) numbers first)
+    (turns_told (OfMember member) w units s after first)
 
 end_goes : (end : EndId) (w : Coming) (piece : List ℕ) (s after : State) (given : Given) (b : Book) → IsCarried (unit_in w.source) s.links w.link → IsKept w.at (Some w) (ends_in s) given b →
     let heard : Heard = hear end (event.Bytes w.link piece) s in IsKept w.at (Some w) (ends_in heard.state) (given ++ given_by end heard.actions) (note_at (Some end) w piece s after b)

@@ -24,7 +24,7 @@ use Rattle.step_notes.specs.ControllerNotes.{Answered, has_passed, units_of_cont
 use Rattle.step_notes.specs.Judged.{IsJudgedRight}
 use Rattle.step_notes.specs.Marking.{answered_marks, turn_marks}
 use Rattle.step_notes.specs.MemberNotes.{link_units, message_note, turn_note, turn_units}
-use Rattle.step_notes.specs.Records.{Book, ChannelAccepted, InUnit, Judging, MessageTaken, Sent, Source, blank, unit_in}
+use Rattle.step_notes.specs.Records.{Book, ChannelAccepted, InUnit, Judging, MessageTaken, Sent, Source, blank, unit_in, OfMember}
 use Rattle.step_notes.proofs.Members.KeptLogonLaws.{KeptIn, each_so}
 use Rattle.world_moves.specs.declared.links.EndId.{EndId}
 use Rattle.world_moves.specs.declared.links.EndId.TheVariants.{Client, Controller, Member}
@@ -41,7 +41,7 @@ use Rattle.domain_world.specs.Claims.{IsLinkOf}
 use Rattle.domain_world.specs.Claims.MarkedUnits.{AnswersHaveCalls, CallsAreMarked, IsMarkedAsCall, IsMarkedAsReply, RepliesAreMarked}
 use Rattle.domain_world.specs.Claims.OpeningReplies.{IsMarkedAsOpened, OpeningsAreMarked}
 use Rattle.domain_world.specs.Claims.OwnChallenges.{HasOwnChallenge}
-use Rattle.domain_world.specs.Past.{Coming, Past, accepted_of, answers_of, at_controller, at_member, controller_of, controller_of_plan, judged_of, marks_of, note_at, note_client, note_controller, note_given, note_member, note_messages, numbers_on, past, sent_at}
+use Rattle.domain_world.specs.Past.{Coming, Past, accepted_of, answers_of, at_controller, at_member, judged_of, marks_of, note_at, note_client, note_controller, note_given, note_member, note_messages, numbers_on, past, sent_at, controller_asked}
 use Rattle.domain_world.specs.Schedules.{OfSchedules}
 use Rattle.domain_world.proofs.Accepting.AnsweredLaws.{StandsFor, channel_there}
 use Rattle.domain_world.proofs.Accepting.Heard.JudgedRunLaws.{judged_first, judged_keeps}
@@ -62,7 +62,6 @@ use Rattle.domain_world.proofs.Frames.DrawnRunLaws.{draws_differ, given_all}
 use Rattle.domain_world.proofs.Frames.EndNoteLaws.{accepted_so, acted_by, judged_so}
 use Rattle.domain_world.proofs.Frames.FrontLaws.{controller_front, controller_way}
 use Rattle.domain_world.proofs.Frames.MarkNumberLaws.{AtNumbers, IsGiven, IsMarkedAs, IsMarkedAt, given_at, given_marked, marks_numbered, numbers_enough, numbers_so}
-use Rattle.domain_world.proofs.Frames.MemberPlanLaws.{controllers_alike}
 use Rattle.domain_world.proofs.Frames.OpenMadeLaws.{IsAtSide}
 use Rattle.domain_world.proofs.Frames.StepFrameLaws.{AnyAction, BothFacts, BothFine, HasHeard, HoldsAfterRun, Keeps, RunFact, WhileFew, all_any, join, run_keeps, while_few, with_side}
 use Rattle.domain_world.proofs.Frames.TurnFrameLaws.{turns_sent}
@@ -71,7 +70,7 @@ use Rattle.domain_world.proofs.Judgements.OpeningMarkLaws.{HasAnswer, accepts_so
 use Rattle.domain_world.proofs.Judgements.ReplyMarkLaws.{HasReply, answers_replied, answers_so, reply_so}
 use Rattle.domain_world.proofs.Requests.AnsweredCallLaws.{IfAnswered, IsCalledOn}
 use Rattle.domain_world.proofs.Requests.CallFrameLaws.{first_calls, schedules_called}
-use Rattle.domain_world.proofs.Requests.CallHoldsLaws.{CallsHold, controller_same}
+use Rattle.domain_world.proofs.Requests.CallHoldsLaws.{CallsHold}
 use Rattle.domain_world.proofs.Requests.CallMarkLaws.{IsCallMark, turns_marked}
 use Rattle.domain_world.proofs.Requests.CallStepLaws.{most_steps}
 use Rattle.domain_world.proofs.Requests.CallWholeLaws.{IsReadyUnit, ReadyIn, turns_ready}
@@ -79,20 +78,17 @@ use Rattle.domain_world.proofs.Requests.CalledRunLaws.{all_zip, quiet_side}
 use Rattle.domain_world.proofs.Requests.CalledUnitLaws.{AllGood, IsGood, good_so, notes_good, ready_on, turns_good}
 use Rattle.domain_world.proofs.Requests.OutStepLaws.{HasOne, IsOf}
 use Rattle.domain_world.proofs.Requests.WholeOutLaws.{AreAccepted, one_acceptor}
+use Rattle.domain_world.proofs.Frames.RequesterLaws.{asked_stays}
 
 -- ---- what is to hold
 
--- the number of the controller of that member's plan, in the first world
-abbrev own_controller : Plan → ℕ → ℕ
-own_controller plan k = controller_of_plan (slice_get plan.members k) (first_world plan).state.ends
-
--- a member accepted that link, and the unit is marked as a call on a channel with its controller
+-- a member accepted that link, and the unit is marked as a call on a channel with the controller that it asks
 record IsCallOn (plan : Plan) (links : List Route) (sent : List Sent) (link n : ℕ) : Type 0 where
   member : ℕ
   accepted : IsAcceptedBy links member link
   mark : Mark
   marked : IsMarkedAs sent n mark
-  call : IsCallMark (own_controller plan member) mark
+  call : IsCallMark (controller_asked (OfMember member) (first_world plan).state) mark
 
 record MarksStand (plan : Plan) (links : List Route) (b : Book) : Type 0 where
   calls : AllGood (IsCallOn plan links b.sent) b.messages
@@ -115,13 +111,6 @@ MarksHold plan n s given b = AreAlikeButSecrets plan.members s.member_plans × S
 ends_on : (first middle last : EndStates) → SameEnds first middle → SameEnds middle last → SameEnds first last
 ends_on first middle last one other =
     record { controllers = one.controllers ∙ other.controllers; members = one.members ∙ other.members; clients = one.clients ∙ other.clients }
-
--- a member's channels are named by that number
-named_own : (plan : Plan) (s : State) (k : ℕ) → AreAlikeButSecrets plan.members s.member_plans → SameEnds (first_world plan).state.ends s.ends → controller_of k s ≡ own_controller plan k
-named_own plan s k plans same =
-    controllers_alike plan.members s.member_plans k s.ends plans
-    ∙ controller_same (slice_get plan.members k) (first_world plan).state.ends s.ends
-    (record { controllers = sym same.controllers; members = sym same.members; clients = sym same.clients })
 
 -- ---- it stays
 
@@ -230,7 +219,7 @@ module _ (plan : Plan) (m : MemberState) (at : ℕ) (w : Coming) (piece : List �
 
   member_stands : length b.sent ≡ length s.bag → MarksStand plan s.links b → MarksStand plan s.links (note_member (Some m) at w piece s after b)
   member_stands even stand =
-      let controller : ℕ = controller_of at s in
+      let controller : ℕ = controller_asked (OfMember at) s in
       let units : List (ServedUnit AtTurn TurnTalk) = turn_units m w.link piece s.moment s.chances.left in
       let marks : List Mark = turn_marks (map (turn_note controller) units) in
       let given : List Mark = marks_of w.link false (drop (length s.bag) after.bag) marks in
@@ -255,12 +244,12 @@ module _ (plan : Plan) (m : MemberState) (at : ℕ) (w : Coming) (piece : List �
         accepted = own;
         mark = mark;
         marked = marked;
-        call = subst (λ (number : ℕ). IsCallMark number mark) (named_own plan s at plans same) call;
+        call = subst (λ (number : ℕ). IsCallMark number mark) (asked_stays (OfMember at) (first_world plan).state s plans same) call;
       }) w.link units numbers ready numbered)
       (all_join (IsGood Good) b.messages new
       (good_so (IsCallOn plan s.links b.sent) Good (λ link k it. call_still plan s.links s.links b.sent sent (λ j on accepted. accepted) grow link k it) b.messages stand.calls)
       (notes_good Good (at_member at w s) (link_units m w.link piece s.moment s.chances.left))) in
-      let sends : now.sent ≡ sent = ap (λ (old : List Sent). old ++ map (sent_at w.at) given) (turns_sent controller units (unit_in w.source) numbers first) in
+      let sends : now.sent ≡ sent = ap (λ (old : List Sent). old ++ map (sent_at w.at) given) (turns_sent (OfMember at) w units s after first) in
       record {
         calls = subst (λ (all : List Sent). AllGood (IsCallOn plan s.links all) now.messages) (sym sends) calls;
         replies = subst (λ (all : List Sent). AllByRecursion (HasReply (IsMarkedAs all)) now.judged) (sym sends)
@@ -386,7 +375,7 @@ calls_marked plan moves schedule =
       number = it.call.number;
       timestamp = it.call.timestamp;
       mark = it.marked.is ∙ it.call.is;
-      controller = it.call.named ∙ ap (λ (k : ℕ). own_controller plan k) member ∙ sym (named_own plan p.world.state message.member holds.0 holds.1);
+      controller = it.call.named ∙ ap (λ (k : ℕ). controller_asked (OfMember k) (first_world plan).state) member ∙ sym (asked_stays (OfMember message.member) (first_world plan).state p.world.state holds.0 holds.1);
     }) holds.2.calls (messages_own plan moves (draws_differ plan moves)).each
 
 -- and a message whose answer was taken has a call: no other message came on its link

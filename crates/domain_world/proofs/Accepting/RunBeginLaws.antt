@@ -17,10 +17,10 @@ use Rattle.channel_events.specs.Requests.{CallsAreApart, Holds, Requests}
 use Rattle.world_moves.specs.declared.plan.Plan.{Plan}
 use Rattle.world_moves.specs.World.{first_controllers, first_world}
 use Rattle.domain_world.specs.Accepting.Runs.{AskedIsOut, IsQuietLink, IsQuietTurn, NumbersSuffice, RunsBegin, RunsStandSo, seen_in, view_with}
-use Rattle.domain_world.specs.Past.{controller_of, past, requester_in, running_in}
-use Rattle.domain_world.proofs.Requests.ByRequesterLaws.{by_requester, by_requester_apart}
+use Rattle.domain_world.specs.Past.{past, requester_in, running_in}
+use Rattle.domain_world.proofs.Requests.ByRequesterLaws.{by_requester, by_requester_apart, seen_so}
 use Rattle.channel_events.proofs.ListLaws.{got_nothing, no_some, some_is}
-use Rattle.step_notes.specs.Records.{OfMember, RequesterId}
+use Rattle.step_notes.specs.Records.{OfMember}
 
 -- ---- controllers
 
@@ -71,7 +71,7 @@ first_seen (plan ∷ plans) controller (suc k) v there = first_seen plans contro
 
 abbrev pub first_requests : Plan → Requests ℕ
 first_requests plan = record {
-  views = λ k. view_with (controller_of k (first_world plan).state) (requester_in (running_in (slice_get (map fresh_member plan.members) k)));
+  views = λ k. seen_in (first_world plan).state (OfMember k);
   marks = [];
   drawn = (first_world plan).state.chances.drawn;
   uses = 0;
@@ -94,9 +94,6 @@ first_apart plan = record {
   calls = λ i v at. let is : blank_view ≡ v = first_seen plan.members _ i v at in omega (arith, ap (λ (w : View). w.call) is);
 }
 
-first_view : (plan : Plan) (who : RequesterId) → (by_requester (first_requests plan)).views who ≡ seen_in (first_world plan).state who
-first_view plan (OfMember k) = refl
-
 first_out : (plan : Plan) → AskedIsOut (past plan [])
 first_out plan k m running pending logon there runs turn question kept =
     absurd (no_some pending (sym (first_member plan.members k m running there runs).turn ∙ turn))
@@ -109,7 +106,7 @@ first_stands plan = record {
     members = λ i m running there runs. (first_member plan.members i m running there runs).quiet;
   };
   requests = by_requester (first_requests plan);
-  shows = record { views = first_view plan; marks = refl; drawn = refl; few = omega arith };
+  shows = record { views = seen_so (first_requests plan) (first_world plan).state (λ k. refl); marks = refl; drawn = refl; few = omega arith };
   apart = by_requester_apart (first_requests plan) (first_apart plan);
   out = first_out plan;
 }

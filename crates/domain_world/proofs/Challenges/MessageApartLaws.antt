@@ -16,18 +16,18 @@ use Rattle.member_server.specs.declared.state.Phase.TheVariants as phase
 use Rattle.member_server.specs.declared.state.Talk.{Talk}
 use Rattle.channel_turns.specs.declared.state.TurnTalk.{TurnTalk}
 use Rattle.step_notes.specs.MemberNotes.{LinkAt, is_challenged, link_if, link_of_place, link_units, message_after, message_at, message_by, message_kept, message_note, taken_after, taken_by, taken_link, turn_units, TurnNote}
-use Rattle.step_notes.specs.Records.{Book, MessageTaken, unit_in}
+use Rattle.step_notes.specs.Records.{Book, MessageTaken, OfMember, RequesterId}
 use Rattle.step_notes.specs.Served.{work_after, talk_after}
 use Rattle.world_moves.specs.declared.links.EndId.{EndId}
 use Rattle.world_moves.specs.declared.moves.Move.{Move}
 use Rattle.world_moves.specs.declared.plan.Plan.{Plan}
 use Rattle.world_moves.specs.declared.state.State.{State}
 use Rattle.domain_world.specs.Accepting.Answered.{MessagesAreApart}
-use Rattle.domain_world.specs.Past.{Coming, at_member, change_if, change_message, controller_of, note_at, note_member, note_messages, note_turn, note_turns, numbers_on, past, with_answer, with_call}
+use Rattle.domain_world.specs.Past.{Coming, at_member, change_if, change_message, note_at, note_member, note_messages, note_turn, past, with_answer, with_call}
 use Rattle.channel_events.proofs.ListLaws.{pairs_first}
 use Rattle.domain_world.proofs.Challenges.MessageOnceLaws.{messages_once}
 use Rattle.domain_world.proofs.Frames.BookFrameLaws.{book_holds}
-use Rattle.domain_world.proofs.Frames.TurnFrameLaws.{notes_leave, turns_taken}
+use Rattle.domain_world.proofs.Frames.TurnFrameLaws.{turns_taken, asked_book, asked_leave}
 use Rattle.domain_world.proofs.Frames.EndNoteLaws.{book_by}
 
 -- ---- a list among another, in order
@@ -158,19 +158,19 @@ turn_links note served unit number b =
     change_same (link_of_place note.answered served.work.work.logons) (with_answer unit) (λ one. refl) first
     ∙ change_same (link_of_place note.called served.work.work.logons) (with_call number) (λ one. refl) b.messages
 
-pub turns_links : (controller : ℕ) (units : List (ServedUnit AtTurn TurnTalk)) (unit : Option ℕ) (numbers : List ℕ) (b : Book) →
-    links_in (note_turns controller units unit numbers b).messages ≡ links_in b.messages
-turns_links controller units unit numbers b = notes_leave (λ (later : Book). links_in later.messages) turn_links controller units unit numbers b
+pub turns_links : (who : RequesterId) (w : Coming) (units : List (ServedUnit AtTurn TurnTalk)) (s after : State) (b : Book) →
+    links_in (asked_book who w units s after b).messages ≡ links_in b.messages
+turns_links who w units s after b = asked_leave who w units s after b (λ (later : Book). links_in later.messages) turn_links
 
-turns_among : (controller : ℕ) (units : List (ServedUnit AtTurn TurnTalk)) (unit : Option ℕ) (numbers : List ℕ) (b : Book) → AreAmong b → AreAmong (note_turns controller units unit numbers b)
-turns_among controller units unit numbers b among =
-    subst (λ (taken : List ℕ). Among (links_in (note_turns controller units unit numbers b).messages) taken) (sym (turns_taken controller units unit numbers b))
-    (subst (λ (links : List ℕ). Among links b.taken) (sym (turns_links controller units unit numbers b)) among)
+turns_among : (who : RequesterId) (w : Coming) (units : List (ServedUnit AtTurn TurnTalk)) (s after : State) (b : Book) → AreAmong b → AreAmong (asked_book who w units s after b)
+turns_among who w units s after b among =
+    subst (λ (taken : List ℕ). Among (links_in (asked_book who w units s after b).messages) taken) (sym (turns_taken who w units s after b))
+    (subst (λ (links : List ℕ). Among links b.taken) (sym (turns_links who w units s after b)) among)
 
 member_among : (m : MemberState) (at : ℕ) (w : Coming) (piece : List ℕ) (s after : State) (b : Book) → AreAmong b → AreAmong (note_member (Some m) at w piece s after b)
 member_among m at w piece s after b among =
     let units = link_units m w.link piece s.moment s.chances.left in
-    turns_among (controller_of at s) (turn_units m w.link piece s.moment s.chances.left) (unit_in w.source) (numbers_on w.link false s.bag after.bag) (note_messages at m w piece s b)
+    turns_among (OfMember at) w (turn_units m w.link piece s.moment s.chances.left) s after (note_messages at m w piece s b)
     (subst (λ (links : List ℕ). Among links (b.taken ++ flat_map (taken_link (at_member at w s)) units)) (sym (links_append b.messages (flat_map (message_note (at_member at w s)) units)))
     (among_append (links_in b.messages) b.taken (links_in (flat_map (message_note (at_member at w s)) units)) (flat_map (taken_link (at_member at w s)) units) among
     (units_among (at_member at w s) units)))

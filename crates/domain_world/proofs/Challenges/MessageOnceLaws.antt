@@ -1,7 +1,7 @@
 -- In every run a link takes at most one AUTHENTICATE.
 -- It serves `Proved.challenges`.
 use Rattle.std.proofs.Common.{◌≡◌, ◌≢◌, ℕ, zero, suc, ◌<◌, List, [], ◌∷◌, ◌++◌, length, map, ◌⊎◌, inl, inr, Some, slice_get, slice_set, All, AllPairs, refl, sym, ap, subst, ◌∙◌, arith, length-append}
-use Rattle.std.specs.Prelude.{false, flat_map}
+use Rattle.std.specs.Prelude.{flat_map}
 use Rattle.std.proofs.lemmas.List.{append-nil}
 use Rattle.std.proofs.lemmas.List.Elements.{All-nil, All-push, All-weaker}
 use Rattle.std.proofs.lemmas.List.Quantifiers.{all_pairs_push}
@@ -13,7 +13,7 @@ use Rattle.member_server.specs.State.{State as MemberState}
 use Rattle.member_server.specs.declared.plan.MemberPlan.{MemberPlan}
 use Rattle.member_server.specs.declared.state.Phase.{Phase}
 use Rattle.step_notes.specs.MemberNotes.{link_units, taken_link, turn_units}
-use Rattle.step_notes.specs.Records.{Book, unit_in}
+use Rattle.step_notes.specs.Records.{Book, OfMember}
 use Rattle.world_moves.specs.declared.links.EndId.TheVariants.{Member}
 use Rattle.world_moves.specs.declared.links.Route.{Route}
 use Rattle.world_moves.specs.declared.moves.Move.{Move}
@@ -21,7 +21,7 @@ use Rattle.world_moves.specs.declared.plan.Plan.{Plan}
 use Rattle.world_moves.specs.declared.state.State.{State}
 use Rattle.world_moves.specs.Links.{acceptor_of}
 use Rattle.world_moves.specs.World.{first_world}
-use Rattle.domain_world.specs.Past.{Coming, at_member, controller_of, note_member, note_messages, numbers_on, past}
+use Rattle.domain_world.specs.Past.{Coming, at_member, note_member, note_messages, past}
 use Rattle.channel_events.proofs.ListLaws.{got_append, got_behind}
 use Rattle.step_notes.proofs.Members.UnservedLaws.{LinksIn, Opens, Took, bytes_took, in_so, step_known}
 use Rattle.domain_world.proofs.Frames.FrameLaws.{IsQuiet, run_stays}
@@ -161,7 +161,7 @@ member_bytes m at w piece s after b is kept =
     let new : MemberState = (step_of m (event.Bytes w.link piece) s.moment s.chances.left).state in
     let more : List ℕ = flat_map (taken_link (at_member at w s)) (link_units m w.link piece s.moment s.chances.left) in
     subst (λ (all : List ℕ). IsTakenOnce all (slice_set s.ends.members at new) s.links)
-    (sym (turns_taken (controller_of at s) (turn_units m w.link piece s.moment s.chances.left) (unit_in w.source) (numbers_on w.link false s.bag after.bag) (note_messages at m w piece s b)))
+    (sym (turns_taken (OfMember at) w (turn_units m w.link piece s.moment s.chances.left) s after (note_messages at m w piece s b)))
     (member_took b.taken more s.ends.members s.links at new kept
     (bytes_took (λ link. MayTake b.taken s.links at link) (at_member at w s) m piece s.moment s.chances.left (kept.each at m is)))
 

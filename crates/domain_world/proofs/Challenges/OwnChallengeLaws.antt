@@ -23,7 +23,7 @@ use Rattle.member_server.specs.Machine.{fresh_member, step_of}
 use Rattle.member_server.specs.State.{State as MemberState}
 use Rattle.channel_events.specs.Marks.{OneOf}
 use Rattle.step_notes.specs.MemberNotes.{LinkAt, TurnNote, challenge_note, link_of_place, link_units, message_note, taken_link, turn_units}
-use Rattle.step_notes.specs.Records.{Book, ChallengeSent, MessageTaken, blank, unit_in}
+use Rattle.step_notes.specs.Records.{Book, ChallengeSent, MessageTaken, blank, OfMember}
 use Rattle.world_moves.specs.declared.links.EndId.TheVariants.{Member}
 use Rattle.world_moves.specs.declared.links.Route.{Route}
 use Rattle.world_moves.specs.declared.moves.Move.{Move}
@@ -34,15 +34,15 @@ use Rattle.world_moves.specs.Links.{acceptor_of}
 use Rattle.world_moves.specs.World.{first_world}
 use Rattle.domain_world.specs.Claims.{IsUnusedChallenge}
 use Rattle.domain_world.specs.Claims.OwnChallenges.{HasOwnChallenge, MessagesHaveOwnChallenges}
-use Rattle.domain_world.specs.Past.{Coming, Past, at_member, change_if, change_message, controller_of, note_member, note_messages, note_turn, note_turns, numbers_on, past, with_answer, with_call}
+use Rattle.domain_world.specs.Past.{Coming, Past, at_member, change_if, change_message, note_member, note_messages, note_turn, past, with_answer, with_call}
 use Rattle.channel_events.proofs.ListLaws.{got_append, got_behind}
 use Rattle.step_notes.proofs.Members.UnservedLaws.{LinksIn, Opens, in_so, step_known}
 use Rattle.domain_world.proofs.Challenges.MessageOnceLaws.{each_put, fresh_links, messages_once, quiet_opens}
 use Rattle.domain_world.proofs.Challenges.OwnLinkLaws.{AtMostOne, IsDrawn, IsLinkIn, IsOwn, IsSentAt, IsSentOn, IsTakenIn, all_sent, all_so, all_taken, bytes_drawn, bytes_one, bytes_own, link_more, one_behind, one_earlier, own_more, own_opened, sent_among}
 use Rattle.domain_world.proofs.Frames.FrameLaws.{run_stays}
-use Rattle.domain_world.proofs.Frames.TurnFrameLaws.{notes_leave}
 use Rattle.domain_world.proofs.Frames.AllLaws.{all_join}
 use Rattle.domain_world.proofs.Frames.MemberFrameLaws.{AmongMembers, KeepsMembers, MembersFact, members_written}
+use Rattle.domain_world.proofs.Frames.TurnFrameLaws.{asked_leave}
 
 -- ---- lists
 
@@ -202,10 +202,6 @@ turn_notes note served unit number b =
     (bare_changed (link_of_place note.answered served.work.work.logons) (with_answer unit) (λ one. refl) (change_message called (with_call number) b.messages)
     ∙ bare_changed called (with_call number) (λ one. refl) b.messages)
 
-turns_notes : (controller : ℕ) (units : List (ServedUnit AtTurn TurnTalk)) (unit : Option ℕ) (numbers : List ℕ) (b : Book) →
-    notes_of (note_turns controller units unit numbers b) ≡ notes_of b
-turns_notes controller units unit numbers b = notes_leave notes_of turn_notes controller units unit numbers b
-
 bare_more : (notes : Notes) (links : List Route) (more : List MessageTaken) → AllByRecursion (IsItsOwn notes links) more → AllByRecursion (IsItsOwn notes links) (map bare more)
 bare_more notes links [] all = tt
 bare_more notes links (one ∷ more) all = (all.0, bare_more notes links more all.1)
@@ -287,7 +283,7 @@ member_heard m at w piece s after b is kept =
     (λ (notes : Notes).
     AreOwn notes (slice_set s.ends.members at (step_of m (event.Bytes w.link piece) s.moment s.chances.left).state)
     (s.chances.drawn ++ (step_of m (event.Bytes w.link piece) s.moment s.chances.left).drawn) s.links)
-    (sym (turns_notes (controller_of at s) (turn_units m w.link piece s.moment s.chances.left) (unit_in w.source) (numbers_on w.link false s.bag after.bag) (note_messages at m w piece s b)))
+    (sym (asked_leave (OfMember at) w (turn_units m w.link piece s.moment s.chances.left) s after (note_messages at m w piece s b) notes_of turn_notes))
     (messages_heard m at w piece s b is kept)
 
 -- ---- a run

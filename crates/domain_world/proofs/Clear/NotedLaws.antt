@@ -1,7 +1,7 @@
 -- What is written down of one move: a unit comes on its own link in one piece, at a client, at a member or at a
 -- controller, and no credential passes in it on another channel.
 -- It serves `Proved.one_by_one`, and `a_run_is_clear` of claim_examples.
-use Rattle.std.proofs.Common.{◌≡◌, ℕ, zero, suc, ◌+◌, ◌-◌, ◌≤◌, Bool, true, false, List, [], ◌∷◌, ◌++◌, length, map, Option, Some, None, refl, ap, ◌∙◌, arith, slice_get}
+use Rattle.std.proofs.Common.{◌≡◌, ℕ, zero, suc, ◌+◌, ◌-◌, ◌≤◌, Bool, true, false, List, [], ◌∷◌, ◌++◌, length, map, Option, Some, None, refl, ap, ◌∙◌, arith, slice_get, ap₂, subst, sym}
 use Rattle.std.specs.Prelude.{◌||◌, drop, replicate}
 use Rattle.std.specs.List.{AllByRecursion}
 use Rattle.std.proofs.lemmas.List.{length-append}
@@ -15,14 +15,14 @@ use Rattle.authenticators.specs.Channels.{ChannelIdentity}
 use Rattle.channel_events.specs.Marks.{Mark}
 use Rattle.step_notes.specs.Marking.{answered_marks, clashes, mark_channel, turn_marks}
 use Rattle.step_notes.specs.MemberNotes.{turn_note, turn_units}
-use Rattle.step_notes.specs.Records.{Book, Sent, unit_in}
+use Rattle.step_notes.specs.Records.{Book, Sent, unit_in, OfMember}
 use Rattle.world_moves.specs.declared.moves.Move.{Move}
 use Rattle.world_moves.specs.declared.state.State.{State}
 use Rattle.world_moves.specs.Acting.{Given}
 use Rattle.world_moves.specs.Bag.{first_waiting}
 use Rattle.world_moves.specs.Moving.{act}
 use Rattle.world_moves.specs.World.{World}
-use Rattle.domain_world.specs.Past.{Coming, answers_of, any_clash, book, controller_of, judged_of, marks_of, note, note_client, note_controller, note_given, note_member, note_messages, note_turn, note_turns, numbers_on, onto, sent_at}
+use Rattle.domain_world.specs.Past.{Coming, answers_of, any_clash, book, judged_of, marks_of, note, note_client, note_controller, note_given, note_member, note_messages, note_turn, note_turns, numbers_on, onto, sent_at, controller_asked}
 use Rattle.domain_world.proofs.Frames.ComingLaws.{act_still}
 use Rattle.domain_world.proofs.Frames.MarkPlaceLaws.{no_longer}
 
@@ -113,17 +113,18 @@ pub record Written (k link : ℕ) (back : Bool) (s after : State) (count : ℕ) 
   pub few : length now.judged ≤ count
   pub sent : now.sent ≡ b.sent ++ map (sent_at k) (marks_of link back (drop (length s.bag) after.bag) marks)
 
-pub member_fine : (m : MemberState) (at : ℕ) (w : Coming) (piece : List ℕ) (s after : State) (count : ℕ) (b : Book) → b.clash ≡ false → length b.judged ≤ count →
-    AreOwn (controller_of at s) (unit_in w.source) b.sent (turn_units m w.link piece s.moment s.chances.left) →
-    Written w.at w.link false s after count (turn_marks (map (turn_note (controller_of at s)) (turn_units m w.link piece s.moment s.chances.left))) b (note_member (Some m) at w piece s after b)
-member_fine m at w piece s after count b apart few own =
+-- that controller is asked
+pub member_fine : (m : MemberState) (at controller : ℕ) (w : Coming) (piece : List ℕ) (s after : State) (count : ℕ) (b : Book) → controller_asked (OfMember at) s ≡ controller → b.clash ≡ false →
+    length b.judged ≤ count → AreOwn controller (unit_in w.source) b.sent (turn_units m w.link piece s.moment s.chances.left) →
+    Written w.at w.link false s after count (turn_marks (map (turn_note controller) (turn_units m w.link piece s.moment s.chances.left))) b (note_member (Some m) at w piece s after b)
+member_fine m at controller w piece s after count b asked apart few own =
     let units : List (ServedUnit AtTurn TurnTalk) = turn_units m w.link piece s.moment s.chances.left in
-    let controller : ℕ = controller_of at s in
-    let fine = turns_fine controller units (unit_in w.source) (numbers_on w.link false s.bag after.bag) (note_messages at m w piece s b) apart own in
+    let fine = turns_fine (controller_asked (OfMember at) s) units (unit_in w.source) (numbers_on w.link false s.bag after.bag) (note_messages at m w piece s b) apart
+    (subst (λ (its : ℕ). AreOwn its (unit_in w.source) b.sent units) (sym asked) own) in
     record {
       apart = fine.0;
       few = omega (arith, few, ap (λ (judged : _). length judged) fine.1);
-      sent = ap (λ (sent : List Sent). sent ++ map (sent_at w.at) (marks_of w.link false (drop (length s.bag) after.bag) (turn_marks (map (turn_note controller) units)))) fine.2;
+      sent = ap₂ (λ (sent : List Sent) (its : ℕ). sent ++ map (sent_at w.at) (marks_of w.link false (drop (length s.bag) after.bag) (turn_marks (map (turn_note its) units)))) fine.2 asked;
     }
 
 -- ---- at a controller

@@ -34,7 +34,7 @@ use Rattle.member_server.specs.State.{State as MemberState}
 use Rattle.step_notes.specs.ControllerNotes.{Answered, Where, answer_on, plain, units_of_controller}
 use Rattle.step_notes.specs.Marking.{answered_marks, clashes, mark_channel, turn_marks}
 use Rattle.step_notes.specs.MemberNotes.{TurnNote, asked_note, request_note, taking_note, turn_note, turn_units}
-use Rattle.step_notes.specs.Records.{Book, Judging, Sent}
+use Rattle.step_notes.specs.Records.{Book, Judging, Sent, OfMember}
 use Rattle.world_moves.specs.declared.bag.BagUnit.{BagUnit}
 use Rattle.world_moves.specs.declared.links.EndId.{EndId}
 use Rattle.world_moves.specs.declared.links.EndId.TheVariants.{Client, Controller, Member}
@@ -48,7 +48,7 @@ use Rattle.world_moves.specs.Ends.{EndStates}
 use Rattle.world_moves.specs.Links.{OpenMap}
 use Rattle.world_moves.specs.MemberPlans.{but_secret}
 use Rattle.world_moves.specs.Moving.{connect, end_of_peer, settle, start}
-use Rattle.domain_world.specs.Past.{Coming, answers_of, any_clash, at_controller, controller_number, controller_of, controller_of_plan, is_sent_on, judged_of, note, note_at, note_client, note_controller, note_member, numbers_on, onto}
+use Rattle.domain_world.specs.Past.{Coming, answers_of, any_clash, at_controller, controller_number, controller_of_plan, is_sent_on, judged_of, note, note_at, note_client, note_controller, note_member, numbers_on, onto, controller_asked}
 use Rattle.logon_steps.specs.ControllerTurns.{controller_at, one_link, turn_link}
 use Rattle.logon_steps.specs.MemberLinks.{logons_at_rest, one_link as client_link}
 use Rattle.logon_steps.specs.MemberTurns.{logons_in_turn, member_at, on_turn}
@@ -109,16 +109,17 @@ controller_comes s unit later at came c found k count total b fine own judged =
     }
 
 member_comes : (s : State) (unit : BagUnit) (later : List BagUnit) (at : ℕ) (came : Came s unit later (Member at)) (m : MemberState) → slice_get s.ends.members at ≡ Some m →
-    (k count : ℕ) (b : Book) → Fine s count b → AreOwn (controller_of at s) (Some came.number) b.sent (turn_units m unit.link unit.bytes s.moment s.chances.left) →
-    HasWritten s unit later (Member at) came k unit.link false count (turn_marks (map (turn_note (controller_of at s)) (turn_units m unit.link unit.bytes s.moment s.chances.left))) b
-member_comes s unit later at came m found k count b fine own =
+    (controller : ℕ) → controller_asked (OfMember at) s ≡ controller → (k count : ℕ) (b : Book) → Fine s count b →
+    AreOwn controller (Some came.number) b.sent (turn_units m unit.link unit.bytes s.moment s.chances.left) →
+    HasWritten s unit later (Member at) came k unit.link false count (turn_marks (map (turn_note controller) (turn_units m unit.link unit.bytes s.moment s.chances.left))) b
+member_comes s unit later at came m found controller asked k count b fine own =
     let s1 : State = settle came.number s in
     let w : Coming = coming k came.number unit in
     let after : State = state_then (Member at) unit came.number s in
     let now : Book = note_member (Some m) at w unit.bytes s1 after b in
-    let marks : List Mark = turn_marks (map (turn_note (controller_of at s)) (turn_units m unit.link unit.bytes s.moment s.chances.left)) in
+    let marks : List Mark = turn_marks (map (turn_note controller) (turn_units m unit.link unit.bytes s.moment s.chances.left)) in
     let is : note_at (Some (Member at)) w unit.bytes s1 after b ≡ now = ap (λ (f : Option MemberState). note_member f at w unit.bytes s1 after b) found in
-    let written : Written k unit.link false s1 after count marks b now = member_fine m at w unit.bytes s1 after count b fine.apart fine.few own in
+    let written : Written k unit.link false s1 after count marks b now = member_fine m at controller w unit.bytes s1 after count b asked fine.apart fine.few own in
     record {
       now = now;
       is = is;
@@ -181,7 +182,7 @@ pub record Names (s : State) (t : Turn) : Type 0 where
   pub plan : slice_get (map but_secret s.member_plans) t.at_member ≡ Some (but_secret t.plan)
   pub reach : end_of_peer t.plan.controller s.ends ≡ Some (Controller t.at_controller)
 
-pub named_so : (s : State) (t : Turn) → Names s t → controller_of t.at_member s ≡ t.at_controller
+pub named_so : (s : State) (t : Turn) → Names s t → controller_asked (OfMember t.at_member) s ≡ t.at_controller
 named_so s t names =
     sym (controller_but_secret s.member_plans t.at_member s.ends)
     ∙ ap (λ (plan : _). controller_of_plan plan s.ends) names.plan
@@ -211,15 +212,14 @@ ack_leads s t next number c computers left moment count mark called between belo
     comes_so s _ unit [] end shows (heard_back t bytes next number (step.Bind c) computers (turn_link t.link) left moment between (unit_comes (turn_ack number) (turn_ack_sends number below))) in
     let s1 : State = settle came.number s in
     let sends : List Action = action.Send t.link (bytes_of_call (turn_request next c) 5840) ∷ [] in
-    let notes : map (turn_note (controller_of t.at_member s)) (turn_units m t.link bytes s.moment s.chances.left) ≡ request_note mark called ∷ [] =
-    ap₂ (λ (now : ℕ) (l : List (List ℕ)). map (turn_note (controller_of t.at_member s)) (turn_units m t.link bytes now l)) shows.moment shows.left
-    ∙ ap (λ (controller : ℕ). map (turn_note controller) (turn_units m t.link bytes moment left)) (named_so s t names)
+    let notes : map (turn_note t.at_controller) (turn_units m t.link bytes s.moment s.chances.left) ≡ request_note mark called ∷ [] =
+    ap₂ (λ (now : ℕ) (l : List (List ℕ)). map (turn_note t.at_controller) (turn_units m t.link bytes now l)) shows.moment shows.left
     ∙ ack_notes t.at_controller t.plan t.caller t.how t.info t.place next number t.link moment c t.asked t.accepted left below
     ∙ ap (λ (note : TurnNote). note ∷ []) note_is in
-    let own : AreOwn (controller_of t.at_member s) (Some came.number) b.sent (turn_units m t.link bytes s.moment s.chances.left) =
-    own_notes (controller_of t.at_member s) (Some came.number) b.sent (turn_units m t.link bytes s.moment s.chances.left)
+    let own : AreOwn t.at_controller (Some came.number) b.sent (turn_units m t.link bytes s.moment s.chances.left) =
+    own_notes t.at_controller (Some came.number) b.sent (turn_units m t.link bytes s.moment s.chances.left)
     (subst (λ (all : List TurnNote). AllByRecursion (λ (note : TurnNote). clashes note.checked (Some came.number) b.sent ≡ false) all) (sym notes) (refl, tt)) in
-    let has = member_comes s unit [] t.at_member came m shows.member k count b fine own in
+    let has = member_comes s unit [] t.at_member came m shows.member t.at_controller (named_so s t names) k count b fine own in
     let heard = waiting_comes.member s1 t.at_member m later (event.Bytes t.link bytes) s.chances.left sends shows.member
     (ap₂ (λ (now : ℕ) (l : List (List ℕ)). member_step_of m (event.Bytes t.link bytes) now l) shows.moment shows.left
     ∙ turns_step.bound t.plan t.caller t.how t.info t.place next number t.link moment c t.asked t.accepted left below
@@ -357,10 +357,9 @@ reply_leads s t next number q r computers left moment count between below is nam
     comes_so s _ unit [] (Member t.at_member) shows (heard_back t bytes next number (step.Reply q) computers (turn_link t.link) left moment between (response_comes number q r is)) in
     let at_named : AreOwn t.at_controller (Some came.number) b.sent (turn_units m t.link bytes moment left) =
     reply_own t.at_controller logons t.accepted t.link moment number q r left (Some came.number) b.sent below is (own came.number came.first) in
-    (member_comes s unit [] t.at_member came m shows.member k count b fine
-    (subst (λ (controller : ℕ). AreOwn controller (Some came.number) b.sent (turn_units m t.link bytes s.moment s.chances.left)) (sym (named_so s t names))
+    (member_comes s unit [] t.at_member came m shows.member t.at_controller (named_so s t names) k count b fine
     (subst (λ (now : ℕ). AreOwn t.at_controller (Some came.number) b.sent (turn_units m t.link bytes now s.chances.left)) (sym shows.moment)
-    (subst (λ (l : List (List ℕ)). AreOwn t.at_controller (Some came.number) b.sent (turn_units m t.link bytes moment l)) (sym shows.left) at_named)))).fine
+    (subst (λ (l : List (List ℕ)). AreOwn t.at_controller (Some came.number) b.sent (turn_units m t.link bytes moment l)) (sym shows.left) at_named))).fine
 
 -- ---- a member's other links
 
@@ -368,8 +367,8 @@ pub quiet_leads : (s : State) (v : Scene) (unit : BagUnit) (later : List BagUnit
     ((now : ℕ) (left : List (List ℕ)) → turn_units v.member unit.link unit.bytes now left ≡ []) → Leads s move.Onward (Fine s count) (Fine (goes s) count)
 quiet_leads s v unit later count shows first quiet k b fine =
     let came : Came s unit later (Member v.at_member) = comes_so s v unit later (Member v.at_member) shows first in
-    (member_comes s unit later v.at_member came v.member shows.member k count b fine
-    (subst (AreOwn (controller_of v.at_member s) (Some came.number) b.sent) (sym (quiet s.moment s.chances.left)) tt)).fine
+    (member_comes s unit later v.at_member came v.member shows.member _ refl k count b fine
+    (subst (AreOwn _ (Some came.number) b.sent) (sym (quiet s.moment s.chances.left)) tt)).fine
 
 -- what a client sends to its member, while the member's channel rests, or while the dial of its turn waits
 pub meeting_leads : (s : State) (g : Meeting) (how : ClientPhase) (talk : Talk) (bytes : List ℕ) (later : List BagUnit) (left : List (List ℕ)) (moment count : ℕ) → ComesAtOnce bytes →

@@ -11,9 +11,9 @@ use Rattle.domain_controller.specs.State.{State as ControllerState}
 use Rattle.domain_controller.specs.Step.{step_of as controller_step_of}
 use Rattle.member_server.specs.State.{State as MemberState}
 use Rattle.channel_events.specs.Marks.{Mark, Plain}
-use Rattle.step_notes.specs.Marking.{answered_marks, turn_marks}
-use Rattle.step_notes.specs.MemberNotes.{turn_note, turn_units}
-use Rattle.step_notes.specs.Records.{Book, Sent, blank, unit_in}
+use Rattle.step_notes.specs.Marking.{answered_marks}
+use Rattle.step_notes.specs.MemberNotes.{turn_units}
+use Rattle.step_notes.specs.Records.{Book, Sent, blank, OfMember}
 use Rattle.world_moves.specs.declared.bag.BagUnit.{BagUnit}
 use Rattle.world_moves.specs.declared.links.EndId.{EndId}
 use Rattle.world_moves.specs.declared.links.EndId.TheVariants.{Controller, Member, Client}
@@ -26,7 +26,7 @@ use Rattle.world_moves.specs.Bag.{settle_at, settled}
 use Rattle.world_moves.specs.Ends.{EndStep, actions_by, client_step, controller_step, member_step}
 use Rattle.world_moves.specs.World.{World, first_world, happens, run}
 use Rattle.domain_world.specs.Claims.MarkedUnits.{EachUnitIsMarked}
-use Rattle.domain_world.specs.Past.{Coming, answers_of, at_controller, book, controller_of, marks_of, note, note_at, note_client, note_coming, note_controller, note_member, note_messages, note_turns, numbers_on, past, sent_at, note_given}
+use Rattle.domain_world.specs.Past.{Coming, answers_of, at_controller, book, marks_of, note, note_at, note_client, note_coming, note_controller, note_member, note_messages, numbers_on, past, sent_at, note_given}
 use Rattle.channel_events.proofs.ListLaws.{got_append, got_nothing}
 use Rattle.world_moves.proofs.LinkFrameLaws.{IsOnLink, StaysOnLinks, actions_stay, quiet_stays}
 use Rattle.world_moves.proofs.EndKindLaws.{is_client}
@@ -35,7 +35,7 @@ use Rattle.domain_world.proofs.Frames.FrontLaws.{controller_unit}
 use Rattle.domain_world.proofs.Frames.MarkPlaceLaws.{got_beside, got_later, got_map, got_replicate, got_settled, later_or, marks_length, no_longer, settled_length}
 use Rattle.domain_world.proofs.Frames.NewUnitLaws.{IsNewUnit}
 use Rattle.domain_world.proofs.Frames.OpenMadeLaws.{IsAtSide, IsMore, MoreOf, goes_on, no_more, same_side}
-use Rattle.domain_world.proofs.Frames.TurnFrameLaws.{turns_sent}
+use Rattle.domain_world.proofs.Frames.TurnFrameLaws.{turns_sent, asked_book, asked_marks}
 use Rattle.domain_world.proofs.Frames.MoveFrameLaws.{AtWork, Both, HoldsAfterMoves, KeepsMoves, MoveFact, NoSide, join_moves, moves_keep, started}
 use Rattle.domain_world.proofs.Frames.EndNoteLaws.{acted_by}
 
@@ -61,7 +61,7 @@ abbrev pub controller_marks : ℕ → ControllerState → Coming → List ℕ �
 controller_marks at c w piece s = answered_marks (answers_of at c w piece s)
 
 abbrev pub member_marks : ℕ → MemberState → Coming → List ℕ → State → List Mark
-member_marks at m w piece s = turn_marks (map (turn_note (controller_of at s)) (turn_units m w.link piece s.moment s.chances.left))
+member_marks at m w piece s = asked_marks (OfMember at) s (turn_units m w.link piece s.moment s.chances.left)
 
 -- ---- more is written down
 
@@ -226,9 +226,9 @@ module _ {X : Type 0} (part : Book → X) (Side : X → Fact) (P : UnitFact X) (
       let after : State = (done (Member at) heard).state in
       let now : X = part (note_member (Some m) at w piece s after b) in
       let more : IsMore s.links s.bag after.links after.bag = actions_stay (MoreOf s.links s.bag) (goes_on s.links s.bag) (Member at) heard.actions heard.state (no_more s.links s.bag) in
-      let old : List Sent = (note_turns (controller_of at s) (turn_units m w.link piece s.moment s.chances.left) (unit_in w.source) (numbers_on w.link false s.bag after.bag) (note_messages at m w piece s b)).sent in
+      let old : List Sent = (asked_book (OfMember at) w (turn_units m w.link piece s.moment s.chances.left) s after (note_messages at m w piece s b)).sent in
       let same : old ≡ b.sent =
-      turns_sent (controller_of at s) (turn_units m w.link piece s.moment s.chances.left) (unit_in w.source) (numbers_on w.link false s.bag after.bag) (note_messages at m w piece s b) in
+      turns_sent (OfMember at) w (turn_units m w.link piece s.moment s.chances.left) s after (note_messages at m w piece s b) in
       subst (λ (sent : List Sent). IsMarked P now after.bag (sent ++ map (sent_at w.at) (marks_of w.link false (drop (length s.bag) after.bag) (member_marks at m w piece s)))) (sym same)
       (marked_more (part b) now s after.bag b.sent w.link false (member_marks at m w piece s) w.at more.units more.is grows
       (λ place unit mark there marked. stays.members m at w piece s b is side hears before.all more.units more.is more.on place unit mark there marked) before)

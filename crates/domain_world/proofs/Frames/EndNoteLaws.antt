@@ -10,15 +10,15 @@ use Rattle.logon_client.specs.Machine.{step_of as client_step_of}
 use Rattle.member_server.specs.State.{State as MemberState}
 use Rattle.member_server.specs.Machine.{step_of as member_step_of}
 use Rattle.step_notes.specs.MemberNotes.{turn_units}
-use Rattle.step_notes.specs.Records.{Book, ChannelAccepted, Judging, MessageMade, MessageTaken, unit_in}
+use Rattle.step_notes.specs.Records.{Book, ChannelAccepted, Judging, MessageMade, MessageTaken, OfMember}
 use Rattle.world_moves.specs.declared.links.EndId.{EndId}
 use Rattle.world_moves.specs.declared.links.EndId.TheVariants.{Controller, Member, Client}
 use Rattle.world_moves.specs.declared.state.State.{State}
 use Rattle.world_moves.specs.Ends.{EndStep, client_done, client_step, controller_done, controller_step, end_step, member_done, member_step, no_step}
 use Rattle.world_moves.specs.Acting.{done, heard_by, hear_and_act}
-use Rattle.domain_world.specs.Past.{Coming, controller_of, note_at, note_client, note_controller, note_member, note_messages, numbers_on}
+use Rattle.domain_world.specs.Past.{Coming, note_at, note_client, note_controller, note_member, note_messages}
 use Rattle.world_moves.proofs.EndKindLaws.{is_client, is_controller, is_member}
-use Rattle.domain_world.proofs.Frames.TurnFrameLaws.{turns_accepted, turns_judged, turns_made, turns_told, units_turns}
+use Rattle.domain_world.proofs.Frames.TurnFrameLaws.{asked_leave, turns_told}
 
 -- ---- where an end isn't there, nothing is done and nothing written down
 
@@ -136,7 +136,7 @@ judgings_of b = b.judged
 pub judged_so : OfControllers judgings_of
 judged_so = record {
   members = λ m at w piece s after b.
-      turns_judged (controller_of at s) (turn_units m w.link piece s.moment s.chances.left) (unit_in w.source) (numbers_on w.link false s.bag after.bag) (note_messages at m w piece s b);
+      asked_leave (OfMember at) w (turn_units m w.link piece s.moment s.chances.left) s after (note_messages at m w piece s b) judgings_of (λ note served unit number old. refl);
   clients = λ c at w piece s b. refl;
 }
 
@@ -147,7 +147,7 @@ acceptings_of b = b.accepted
 pub accepted_so : OfControllers acceptings_of
 accepted_so = record {
   members = λ m at w piece s after b.
-      turns_accepted (controller_of at s) (turn_units m w.link piece s.moment s.chances.left) (unit_in w.source) (numbers_on w.link false s.bag after.bag) (note_messages at m w piece s b);
+      asked_leave (OfMember at) w (turn_units m w.link piece s.moment s.chances.left) s after (note_messages at m w piece s b) acceptings_of (λ note served unit number old. refl);
   clients = λ c at w piece s b. refl;
 }
 
@@ -170,19 +170,19 @@ pub made_so : OfClients made_in
 made_so = record {
   controllers = λ c at w piece s after b. refl;
   members = λ m at w piece s after b.
-      turns_made (controller_of at s) (turn_units m w.link piece s.moment s.chances.left) (unit_in w.source) (numbers_on w.link false s.bag after.bag) (note_messages at m w piece s b);
+      asked_leave (OfMember at) w (turn_units m w.link piece s.moment s.chances.left) s after (note_messages at m w piece s b) made_in (λ note served unit number old. refl);
 }
 
 -- ---- parts that bytes don't change
 
 pub turns_leave : MembersLeave (λ (b : Book). b.turns)
 turns_leave m at w piece s after b =
-    units_turns (controller_of at s) (turn_units m w.link piece s.moment s.chances.left) (unit_in w.source) (numbers_on w.link false s.bag after.bag) (note_messages at m w piece s b)
+    asked_leave (OfMember at) w (turn_units m w.link piece s.moment s.chances.left) s after (note_messages at m w piece s b) (λ (book : Book). book.turns) (λ note served unit number old. refl)
 
 pub bytes_told : (end : EndId) (w : Coming) (piece : List ℕ) (s after : State) (b : Book) → (note_at (Some end) w piece s after b).told ≡ b.told
 bytes_told end w piece s after b =
     book_by (λ (one : EndId) (now : Book). now.told ≡ b.told) w piece s after b (λ one. refl) (λ at c is. refl)
-    (λ at m is. turns_told (controller_of at s) (turn_units m w.link piece s.moment s.chances.left) (unit_in w.source) (numbers_on w.link false s.bag after.bag) (note_messages at m w piece s b))
+    (λ at m is. turns_told (OfMember at) w (turn_units m w.link piece s.moment s.chances.left) s after (note_messages at m w piece s b))
     (λ at c is. refl) end
 
 pub bytes_turns : (end : EndId) (w : Coming) (piece : List ℕ) (s after : State) (b : Book) → (note_at (Some end) w piece s after b).turns ≡ b.turns

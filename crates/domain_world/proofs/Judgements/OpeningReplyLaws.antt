@@ -15,7 +15,7 @@ use Rattle.channel_events.specs.Marks.{Mark, OneOf, Plain, Opening, Opened, Call
 use Rattle.step_notes.specs.ControllerNotes.{Answered, Where, accepting, answer_on, channel_in, has_passed, heard_answer, judging_by, judging_of, opened_by, opened_mark, opening, passing, reply_mark, units_of_controller}
 use Rattle.step_notes.specs.Marking.{answered_marks, mark_if}
 use Rattle.step_notes.specs.MemberNotes.{turn_units}
-use Rattle.step_notes.specs.Records.{Book, ChannelAccepted, InUnit, Judging, Outside, Source, computer_named, unit_in}
+use Rattle.step_notes.specs.Records.{Book, ChannelAccepted, InUnit, Judging, Outside, Source, computer_named, unit_in, OfMember}
 use Rattle.step_notes.specs.Served.{work_after}
 use Rattle.world_moves.specs.declared.bag.BagUnit.{BagUnit}
 use Rattle.world_moves.specs.declared.links.EndId.{EndId}
@@ -26,7 +26,7 @@ use Rattle.world_moves.specs.declared.state.State.{State}
 use Rattle.world_moves.specs.Acting.{done, heard_by}
 use Rattle.world_moves.specs.Ends.{member_step}
 use Rattle.domain_world.specs.Claims.OpeningReplies.{IsAcceptedIn, IsReplyOfOpening, RepliesAnswerOpenings}
-use Rattle.domain_world.specs.Past.{Coming, accepted_of, answers_of, at_controller, controller_of, first_of, is_sent_on, later_of, marks_by, marks_of, note_at, note_member, numbers_on, onto, past, replied_with}
+use Rattle.domain_world.specs.Past.{Coming, accepted_of, answers_of, at_controller, first_of, is_sent_on, later_of, marks_by, marks_of, note_at, note_member, numbers_on, onto, past, replied_with}
 use Rattle.channel_events.proofs.ListLaws.{got_nothing, some_is}
 use Rattle.domain_world.proofs.Frames.BagFrameLaws.{IsOfUnit, MarksStay, UnitFact, member_marks, run_stays_marked}
 use Rattle.domain_world.proofs.Frames.EndNoteLaws.{accepted_so, acceptings_of, book_by}
@@ -194,7 +194,7 @@ opened_stay = record {
       let after : State = (done (Member at) (heard_by (member_step (Some m) at (event.Bytes w.link piece) s.moment s.ends s.chances) s)).state in
       requests_free mark (note_member (Some m) at w piece s after b).accepted (length s.bag + place)
       (all_at IsRequest (marks_of w.link false units (member_marks at m w piece s)) place mark
-      (marks_all IsRequest tt w.link false units (member_marks at m w piece s) (turns_way (controller_of at s) (turn_units m w.link piece s.moment s.chances.left))) marked);
+      (marks_all IsRequest tt w.link false units (member_marks at m w piece s) (turns_way (OfMember at) s (turn_units m w.link piece s.moment s.chances.left))) marked);
 }
 
 -- ---- a run

@@ -1,6 +1,6 @@
 -- In every run each unit of the bag that is marked as a reply carries what its controller judged.
 -- It serves `Proved.replies`, and `Proved.opened`.
-use Rattle.std.proofs.Common.{◌≡◌, ℕ, zero, suc, ◌+◌, Bool, true, false, List, [], ◌∷◌, ◌++◌, length, map, inl, inr, Option, Some, None, Result, Ok, Err, refl, sym, ◌∙◌, subst, slice_get}
+use Rattle.std.proofs.Common.{◌≡◌, ℕ, zero, suc, ◌+◌, Bool, true, false, List, [], ◌∷◌, ◌++◌, length, inl, inr, Option, Some, None, Result, Ok, Err, refl, sym, ◌∙◌, subst, slice_get}
 use Rattle.std.specs.List.{AllByRecursion}
 use Rattle.authenticators.specs.Channels.{ChannelIdentity}
 use Rattle.outside.specs.declared.action.Action.{Action}
@@ -26,9 +26,9 @@ use Rattle.channel_events.specs.Marks.{Mark, OneOf, Plain, Opening, Opened, Call
 use Rattle.step_notes.specs.ChannelNames.{sends_in}
 use Rattle.step_notes.specs.ControllerNotes.{Answered, has_passed}
 use Rattle.step_notes.specs.Judged.{channel_if}
-use Rattle.step_notes.specs.Marking.{answered_marks, mark_if, turn_marks}
-use Rattle.step_notes.specs.MemberNotes.{asked_note, taken_note, taking_at, taking_note, turn_note, turn_units}
-use Rattle.step_notes.specs.Records.{Book, Judging}
+use Rattle.step_notes.specs.Marking.{answered_marks, mark_if}
+use Rattle.step_notes.specs.MemberNotes.{asked_note, taken_note, taking_at, taking_note, turn_note, turn_units, TurnNote}
+use Rattle.step_notes.specs.Records.{Book, Judging, OfMember, RequesterId}
 use Rattle.step_notes.specs.ReplySends.{AreSentFor, CarriesReply, IsReplyOfCall, IsSentIf}
 use Rattle.world_moves.specs.declared.bag.BagUnit.{BagUnit}
 use Rattle.world_moves.specs.declared.links.EndId.{EndId}
@@ -39,7 +39,7 @@ use Rattle.world_moves.specs.declared.state.State.{State}
 use Rattle.world_moves.specs.Acting.{done, heard_by}
 use Rattle.world_moves.specs.Ends.{actions_by, member_step}
 use Rattle.domain_world.specs.Claims.Replies.{IsReplyOfOne, RepliesCarryTheirJudgement}
-use Rattle.domain_world.specs.Past.{Coming, answers_of, controller_of, first_of, judged_of, later_of, is_sent_on, marks_by, marks_of, note_at, note_controller, note_member, numbers_on, onto, past, with_reply}
+use Rattle.domain_world.specs.Past.{Coming, answers_of, first_of, judged_of, later_of, is_sent_on, marks_by, marks_of, note_at, note_controller, note_member, numbers_on, onto, past, with_reply, controller_asked}
 use Rattle.channel_events.proofs.ListLaws.{got_nothing, some_is}
 use Rattle.step_notes.proofs.Controllers.ReplyStepLaws.{replies_sent}
 use Rattle.domain_world.proofs.Frames.BagFrameLaws.{IsOfUnit, MarksStay, UnitFact, controller_marks, member_marks, run_stays_marked}
@@ -47,6 +47,7 @@ use Rattle.domain_world.proofs.Frames.FrameLaws.{Fact, StaysWritten}
 use Rattle.domain_world.proofs.Frames.NewUnitLaws.{IsNewUnit}
 use Rattle.domain_world.proofs.Frames.EndNoteLaws.{book_by, judged_so}
 use Rattle.domain_world.proofs.Frames.PlainFormLaws.{plain_is}
+use Rattle.domain_world.proofs.Frames.TurnFrameLaws.{asked_marks}
 
 -- ---- one of more calls
 
@@ -187,11 +188,12 @@ module _ (judgings : List Judging) (number : ℕ) (bytes : List ℕ) where
   marks_free link back (unit ∷ units) marks each =
       by_free (is_sent_on link back unit) marks (λ (rest : List Mark). marks_of link back units rest) (λ rest all. marks_free link back units rest all) each
 
-  turns_free : (controller : ℕ) (units : List (ServedUnit AtTurn TurnTalk)) → AllByRecursion IsFree (turn_marks (map (turn_note controller) units))
-  turns_free controller [] = tt
-  turns_free controller (unit ∷ units) =
-      mark_free (turn_note controller unit).sends (turn_note controller unit).mark (turn_marks (map (turn_note controller) units))
-      (taking_free (taking_at unit) controller unit.work.work.logons.channel) (turns_free controller units)
+  turns_free : (who : RequesterId) (s : State) (units : List (ServedUnit AtTurn TurnTalk)) → AllByRecursion IsFree (asked_marks who s units)
+  turns_free who s [] = tt
+  turns_free who s (unit ∷ units) =
+      let note : TurnNote = turn_note (controller_asked who s) unit in
+      mark_free note.sends note.mark (asked_marks who s units)
+      (taking_free (taking_at unit) (controller_asked who s) unit.work.work.logons.channel) (turns_free who s units)
 
 -- ---- what holds of each unit
 
@@ -255,7 +257,7 @@ member_new : (m : MemberState) (at : ℕ) (w : Coming) (piece : List ℕ) (s : S
 member_new m at w piece s judgings number place bytes units mark marked =
     all_at (IsFree judgings number bytes) (marks_of w.link false units (member_marks at m w piece s)) place mark
     (marks_free judgings number bytes w.link false units (member_marks at m w piece s)
-    (turns_free judgings number bytes (controller_of at s) (turn_units m w.link piece s.moment s.chances.left))) marked
+    (turns_free judgings number bytes (OfMember at) s (turn_units m w.link piece s.moment s.chances.left))) marked
 
 replies_stay : MarksStay (λ (b : Book). b.judged) NothingElse OfUnit
 replies_stay = record {

@@ -16,7 +16,7 @@ use Rattle.domain_controller.specs.Step.{step_of}
 use Rattle.step_notes.specs.ControllerNotes.{Answered, judged_answer, plain, silent, Where, has_passed, judging_of, opened_by, opening}
 use Rattle.step_notes.specs.Judged.{IsJudgedRight, IsRightOf}
 use Rattle.step_notes.specs.MemberNotes.{turn_units}
-use Rattle.step_notes.specs.Records.{Book, JudgementTold, Judging, given_in, unit_in}
+use Rattle.step_notes.specs.Records.{Book, JudgementTold, Judging, OfMember, given_in}
 use Rattle.world_moves.specs.declared.links.EndId.{EndId}
 use Rattle.world_moves.specs.declared.links.EndId.TheVariants.{Controller, Member, Client}
 use Rattle.world_moves.specs.declared.moves.Move.{Move}
@@ -27,10 +27,10 @@ use Rattle.world_moves.specs.Ends.{EndStep, actions_by, client_step, member_step
 use Rattle.world_moves.specs.Links.{acceptor_of}
 use Rattle.world_moves.specs.Moving.{begun, with_link}
 use Rattle.domain_world.specs.Claims.{AreRightlyTold, AreTheirJudgements, PassesTheNextCredential, judgements_of_calls}
-use Rattle.domain_world.specs.Past.{Coming, answers_of, at_controller, controller_of, first_of, judged_of, judgement_by, judgements_in, later_of, note_at, note_client, note_controller, note_member, note_messages, numbers_on, onto, past, with_reply}
+use Rattle.domain_world.specs.Past.{Coming, answers_of, at_controller, first_of, judged_of, judgement_by, judgements_in, later_of, note_at, note_client, note_controller, note_member, note_messages, numbers_on, onto, past, with_reply}
 use Rattle.step_notes.proofs.Controllers.JudgedStepLaws.{Told, how_is, told_call}
 use Rattle.domain_world.proofs.Judgements.JudgedLaws.{AreRight, judged_rightly}
-use Rattle.domain_world.proofs.Frames.TurnFrameLaws.{turns_judgements}
+use Rattle.domain_world.proofs.Frames.TurnFrameLaws.{asked_leave}
 use Rattle.domain_world.proofs.Frames.EndFrameLaws.{EndFact, KeepsEnds, ends_after}
 use Rattle.step_notes.proofs.Controllers.NotedLaws.{NotedFact, StaysThrough, step_says}
 use Rattle.controller_calls.proofs.ReplyLaws.{Replies, authenticate_replies, challenge_replies, read_behind}
@@ -231,7 +231,8 @@ end_told end w piece s after given b told =
     (λ k m is.
     let actions : List Action = (member_step (Some m) k what s.moment s.ends s.chances).actions in
     none_told w.at given (given_by (Member k) actions) b (note_member (Some m) k w piece s after b) told (others_quiet (Member k) refl actions w.at) (judged_so.members m k w piece s after b)
-    (turns_judgements (controller_of k s) (turn_units m w.link piece s.moment s.chances.left) (unit_in w.source) (numbers_on w.link false s.bag after.bag) (note_messages k m w piece s b)))
+    (asked_leave (OfMember k) w (turn_units m w.link piece s.moment s.chances.left) s after (note_messages k m w piece s b) (λ (book : Book). book.judgements)
+    (λ note served unit number old. refl)))
     (λ k c is.
     let actions : List Action = (client_step (Some c) k what s.moment s.ends s.chances).actions in
     none_told w.at given (given_by (Client k) actions) b (note_client (Some c) k w piece s b) told (others_quiet (Client k) refl actions w.at) refl refl) end

@@ -13,13 +13,11 @@ use Rattle.domain_controller.specs.declared.hearing.Heard.TheVariants as heard
 use Rattle.controller_calls.specs.declared.line.Line.{Line}
 use Rattle.domain_controller.specs.declared.state.Talk.{Talk}
 use Rattle.member_server.specs.State.{State as MemberState}
-use Rattle.member_server.specs.Turns.{AtTurn}
-use Rattle.channel_turns.specs.declared.state.TurnTalk.{TurnTalk}
 use Rattle.step_notes.specs.ControllerNotes.{Answered, Where, answer_on, call_answer, channel_in, has_passed, heard_answer, judging_by, judging_of, opened_by, opening, passing, units_of_controller}
 use Rattle.step_notes.specs.Judged.{channel_if, passed_channel}
 use Rattle.step_notes.specs.Marking.{clashes, is_channel, sent_channel}
 use Rattle.step_notes.specs.MemberNotes.{turn_units}
-use Rattle.step_notes.specs.Records.{Book, Judging, Sent, Source, computer_named, unit_in}
+use Rattle.step_notes.specs.Records.{Book, Judging, Sent, Source, computer_named, unit_in, OfMember}
 use Rattle.controller_calls.specs.declared.calls.ControllerCall.{ControllerCall}
 use Rattle.step_notes.specs.Served.{work_after}
 use Rattle.world_moves.specs.declared.links.EndId.{EndId}
@@ -27,12 +25,12 @@ use Rattle.world_moves.specs.declared.moves.Move.{Move}
 use Rattle.world_moves.specs.declared.plan.Plan.{Plan}
 use Rattle.world_moves.specs.declared.state.State.{State}
 use Rattle.domain_world.specs.Accepting.Answered.{PassesAreUnclashed}
-use Rattle.domain_world.specs.Past.{Coming, answers_of, any_clash, at_controller, controller_of, first_of, judged_of, later_of, note_at, note_controller, note_member, note_messages, note_turns, numbers_on, onto, past, with_reply}
+use Rattle.domain_world.specs.Past.{Coming, answers_of, any_clash, at_controller, first_of, judged_of, later_of, note_at, note_controller, note_member, note_messages, numbers_on, onto, past, with_reply}
 use Rattle.channel_events.proofs.ListLaws.{all_weaker, got_append}
 use Rattle.domain_world.proofs.Frames.BookFrameLaws.{book_holds}
 use Rattle.domain_world.proofs.Judgements.JudgedLaws.{onto_hold}
-use Rattle.domain_world.proofs.Frames.TurnFrameLaws.{notes_keep}
 use Rattle.domain_world.proofs.Frames.EndNoteLaws.{book_by}
+use Rattle.domain_world.proofs.Frames.TurnFrameLaws.{asked_book, asked_keep}
 
 -- ---- what is to hold
 
@@ -133,15 +131,11 @@ controller_unclashed c at w piece s after b all = λ apart.
     (onto_hold (Fits b.sent) (judged_of answers numbers) b.judged
     (judged_fit answers w.source numbers b.sent (answers_noted w.link (at_controller at c w s) (units_of_controller c w.link piece s.moment s.chances.left)) both.1) (all both.0))
 
-turns_unclashed : (controller : ℕ) (units : List (ServedUnit AtTurn TurnTalk)) (unit : Option ℕ) (numbers : List ℕ) (b : Book) → AreUnclashed b →
-    AreUnclashed (note_turns controller units unit numbers b)
-turns_unclashed controller units unit numbers b all =
-    notes_keep AreUnclashed unit (λ note served number later so apart. so (or_false later.clash (clashes note.checked unit later.sent) apart).0) controller units numbers b all
-
 member_unclashed : (m : MemberState) (at : ℕ) (w : Coming) (piece : List ℕ) (s after : State) (b : Book) → AreUnclashed b → AreUnclashed (note_member (Some m) at w piece s after b)
 member_unclashed m at w piece s after b all =
-    sent_more (note_turns (controller_of at s) (turn_units m w.link piece s.moment s.chances.left) (unit_in w.source) (numbers_on w.link false s.bag after.bag) (note_messages at m w piece s b)) _
-    (turns_unclashed (controller_of at s) (turn_units m w.link piece s.moment s.chances.left) (unit_in w.source) (numbers_on w.link false s.bag after.bag) (note_messages at m w piece s b) all)
+    sent_more (asked_book (OfMember at) w (turn_units m w.link piece s.moment s.chances.left) s after (note_messages at m w piece s b)) _
+    (asked_keep (OfMember at) w (turn_units m w.link piece s.moment s.chances.left) s after (note_messages at m w piece s b) AreUnclashed
+    (λ note served number later so apart. so (or_false later.clash (clashes note.checked (unit_in w.source) later.sent) apart).0) all)
 
 end_unclashed : (end : EndId) (w : Coming) (piece : List ℕ) (s after : State) (b : Book) → AreUnclashed b → AreUnclashed (note_at (Some end) w piece s after b)
 end_unclashed end w piece s after b all =

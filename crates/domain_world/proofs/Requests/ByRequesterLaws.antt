@@ -3,6 +3,8 @@
 use Rattle.std.proofs.Common.{◌≡◌, ℕ, ap}
 use Rattle.channel_events.specs.Requests.{CallsAreApart, Requests}
 use Rattle.step_notes.specs.Records.{OfMember, RequesterId}
+use Rattle.world_moves.specs.declared.state.State.{State}
+use Rattle.domain_world.specs.Accepting.Runs.{seen_in}
 
 abbrev pub member_of : RequesterId → ℕ
 member_of (OfMember member) = member
@@ -10,6 +12,10 @@ member_of (OfMember member) = member
 -- members by their numbers are who asks
 abbrev pub by_requester : Requests ℕ → Requests RequesterId
 by_requester r = record { views = λ who. r.views (member_of who); marks = r.marks; drawn = r.drawn; uses = r.uses }
+
+-- it is seen as each member is
+pub seen_so : (r : Requests ℕ) (s : State) → ((k : ℕ) → r.views k ≡ seen_in s (OfMember k)) → (who : RequesterId) → (by_requester r).views who ≡ seen_in s who
+seen_so r s members (OfMember member) = members member
 
 same_members : (one other : RequesterId) → member_of one ≡ member_of other → one ≡ other
 same_members (OfMember one) (OfMember other) is = ap OfMember is

@@ -25,9 +25,9 @@ use Rattle.member_server.specs.declared.state.Running.{Running}
 use Rattle.channel_turns.specs.declared.state.TurnTalk.{TurnTalk}
 use Rattle.step_notes.specs.CallLogons.{AreFirst}
 use Rattle.step_notes.specs.ControllerNotes.{units_of_controller}
-use Rattle.step_notes.specs.Marking.{answered_marks, turn_marks}
-use Rattle.step_notes.specs.MemberNotes.{LinkAt, TurnNote, is_turn_link, link_units, message_note, turn_note, turn_units, turn_units_by, turn_units_in, turn_units_on}
-use Rattle.step_notes.specs.Records.{Book, MessageTaken, Sent, unit_in}
+use Rattle.step_notes.specs.Marking.{answered_marks}
+use Rattle.step_notes.specs.MemberNotes.{LinkAt, TurnNote, is_turn_link, link_units, message_note, turn_units, turn_units_by, turn_units_in, turn_units_on}
+use Rattle.step_notes.specs.Records.{Book, MessageTaken, Sent, unit_in, OfMember, RequesterId}
 use Rattle.step_notes.specs.Served.{units_if_taken}
 use Rattle.step_notes.specs.TakenWhole.{TakesWhole}
 use Rattle.step_notes.proofs.Members.KeptLogonLaws.{one_before}
@@ -40,7 +40,7 @@ use Rattle.world_moves.specs.declared.state.State.{State}
 use Rattle.world_moves.specs.Acting.{heard_by, perform_all, unit_on}
 use Rattle.world_moves.specs.Ends.{EndStep, actions_by, controller_step, member_step}
 use Rattle.domain_world.specs.Accepting.Answered.{IsItsWay}
-use Rattle.domain_world.specs.Past.{Coming, answers_of, at_controller, at_member, controller_of, first_of, marks_of, note_controller, note_messages, note_turns, numbers_on, sent_at}
+use Rattle.domain_world.specs.Past.{Coming, answers_of, at_controller, at_member, first_of, marks_of, note_controller, note_messages, numbers_on, sent_at, controller_asked}
 use Rattle.domain_world.proofs.Accepting.LetInStepLaws.{IsAcceptedBy, IsDialledBy}
 use Rattle.domain_world.proofs.Accepting.Turns.TurnNotedLaws.{units_new}
 use Rattle.domain_world.proofs.Requests.AnsweredCallLaws.{AreCalled, IsCalledOn, answer_called, called_more, calls_go_out, noted_called}
@@ -53,7 +53,7 @@ use Rattle.domain_world.proofs.Requests.OutStepLaws.{IsOf, IsOther, IsOutIn, Mem
 use Rattle.domain_world.proofs.Requests.StepApartLaws.{HearsNone, other_apart, requests_after, seen_member, whole_apart}
 use Rattle.domain_world.proofs.Requests.WholeNotedLaws.{IsFirstNew, SendsFirst, no_requests_marked, none_marked, note_for, placed_first, placed_part, sent_as, sent_first, sent_marks, whole_first, whole_messages, whole_units}
 use Rattle.domain_world.proofs.Requests.WholeOutLaws.{AreAccepted, IsSentAs, noted, noted_accepted, others_known, out_more, whole_holds}
-use Rattle.domain_world.proofs.Frames.TurnFrameLaws.{turns_sent}
+use Rattle.domain_world.proofs.Frames.TurnFrameLaws.{turns_sent, asked_book, asked_marks}
 use Rattle.domain_world.proofs.Frames.AllLaws.{all_join}
 
 -- what is kept, of a state and the book
@@ -146,9 +146,13 @@ module _ (n at : ℕ) (w : Coming) (piece : List ℕ) (s after : State) (b : Boo
   abbrev pub here : LinkAt
   here = at_member at w s
 
-  -- its controller
+  -- who asks there
+  abbrev pub who : RequesterId
+  who = OfMember at
+
+  -- the controller that it asks
   abbrev pub its : ℕ
-  its = controller_of at s
+  its = controller_asked who s
 
   -- the messages that are written down
   abbrev pub news : MemberState → List MessageTaken
@@ -156,15 +160,15 @@ module _ (n at : ℕ) (w : Coming) (piece : List ℕ) (s after : State) (b : Boo
 
   -- the new units of the bag, with their marks
   abbrev pub units_by : MemberState → List BagUnit → List (ServedUnit AtTurn TurnTalk) → List Sent
-  units_by m new units = map (sent_at w.at) (marks_of w.link false new (turn_marks (map (turn_note its) units)))
+  units_by m new units = map (sent_at w.at) (marks_of w.link false new (asked_marks who s units))
 
   -- what is written down, by the units of the turn
   abbrev pub NotedBy : MemberState → List (ServedUnit AtTurn TurnTalk) → Type 0
   NotedBy m units =
       KeptSo (n + 1) s.member_plans (member_step (Some m) at (event.Bytes w.link piece) s.moment s.ends s.chances).ends
       (member_step (Some m) at (event.Bytes w.link piece) s.moment s.ends s.chances).chances.drawn s.links
-      ((note_turns its units (unit_in w.source) (numbers_on w.link false s.bag after.bag) (note_messages at m w piece s b)).sent ++ units_by m (drop (length s.bag) after.bag) units)
-      (note_turns its units (unit_in w.source) (numbers_on w.link false s.bag after.bag) (note_messages at m w piece s b)).messages
+      ((asked_book who w units s after (note_messages at m w piece s b)).sent ++ units_by m (drop (length s.bag) after.bag) units)
+      (asked_book who w units s after (note_messages at m w piece s b)).messages
 
   -- no whole unit is taken
   pub other_comes : (m : MemberState) → slice_get s.ends.members at ≡ Some m → IsOther m.running w.link → KeptIn n s b → NotedBy m (turn_units m w.link piece s.moment s.chances.left)
@@ -228,7 +232,7 @@ module _ (n at : ℕ) (w : Coming) (piece : List ℕ) (s after : State) (b : Boo
 
     -- the marks of the new units
     abbrev pub marks : List Mark
-    marks = marks_of w.link false (drop (length s.bag) after.bag) (turn_marks (map (turn_note its) (taken stepped)))
+    marks = marks_of w.link false (drop (length s.bag) after.bag) (asked_marks who s (taken stepped))
 
     -- all units, with the new ones
     abbrev pub sent : List Sent
@@ -247,13 +251,13 @@ module _ (n at : ℕ) (w : Coming) (piece : List ℕ) (s after : State) (b : Boo
     pub units_whole : TakesWhole turn whole.unit left served
     units_whole = whole_units running w.link whole.said piece whole.frames whole.unit left whole.on whole.rest whole.none whole.heard
 
-    messages_are : (part : Result (Part DialWork) StepRefused) → (note_turns its (taken part) (unit_in w.source) numbers (note_messages at m w piece s b)).messages ≡ noted_by part
+    messages_are : (part : Result (Part DialWork) StepRefused) → (asked_book who w (taken part) s after (note_messages at m w piece s b)).messages ≡ noted_by part
     messages_are (Err why) = refl
     messages_are (Ok part) = whole_messages its turn whole.unit left served (unit_in w.source) numbers (note_messages at m w piece s b) units_whole
 
-    one_mark : (part : Part DialWork) → stepped ≡ Ok part → note.sends ≡ true → turn_marks (map (turn_note its) (taken stepped)) ≡ note.mark ∷ []
+    one_mark : (part : Part DialWork) → stepped ≡ Ok part → note.sends ≡ true → asked_marks who s (taken stepped) ≡ note.mark ∷ []
     one_mark part is sends =
-        ap (λ (p : Result (Part DialWork) StepRefused). turn_marks (map (turn_note its) (taken p))) is ∙ sent_marks its turn whole.unit left served units_whole sends
+        ap (λ (p : Result (Part DialWork) StepRefused). asked_marks who s (taken p)) is ∙ sent_marks its turn whole.unit left served units_whole sends
 
     -- the request is the first of the new units
     module _ (dialled : IsDialledBy s.links at w.link) (even : length b.sent ≡ length s.bag)
@@ -358,9 +362,9 @@ module _ (n at : ℕ) (w : Coming) (piece : List ℕ) (s after : State) (b : Boo
           (placed_part its turn whole.unit stepped w.link (drop (length s.bag) after.bag) left served units_whole) holds.apart differ in
           subst (λ (messages : List MessageTaken).
           CallsHold (n + 1) s.member_plans step.ends step.chances.drawn s.links
-          ((note_turns its (taken stepped) (unit_in w.source) numbers (note_messages at m w piece s b)).sent ++ map (sent_at w.at) marks) messages) (sym (messages_are stepped))
+          ((asked_book who w (taken stepped) s after (note_messages at m w piece s b)).sent ++ map (sent_at w.at) marks) messages) (sym (messages_are stepped))
           (subst (λ (old : List Sent). CallsHold (n + 1) s.member_plans step.ends step.chances.drawn s.links (old ++ map (sent_at w.at) marks) (noted_by stepped))
-          (sym (turns_sent its (taken stepped) (unit_in w.source) numbers (note_messages at m w piece s b)))
+          (sym (turns_sent who w (taken stepped) s after (note_messages at m w piece s b)))
           (member_changed s.member_plans s.ends at (step_of m (event.Bytes w.link piece) s.moment left).state n (n + 1) (2 * n + 2) s.chances.drawn (s.chances.drawn ++ drawn) s.links b.sent sent
           b.messages (noted_by stepped) (omega arith) holds
           (subst (λ (all : List Mark).

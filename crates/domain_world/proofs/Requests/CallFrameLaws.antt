@@ -24,7 +24,7 @@ use Rattle.channel_turns.specs.declared.state.TurnTalk.{TurnTalk}
 use Rattle.end_links.specs.Links.{LinkState}
 use Rattle.step_notes.specs.ChannelNames.{standing_channel}
 use Rattle.step_notes.specs.MemberNotes.{is_turn_link}
-use Rattle.step_notes.specs.Records.{Book, MessageTaken, OfMember, RequesterId, Sent, Source, blank}
+use Rattle.step_notes.specs.Records.{Book, MessageTaken, OfMember, RequesterId, Source, blank}
 use Rattle.step_notes.proofs.Members.CallKeptLaws.{fresh_asks}
 use Rattle.step_notes.proofs.Members.KeptLogonLaws.{IfDialled, KeptIn as LogonsKept}
 use Rattle.world_moves.specs.declared.links.EndId.{EndId}
@@ -43,8 +43,8 @@ use Rattle.world_moves.specs.Moving.{begun, renewed, with_link}
 use Rattle.world_moves.specs.World.{first_world}
 use Rattle.world_moves.proofs.EndKindLaws.{IfMember, renew_by, step_by}
 use Rattle.domain_world.specs.Accepting.Carried.{IsWholeUnit}
-use Rattle.domain_world.specs.Accepting.Runs.{AskedIsOut, BagIsWhole, IsOut, IsQuiet, IsQuietTurn, RunsStandSo, Shows, seen_in}
-use Rattle.domain_world.specs.Past.{Coming, Past, controller_of, note_at, note_given, note_member, past, sent_at}
+use Rattle.domain_world.specs.Accepting.Runs.{AskedIsOut, BagIsWhole, IsOut, IsQuiet, IsQuietTurn, RunsStandSo, Shows}
+use Rattle.domain_world.specs.Past.{Coming, Past, note_at, note_given, note_member, past, sent_at, controller_asked}
 use Rattle.domain_world.specs.Schedules.{OfSchedules}
 use Rattle.domain_world.proofs.Accepting.LetInStepLaws.{IsDialledBy, Meets, MeetsMember, calm_meets, last_accepted, side_meets}
 use Rattle.domain_world.proofs.Accepting.Quiet.QuietRunLaws.{one_piece, has_bytes, is_quiet, quiet_first, quiet_keeps}
@@ -63,7 +63,8 @@ use Rattle.domain_world.proofs.Requests.LooserLaws.{NoRequests}
 use Rattle.domain_world.proofs.Requests.OutStepLaws.{IsOther, IsOutIn, MemberHolds, OutFor, none_out}
 use Rattle.domain_world.proofs.Frames.PlacedLaws.{HasBytes}
 use Rattle.domain_world.proofs.Frames.EndNoteLaws.{acted_by, stepped}
-use Rattle.domain_world.proofs.Requests.ByRequesterLaws.{by_requester, by_requester_apart}
+use Rattle.domain_world.proofs.Requests.ByRequesterLaws.{by_requester, by_requester_apart, seen_so}
+use Rattle.authenticators.specs.Channels.{ChannelIdentity}
 
 -- ---- a unit that comes on the link of a turn is whole, and comes in one piece
 
@@ -147,13 +148,12 @@ member_comes n m at w piece s b is quiet came even kept = λ few differ.
     let after : State = member_after m at w piece s in
     let drawn : List (List ℕ) = (step_of m (event.Bytes w.link piece) s.moment s.chances.left).drawn in
     let holds : CallsHold n s.member_plans s.ends s.chances.drawn s.links b.sent b.messages = kept (omega (arith, few)) (differ_front s.chances.drawn drawn differ) in
-    let own : MemberHolds s.links b.sent b.messages (controller_of at s) at m.running = holds.members at m is in
     elim (turn_case m.running w.link) [
       | inl other ↦ other_comes n at w piece s after b m is other kept few differ
       | inr on ↦
           let now : MemberState = record { running = Some on.running } in
           let same : m ≡ now = ap (λ (r : Option Running). record { running = r }) on.runs in
-          let dialled : IsDialledBy s.links at w.link = dialled_on _ (λ number. IsDialledBy s.links at number) m.running w.link on own.kept in
+          let dialled : IsDialledBy s.links at w.link = dialled_on _ (λ number. IsDialledBy s.links at number) m.running w.link on (holds.members at m is).kept in
           let unit : IsWholeUnit piece = came_whole w.source s w piece at came dialled quiet.bag in
           let turn : IsQuietTurn (dialling.On w.link on.said) = subst IsQuietTurn on.on (quiet.members at m on.running is on.runs) in
           let whole : IsWhole w.link piece on.running =
@@ -233,15 +233,12 @@ first_calls plan = λ few differ. record {
   apart = first_apart plan;
   members = λ k m there.
       let found = got_map fresh_member plan.members k m there in
-      subst (λ (x : MemberState). MemberHolds [] [] [] (controller_of k (first_world plan).state) k x.running) found.2 (fresh_holds (controller_of k (first_world plan).state) k found.0);
+      subst (λ (x : MemberState). MemberHolds [] [] [] (controller_asked (OfMember k) (first_world plan).state) k x.running) found.2 (fresh_holds _ k found.0);
   accepted = tt;
   answered = tt;
 }
 
 -- ---- after a run
-
-seen_so : (n : ℕ) (s : State) (sent : List Sent) (who : RequesterId) → (by_requester (requests_at n s.member_plans s.ends s.chances.drawn sent)).views who ≡ seen_in s who
-seen_so n s sent (OfMember member) = refl
 
 -- the four fields of `RunsStandSo` that speak of calls
 pub record CallsStand (plan : Plan) (moves : List Move) : Type 0 where
@@ -250,7 +247,7 @@ pub record CallsStand (plan : Plan) (moves : List Move) : Type 0 where
   pub apart : CallsAreApart requests
   pub out : AskedIsOut (past plan moves)
 
-pub out_of : (p : Past) (member : ℕ) (pending : Pending) (logon : Logon) (standing : Option _) (message : MessageTaken) → IsOutIn p.book.sent member pending logon standing message →
+out_of : (p : Past) (member : ℕ) (pending : Pending) (logon : Logon) (standing : Option _) (message : MessageTaken) → IsOutIn p.book.sent member pending logon standing message →
     IsOut p member pending logon standing message
 out_of p member pending logon standing message is = record {
   link = is.link;
@@ -265,6 +262,15 @@ out_of p member pending logon standing message is = record {
   mark = is.mark;
 }
 
+-- a call that is out is that of its message
+pub out_at : (p : Past) (n : ℕ) → CallsHold n p.world.state.member_plans p.world.state.ends p.world.state.chances.drawn p.world.state.links p.book.sent p.book.messages → AskedIsOut p
+out_at p n holds k m running pending logon there runs turn reply kept =
+    let standing : Option ChannelIdentity = standing_channel (controller_asked (OfMember k) p.world.state) running.logons.channel in
+    let out : OutFor p.book.sent p.book.messages (controller_asked (OfMember k) p.world.state) k (Some running) =
+    subst (OutFor p.book.sent p.book.messages (controller_asked (OfMember k) p.world.state) k) runs (holds.members k m there).out in
+    one_weaker (IsOutIn p.book.sent k pending logon standing) (IsOut p k pending logon standing) p.book.messages (λ message is. out_of p k pending logon standing message is)
+    (out pending logon turn reply kept)
+
 -- from what is known after so many steps
 pub calls_stand : (plan : Plan) (moves : List Move) (steps : ℕ) → CallsKept steps (past plan moves).world.state [] (past plan moves).book →
     steps + 2 * length (past plan moves).world.state.open_links ≤ 10 * length moves → IsSchedule plan moves → DrawsDiffer (past plan moves).world → CallsStand plan moves
@@ -274,14 +280,9 @@ calls_stand plan moves steps kept few schedule differ =
     kept (omega (arith, few, schedule.few)) differ in
     record {
       requests = by_requester (requests_at steps p.world.state.member_plans p.world.state.ends p.world.state.chances.drawn p.book.sent);
-      shows = record { views = seen_so steps p.world.state p.book.sent; marks = refl; drawn = refl; few = omega (arith, few) };
+      shows = record { views = seen_so (requests_at steps p.world.state.member_plans p.world.state.ends p.world.state.chances.drawn p.book.sent) p.world.state (λ k. refl); marks = refl; drawn = refl; few = omega (arith, few) };
       apart = by_requester_apart (requests_at steps p.world.state.member_plans p.world.state.ends p.world.state.chances.drawn p.book.sent) holds.apart;
-      out = λ k m running pending logon there runs turn reply kept_there.
-          let out : OutFor p.book.sent p.book.messages (controller_of k p.world.state) k (Some running) =
-          subst (λ (r : Option Running). OutFor p.book.sent p.book.messages (controller_of k p.world.state) k r) runs (holds.members k m there).out in
-          one_weaker (IsOutIn p.book.sent k pending logon (standing_channel (controller_of k p.world.state) running.logons.channel))
-          (IsOut p k pending logon (standing_channel (controller_of k p.world.state) running.logons.channel)) p.book.messages
-          (λ message is. out_of p k pending logon (standing_channel (controller_of k p.world.state) running.logons.channel) message is) (out pending logon turn reply kept_there);
+      out = out_at p steps holds;
     }
 
 -- ---- with what keeps the ends quiet

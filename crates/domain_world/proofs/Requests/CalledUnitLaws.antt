@@ -37,7 +37,7 @@ use Rattle.member_server.specs.State.{State as MemberState}
 use Rattle.channel_events.specs.Marks.{OneOf}
 use Rattle.step_notes.specs.CallLogons.{AreFirst, AsksForKept, IsFirstBy, info_at}
 use Rattle.step_notes.specs.MemberNotes.{LinkAt, TurnNote, is_challenged, link_of_logon, link_of_place, link_units, message_after, message_at, message_by, message_kept, message_note, turn_note, turn_units, turn_units_by, turn_units_in, turn_units_on}
-use Rattle.step_notes.specs.Records.{Book, MessageTaken, unit_in}
+use Rattle.step_notes.specs.Records.{Book, MessageTaken, unit_in, OfMember}
 use Rattle.step_notes.specs.Served.{talk_after, units_if_taken, work_after}
 use Rattle.world_moves.specs.declared.bag.BagUnit.{BagUnit}
 use Rattle.world_moves.specs.declared.links.EndId.{EndId}
@@ -50,7 +50,7 @@ use Rattle.world_moves.specs.Choosing.{places_from}
 use Rattle.world_moves.specs.Ends.{EndStep, actions_by, member_step}
 use Rattle.world_moves.specs.Links.{is_accepted_by, is_own, kind_of}
 use Rattle.domain_world.specs.Claims.{info_asked}
-use Rattle.domain_world.specs.Past.{Coming, at_member, change_if, change_message, controller_of, first_of, is_sent_on, later_of, note_at, note_client, note_controller, note_member, note_messages, note_turn, note_turns, numbers_on, with_answer, with_call}
+use Rattle.domain_world.specs.Past.{Coming, at_member, change_if, change_message, first_of, is_sent_on, later_of, note_at, note_client, note_controller, note_member, note_messages, note_turn, note_turns, numbers_on, with_answer, with_call, controller_asked}
 use Rattle.channel_events.proofs.ListLaws.{all_weaker, got_append, got_last, no_some, some_is}
 use Rattle.step_notes.proofs.Members.KeptLogonLaws.{IfDialled, OfEach, each_found, each_so}
 use Rattle.step_notes.proofs.Members.RequestOrderLaws.{requests_first}
@@ -366,7 +366,7 @@ module _ (m : MemberState) (at : ℕ) (w : Coming) (piece : List ℕ) (s : State
       let old : AllGood Now b.messages = good_so (IsCallAt s.bag b.messages) Now
       (λ link n one. call_still s.bag member_after.bag b.messages now_messages link n still
       (λ logon asked. member_stays (IsAskedOn link logon) (asked_call link logon) (asked_answer link logon) at m w piece s member_after b asked) one) b.messages called in
-      turns_good Now (controller_of at s) own_units (unit_in w.source) own_numbers first (turns_called (controller_of at s) there side kept)
+      turns_good Now (controller_asked (OfMember at) s) own_units (unit_in w.source) own_numbers first (turns_called (controller_asked (OfMember at) s) there side kept)
       (all_join (IsGood Now) b.messages (flat_map (message_note (at_member at w s)) (link_units m w.link piece s.moment s.chances.left)) old
       (notes_good Now (at_member at w s) (link_units m w.link piece s.moment s.chances.left)))
 

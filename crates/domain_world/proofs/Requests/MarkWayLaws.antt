@@ -25,19 +25,21 @@ use Rattle.member_server.specs.Turns.{AtTurn}
 use Rattle.channel_turns.specs.declared.state.TurnTalk.{TurnTalk}
 use Rattle.channel_events.specs.Marks.{Mark, Plain}
 use Rattle.step_notes.specs.ControllerNotes.{Where, answer_on, call_answer, channel_in, has_passed, heard_answer, judging_by, judging_of, opened_by, opened_mark, opening, passing, reply_mark, units_of_controller}
-use Rattle.step_notes.specs.Marking.{answered_marks, mark_if, turn_marks}
-use Rattle.step_notes.specs.MemberNotes.{asked_note, taken_note, taking_at, taking_note, turn_note, turn_units}
-use Rattle.step_notes.specs.Records.{Book, Judging, computer_named, unit_in}
+use Rattle.step_notes.specs.Marking.{answered_marks, mark_if}
+use Rattle.step_notes.specs.MemberNotes.{asked_note, taken_note, taking_at, taking_note, turn_note, turn_units, TurnNote}
+use Rattle.step_notes.specs.Records.{Book, Judging, computer_named, unit_in, OfMember, RequesterId}
 use Rattle.controller_calls.specs.declared.calls.ControllerCall.{ControllerCall}
 use Rattle.step_notes.specs.Served.{work_after}
 use Rattle.world_moves.specs.declared.bag.BagUnit.{BagUnit}
 use Rattle.world_moves.specs.declared.moves.Move.{Move}
 use Rattle.world_moves.specs.declared.plan.Plan.{Plan}
+use Rattle.world_moves.specs.declared.state.State.{State}
 use Rattle.domain_world.specs.Accepting.Answered.{IsItsWay, MarksHaveTheirWay}
-use Rattle.domain_world.specs.Past.{at_controller, controller_of, is_sent_on, marks_by, marks_of, past}
+use Rattle.domain_world.specs.Past.{at_controller, is_sent_on, marks_by, marks_of, past, controller_asked}
 use Rattle.channel_events.proofs.ListLaws.{got_nothing, some_is}
-use Rattle.domain_world.proofs.Frames.BagFrameLaws.{IsOfUnit, MarksStay, UnitFact, run_stays_marked}
+use Rattle.domain_world.proofs.Frames.BagFrameLaws.{IsOfUnit, MarksStay, UnitFact, run_stays_marked, member_marks}
 use Rattle.domain_world.proofs.Frames.FrameLaws.{Fact, StaysWritten}
+use Rattle.domain_world.proofs.Frames.TurnFrameLaws.{asked_marks}
 
 -- ---- what each end marks
 
@@ -112,11 +114,12 @@ answers_way link w (unit ∷ units) =
     if_marked IsReply (answer_on link w unit).sends (answer_on link w unit).mark (answered_marks (map (answer_on link w) units))
     (heard_way (hear link unit.bytes unit.talk) w unit.work (work_after unit.part)) (answers_way link w units)
 
-pub turns_way : (controller : ℕ) (units : List (ServedUnit AtTurn TurnTalk)) → AllByRecursion IsRequest (turn_marks (map (turn_note controller) units))
-turns_way controller [] = tt
-turns_way controller (unit ∷ units) =
-    if_marked IsRequest (turn_note controller unit).sends (turn_note controller unit).mark (turn_marks (map (turn_note controller) units))
-    (taking_way (taking_at unit) controller unit.work.work.logons.channel) (turns_way controller units)
+pub turns_way : (who : RequesterId) (s : State) (units : List (ServedUnit AtTurn TurnTalk)) → AllByRecursion IsRequest (asked_marks who s units)
+turns_way who s [] = tt
+turns_way who s (unit ∷ units) =
+    let note : TurnNote = turn_note (controller_asked who s) unit in
+    if_marked IsRequest note.sends note.mark (asked_marks who s units)
+    (taking_way (taking_at unit) (controller_asked who s) unit.work.work.logons.channel) (turns_way who s units)
 
 -- ---- which unit gets which mark
 
@@ -185,8 +188,8 @@ ways_stay = record {
       (all_at IsReply (answered_marks (map (answer_on w.link (at_controller at c w s)) (units_of_controller c w.link piece s.moment s.chances.left))) new.place mark
       (answers_way w.link (at_controller at c w s) (units_of_controller c w.link piece s.moment s.chances.left)) new.marked);
   members = λ m at w piece s b there holds side even units is on place unit mark got marked.
-      units_onward w.link units (turn_marks (map (turn_note (controller_of at s)) (turn_units m w.link piece s.moment s.chances.left)))
-      (turns_way (controller_of at s) (turn_units m w.link piece s.moment s.chances.left)) place unit mark got marked;
+      units_onward w.link units (member_marks at m w piece s)
+      (turns_way (OfMember at) s (turn_units m w.link piece s.moment s.chances.left)) place unit mark got marked;
 }
 
 -- in every run

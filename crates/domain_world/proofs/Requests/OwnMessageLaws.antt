@@ -1,36 +1,33 @@
 -- In every run each logon that a member keeps is that of a message which is written down, on its link; and each member
 -- asks for what it keeps. It goes with what is written down, through each step of an end. It serves
 -- `messages_are_called`.
-use Rattle.std.proofs.Common.{◌≡◌, ℕ, zero, suc, false, List, [], ◌∷◌, ◌++◌, length, map, inl, inr, Option, Some, refl, subst, slice_get, slice_set}
+use Rattle.std.proofs.Common.{◌≡◌, ℕ, zero, suc, List, [], ◌∷◌, ◌++◌, length, map, inl, inr, Option, Some, refl, subst, slice_get, slice_set}
 use Rattle.std.specs.Prelude.{flat_map}
 use Rattle.std.specs.List.{AllByRecursion}
 use Rattle.outside.specs.declared.event.Event.{Event}
 use Rattle.outside.specs.declared.event.Event.TheVariants as event
-use Rattle.end_links.specs.Serving.{ServedUnit}
 use Rattle.member_server.specs.Machine.{fresh_member, step_of}
 use Rattle.member_server.specs.State.{State as MemberState}
 use Rattle.member_server.specs.declared.plan.MemberPlan.{MemberPlan}
-use Rattle.member_server.specs.Turns.{AtTurn}
 use Rattle.member_server.specs.declared.state.Logon.{Logon}
 use Rattle.member_server.specs.declared.state.Phase.{Phase}
 use Rattle.member_server.specs.declared.state.Running.{Running}
-use Rattle.channel_turns.specs.declared.state.TurnTalk.{TurnTalk}
 use Rattle.channel_events.specs.Marks.{OneOf}
 use Rattle.step_notes.specs.CallLogons.{AsksUnlessStopped}
 use Rattle.step_notes.specs.MemberNotes.{LinkAt, link_of_place, link_units, message_note, taken_link, turn_units}
-use Rattle.step_notes.specs.Records.{Book, MessageTaken, unit_in}
+use Rattle.step_notes.specs.Records.{Book, MessageTaken, unit_in, OfMember}
 use Rattle.world_moves.specs.declared.state.State.{State}
-use Rattle.domain_world.specs.Past.{Coming, at_member, change_message, controller_of, note_member, note_messages, note_turns, numbers_on, with_answer, with_call}
+use Rattle.domain_world.specs.Past.{Coming, at_member, change_message, note_member, note_messages, with_answer, with_call}
 use Rattle.step_notes.proofs.Members.CallKeptLaws.{fresh_asks, step_asks}
 use Rattle.step_notes.proofs.Members.KeptLogonLaws.{Dials, IsFor, KeptIn, bytes_keep, kept_so, one_before, step_keeps}
 use Rattle.step_notes.proofs.Members.UnservedLaws.{LinksIn, Opens, bytes_took, step_known, took_known}
 use Rattle.domain_world.proofs.Accepting.Messages.MessageNoteLaws.{changed, one_so}
 use Rattle.domain_world.proofs.Frames.FrameLaws.{Fact, StaysWritten}
 use Rattle.domain_world.proofs.Frames.NoBytesLaws.{IsNoBytes}
-use Rattle.domain_world.proofs.Frames.TurnFrameLaws.{notes_keep}
 use Rattle.domain_world.proofs.Frames.MemberFrameLaws.{AmongMembers, KeepsMembers, MembersFact, members_written}
 use Rattle.domain_world.proofs.Frames.EndNoteLaws.{messages_in, messages_so}
 use Rattle.domain_world.proofs.Frames.EventLaws.{quiet_no_bytes}
+use Rattle.domain_world.proofs.Frames.TurnFrameLaws.{asked_keep}
 
 -- ---- the message of a logon
 
@@ -45,17 +42,6 @@ HasMessage messages place logon = OneOf (IsOfLogon place logon) messages
 
 -- ---- what stays of a message as units of the turn are written down
 
-module _ (Fits : MessageTaken → Type 0) (call : (number : Option ℕ) (message : MessageTaken) → Fits message → Fits (with_call number message))
-    (answer : (number : Option ℕ) (message : MessageTaken) → Fits message → Fits (with_answer number message)) where
-  pub turns_stay : (controller : ℕ) (units : List (ServedUnit AtTurn TurnTalk)) (unit : Option ℕ) (numbers : List ℕ) (b : Book) → OneOf Fits b.messages →
-      OneOf Fits (note_turns controller units unit numbers b).messages
-  turns_stay controller units unit numbers b one =
-      notes_keep (λ (later : Book). OneOf Fits later.messages) unit
-      (λ note served number later has.
-      changed Fits (link_of_place note.answered served.work.work.logons) (with_answer unit) (answer unit)
-      (change_message (link_of_place note.called served.work.work.logons) (with_call number) later.messages)
-      (changed Fits (link_of_place note.called served.work.work.logons) (with_call number) (call number) later.messages has)) controller units numbers b one
-
 -- of the messages before bytes come at a member, after they are written down
 abbrev pub member_messages : ℕ → MemberState → Coming → List ℕ → State → State → Book → List MessageTaken
 member_messages at m w piece s after b = (note_member (Some m) at w piece s after b).messages
@@ -64,7 +50,11 @@ module _ (Fits : MessageTaken → Type 0) (call : (number : Option ℕ) (message
     (answer : (number : Option ℕ) (message : MessageTaken) → Fits message → Fits (with_answer number message)) (at : ℕ) (m : MemberState) (w : Coming) (piece : List ℕ) (s after : State) (b : Book) where
   pub noted_stays : OneOf Fits (note_messages at m w piece s b).messages → OneOf Fits (member_messages at m w piece s after b)
   noted_stays one =
-      turns_stay Fits call answer (controller_of at s) (turn_units m w.link piece s.moment s.chances.left) (unit_in w.source) (numbers_on w.link false s.bag after.bag) (note_messages at m w piece s b) one
+      asked_keep (OfMember at) w (turn_units m w.link piece s.moment s.chances.left) s after (note_messages at m w piece s b) (λ (later : Book). OneOf Fits later.messages)
+      (λ note served number later has.
+      changed Fits (link_of_place note.answered served.work.work.logons) (with_answer (unit_in w.source)) (answer (unit_in w.source))
+      (change_message (link_of_place note.called served.work.work.logons) (with_call number) later.messages)
+      (changed Fits (link_of_place note.called served.work.work.logons) (with_call number) (call number) later.messages has)) one
 
   pub member_stays : OneOf Fits b.messages → OneOf Fits (member_messages at m w piece s after b)
   member_stays one = noted_stays (one_before Fits b.messages (flat_map (message_note (at_member at w s)) (link_units m w.link piece s.moment s.chances.left)) one)

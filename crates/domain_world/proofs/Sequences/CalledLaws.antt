@@ -1,38 +1,36 @@
--- What is known of the calls of a member's turns says which calls were made on its open channel.
+-- What is known of the calls of a requester's turns says which calls were made on its open channel.
 -- It serves `Proved.sequences`.
-use Rattle.std.proofs.Common.{◌≡◌, ℕ, List, [], ◌∷◌, inl, inr, Option, Some, None, slice_get, refl, sym, ap, subst, ◌∙◌}
+use Rattle.std.proofs.Common.{◌≡◌, ℕ, List, [], ◌∷◌, inl, inr, Option, Some, None, refl, ap, subst, ◌∙◌}
 use Rattle.std.specs.List.{AllByRecursion}
 use Rattle.authenticators.specs.Channels.{ChannelIdentity}
-use Rattle.channel_client.specs.Effects.{stands_in, step_in}
+use Rattle.channel_client.specs.Effects.{step_in}
 use Rattle.channel_client.specs.declared.state.Pending.{Pending}
-use Rattle.channel_client.specs.declared.state.Standing.{Standing}
 use Rattle.channel_client.specs.declared.state.Step.{Step}
 use Rattle.channel_events.specs.Marks.{Mark, Calling}
-use Rattle.member_server.specs.State.{State as MemberState}
 use Rattle.member_server.specs.declared.state.Running.{Running}
 use Rattle.step_notes.specs.MemberNotes.{timestamp_bound}
-use Rattle.step_notes.specs.Records.{Book, ChannelTurn, Sent, OfMember}
+use Rattle.step_notes.specs.Records.{Book, ChannelTurn, Sent, RequesterId}
 use Rattle.world_moves.specs.declared.state.State.{State}
 use Rattle.domain_world.specs.Accepting.Sequences.{AreSoFar, CallsOfTurns, HasPassed, HavePassed, IsMadeOn, TurnsAreCalled}
 use Rattle.domain_world.specs.Claims.SharedSequences.{timestamps_on}
-use Rattle.domain_world.specs.Past.{Past, controller_of}
+use Rattle.domain_world.specs.Past.{Past, controller_asked}
 use Rattle.domain_world.proofs.Frames.MarkPlaceLaws.{got_map}
 use Rattle.domain_world.proofs.Requests.CallHoldsLaws.{mark_there, marks_in}
 use Rattle.domain_world.proofs.Sequences.CallTurnLaws.{AllDone, AreFar, AreFarBy, CallsMade, IsCalled, KnowsCalls}
 use Rattle.domain_world.proofs.Sequences.Own.OwnRunLaws.{own_stamps}
 use Rattle.domain_world.proofs.Sequences.Own.OwnTurnLaws.{mine}
 use Rattle.domain_world.proofs.Sequences.SeedTurnLaws.{stamps_on}
-use Rattle.domain_world.proofs.Frames.RequesterLaws.{StandsAtMember, stands_at}
+use Rattle.domain_world.proofs.Frames.RequesterLaws.{asker_in, RunsWith, asker_runs, stands_open}
 use Rattle.channel_client.specs.declared.state.Step.TheVariants as step
 
--- what is known of a member, if it runs
+-- what is known of a requester, if its end runs
 abbrev pub KnowsIf : (ℕ → Type 0) → List Mark → List ChannelTurn → ℕ → Option Running → Type 0
 KnowsIf Done marks own controller None = Unit {0}
 KnowsIf Done marks own controller (Some running) = KnowsCalls Done marks own controller running.logons.channel
 
--- of each member, after a move: its turns are those that are written down
+-- of each requester, after a move: its turns are those that are written down
 abbrev pub AllKnow : (ℕ → Type 0) → State → Book → Type 0
-AllKnow Done s b = (k : ℕ) (m : MemberState) → slice_get s.ends.members k ≡ Some m → KnowsIf Done (marks_in b.sent) (mine k b.turns) (controller_of k s) m.running
+AllKnow Done s b = (who : RequesterId) → KnowsIf Done (marks_in b.sent) (mine who b.turns) (controller_asked who s) (asker_in who s.ends)
 
 module _ (p : Past) (Done : ℕ → Type 0) (passed : (n : ℕ) → Done n → HasPassed p n) where
   abbrev marks : List Mark
@@ -72,14 +70,11 @@ module _ (p : Past) (Done : ℕ → Type 0) (passed : (n : ℕ) → Done n → H
   }
 
   pub turns_called : AllKnow Done p.world.state p.book → TurnsAreCalled p
-  turns_called all (OfMember member) channel o its =
-      let stands : StandsAtMember p.world.state member channel o its.turn = stands_at p.world.state member channel o its in
-      let running : Running = stands.running in
-      let c : ℕ = controller_of member p.world.state in
-      let own : List ChannelTurn = mine member p.book.turns in
-      let known : KnowsCalls Done marks own c running.logons.channel =
-      subst (λ (r : Option Running). KnowsIf Done marks own c r) stands.runs (all member stands.state stands.at) in
-      let open_channel : stands_in c running.logons.channel.caller.computer running.logons.channel.standing ≡ Some channel =
-      ap (λ (how : Standing). stands_in c running.logons.channel.caller.computer how) stands.open_so ∙ ap Some (sym stands.is) in
-      of_turns channel its.turn own (timestamps_on (OfMember member) channel p.book.turns) (own_stamps member channel p.book.turns)
-      (subst (λ (turn : Option Pending). CallsMade Done marks own channel turn) stands.is_turn (known channel open_channel))
+  turns_called all who channel o stands =
+      let c : ℕ = controller_asked who p.world.state in
+      let own : List ChannelTurn = mine who p.book.turns in
+      let with : RunsWith (asker_in who p.world.state.ends) stands.requester = asker_runs who p.world.state stands.requester stands.at in
+      let known : KnowsCalls Done marks own c stands.requester =
+      subst (KnowsCalls Done marks own c) with.is (subst (KnowsIf Done marks own c) with.runs (all who)) in
+      of_turns channel stands.turn own (timestamps_on who channel p.book.turns) (own_stamps who channel p.book.turns)
+      (subst (λ (turn : Option Pending). CallsMade Done marks own channel turn) stands.is_turn (known channel (stands_open p.world.state who channel o stands)))

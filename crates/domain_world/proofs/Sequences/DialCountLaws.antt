@@ -1,93 +1,86 @@
--- How many dials of a member there are: among what was given, among the dials that wait, and the one that is answered.
+-- How many dials of a requester there are: among what was given, among the dials that wait, and the one that is
+-- answered.
 -- It serves `Proved.own`.
 use Rattle.std.proofs.Common.{◌≡◌, ℕ, ◌+◌, ◌≤◌, Bool, true, false, List, [], ◌∷◌, ◌++◌, Option, Some, None, refl, ap, ◌∙◌, arith, if◌then◌else◌, sym}
 use Rattle.std.specs.Prelude.{not}
 use Rattle.std.specs.List.{filter}
-use Rattle.std.proofs.lemmas.Bool.Decides.{Decides-eqb}
 use Rattle.outside.specs.declared.action.Action.{Action}
 use Rattle.outside.specs.declared.action.Action.TheVariants.{Keep, Send, Dial, Close, Told, Judged}
 use Rattle.member_server.specs.Dials.{dial_of, dials_in}
+use Rattle.step_notes.specs.Records.{RequesterId}
 use Rattle.world_moves.specs.declared.links.EndId.{EndId}
-use Rattle.world_moves.specs.declared.links.EndId.TheVariants.{Member}
 use Rattle.world_moves.specs.declared.state.State.{State}
 use Rattle.world_moves.specs.declared.state.WaitingDial.{WaitingDial}
 use Rattle.world_moves.specs.Acting.{Given, dials_of_action, given_by, is_of_other, perform_quietly}
-use Rattle.world_moves.specs.Links.{same_end}
-
--- the end is that member
-abbrev pub is_member : ℕ → EndId → Bool
-is_member k end = same_end end (Member k)
+use Rattle.domain_world.proofs.Frames.RequesterLaws.{asking_end, asks_at}
 
 abbrev pub one_if : Bool → ℕ
 one_if false = 0
 one_if true = 1
 
--- the argument: whether its end is that member
+-- the argument: whether it asks at that end
 abbrev pub counted : Bool → Action → ℕ
 counted false what = 0
 counted true what = dial_of what
 
-abbrev pub given_dials : ℕ → Given → ℕ
-given_dials k [] = 0
-given_dials k (one ∷ given) = counted (is_member k one.0) one.1 + given_dials k given
+abbrev pub given_dials : RequesterId → Given → ℕ
+given_dials who [] = 0
+given_dials who (one ∷ given) = counted (asks_at who one.0) one.1 + given_dials who given
 
-abbrev pub waiting_dials : ℕ → List WaitingDial → ℕ
-waiting_dials k [] = 0
-waiting_dials k (dial ∷ dials) = one_if (is_member k dial.end) + waiting_dials k dials
+abbrev pub waiting_dials : RequesterId → List WaitingDial → ℕ
+waiting_dials who [] = 0
+waiting_dials who (dial ∷ dials) = one_if (asks_at who dial.end) + waiting_dials who dials
 
-abbrev pub answered_dials : ℕ → Option EndId → ℕ
-answered_dials k None = 0
-answered_dials k (Some end) = one_if (is_member k end)
+abbrev pub answered_dials : RequesterId → Option EndId → ℕ
+answered_dials who None = 0
+answered_dials who (Some end) = one_if (asks_at who end)
 
--- the dials of that member that weren't answered yet: the one that is answered just now, those that were given and
+-- its dials that weren't answered yet: the one that is answered just now, those that were given and
 -- aren't done, and those that wait
-abbrev pub dials_out : ℕ → Option EndId → Given → List WaitingDial → ℕ
-dials_out k d rest dials = answered_dials k d + given_dials k rest + waiting_dials k dials
+abbrev pub dials_out : RequesterId → Option EndId → Given → List WaitingDial → ℕ
+dials_out who d rest dials = answered_dials who d + given_dials who rest + waiting_dials who dials
 
 -- ---- what was given
 
-pub given_append : (k : ℕ) (given more : Given) → given_dials k (given ++ more) ≡ given_dials k given + given_dials k more
-given_append k [] more = omega arith
-given_append k (one ∷ given) more = omega (arith, given_append k given more)
+pub given_append : (who : RequesterId) (given more : Given) → given_dials who (given ++ more) ≡ given_dials who given + given_dials who more
+given_append who [] more = omega arith
+given_append who (one ∷ given) more = omega (arith, given_append who given more)
 
-pub given_other : (k : ℕ) (end : EndId) (actions : List Action) → is_member k end ≡ false → given_dials k (given_by end actions) ≡ 0
-given_other k end [] other = refl
-given_other k end (what ∷ actions) other = omega (arith, ap (λ (hit : Bool). counted hit what) other, given_other k end actions other)
+pub given_other : (who : RequesterId) (end : EndId) (actions : List Action) → asks_at who end ≡ false → given_dials who (given_by end actions) ≡ 0
+given_other who end [] other = refl
+given_other who end (what ∷ actions) other = omega (arith, ap (λ (hit : Bool). counted hit what) other, given_other who end actions other)
 
-pub given_own : (k : ℕ) (end : EndId) (actions : List Action) → is_member k end ≡ true → given_dials k (given_by end actions) ≡ dials_in actions
-given_own k end [] own = refl
-given_own k end (what ∷ actions) own = omega (arith, ap (λ (hit : Bool). counted hit what) own, given_own k end actions own)
-
-pub is_itself : (k : ℕ) → is_member k (Member k) ≡ true
-is_itself k = (Decides-eqb k k).1 refl
+pub given_own : (who : RequesterId) (end : EndId) (actions : List Action) → asks_at who end ≡ true → given_dials who (given_by end actions) ≡ dials_in actions
+given_own who end [] own = refl
+given_own who end (what ∷ actions) own = omega (arith, ap (λ (hit : Bool). counted hit what) own, given_own who end actions own)
 
 -- ---- dials that wait
 
-pub waiting_append : (k : ℕ) (dials more : List WaitingDial) → waiting_dials k (dials ++ more) ≡ waiting_dials k dials + waiting_dials k more
-waiting_append k [] more = omega arith
-waiting_append k (dial ∷ dials) more = omega (arith, waiting_append k dials more)
+pub waiting_append : (who : RequesterId) (dials more : List WaitingDial) → waiting_dials who (dials ++ more) ≡ waiting_dials who dials + waiting_dials who more
+waiting_append who [] more = omega arith
+waiting_append who (dial ∷ dials) more = omega (arith, waiting_append who dials more)
 
-forgotten_one : (keep : Bool) (k : ℕ) (end : EndId) (dial : WaitingDial) (dials : List WaitingDial) → waiting_dials k (filter (is_of_other end) dials) ≤ waiting_dials k dials →
-    waiting_dials k (if keep then dial ∷ filter (is_of_other end) dials else filter (is_of_other end) dials) ≤ waiting_dials k (dial ∷ dials)
-forgotten_one true k end dial dials few = omega (arith, few)
-forgotten_one false k end dial dials few = omega (arith, few)
+forgotten_one : (keep : Bool) (who : RequesterId) (end : EndId) (dial : WaitingDial) (dials : List WaitingDial) → waiting_dials who (filter (is_of_other end) dials) ≤ waiting_dials who dials →
+    waiting_dials who (if keep then dial ∷ filter (is_of_other end) dials else filter (is_of_other end) dials) ≤ waiting_dials who (dial ∷ dials)
+forgotten_one true who end dial dials few = omega (arith, few)
+forgotten_one false who end dial dials few = omega (arith, few)
 
-pub forgotten_few : (k : ℕ) (end : EndId) (dials : List WaitingDial) → waiting_dials k (filter (is_of_other end) dials) ≤ waiting_dials k dials
-forgotten_few k end [] = omega arith
-forgotten_few k end (dial ∷ dials) = forgotten_one (is_of_other end dial) k end dial dials (forgotten_few k end dials)
+pub forgotten_few : (who : RequesterId) (end : EndId) (dials : List WaitingDial) → waiting_dials who (filter (is_of_other end) dials) ≤ waiting_dials who dials
+forgotten_few who end [] = omega arith
+forgotten_few who end (dial ∷ dials) = forgotten_one (is_of_other end dial) who end dial dials (forgotten_few who end dials)
 
--- the argument: whether it is of that member
-gone_one : (hit : Bool) (k : ℕ) (dial : WaitingDial) (dials : List WaitingDial) → is_member k dial.end ≡ hit →
-    waiting_dials k (filter (is_of_other (Member k)) dials) ≡ 0 → waiting_dials k (filter (is_of_other (Member k)) (dial ∷ dials)) ≡ 0
-gone_one true k dial dials is none =
-    ap (λ (hit : Bool). waiting_dials k (if not hit then dial ∷ filter (is_of_other (Member k)) dials else filter (is_of_other (Member k)) dials)) is ∙ none
-gone_one false k dial dials is none =
-    ap (λ (hit : Bool). waiting_dials k (if not hit then dial ∷ filter (is_of_other (Member k)) dials else filter (is_of_other (Member k)) dials)) is
+-- the argument: whether it is one of its dials
+gone_one : (hit : Bool) (who : RequesterId) (dial : WaitingDial) (dials : List WaitingDial) → asks_at who dial.end ≡ hit →
+    waiting_dials who (filter (is_of_other (asking_end who)) dials) ≡ 0 → waiting_dials who (filter (is_of_other (asking_end who)) (dial ∷ dials)) ≡ 0
+gone_one true who dial dials is none =
+    ap (λ (hit : Bool). waiting_dials who (if not hit then dial ∷ filter (is_of_other (asking_end who)) dials else filter (is_of_other (asking_end who)) dials)) is ∙ none
+gone_one false who dial dials is none =
+    ap (λ (hit : Bool). waiting_dials who (if not hit then dial ∷ filter (is_of_other (asking_end who)) dials else filter (is_of_other (asking_end who)) dials)) is
     ∙ omega (arith, ap one_if is, none)
 
-pub gone_all : (k : ℕ) (dials : List WaitingDial) → waiting_dials k (filter (is_of_other (Member k)) dials) ≡ 0
-gone_all k [] = refl
-gone_all k (dial ∷ dials) = gone_one (is_member k dial.end) k dial dials refl (gone_all k dials)
+pub gone_all : (who : RequesterId) (dials : List WaitingDial) → waiting_dials who (filter (is_of_other (asking_end who)) dials) ≡ 0
+gone_all who [] = refl
+gone_all who (dial ∷ dials) = gone_one (asks_at who dial.end) who dial dials refl (gone_all who dials)
 
 -- ---- an action is done
 
@@ -99,15 +92,15 @@ one_counted : (hit : Bool) (peer : List ℕ) → counted hit (Dial peer) ≡ one
 one_counted false peer = refl
 one_counted true peer = refl
 
-dials_counted : (k : ℕ) (end : EndId) (what : Action) → waiting_dials k (dials_of_action end what) ≡ counted (is_member k end) what
-dials_counted k end (Dial peer) = omega (arith, one_counted (is_member k end) peer)
-dials_counted k end (Keep bytes) = sym (none_counted (is_member k end) (Keep bytes) refl)
-dials_counted k end (Send link bytes) = sym (none_counted (is_member k end) (Send link bytes) refl)
-dials_counted k end (Close link cause) = sym (none_counted (is_member k end) (Close link cause) refl)
-dials_counted k end (Told link outcome) = sym (none_counted (is_member k end) (Told link outcome) refl)
-dials_counted k end (Judged how) = sym (none_counted (is_member k end) (Judged how) refl)
+dials_counted : (who : RequesterId) (end : EndId) (what : Action) → waiting_dials who (dials_of_action end what) ≡ counted (asks_at who end) what
+dials_counted who end (Dial peer) = omega (arith, one_counted (asks_at who end) peer)
+dials_counted who end (Keep bytes) = sym (none_counted (asks_at who end) (Keep bytes) refl)
+dials_counted who end (Send link bytes) = sym (none_counted (asks_at who end) (Send link bytes) refl)
+dials_counted who end (Close link cause) = sym (none_counted (asks_at who end) (Close link cause) refl)
+dials_counted who end (Told link outcome) = sym (none_counted (asks_at who end) (Told link outcome) refl)
+dials_counted who end (Judged how) = sym (none_counted (asks_at who end) (Judged how) refl)
 
 -- it was out as much before
-pub done_same : (k : ℕ) (d : Option EndId) (rest : Given) (end : EndId) (what : Action) (s : State) →
-    dials_out k d rest (perform_quietly end what s).dials ≡ dials_out k d ((end, what) ∷ rest) s.dials
-done_same k d rest end what s = omega (arith, waiting_append k s.dials (dials_of_action end what), dials_counted k end what)
+pub done_same : (who : RequesterId) (d : Option EndId) (rest : Given) (end : EndId) (what : Action) (s : State) →
+    dials_out who d rest (perform_quietly end what s).dials ≡ dials_out who d ((end, what) ∷ rest) s.dials
+done_same who d rest end what s = omega (arith, waiting_append who s.dials (dials_of_action end what), dials_counted who end what)

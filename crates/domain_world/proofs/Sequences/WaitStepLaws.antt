@@ -19,7 +19,7 @@ use Rattle.member_server.specs.declared.state.Work.{Work}
 use Rattle.member_server.proofs.StepFrame.{KeepsEvent, PartHolds, WorkFact, dial_stays, dial_turns, event_keeps}
 use Rattle.member_server.proofs.DialLaws.{turns_dialled}
 use Rattle.step_notes.specs.MemberNotes.{turn_of}
-use Rattle.step_notes.specs.Records.{OfMember}
+use Rattle.step_notes.specs.Records.{RequesterId}
 use Rattle.domain_world.proofs.Sequences.Own.OwnTurnLaws.{turn_same, waits_dialled}
 
 -- ---- the dial after an event
@@ -66,11 +66,11 @@ as_left : (starts : Bool) (how : Dialling) (dial_work : DialWork) → IsDialledB
 as_left false how dial_work dials none = dials.1
 as_left true how dial_work dials none = absurd (omega (arith, dials.0, none))
 
-same_by : (controller k : ℕ) (running : Running) (part : Result (Part DialWork) StepRefused) (after : Part DialWork) → part ≡ Ok after → StaysOutIfTaken running.logons.channel running.dialling part →
-    turn_of controller (OfMember k) after.value.0.logons.channel ≡ turn_of controller (OfMember k) running.logons.channel
-same_by controller k running part after is stays =
+same_by : (controller : ℕ) (who : RequesterId) (running : Running) (part : Result (Part DialWork) StepRefused) (after : Part DialWork) → part ≡ Ok after → StaysOutIfTaken running.logons.channel running.dialling part →
+    turn_of controller who after.value.0.logons.channel ≡ turn_of controller who running.logons.channel
+same_by controller who running part after is stays =
     let out : StaysOut running.logons.channel running.dialling after.value = subst (λ (p : Result (Part DialWork) StepRefused). StaysOutIfTaken running.logons.channel running.dialling p) is stays in
-    turn_same controller (OfMember k) running.logons.channel after.value.0.logons.channel out.caller out.standing out.turn
+    turn_same controller who running.logons.channel after.value.0.logons.channel out.caller out.standing out.turn
 
 waits_or : (how : Dialling) (P : Type 0) → (IsWaiting how → P) → ((IsWaiting how → ⊥) → P) → P
 waits_or dialling.Nothing P first later = later (λ waits. waits)
@@ -85,18 +85,18 @@ answer_or (event.Dialled link) P first later = later (λ none. none)
 answer_or event.DialFailed P first later = later (λ none. none)
 answer_or event.Stop P first later = first tt
 
-pub same_turn : (controller k : ℕ) (running : Running) (what : Event) (now : ℕ) (left : List (List ℕ)) (after : Part DialWork) → event_part running what now left ≡ Ok after →
+pub same_turn : (controller : ℕ) (who : RequesterId) (running : Running) (what : Event) (now : ℕ) (left : List (List ℕ)) (after : Part DialWork) → event_part running what now left ≡ Ok after →
     TurnSteps running.logons.channel (by_event what running.dialling (work_of running) left) now after → IsInOrder (is_dialled running.dialling) running.logons → dials_in after.value.0.actions ≡ 0 →
-    IsWaiting after.value.1 → IsWaiting running.dialling × (turn_of controller (OfMember k) after.value.0.logons.channel ≡ turn_of controller (OfMember k) running.logons.channel)
-same_turn controller k running what now left after is steps order none waits =
+    IsWaiting after.value.1 → IsWaiting running.dialling × (turn_of controller who after.value.0.logons.channel ≡ turn_of controller who running.logons.channel)
+same_turn controller who running what now left after is steps order none waits =
     let first : Result (Part DialWork) StepRefused = by_event what running.dialling (work_of running) left in
     let mid = steps.part.value.0.logons.channel in
     let left_so : IsWaiting steps.part.value.1 = subst IsWaiting (as_left (can_start mid.turn mid.waiting) steps.part.value.1 after.value steps.dials none) waits in
-    waits_or running.dialling (IsWaiting running.dialling × (turn_of controller (OfMember k) after.value.0.logons.channel ≡ turn_of controller (OfMember k) running.logons.channel))
-    (λ was. answer_or what (IsWaiting running.dialling × (turn_of controller (OfMember k) after.value.0.logons.channel ≡ turn_of controller (OfMember k) running.logons.channel))
+    waits_or running.dialling (IsWaiting running.dialling × (turn_of controller who after.value.0.logons.channel ≡ turn_of controller who running.logons.channel))
+    (λ was. answer_or what (IsWaiting running.dialling × (turn_of controller who after.value.0.logons.channel ≡ turn_of controller who running.logons.channel))
     (λ quiet. (
       was,
-      same_by controller k running (event_part running what now left) after is
+      same_by controller who running (event_part running what now left) after is
           (turns_dialled.waits running what now left was quiet (subst (λ (b : Bool). IsInOrder b running.logons) (waits_dialled running.dialling was) order)),
     ))
     (λ answers. absurd (never_after first steps.part steps.is (answer_not what running.dialling (work_of running) left answers) left_so)))

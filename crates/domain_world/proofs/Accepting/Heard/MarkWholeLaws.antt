@@ -31,7 +31,7 @@ use Rattle.domain_world.proofs.Accepting.CarriedLaws.{one_whole}
 use Rattle.channel_events.specs.Marks.{Mark, Plain, Opening, Opened, Calling, ReplyTo}
 use Rattle.step_notes.specs.JudgedInRange.{IsReadAsMade}
 use Rattle.step_notes.specs.MemberNotes.{turn_units}
-use Rattle.step_notes.specs.Records.{Book, Judging, Sent, unit_in}
+use Rattle.step_notes.specs.Records.{Book, Judging, Sent, OfMember}
 use Rattle.step_notes.specs.ReplySends.{IsOpeningReply, IsReplyOfCall}
 use Rattle.step_notes.proofs.Controllers.JudgedInRangeLaws.{replies_are_read}
 use Rattle.world_moves.specs.declared.bag.BagUnit.{BagUnit}
@@ -50,7 +50,7 @@ use Rattle.world_moves.specs.Links.{is_own, kind_of}
 use Rattle.world_moves.proofs.LinkFrameLaws.{IsOnLink, actions_stay}
 use Rattle.domain_world.specs.Accepting.Carried.{IsAsMarked, IsNoAnswer, IsPlain, MarkedUnitsAreWhole, IsNotJudged, call_judged}
 use Rattle.domain_world.specs.Claims.Replies.{IsReplyOfOne}
-use Rattle.domain_world.specs.Past.{Coming, at_controller, controller_of, marks_of, note_at, note_controller, note_given, note_member, note_messages, note_turns, numbers_on, past, sent_at}
+use Rattle.domain_world.specs.Past.{Coming, at_controller, marks_of, note_at, note_controller, note_given, note_member, note_messages, past, sent_at, controller_asked}
 use Rattle.channel_events.proofs.ListLaws.{got_append, got_nothing, some_is}
 use Rattle.domain_world.proofs.Accepting.Heard.HeardFrontLaws.{IsOfRequest, of_request, opens_no_logon, reply_no_call}
 use Rattle.domain_world.proofs.Accepting.Heard.HeardUnitLaws.{heard_stub}
@@ -71,7 +71,7 @@ use Rattle.domain_world.proofs.Frames.NewUnitLaws.{new_or_plain}
 use Rattle.domain_world.proofs.Frames.OpenMadeLaws.{IsAtSide, IsMore, MoreOf, goes_on, no_more}
 use Rattle.domain_world.proofs.Frames.StepFrameLaws.{HoldsAfterRun, run_keeps}
 use Rattle.domain_world.proofs.Judgements.ReplyLaws.{replies_carry}
-use Rattle.domain_world.proofs.Frames.TurnFrameLaws.{turns_sent}
+use Rattle.domain_world.proofs.Frames.TurnFrameLaws.{turns_sent, asked_book}
 use Rattle.domain_world.proofs.Frames.PlacedLaws.{bytes_in, HasBytes}
 use Rattle.domain_world.proofs.Frames.EndNoteLaws.{acted_by}
 use Rattle.domain_world.proofs.Frames.PlainFormLaws.{heard_plain, plain_is}
@@ -180,11 +180,11 @@ member_fits m at w piece s b is quiet came same each =
     let marks : List Mark = member_marks at m w piece s in
     let more : IsMore s.links s.bag after.links after.bag = actions_stay (MoreOf s.links s.bag) (goes_on s.links s.bag) (Member at) heard.actions heard.state (no_more s.links s.bag) in
     let sends : SendsIf (IsDialledBy s.links at w.link) w.link marks heard.actions =
-    member_sends (IsDialledBy s.links at) (controller_of at s) w.link piece s.chances.left (λ own. comes_whole w.source s w piece quiet.bag came (at, own.controller, own.at)) m s.moment
+    member_sends (IsDialledBy s.links at) (controller_asked (OfMember at) s) w.link piece s.chances.left (λ own. comes_whole w.source s w piece quiet.bag came (at, own.controller, own.at)) m s.moment
     (λ running runs. known_running s.links at m.running running runs (quiet.members at m is)) in
-    let old : List Sent = (note_turns (controller_of at s) (turn_units m w.link piece s.moment s.chances.left) (unit_in w.source) (numbers_on w.link false s.bag after.bag) (note_messages at m w piece s b)).sent in
+    let old : List Sent = (asked_book (OfMember at) w (turn_units m w.link piece s.moment s.chances.left) s after (note_messages at m w piece s b)).sent in
     let kept : old ≡ b.sent =
-    turns_sent (controller_of at s) (turn_units m w.link piece s.moment s.chances.left) (unit_in w.source) (numbers_on w.link false s.bag after.bag) (note_messages at m w piece s b) in
+    turns_sent (OfMember at) w (turn_units m w.link piece s.moment s.chances.left) s after (note_messages at m w piece s b) in
     subst (λ (sent : List Sent). OfEachUnit OfMark tt after.bag (sent ++ map (sent_at w.at) (marks_of w.link false (drop (length s.bag) after.bag) marks))) (sym kept)
     (fit_more s.bag after.bag more.units b.sent w.link false marks w.at more.is same
     (λ place unit mark there marked.

@@ -21,7 +21,7 @@ use Rattle.member_server.specs.declared.state.Talk.{Talk}
 use Rattle.channel_turns.specs.declared.state.TurnTalk.{TurnTalk}
 use Rattle.channel_events.specs.Marks.{OneOf}
 use Rattle.step_notes.specs.MemberNotes.{LinkAt, TurnNote, challenge_note, link_of_place, link_units, message_note, taken_link, turn_units}
-use Rattle.step_notes.specs.Records.{Book, ChallengeSent, MessageTaken, blank, unit_in}
+use Rattle.step_notes.specs.Records.{Book, ChallengeSent, MessageTaken, blank, unit_in, OfMember}
 use Rattle.step_notes.proofs.Members.UnservedLaws.{LinksIn, Opens, in_so, step_known}
 use Rattle.step_notes.proofs.Members.RestLaws.{member_leaves}
 use Rattle.world_moves.specs.declared.links.EndId.TheVariants.{Member}
@@ -32,7 +32,7 @@ use Rattle.world_moves.specs.declared.state.State.{State}
 use Rattle.world_moves.specs.Links.{acceptor_of}
 use Rattle.world_moves.specs.World.{first_world}
 use Rattle.domain_world.specs.Accepting.KeysMade.{IsTakenAsSent, MessagesAreTakenAsSent}
-use Rattle.domain_world.specs.Past.{Coming, Past, at_member, change_if, change_message, controller_of, note_member, note_messages, note_turn, note_turns, numbers_on, past, with_answer, with_call}
+use Rattle.domain_world.specs.Past.{Coming, Past, at_member, change_if, change_message, note_member, note_messages, note_turn, past, with_answer, with_call}
 use Rattle.channel_events.proofs.ListLaws.{got_behind}
 use Rattle.domain_world.proofs.Accepting.Messages.ChallengeLinkLaws.{BytesCome, KnownAfter, KnownAt, ReadOf, bytes_come, so_far}
 use Rattle.domain_world.proofs.Accepting.Messages.ChallengeReadLaws.{AreTakenWith, IsTakenWith}
@@ -41,9 +41,9 @@ use Rattle.domain_world.proofs.Challenges.MessageOnceLaws.{each_put, fresh_links
 use Rattle.domain_world.proofs.Challenges.OwnLinkLaws.{IsLinkIn, IsTakenIn, all_so, all_taken, link_more, one_behind, one_earlier}
 use Rattle.domain_world.proofs.Frames.FrameLaws.{run_stays}
 use Rattle.domain_world.proofs.Frames.LeftLaws.{AreEights, eights_after, eights_rest, first_eights}
-use Rattle.domain_world.proofs.Frames.TurnFrameLaws.{notes_keep}
 use Rattle.domain_world.proofs.Frames.AllLaws.{all_join}
 use Rattle.domain_world.proofs.Frames.MemberFrameLaws.{AmongMembers, KeepsMembers, MembersFact, members_written}
+use Rattle.domain_world.proofs.Frames.TurnFrameLaws.{asked_keep}
 
 -- ---- what is kept
 
@@ -256,11 +256,6 @@ turn_for note served unit number b members links left kept =
       eights = kept.eights;
     }
 
-turns_for : (controller : ℕ) (units : List (ServedUnit AtTurn TurnTalk)) (unit : Option ℕ) (numbers : List ℕ) (b : Book) (members : List MemberState) (links : List Route) (left : List (List ℕ)) →
-    IsSoOf b members links left → IsSoOf (note_turns controller units unit numbers b) members links left
-turns_for controller units unit numbers b members links left kept =
-    notes_keep (λ (later : Book). IsSoOf later members links left) unit (λ note served number later so. turn_for note served unit number later members links left so) controller units numbers b kept
-
 member_heard : (m : MemberState) (at : ℕ) (w : Coming) (piece : List ℕ) (s after : State) (b : Book) → slice_get s.ends.members at ≡ Some m →
     AreAsSent (written_of b) s.ends.members s.links s.chances.left →
     AreAsSent (written_of (note_member (Some m) at w piece s after b)) (slice_set s.ends.members at (step_of m (event.Bytes w.link piece) s.moment s.chances.left).state) s.links
@@ -270,8 +265,10 @@ member_heard m at w piece s after b is kept =
     let units : List (ServedUnit AtLink Talk) = link_units m w.link piece s.moment s.chances.left in
     let what : Event = event.Bytes w.link piece in
     let new : MemberState = (step_of m what s.moment s.chances.left).state in
-    turns_for (controller_of at s) (turn_units m w.link piece s.moment s.chances.left) (unit_in w.source) (numbers_on w.link false s.bag after.bag) (note_messages at m w piece s b) (slice_set s.ends.members at new)
-    s.links (step_of m what s.moment s.chances.left).left
+    let left : List (List ℕ) = (step_of m what s.moment s.chances.left).left in
+    asked_keep (OfMember at) w (turn_units m w.link piece s.moment s.chances.left) s after (note_messages at m w piece s b)
+    (λ (later : Book). IsSoOf later (slice_set s.ends.members at new) s.links left)
+    (λ note served number later so. turn_for note served (unit_in w.source) number later (slice_set s.ends.members at new) s.links left so)
     (member_came (written_of b) (flat_map (challenge_note l) units) (flat_map (message_note l) units) s.ends.members s.links s.chances.left (step_of m what s.moment s.chances.left).left at w.link new kept
     (eights_rest (step_of m what s.moment s.chances.left).left s.chances.left (member_leaves m what s.moment s.chances.left) kept.eights)
     (all_so (IsTakenIn l (flat_map (taken_link l) units)) (λ (one : MessageTaken). one.link ≡ w.link) (λ one its. its.0) (flat_map (message_note l) units) (all_taken l units))

@@ -14,8 +14,8 @@ use Rattle.domain_controller.specs.declared.state.Talk.{Talk}
 use Rattle.channel_events.specs.Marks.{Mark, Plain, Opening, Opened, Calling, ReplyTo}
 use Rattle.channel_events.proofs.ListLaws.{all_weaker, got_nothing, some_is}
 use Rattle.step_notes.specs.ControllerNotes.{Where, answer_on, call_answer, identity_by, channel_in, has_passed, heard_answer, judging_by, judging_of, opened_by, opened_mark, opening, passing, reply_mark, units_of_controller}
-use Rattle.step_notes.specs.Marking.{answered_marks, mark_channel, turn_marks}
-use Rattle.step_notes.specs.Records.{Book, Judging, computer_named, unit_in}
+use Rattle.step_notes.specs.Marking.{answered_marks, mark_channel}
+use Rattle.step_notes.specs.Records.{Book, Judging, computer_named, unit_in, OfMember}
 use Rattle.controller_calls.specs.declared.calls.ControllerCall.{ControllerCall}
 use Rattle.step_notes.specs.Served.{work_after}
 use Rattle.world_moves.specs.declared.bag.BagUnit.{BagUnit}
@@ -23,11 +23,11 @@ use Rattle.world_moves.specs.declared.moves.Move.{Move}
 use Rattle.world_moves.specs.declared.plan.Plan.{Plan}
 use Rattle.world_moves.specs.World.{first_world}
 use Rattle.domain_world.specs.Accepting.Answered.{IsItsWay}
-use Rattle.domain_world.specs.Past.{at_controller, controller_of, is_sent_on, marks_by, marks_of, past}
-use Rattle.step_notes.specs.MemberNotes.{turn_note, turn_units}
+use Rattle.domain_world.specs.Past.{at_controller, is_sent_on, marks_by, marks_of, past}
+use Rattle.step_notes.specs.MemberNotes.{turn_units}
 use Rattle.domain_world.proofs.Accepting.Turns.TurnFactLaws.{MarksAreKnown}
 use Rattle.domain_world.proofs.Accepting.Turns.TurnQuietLaws.{step_same}
-use Rattle.domain_world.proofs.Frames.BagFrameLaws.{IsOfUnit, MarksStay, UnitFact, run_stays_marked}
+use Rattle.domain_world.proofs.Frames.BagFrameLaws.{IsOfUnit, MarksStay, UnitFact, run_stays_marked, member_marks}
 use Rattle.domain_world.proofs.Frames.FrameLaws.{Fact, StaysWritten, run_stays}
 use Rattle.domain_world.proofs.Requests.MarkWayLaws.{IsRequest, all_at, if_marked, marks_have_their_way, turns_way}
 use Rattle.controller_calls.specs.declared.calls.ControllerCall.TheVariants as call
@@ -149,10 +149,10 @@ module _ (count : ℕ) where
         (answers_known w.link (at_controller at c w s) (units_of_controller c w.link piece s.moment s.chances.left)
         (subst (λ (n : ℕ). at < n) holds (got_within s.ends.controllers at c there))) new.marked;
     members = λ m at w piece s b there holds side even units is on place unit mark got marked.
-        let marks : List Mark = turn_marks (map (turn_note (controller_of at s)) (turn_units m w.link piece s.moment s.chances.left)) in
+        let marks : List Mark = member_marks at m w piece s in
         all_at IsKnownMark (marks_of w.link false units marks) place mark
         (marks_all w.link false units marks
-        (all_weaker IsRequest IsKnownMark marks request_known (turns_way (controller_of at s) (turn_units m w.link piece s.moment s.chances.left)))) marked;
+        (all_weaker IsRequest IsKnownMark marks request_known (turns_way (OfMember at) s (turn_units m w.link piece s.moment s.chances.left)))) marked;
   }
 
   -- by which way the unit goes

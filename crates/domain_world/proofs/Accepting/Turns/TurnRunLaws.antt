@@ -1,12 +1,10 @@
 -- In every schedule answers are taken in turn and told: what that rests on holds of each state, since calls stay apart
 -- there, what is under way is whole, and draws differ. It serves `answers_are_taken_in_turn`.
-use Rattle.std.proofs.Common.{◌≡◌, ℕ, ◌-◌, List, [], ◌++◌, length, Option, Some, ap, sym, subst, ◌∙◌, arith}
+use Rattle.std.proofs.Common.{◌≡◌, ℕ, ◌-◌, List, [], ◌++◌, length, Some, ap, sym, subst, ◌∙◌, arith}
 use Rattle.outside.specs.Counter.{most_draws}
 use Rattle.outside.specs.declared.event.Event.TheVariants as event
 use Rattle.outside.proofs.CounterLaws.{challenges_from-distinct, challenges_from-none}
 use Rattle.member_server.specs.declared.state.Logon.{Logon}
-use Rattle.member_server.specs.declared.state.Running.{Running}
-use Rattle.step_notes.specs.ChannelNames.{standing_channel}
 use Rattle.step_notes.specs.Records.{Book, blank}
 use Rattle.step_notes.proofs.Members.KeptLogonLaws.{kept_so}
 use Rattle.world_moves.specs.declared.moves.Move.{Move}
@@ -18,10 +16,8 @@ use Rattle.world_moves.specs.Forms.{IsSchedule}
 use Rattle.world_moves.specs.Links.{acceptor_of}
 use Rattle.world_moves.specs.World.{first_world}
 use Rattle.domain_world.specs.Accepting.ReadBack.{TurnsAreHeard}
-use Rattle.domain_world.specs.Accepting.Runs.{AskedIsOut, IsOut}
-use Rattle.domain_world.specs.Past.{controller_of, past}
+use Rattle.domain_world.specs.Past.{past}
 use Rattle.channel_events.specs.Marks.{Mark}
-use Rattle.channel_events.proofs.ListLaws.{one_weaker}
 use Rattle.channel_events.proofs.RequestLaws.{called_is}
 use Rattle.domain_world.specs.Schedules.{OfSchedules}
 use Rattle.domain_world.proofs.Accepting.LetInStepLaws.{IsDialledBy}
@@ -31,10 +27,10 @@ use Rattle.domain_world.proofs.Accepting.Turns.TurnFactLaws.{past_at}
 use Rattle.domain_world.proofs.Accepting.Turns.TurnKeepLaws.{TurnsHold, TurnsRestOn, turns_begin, turns_keep, turns_of}
 use Rattle.domain_world.proofs.Frames.DrawnRunLaws.{all_of, end_all, given_all}
 use Rattle.domain_world.proofs.Frames.StepFrameLaws.{ActionFact, AnyAction, BothFacts, BothFine, HoldsAfterRun, Keeps, NoFact, RunFact, WhileFew, all_any, join, run_keeps, while_few, with_side}
-use Rattle.domain_world.proofs.Requests.CallFrameLaws.{CallsKept, QuietSide, calls_keep, first_calls, out_of}
+use Rattle.domain_world.proofs.Requests.CallFrameLaws.{CallsKept, QuietSide, calls_keep, first_calls, out_at}
 use Rattle.domain_world.proofs.Requests.CallHoldsLaws.{CallsHold, differ_front, mark_there, marks_in}
 use Rattle.domain_world.proofs.Requests.CallStepLaws.{most_steps}
-use Rattle.domain_world.proofs.Requests.OutStepLaws.{HasOne, IsOutIn, OutFor}
+use Rattle.domain_world.proofs.Requests.OutStepLaws.{HasOne}
 use Rattle.domain_world.proofs.Requests.StepApartLaws.{Differ}
 
 -- ---- what was drawn and what is left, at each state
@@ -83,15 +79,6 @@ known_keep plan =
     (join QuietFact CallsKept QuietAction AnyAction quiet_keeps (with_side QuietSide QuietFact CallsKept AnyAction (λ n s given b quiet. is_quiet s quiet) calls_keep))
     (with_side NoFact (BothFacts QuietFact CallsKept) (DrawnOf plan) AnyAction (λ n s given b known. tt) (drawn_keep plan))
 
--- a call that is out is that of its message
-out_at : (plan : Plan) (n : ℕ) (s : State) (b : Book) → CallsHold n s.member_plans s.ends s.chances.drawn s.links b.sent b.messages → AskedIsOut (past_at plan s b)
-out_at plan n s b holds k m running pending logon there runs turn reply kept =
-    let out : OutFor b.sent b.messages (controller_of k s) k (Some running) =
-    subst (λ (r : Option Running). OutFor b.sent b.messages (controller_of k s) k r) runs (holds.members k m there).out in
-    one_weaker (IsOutIn b.sent k pending logon (standing_channel (controller_of k s) running.logons.channel))
-    (IsOut (past_at plan s b) k pending logon (standing_channel (controller_of k s) running.logons.channel)) b.messages
-    (λ message is. out_of (past_at plan s b) k pending logon (standing_channel (controller_of k s) running.logons.channel) message is) (out pending logon turn reply kept)
-
 -- so much holds where that is known
 pub rests_on : (plan : Plan) (n : ℕ) (s : State) (given : Given) (b : Book) → Known plan n s given b → WhileFew most_steps (TurnsRestOn plan) n s given b
 rests_on plan n s given b known few =
@@ -103,7 +90,7 @@ rests_on plan n s given b known few =
           kept_so (HasOne k b.messages) (λ (place : ℕ) (logon : Logon). Unit {0}) (λ (number : ℕ). IsDialledBy s.links k number) (λ (number : ℕ). IsDialledBy s.links k number)
           (λ place logon one. tt) (λ number dialled. dialled) m.running (holds.members k m there).kept;
       accepts = λ k m there. (holds.members k m there).accepts;
-      out = out_at plan n s b holds;
+      out = out_at (past_at plan s b) n holds;
       numbers = λ one other number timestamp later c d sent another there also mark mark_too same.
           holds.apart.distinct one other number c d
           (called_is (marks_in b.sent) one number timestamp c (mark_there b.sent one sent there ∙ ap (λ (m : Mark). Some m) mark))

@@ -1,7 +1,7 @@
 -- What holds of messages whose answer was taken, and of what is told, where bytes come at a member; and what it rests
 -- on. It serves `schedules_are_heard`.
 use Rattle.std.proofs.Common.{◌≡◌, ◌⊎◌, ℕ, ◌<◌, ◌≤◌, ◌==◌, Bool, true, false, List, [], ◌++◌, length, inl, inr, Option, Some, None, Result, Ok, Err, refl, sym, ap, subst, ◌∙◌, slice_get, arith}
-use Rattle.std.specs.Prelude.{flat_map, map}
+use Rattle.std.specs.Prelude.{flat_map}
 use Rattle.std.specs.List.{AllByRecursion}
 use Rattle.std.proofs.lemmas.Bool.{eqb-true}
 use Rattle.std.proofs.lemmas.List.{append-nil, length-set}
@@ -31,8 +31,8 @@ use Rattle.channel_events.proofs.ListLaws.{all_weaker, got_append, one_weaker, s
 use Rattle.step_notes.specs.CallLogons.{AsksUnlessStopped}
 use Rattle.step_notes.specs.ChannelNames.{standing_channel}
 use Rattle.step_notes.specs.Marking.{clashes}
-use Rattle.step_notes.specs.MemberNotes.{TurnNote, is_turn_link, link_units, message_note, taking_note, turn_note, turn_units, turn_units_by, turn_units_in, turn_units_on}
-use Rattle.step_notes.specs.Records.{Book, CallTaken, MessageTaken, OfMember, OutcomeTold, Sent, unit_in}
+use Rattle.step_notes.specs.MemberNotes.{TurnNote, is_turn_link, link_units, message_note, taking_note, turn_units, turn_units_by, turn_units_in, turn_units_on}
+use Rattle.step_notes.specs.Records.{Book, CallTaken, MessageTaken, OfMember, OutcomeTold, Sent, unit_in, RequesterId}
 use Rattle.step_notes.specs.Served.{units_if_taken}
 use Rattle.step_notes.proofs.Members.KeptLogonLaws.{IfDialled, KeptIn, each_so, kept_so, one_before}
 use Rattle.step_notes.proofs.Members.UnservedLaws.{LinksIn, in_so}
@@ -51,7 +51,7 @@ use Rattle.domain_world.specs.Accepting.Carried.{CallsHaveNumbers, IsWholeUnit}
 use Rattle.domain_world.specs.Accepting.ReadBack.{IsLetInInTurn}
 use Rattle.domain_world.specs.Accepting.Runs.{AskedIsOut, IsOut, IsQuiet, IsQuietTurn}
 use Rattle.domain_world.specs.Claims.{HasController}
-use Rattle.domain_world.specs.Past.{Coming, answers_by, at_member, controller_number, controller_of, controller_of_plan, first_of, note_member, note_messages, note_turns, numbers_on, told_in}
+use Rattle.domain_world.specs.Past.{Coming, answers_by, at_member, controller_number, controller_of_plan, first_of, note_member, note_messages, numbers_on, told_in, controller_asked}
 use Rattle.domain_world.proofs.Accepting.Heard.AnswerReadLaws.{HearsWhole}
 use Rattle.domain_world.proofs.Accepting.LetInStepLaws.{IsAcceptedBy, IsDialledBy}
 use Rattle.domain_world.proofs.Accepting.Quiet.QuietRunLaws.{one_piece}
@@ -64,7 +64,7 @@ use Rattle.domain_world.proofs.Challenges.MessageOnceLaws.{set_cases}
 use Rattle.domain_world.proofs.Frames.ComingLaws.{CameFrom, CameInUnit, IsPieceOf, came_in_unit, kept_same}
 use Rattle.domain_world.proofs.Frames.MemberPlanLaws.{controllers_alike}
 use Rattle.domain_world.proofs.Frames.OpenMadeLaws.{IsAtSide, side_of}
-use Rattle.domain_world.proofs.Frames.TurnFrameLaws.{notes_keep, turns_answers, turns_sent, turns_told}
+use Rattle.domain_world.proofs.Frames.TurnFrameLaws.{asked_leave, turns_sent, turns_told, asked_book, asked_notes, asked_keep}
 use Rattle.domain_world.proofs.Requests.WholeOutLaws.{noted as noted_by}
 use Rattle.domain_world.proofs.Accepting.LetInLaws.{none_if_taken}
 use Rattle.domain_world.proofs.Frames.AllLaws.{all_join}
@@ -129,9 +129,9 @@ other_units (Some running) link piece left is = on_units running.dialling link p
 
 -- ---- what the notes of a turn leave
 
-pub turns_clash : (controller : ℕ) (units : List (ServedUnit AtTurn TurnTalk)) (carried : Option ℕ) (numbers : List ℕ) (b : Book) → (note_turns controller units carried numbers b).clash ≡ false → b.clash ≡ false
-turns_clash controller units carried numbers b none =
-    notes_keep (λ (later : Book). later.clash ≡ false → b.clash ≡ false) carried (λ note served number later so apart. so (or_false later.clash _ apart).0) controller units numbers b (λ apart. apart) none
+pub turns_clash : (who : RequesterId) (w : Coming) (units : List (ServedUnit AtTurn TurnTalk)) (s after : State) (b : Book) → (asked_book who w units s after b).clash ≡ false → b.clash ≡ false
+turns_clash who w units s after b none =
+    asked_keep who w units s after b (λ (later : Book). later.clash ≡ false → b.clash ≡ false) (λ note served number later so apart. so (or_false later.clash _ apart).0) (λ apart. apart) none
 
 part_cases : (part : Result (Part DialWork) StepRefused) → ((p : Part DialWork) × (part ≡ Ok p)) ⊎ ((why : StepRefused) × (part ≡ Err why))
 part_cases (Ok p) = inl (p, refl)
@@ -142,6 +142,13 @@ part_cases (Err why) = inr (why, refl)
 module _ (plan : Plan) (k : ℕ) (w : Coming) (piece : List ℕ) (s after : State) (given : Given) (b : Book) where
   abbrev pub what : Event
   what = event.Bytes w.link piece
+
+  -- who asks there, and the controller that it asks
+  abbrev who : RequesterId
+  who = OfMember k
+
+  abbrev its : ℕ
+  its = controller_asked who s
 
   abbrev pub member : Option Running → MemberState
   member r = record { running = r }
@@ -168,7 +175,7 @@ module _ (plan : Plan) (k : ℕ) (w : Coming) (piece : List ℕ) (s after : Stat
   numbers = numbers_on w.link false s.bag after.bag
 
   abbrev pub turn_book : Option Running → Book
-  turn_book r = note_turns (controller_of k s) (units_of r) (unit_in w.source) numbers (first_book r)
+  turn_book r = asked_book who w (units_of r) s after (first_book r)
 
   abbrev pub book_after : Option Running → Book
   book_after r = note_member (Some (member r)) k w piece s after b
@@ -180,7 +187,7 @@ module _ (plan : Plan) (k : ℕ) (w : Coming) (piece : List ℕ) (s after : Stat
   pub sent_stays : (r : Option Running) (n : ℕ) (one : Sent) → slice_get b.sent n ≡ Some one → slice_get (book_after r).sent n ≡ Some one
   sent_stays r n one there =
       got_append (turn_book r).sent _ n one
-      (subst (λ (units : List Sent). slice_get units n ≡ Some one) (sym (turns_sent (controller_of k s) (units_of r) (unit_in w.source) numbers (first_book r))) there)
+      (subst (λ (units : List Sent). slice_get units n ≡ Some one) (sym (turns_sent who w (units_of r) s after (first_book r))) there)
 
   pub ends_same : (r : Option Running) → SameEnds s.ends (heard r).state.ends
   ends_same r = record { controllers = refl; members = sym (length-set s.ends.members k _); clients = refl }
@@ -219,11 +226,11 @@ module _ (plan : Plan) (k : ℕ) (w : Coming) (piece : List ℕ) (s after : Stat
 
   -- which answers are written down
   answers_from : (r : Option Running) →
-      (book_after r).answers ≡ b.answers ++ flat_map (answers_by (OfMember k) w.at (unit_in w.source) b.sent) (map (turn_note (controller_of k s)) (units_of r))
+      (book_after r).answers ≡ b.answers ++ flat_map (answers_by who w.at (unit_in w.source) b.sent) (asked_notes who s (units_of r))
   answers_from r =
-      let notes : List TurnNote = map (turn_note (controller_of k s)) (units_of r) in
-      ap (λ (old : List CallTaken). old ++ flat_map (answers_by (OfMember k) w.at (unit_in w.source) (turn_book r).sent) notes) (turns_answers (controller_of k s) (units_of r) (unit_in w.source) numbers (first_book r))
-      ∙ ap (λ (sent : List Sent). b.answers ++ flat_map (answers_by (OfMember k) w.at (unit_in w.source) sent) notes) (turns_sent (controller_of k s) (units_of r) (unit_in w.source) numbers (first_book r))
+      let notes : List TurnNote = asked_notes who s (units_of r) in
+      ap (λ (old : List CallTaken). old ++ flat_map (answers_by who w.at (unit_in w.source) (turn_book r).sent) notes) (asked_leave who w (units_of r) s after (first_book r) (λ (book : Book). book.answers) (λ note served unit number old. refl))
+      ∙ ap (λ (sent : List Sent). b.answers ++ flat_map (answers_by who w.at (unit_in w.source) sent) notes) (turns_sent who w (units_of r) s after (first_book r))
 
   -- as it is written down
   as_noted : (r : Option Running) (messages : List MessageTaken) (answers : List CallTaken) → (book_after r).messages ≡ messages → (book_after r).answers ≡ answers →
@@ -234,7 +241,7 @@ module _ (plan : Plan) (k : ℕ) (w : Coming) (piece : List ℕ) (s after : Stat
       let d : Book = book_after r in
       let same : told_yet (given ++ given_by (Member k) (heard r).actions) d ≡ told_yet given b ++ more_told r =
       yet_more given (given_by (Member k) (heard r).actions) d
-      ∙ ap (λ (old : List OutcomeTold). (old ++ told_in given 0) ++ more_told r) (turns_told (controller_of k s) (units_of r) (unit_in w.source) numbers (first_book r)) in
+      ∙ ap (λ (old : List OutcomeTold). (old ++ told_in given 0) ++ more_told r) (turns_told who w (units_of r) s after (first_book r)) in
       subst (λ (all : List OutcomeTold). TurnFacts plan t d d.messages d.answers all) (sym same)
       (subst (λ (m : List MessageTaken). TurnFacts plan t d m d.answers (told_yet given b ++ more_told r)) (sym is)
       (subst (λ (all : List CallTaken). TurnFacts plan t d messages all (told_yet given b ++ more_told r)) (sym also) facts))
@@ -245,9 +252,9 @@ module _ (plan : Plan) (k : ℕ) (w : Coming) (piece : List ℕ) (s after : Stat
       TurnFacts plan (heard r).state (book_after r) (book_after r).messages (book_after r).answers (told_yet (given ++ given_by (Member k) (heard r).actions) (book_after r))
   without_units r none known facts =
       as_noted r (messages_in r) b.answers
-      (ap (λ (units : List (ServedUnit AtTurn TurnTalk)). (note_turns (controller_of k s) units (unit_in w.source) numbers (first_book r)).messages) none)
+      (ap (λ (units : List (ServedUnit AtTurn TurnTalk)). (asked_book who w units s after (first_book r)).messages) none)
       (answers_from r
-      ∙ ap (λ (units : List (ServedUnit AtTurn TurnTalk)). b.answers ++ flat_map (answers_by (OfMember k) w.at (unit_in w.source) b.sent) (map (turn_note (controller_of k s)) units)) none
+      ∙ ap (λ (units : List (ServedUnit AtTurn TurnTalk)). b.answers ++ flat_map (answers_by who w.at (unit_in w.source) b.sent) (asked_notes who s units)) none
       ∙ append-nil b.answers) (more_facts r (messages_in r) (told_yet given b) known facts)
 
   other_comes : (r : Option Running) → IsOther r w.link → TurnFacts plan (heard r).state (book_after r) (messages_in r) b.answers (told_yet given b) →
@@ -319,44 +326,44 @@ module _ (plan : Plan) (k : ℕ) (w : Coming) (piece : List ℕ) (s after : Stat
           (subst (λ (part : Result (Part DialWork) StepRefused). AllByRecursion (IsKnown plan (heard run).state (book_after run) (messages_in run)) (told_in (given_by (Member k) (actions_by (answer_to part))) 0))
           (sym is) tt) before
 
-      noted : (part : Part DialWork) → part_of ≡ Ok part → IsTurnNoted (controller_of k s) running whole.0.unit (unit_in w.source) (first_of numbers) (first_book run) (turn_book run)
+      noted : (part : Part DialWork) → part_of ≡ Ok part → IsTurnNoted its running whole.0.unit (unit_in w.source) (first_of numbers) (first_book run) (turn_book run)
       noted part is =
           subst (λ (units : List (ServedUnit AtTurn TurnTalk)).
-          IsTurnNoted (controller_of k s) running whole.0.unit (unit_in w.source) (first_of numbers) (first_book run) (note_turns (controller_of k s) units (unit_in w.source) numbers (first_book run)))
+          IsTurnNoted its running whole.0.unit (unit_in w.source) (first_of numbers) (first_book run) (asked_book who w units s after (first_book run)))
           (sym (ap (λ (part : Result (Part DialWork) StepRefused). units_if_taken (answer_to part) (turn_units_in run w.link piece s.chances.left)) is))
-          (turn_noted (controller_of k s) running w.link piece whole.0.unit s.chances.left (unit_in w.source) numbers (first_book run) hears)
+          (turn_noted its running w.link piece whole.0.unit s.chances.left (unit_in w.source) numbers (first_book run) hears)
 
       answers_noted : (part : Part DialWork) → part_of ≡ Ok part →
-          (book_after run).answers ≡ b.answers ++ answers_by (OfMember k) w.at (Some u) b.sent (taking_note (Some (take_of running.logons.channel whole.0.unit)) (controller_of k s) running.logons.channel)
+          (book_after run).answers ≡ b.answers ++ answers_by who w.at (Some u) b.sent (taking_note (Some (take_of running.logons.channel whole.0.unit)) its running.logons.channel)
       answers_noted part is =
           answers_from run
           ∙ ap (λ (part : Result (Part DialWork) StepRefused).
-          b.answers ++ flat_map (answers_by (OfMember k) w.at (unit_in w.source) b.sent) (map (turn_note (controller_of k s)) (units_if_taken (answer_to part) (turn_units_in run w.link piece s.chances.left)))) is
-          ∙ ap (λ (all : List CallTaken). b.answers ++ all) (turn_answers (controller_of k s) running w.link piece whole.0.unit s.chances.left (OfMember k) w.at (unit_in w.source) b.sent hears)
+          b.answers ++ flat_map (answers_by who w.at (unit_in w.source) b.sent) (asked_notes who s (units_if_taken (answer_to part) (turn_units_in run w.link piece s.chances.left)))) is
+          ∙ ap (λ (all : List CallTaken). b.answers ++ all) (turn_answers its running w.link piece whole.0.unit s.chances.left who w.at (unit_in w.source) b.sent hears)
           ∙ ap (λ (unit : Option ℕ).
-          b.answers ++ answers_by (OfMember k) w.at unit b.sent (taking_note (Some (take_of running.logons.channel whole.0.unit)) (controller_of k s) running.logons.channel)) carried
+          b.answers ++ answers_by who w.at unit b.sent (taking_note (Some (take_of running.logons.channel whole.0.unit)) its running.logons.channel)) carried
 
       -- all that is known as a whole unit comes
       pub comes : (part : Part DialWork) → part_of ≡ Ok part →
-          ComesWhole plan k w.link u s (heard run).state b (book_after run) (messages_in run) running piece whole.0.unit (controller_of k s) s.moment s.chances.left part
+          ComesWhole plan k w.link u s (heard run).state b (book_after run) (messages_in run) running piece whole.0.unit its s.moment s.chances.left part
       comes part is = record {
         hears = hears;
         carries = record { carrier = piece_of.unit; there = piece_of.there; back = piece_of.back ∙ back; same = sym same_bytes };
         apart = apart;
         sent = sent_stays run;
-        unclashed = subst (λ (unit : Option ℕ). clashes (taking_note (Some (take_of running.logons.channel whole.0.unit)) (controller_of k s) running.logons.channel).checked unit b.sent ≡ false) carried
+        unclashed = subst (λ (unit : Option ℕ). clashes (taking_note (Some (take_of running.logons.channel whole.0.unit)) its running.logons.channel).checked unit b.sent ≡ false) carried
             ((noted part is).clash unclashed).1;
         controlled = λ few.
-            controller_stays (slice_get plan.members k) s.ends (heard run).state.ends (controller_of k s) (ends_same run)
-            (let alike : controller_of k s ≡ controller_of_plan (slice_get plan.members k) s.ends = controllers_alike plan.members s.member_plans k s.ends plans in
+            controller_stays (slice_get plan.members k) s.ends (heard run).state.ends its (ends_same run)
+            (let alike : its ≡ controller_of_plan (slice_get plan.members k) s.ends = controllers_alike plan.members s.member_plans k s.ends plans in
             subst (λ (n : ℕ). HasController (slice_get plan.members k) s.ends n) (sym alike)
             (own_controller (slice_get plan.members k) s.ends
-            (subst (λ (n : ℕ). n < length s.ends.controllers) alike (subst (λ (count : ℕ). controller_of k s < count) (sym (ends_same run).controllers) few))));
+            (subst (λ (n : ℕ). n < length s.ends.controllers) alike (subst (λ (count : ℕ). its < count) (sym (ends_same run).controllers) few))));
         marks = marks;
         asks = side.asks k (member run) there;
         free = each_so (HasFree k b.messages) (HasFree k (messages_in run)) (λ place logon one. one_before _ b.messages (new_in run) one) running.logons.asked (facts.free k (member run) there).0;
         out = λ pending logon turn asked kept.
-            one_before (IsOut (past_at plan s b) k pending logon (standing_channel (controller_of k s) running.logons.channel)) b.messages (new_in run)
+            one_before (IsOut (past_at plan s b) k pending logon (standing_channel its running.logons.channel)) b.messages (new_in run)
             (side.out k (member run) running pending logon there refl turn asked kept);
         numbers = side.numbers;
         done = is;
@@ -372,15 +379,15 @@ module _ (plan : Plan) (k : ℕ) (w : Coming) (piece : List ℕ) (s after : Stat
       taken : (part : Part DialWork) → part_of ≡ Ok part →
           TurnFacts plan (heard run).state (book_after run) (book_after run).messages (book_after run).answers (told_yet (given ++ given_by (Member k) (heard run).actions) (book_after run))
       taken part is =
-          let note = taking_note (Some (take_of running.logons.channel whole.0.unit)) (controller_of k s) running.logons.channel in
+          let note = taking_note (Some (take_of running.logons.channel whole.0.unit)) its running.logons.channel in
           let after : List MessageTaken = noted_by note running.logons (Some u) (first_of numbers) (messages_in run) in
-          let answers : List CallTaken = b.answers ++ answers_by (OfMember k) w.at (Some u) b.sent note in
+          let answers : List CallTaken = b.answers ++ answers_by who w.at (Some u) b.sent note in
           as_noted run after answers
           ((noted part is).messages ∙ ap (λ (unit : Option ℕ). noted_by note running.logons unit (first_of numbers) (messages_in run)) carried)
           (answers_noted part is)
           (subst (λ (answer : Result (List Action) StepRefused). TurnFacts plan (heard run).state (book_after run) after answers (told_yet given b ++ told_in (given_by (Member k) (actions_by answer)) 0))
           (sym (ap answer_to is))
-          (whole_facts plan k w.link u s (heard run).state b (book_after run) (messages_in run) running piece whole.0.unit (controller_of k s) s.moment s.chances.left part (comes part is) w.at
+          (whole_facts plan k w.link u s (heard run).state b (book_after run) (messages_in run) running piece whole.0.unit its s.moment s.chances.left part (comes part is) w.at
           b.answers (told_yet given b) before (first_of numbers)))
 
       turn_comes : TurnFacts plan (heard run).state (book_after run) (book_after run).messages (book_after run).answers (told_yet (given ++ given_by (Member k) (heard run).actions) (book_after run))
@@ -412,8 +419,8 @@ module _ (plan : Plan) (k : ℕ) (w : Coming) (piece : List ℕ) (s after : Stat
       (told_yet (given ++ given_by (Member k) t.actions) (note_member (Some m) k w piece s after b))
   member_comes side m there came at plans unclashed apart marks facts =
       let first : AreApart (links_in (messages_in m.running)) =
-      subst AreApart (turns_links (controller_of k s) (units_of m.running) (unit_in w.source) numbers (first_book m.running)) apart in
+      subst AreApart (turns_links who w (units_of m.running) s after (first_book m.running)) apart in
       running_comes side m.running there came at plans unclashed first marks
-      (facts (turns_clash (controller_of k s) (units_of m.running) (unit_in w.source) numbers (first_book m.running) unclashed)
+      (facts (turns_clash who w (units_of m.running) s after (first_book m.running) unclashed)
       (apart_front (links_in b.messages) (links_in (new_in m.running)) (subst AreApart (links_append b.messages (new_in m.running)) first))
       (marks_before s (heard m.running).state b (book_after m.running) (record { bag = kept_same s.bag; sent = sent_stays m.running; ends = ends_same m.running }) marks))

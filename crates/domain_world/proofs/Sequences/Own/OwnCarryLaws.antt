@@ -1,6 +1,6 @@
 -- What is known of the calls of members' turns is carried through a run, where it is kept as bytes come at a member.
 -- It serves `Proved.sequences`.
-use Rattle.std.proofs.Common.{◌≡◌, ℕ, ◌+◌, false, List, [], ◌++◌, inl, inr, Option, Some, None, slice_get, refl, sym, ap, subst, arith}
+use Rattle.std.proofs.Common.{◌≡◌, ℕ, ◌+◌, false, List, [], ◌++◌, Option, Some, None, slice_get, refl, sym, ap, subst, arith}
 use Rattle.std.proofs.lemmas.List.{length-set}
 use Rattle.outside.specs.Drawing.{Drawing}
 use Rattle.outside.specs.declared.action.Action.{Action}
@@ -14,7 +14,7 @@ use Rattle.member_server.specs.declared.plan.MemberPlan.{MemberPlan}
 use Rattle.channel_turns.specs.declared.state.Dialling.{Dialling}
 use Rattle.member_server.specs.declared.state.Running.{Running}
 use Rattle.member_server.proofs.AskedLaws.{asks_what_waits}
-use Rattle.step_notes.specs.Records.{Book, ChannelTurn, Sent, blank}
+use Rattle.step_notes.specs.Records.{Book, ChannelTurn, Sent, blank, OfMember, RequesterId}
 use Rattle.world_moves.specs.declared.links.EndId.{EndId}
 use Rattle.world_moves.specs.declared.links.EndId.TheVariants.{Client}
 use Rattle.world_moves.specs.declared.plan.Plan.{Plan}
@@ -26,13 +26,11 @@ use Rattle.world_moves.specs.Moving.{begun, renewed}
 use Rattle.world_moves.specs.World.{first_world}
 use Rattle.world_moves.proofs.EndKindLaws.{renew_by}
 use Rattle.domain_world.specs.Accepting.Sequences.{IsTakenFor}
-use Rattle.domain_world.specs.Past.{controller_of}
+use Rattle.domain_world.specs.Past.{controller_asked}
 use Rattle.domain_world.proofs.Accepting.Turns.TurnFactLaws.{AreApart, GrowsTo, SameEnds, marks_before, past_at}
 use Rattle.domain_world.proofs.Accepting.Turns.TurnQuietLaws.{renew_same, same_ends}
 use Rattle.domain_world.proofs.Challenges.MessageApartLaws.{links_in}
-use Rattle.domain_world.proofs.Challenges.MessageOnceLaws.{set_cases}
 use Rattle.domain_world.proofs.Frames.ComingLaws.{StillHas, kept_same}
-use Rattle.domain_world.proofs.Frames.MarkPlaceLaws.{got_map}
 use Rattle.domain_world.proofs.Frames.EventLaws.{by_no_bytes}
 use Rattle.domain_world.proofs.Frames.NoBytesLaws.{IsNoBytes}
 use Rattle.domain_world.proofs.Requests.CallHoldsLaws.{marks_in}
@@ -40,9 +38,10 @@ use Rattle.domain_world.proofs.Requests.StepApartLaws.{Differ, HearsNone}
 use Rattle.domain_world.proofs.Sequences.DialCountLaws.{given_append, given_other}
 use Rattle.domain_world.proofs.Sequences.Own.OwnFrameLaws.{StillDrawn, mine_drawn}
 use Rattle.domain_world.proofs.Sequences.Own.OwnKeepLaws.{OwnHolds}
-use Rattle.domain_world.proofs.Sequences.Own.OwnStayLaws.{HearsIf, MemberOwn, NoNewCalls, OwnFacts, all_stay, on_any, one_stays}
+use Rattle.domain_world.proofs.Sequences.Own.OwnStayLaws.{HearsIf, NoNewCalls, OwnFacts, all_stay, on_any, OwnBy, OwnOf, own_put}
 use Rattle.domain_world.proofs.Sequences.Own.OwnTurnLaws.{AreDrawn, mine}
 use Rattle.domain_world.proofs.Sequences.SeedTurnLaws.{turned_blank}
+use Rattle.domain_world.proofs.Frames.RequesterLaws.{not_client, asker_in, asker_first}
 
 -- ---- events at which no bytes come
 
@@ -66,15 +65,15 @@ module _ (plan : Plan) where
   changed n s t given b plans bag ends chances known few unclashed apart marks differ =
       let drawn : t.chances.drawn ≡ s.chances.drawn = ap (λ (c : Drawing). c.drawn) chances in
       let grows : GrowsTo s t b b = record { bag = bag; sent = λ k one there. there; ends = subst (λ (x : EndStates). SameEnds s.ends x) (sym ends) (same_ends s.ends) } in
-      all_stay plan s t b b given given plans grows (subst (λ (ds : List (List ℕ)). StillDrawn s.chances.drawn ds) (sym drawn) (λ challenge was. was)) refl
-      (ap (λ (e : EndStates). e.members) ends) (λ k. refl) (λ n number timestamp e there. there) (known few unclashed apart (marks_before s t b b grows marks) (subst Differ drawn differ))
+      all_stay plan s t b b plans grows given given (subst (λ (ds : List (List ℕ)). StillDrawn s.chances.drawn ds) (sym drawn) (λ challenge was. was)) refl
+      (ap (λ (e : EndStates). e.members) ends) (λ who. refl) (λ n number timestamp e there. there) (known few unclashed apart (marks_before s t b b grows marks) (subst Differ drawn differ))
 
   -- the book changes, and no call is written down
   pub book_changed : (n : ℕ) (t : State) (given : Given) (b d : Book) → ((k : ℕ) (one : Sent) → slice_get b.sent k ≡ Some one → slice_get d.sent k ≡ Some one) → (d.clash ≡ false → b.clash ≡ false) →
       (AreApart (links_in d.messages) → AreApart (links_in b.messages)) → d.turns ≡ b.turns → NoNewCalls (marks_in b.sent) (marks_in d.sent) → OwnHolds plan n t given b → OwnHolds plan n t given d
   book_changed n t given b d grown clash messages turns none known few unclashed apart marks differ =
       let grows : GrowsTo t t b d = record { bag = kept_same t.bag; sent = grown; ends = same_ends t.ends } in
-      all_stay plan t t b d given given refl grows (λ challenge was. was) turns refl (λ k. refl) none
+      all_stay plan t t b d refl grows given given (λ challenge was. was) turns refl (λ who. refl) none
       (known few (clash unclashed) (messages apart) (marks_before t t b d grows marks) differ)
 
   -- ---- a client begins
@@ -89,21 +88,21 @@ module _ (plan : Plan) where
         sent = λ k one there. there;
         ends = record { controllers = refl; members = refl; clients = sym (length-set s.ends.clients client _) };
       } in
-      all_stay plan s t b b given (given ++ given_by (Client client) actions) refl grows (λ challenge was. was) refl refl
-      (λ k. omega (arith, given_append k given (given_by (Client client) actions), given_other k (Client client) actions refl)) (λ n number timestamp e there. there)
+      all_stay plan s t b b refl grows given (given ++ given_by (Client client) actions) (λ challenge was. was) refl refl
+      (λ who. omega (arith, given_append who given (given_by (Client client) actions), given_other who (Client client) actions (not_client who client))) (λ n number timestamp e there. there)
       (known (omega (arith, few)) unclashed apart (marks_before s t b b grows marks) differ)
 
   -- ---- an end is made anew
 
-  fresh_own : (Done : ℕ → Type 0) (marks : List Mark) (drawn : List (List ℕ)) (turns : List ChannelTurn) (given : Given) (controller k : ℕ) (own : MemberPlan) → AreDrawn drawn turns →
-      MemberOwn Done marks drawn turns given controller k (fresh_member own).running
-  fresh_own Done marks drawn turns given controller k own before = (
+  fresh_own : (Done : ℕ → Type 0) (marks : List Mark) (drawn : List (List ℕ)) (turns : List ChannelTurn) (given : Given) (controller : ℕ) (who : RequesterId) (own : MemberPlan) → AreDrawn drawn turns →
+      OwnBy Done marks drawn turns given controller who (fresh_member own).running
+  fresh_own Done marks drawn turns given controller who own before = (
     asks_what_waits.fresh own,
     record {
-      own = mine k turns;
+      own = mine who turns;
       none = λ none. refl;
       one = λ one waits. absurd waits;
-      before = mine_drawn k drawn turns before;
+      before = mine_drawn who drawn turns before;
       turned = turned_blank _ _ drawn refl refl;
       calls = λ c is. absurd (let x = is in cc);
     },
@@ -112,7 +111,7 @@ module _ (plan : Plan) where
   module _ (s : State) (given : Given) (b : Book) where
     others_same : (ends : EndStates) → ends.members ≡ s.ends.members → SameEnds s.ends ends → OwnFacts plan s given b → OwnFacts plan (record s { ends = ends }) given b
     others_same ends members same old =
-        all_stay plan s (record s { ends = ends }) b b given given refl (record { bag = kept_same s.bag; sent = λ k one there. there; ends = same }) (λ challenge was. was) refl members (λ k. refl)
+        all_stay plan s (record s { ends = ends }) b b refl (record { bag = kept_same s.bag; sent = λ k one there. there; ends = same }) given given (λ challenge was. was) refl members (λ who. refl)
         (λ n number timestamp e there. there) old
 
     member_anew : (own : MemberPlan) (at : ℕ) → SameEnds s.ends (renew_member (Some own) at s.ends) → OwnFacts plan s given b →
@@ -122,15 +121,9 @@ module _ (plan : Plan) where
         let grows : GrowsTo s t b b = record { bag = kept_same s.bag; sent = λ k one there. there; ends = same } in
         record {
           before = old.before;
-          members = λ k m there.
-              elim (set_cases s.ends.members at k (fresh_member own) m there) [
-                | inl here ↦
-                    subst (λ (x : MemberState). MemberOwn (IsTakenFor (past_at plan t b)) (marks_in b.sent) s.chances.drawn b.turns given (controller_of k t) k x.running) here.1
-                    (fresh_own (IsTakenFor (past_at plan t b)) (marks_in b.sent) s.chances.drawn b.turns given (controller_of k t) k own old.before)
-                | inr other ↦
-                    one_stays plan s t b b given given refl grows (λ challenge was. was) refl k m.running refl
-                    (on_any plan s t b b given given refl grows (λ challenge was. was) refl k m.running (λ n number timestamp e is. is)) (old.members k m other.1)
-              ];
+          asks = own_put plan s t b b refl grows given given (λ challenge was. was) refl at (fresh_member own)
+              (fresh_own (IsTakenFor (past_at plan t b)) (marks_in b.sent) s.chances.drawn b.turns given (controller_asked (OfMember at) t) (OfMember at) own old.before) (λ who differs. refl)
+              (λ who differs. on_any plan s t b b refl grows (controller_asked who s) (asker_in who s.ends) (λ n number timestamp e is. is)) old;
         }
 
     end_anew : (end : EndId) → OwnFacts plan s given b → OwnFacts plan (renewed end s) given b
@@ -153,8 +146,6 @@ module _ (plan : Plan) where
       let s : State = (first_world plan).state in
       record {
         before = tt;
-        members = λ k m there.
-            (let found = got_map fresh_member plan.members k m there in
-            subst (λ (x : MemberState). MemberOwn (IsTakenFor (past_at plan s blank)) [] s.chances.drawn [] [] (controller_of k s) k x.running) found.2
-            (fresh_own (IsTakenFor (past_at plan s blank)) [] s.chances.drawn [] [] (controller_of k s) k found.0 tt));
+        asks = asker_first (OwnOf plan s [] blank) plan (λ who. (tt, tt))
+            (λ who own. fresh_own (IsTakenFor (past_at plan s blank)) [] s.chances.drawn [] [] (controller_asked who s) who own tt);
       }

@@ -1,13 +1,13 @@
--- In every schedule that is clear the calls on a member's open channel are those of its turns.
+-- In every schedule that is clear the calls on a requester's open channel are those of its turns.
 -- It serves `claims_hold_of_runs`.
 use Rattle.std.proofs.Common.{ℕ, List, [], Option, Some, None, refl, subst, arith}
 use Rattle.member_server.specs.declared.state.Running.{Running}
 use Rattle.channel_events.specs.Marks.{Mark}
-use Rattle.step_notes.specs.Records.{Book, ChannelTurn}
+use Rattle.step_notes.specs.Records.{Book, ChannelTurn, RequesterId}
 use Rattle.world_moves.specs.declared.state.State.{State}
 use Rattle.domain_world.specs.Accepting.Sequences.{IsTakenFor, TurnsAreCalled}
 use Rattle.domain_world.specs.Claims.{IsClear}
-use Rattle.domain_world.specs.Past.{Past, controller_of, past}
+use Rattle.domain_world.specs.Past.{Past, past, controller_asked}
 use Rattle.domain_world.specs.Schedules.{OfSchedules}
 use Rattle.domain_world.proofs.Accepting.Quiet.QuietRunLaws.{has_bytes}
 use Rattle.domain_world.proofs.Accepting.ScheduleLaws.{units_heard}
@@ -25,17 +25,18 @@ use Rattle.domain_world.proofs.Sequences.CalledLaws.{AllKnow, KnowsIf, turns_cal
 use Rattle.domain_world.proofs.Sequences.Own.OwnCarryLaws.{first_own}
 use Rattle.domain_world.proofs.Sequences.Own.OwnKeepLaws.{OwnHolds, own_ends}
 use Rattle.domain_world.proofs.Sequences.Own.OwnOverLaws.{own_run}
-use Rattle.domain_world.proofs.Sequences.Own.OwnStayLaws.{MemberOwn, OwnFacts}
+use Rattle.domain_world.proofs.Sequences.Own.OwnStayLaws.{OwnFacts, OwnBy}
 use Rattle.domain_world.proofs.Sequences.Own.OwnTurnLaws.{mine}
 use Rattle.domain_world.proofs.Sequences.Own.OwnWalkLaws.{own_keeps}
 use Rattle.domain_world.proofs.Sequences.Own.OwnWholeLaws.{own_comes}
 use Rattle.domain_world.proofs.Sequences.SharedLaws.{taken_pass}
+use Rattle.domain_world.proofs.Frames.RequesterLaws.{asker_in}
 
 -- after a move
-known_if : (Done : ℕ → Type 0) (marks : List Mark) (drawn : List (List ℕ)) (turns : List ChannelTurn) (controller k : ℕ) (r : Option Running) → MemberOwn Done marks drawn turns [] controller k r →
-    KnowsIf Done marks (mine k turns) controller r
-known_if Done marks drawn turns controller k None own = tt
-known_if Done marks drawn turns controller k (Some running) own =
+known_if : (Done : ℕ → Type 0) (marks : List Mark) (drawn : List (List ℕ)) (turns : List ChannelTurn) (controller : ℕ) (who : RequesterId) (r : Option Running) →
+    OwnBy Done marks drawn turns [] controller who r → KnowsIf Done marks (mine who turns) controller r
+known_if Done marks drawn turns controller who None own = tt
+known_if Done marks drawn turns controller who (Some running) own =
     subst (λ (all : List ChannelTurn). KnowsCalls Done marks all controller running.logons.channel) (own.1.none refl) own.1.calls
 
 pub turns_are_called : OfSchedules (λ plan moves. IsClear (past plan moves).book → TurnsAreCalled (past plan moves))
@@ -54,7 +55,7 @@ turns_are_called plan moves schedule clear =
     let facts : OwnFacts plan s [] b =
     after.holds.1 (omega (arith, after.few, schedule.few)) clear.apart (apart_from b.messages (messages_apart plan moves)) (marks_known plan moves) (draws_differ plan moves) in
     let all : AllKnow (IsTakenFor (past_at plan s b)) s b =
-    λ k m there. known_if (IsTakenFor (past_at plan s b)) (marks_in b.sent) s.chances.drawn b.turns (controller_of k s) k m.running (facts.members k m there) in
+    λ who. known_if (IsTakenFor (past_at plan s b)) (marks_in b.sent) s.chances.drawn b.turns (controller_asked who s) who (asker_in who s.ends) (facts.asks who) in
     turns_called p (IsTakenFor (past_at plan s b))
     (λ n is. taken_pass plan moves (units_heard plan moves schedule) clear.apart n (record {
       taken = is.taken;

@@ -6,7 +6,7 @@ use Rattle.outside.specs.declared.event.Event.{Event}
 use Rattle.channel_events.specs.Marks.{Mark, Calling, Plain}
 use Rattle.member_server.specs.State.{State as MemberState}
 use Rattle.member_server.specs.declared.state.Running.{Running}
-use Rattle.step_notes.specs.Records.{Book}
+use Rattle.step_notes.specs.Records.{Book, RequesterId, Sent}
 use Rattle.world_moves.specs.declared.links.EndId.{EndId}
 use Rattle.world_moves.specs.declared.links.EndId.TheVariants.{Controller, Client}
 use Rattle.world_moves.specs.declared.plan.Plan.{Plan}
@@ -15,7 +15,7 @@ use Rattle.world_moves.specs.Acting.{Given, given_by, hear, heard_by}
 use Rattle.world_moves.specs.Ends.{EndStep, client_step, controller_step, no_step}
 use Rattle.world_moves.proofs.EndKindLaws.{IfMember, step_by}
 use Rattle.domain_world.specs.Accepting.Sequences.{IsTakenFor}
-use Rattle.domain_world.specs.Past.{controller_of, note_given, sent_at, turns_in}
+use Rattle.domain_world.specs.Past.{note_given, sent_at, turns_in, controller_asked}
 use Rattle.domain_world.proofs.Accepting.Turns.TurnFactLaws.{AreApart, MarksAreKnown, SameEnds, marks_before, past_at}
 use Rattle.domain_world.proofs.Accepting.Turns.TurnQuietLaws.{hear_grows, over_grows, step_same}
 use Rattle.domain_world.proofs.Challenges.MessageApartLaws.{links_in}
@@ -27,15 +27,15 @@ use Rattle.domain_world.proofs.Requests.CallHoldsLaws.{differ_front, marks_appen
 use Rattle.domain_world.proofs.Requests.CallStepLaws.{most_steps}
 use Rattle.domain_world.proofs.Requests.LooserLaws.{calls_before}
 use Rattle.domain_world.proofs.Requests.StepApartLaws.{Differ}
-use Rattle.domain_world.proofs.Sequences.CallStepLaws.{own_grows}
 use Rattle.domain_world.proofs.Sequences.DialCountLaws.{given_append, given_dials, given_other}
 use Rattle.domain_world.proofs.Sequences.DialWalkLaws.{AtState}
 use Rattle.domain_world.proofs.Sequences.Own.OwnFrameLaws.{StillDrawn, TurnsHold, TurnsKnown}
 use Rattle.domain_world.proofs.Sequences.Own.OwnOverLaws.{own_over}
-use Rattle.domain_world.proofs.Sequences.Own.OwnRunLaws.{hold_over}
-use Rattle.domain_world.proofs.Sequences.Own.OwnStayLaws.{HearsIf, MemberOwn, OwnFacts, all_stay, marks_still, member_hears, taken_for_stays}
+use Rattle.domain_world.proofs.Sequences.Own.OwnRunLaws.{hold_over, turns_at}
+use Rattle.domain_world.proofs.Sequences.Own.OwnStayLaws.{HearsIf, OwnFacts, all_stay, member_hears, OwnOf, own_on, on_any, NoNewCalls}
 use Rattle.domain_world.proofs.Sequences.Own.OwnTurnLaws.{TurnsIf}
 use Rattle.domain_world.proofs.Sequences.SeedTurnLaws.{drawn_still}
+use Rattle.domain_world.proofs.Frames.RequesterLaws.{not_controller, not_client, asker_in}
 
 -- ---- the fact
 
@@ -61,12 +61,12 @@ HearsNoUnit end what s = IfMember (λ (at : ℕ). HearsIf (slice_get s.ends.memb
 
 module _ (plan : Plan) where
   -- an end that is no member
-  others_hear : (end : EndId) (step : EndStep) (s : State) (given : Given) (b : Book) → step.ends.members ≡ s.ends.members → ((k : ℕ) → given_dials k (given_by end step.actions) ≡ 0) →
+  others_hear : (end : EndId) (step : EndStep) (s : State) (given : Given) (b : Book) → step.ends.members ≡ s.ends.members → ((who : RequesterId) → given_dials who (given_by end step.actions) ≡ 0) →
       SameEnds s.ends step.ends → DrawsOn s.chances step.chances → (Differ s.chances.drawn → OwnFacts plan s given b) → Differ step.chances.drawn →
       OwnFacts plan (heard_by step s).state (given ++ given_by end step.actions) b
   others_hear end step s given b members none same draws known differ =
-      all_stay plan s (heard_by step s).state b b given (given ++ given_by end step.actions) refl (record { bag = kept_same s.bag; sent = λ k one there. there; ends = same })
-      (draws_still s.chances step.chances draws) refl members (λ k. omega (arith, given_append k given (given_by end step.actions), none k)) (λ n number timestamp e there. there)
+      all_stay plan s (heard_by step s).state b b refl (record { bag = kept_same s.bag; sent = λ k one there. there; ends = same }) given (given ++ given_by end step.actions)
+      (draws_still s.chances step.chances draws) refl members (λ who. omega (arith, given_append who given (given_by end step.actions), none who)) (λ n number timestamp e there. there)
       (known (draws_before s.chances step.chances draws differ))
 
   end_hears : (end : EndId) (what : Event) (s : State) (given : Given) (b : Book) → HearsNoUnit end what s → (Differ s.chances.drawn → OwnFacts plan s given b) →
@@ -74,13 +74,13 @@ module _ (plan : Plan) where
   end_hears end what s given b none known =
       step_by (λ (one : EndId) (step : EndStep).
       HearsNoUnit one what s → SameEnds s.ends step.ends → DrawsOn s.chances step.chances → Differ step.chances.drawn → OwnFacts plan (heard_by step s).state (given ++ given_by one step.actions) b)
-      what s.moment s.ends s.chances (λ one its same draws. others_hear one (no_step s.ends s.chances) s given b refl (λ k. refl) same draws known)
+      what s.moment s.ends s.chances (λ one its same draws. others_hear one (no_step s.ends s.chances) s given b refl (λ who. refl) same draws known)
       (λ at c is its same draws.
-      others_hear (Controller at) (controller_step (Some c) at what s.moment s.ends s.chances) s given b refl (λ k. given_other k (Controller at) _ refl) same draws known)
+      others_hear (Controller at) (controller_step (Some c) at what s.moment s.ends s.chances) s given b refl (λ who. given_other who (Controller at) _ (not_controller who at)) same draws known)
       (λ at m is its same draws.
       member_hears plan s given b m at what is (subst (λ (found : Option MemberState). HearsIf found what) is (its at refl))
       (record { bag = kept_same s.bag; sent = λ k one there. there; ends = same }) known)
-      (λ at c is its same draws. others_hear (Client at) (client_step (Some c) at what s.moment s.ends s.chances) s given b refl (λ k. given_other k (Client at) _ refl) same draws known) end
+      (λ at c is its same draws. others_hear (Client at) (client_step (Some c) at what s.moment s.ends s.chances) s given b refl (λ who. given_other who (Client at) _ (not_client who at)) same draws known) end
       none (step_same end what s.moment s.ends s.chances) (end_draws end what s.moment s.ends s.chances)
 
   -- an end takes a step in which no whole unit comes on the link of a turn
@@ -96,28 +96,26 @@ module _ (plan : Plan) where
     abbrev d : Book
     d = note_given at given s b
 
-    abbrev count : ℕ
-    count = length s.bag - length b.sent
+    abbrev plain : List Sent
+    plain = replicate (length s.bag - length b.sent) (sent_at at Plain)
 
-    one_over : (k : ℕ) (m : MemberState) (r : Option Running) → slice_get s.ends.members k ≡ Some m → m.running ≡ r →
-        TurnsIf k (controller_of k s) None [] s.dials s.chances.drawn given b.turns r →
-        MemberOwn (IsTakenFor (past_at plan s b)) (marks_in b.sent) s.chances.drawn b.turns given (controller_of k s) k r →
-        MemberOwn (IsTakenFor (past_at plan s d)) (marks_in d.sent) s.chances.drawn d.turns [] (controller_of k s) k r
-    one_over k m None there runs turns old = (tt, tt)
-    one_over k m (Some running) there runs turns old = (
-      old.0,
-      own_grows (IsTakenFor (past_at plan s b)) (IsTakenFor (past_at plan s d)) (taken_for_stays plan s s b d (over_grows at given s b)) (marks_in b.sent) (marks_in d.sent) s.chances.drawn
-          s.chances.drawn (b.turns ++ turns_in given s) [] [] (controller_of k s) k running (marks_still b.sent d.sent (over_grows at given s b).sent)
-          (λ c stands n number timestamp e there client.
-          calls_before (marks_in b.sent) (marks_in (replicate count (sent_at at Plain))) (plain_calls at count) n number timestamp e
-          (subst (λ (all : List Mark). slice_get all n ≡ Some (Calling e number timestamp)) (marks_append b.sent (replicate count (sent_at at Plain))) there)) refl (λ challenge drawn. drawn)
-          (own_over (IsTakenFor (past_at plan s b)) (marks_in b.sent) s given b.turns k m running there runs turns old.1),
-    )
+    no_calls : NoNewCalls (marks_in b.sent) (marks_in d.sent)
+    no_calls n number timestamp e there =
+        calls_before (marks_in b.sent) (marks_in plain) (plain_calls at (length s.bag - length b.sent)) n number timestamp e
+        (subst (λ (all : List Mark). slice_get all n ≡ Some (Calling e number timestamp)) (marks_append b.sent plain) there)
+
+    one_over : (who : RequesterId) (r : Option Running) → asker_in who s.ends ≡ r → TurnsIf who (controller_asked who s) None [] s.dials s.chances.drawn given b.turns r →
+        OwnOf plan s given b who r → OwnOf plan s [] d who r
+    one_over who None runs turns old = (tt, tt)
+    one_over who (Some running) runs turns old =
+        own_on plan s s b d refl (over_grows at given s b) who s.chances.drawn s.chances.drawn (b.turns ++ turns_in given s) [] [] (Some running) refl (λ challenge drawn. drawn)
+        (on_any plan s s b d refl (over_grows at given s b) (controller_asked who s) (Some running) no_calls)
+        (old.0, own_over (IsTakenFor (past_at plan s b)) (marks_in b.sent) s given b.turns who running runs turns old.1)
 
     pub facts_over : TurnsHold None [] s.member_plans s.ends s.dials s.chances.drawn given b.turns → OwnFacts plan s given b → OwnFacts plan s [] d
     facts_over turns old = record {
       before = (hold_over s given b.turns turns).before;
-      members = λ k m there. one_over k m m.running there refl (turns.members k m there) (old.members k m there);
+      asks = λ who. one_over who (asker_in who s.ends) refl (turns_at s given b.turns turns who) (old.asks who);
     }
 
   pub own_ends : (n at : ℕ) (s : State) (given : Given) (b : Book) → AtState TurnsKnown None [] s given b.turns → OwnHolds plan n s given b → OwnHolds plan n s [] (note_given at given s b)

@@ -10,8 +10,7 @@ use Rattle.member_server.specs.Machine.{step_of}
 use Rattle.member_server.specs.State.{State as MemberState}
 use Rattle.member_server.specs.Turns.{AtTurn}
 use Rattle.channel_turns.specs.declared.state.TurnTalk.{TurnTalk}
-use Rattle.step_notes.specs.Marking.{turn_marks}
-use Rattle.step_notes.specs.MemberNotes.{link_units, message_note, turn_note, turn_units}
+use Rattle.step_notes.specs.MemberNotes.{link_units, message_note, turn_units}
 use Rattle.step_notes.specs.Records.{Book, MessageTaken, OfMember, unit_in}
 use Rattle.step_notes.specs.Served.{units_if_taken}
 use Rattle.std.specs.Prelude.{flat_map}
@@ -20,7 +19,7 @@ use Rattle.world_moves.specs.declared.plan.Plan.{Plan}
 use Rattle.world_moves.specs.declared.state.State.{State}
 use Rattle.world_moves.specs.Acting.{Given, given_by, hear}
 use Rattle.world_moves.proofs.EndKindLaws.{of_member}
-use Rattle.domain_world.specs.Past.{Coming, at_member, controller_of, marks_of, note_member, note_messages, note_turns, numbers_on, sent_at, with_marks, with_taken}
+use Rattle.domain_world.specs.Past.{Coming, at_member, marks_of, note_member, note_messages, sent_at, with_marks, with_taken}
 use Rattle.domain_world.proofs.Accepting.Turns.TurnFactLaws.{AreApart, apart_front}
 use Rattle.domain_world.proofs.Challenges.MessageApartLaws.{links_append, links_in}
 use Rattle.domain_world.proofs.Requests.CallComesLaws.{if_none, no_requests_sent, other_none, units_in_none}
@@ -31,14 +30,14 @@ use Rattle.domain_world.proofs.Requests.WholeNotedLaws.{none_marked}
 use Rattle.domain_world.proofs.Sequences.Own.OwnCarryLaws.{book_changed}
 use Rattle.domain_world.proofs.Sequences.Own.OwnKeepLaws.{OwnHolds, own_hears}
 use Rattle.domain_world.proofs.Sequences.Own.OwnStayLaws.{HearsIf}
+use Rattle.domain_world.proofs.Frames.TurnFrameLaws.{asked_book, asked_notes, asked_marks}
 
 module _ (plan : Plan) (n at : ℕ) (w : Coming) (piece : List ℕ) (s t after : State) (given : Given) (b : Book) (m : MemberState) where
   abbrev NotedBy : List (ServedUnit AtTurn TurnTalk) → Type 0
   NotedBy units =
       OwnHolds plan n t given
-      (with_marks w.at w.link false (drop (length s.bag) after.bag) (turn_marks (map (turn_note (controller_of at s)) units))
-      (with_taken (OfMember at) w.at (unit_in w.source) (map (turn_note (controller_of at s)) units)
-      (note_turns (controller_of at s) units (unit_in w.source) (numbers_on w.link false s.bag after.bag) (note_messages at m w piece s b))))
+      (with_marks w.at w.link false (drop (length s.bag) after.bag) (asked_marks (OfMember at) s units)
+      (with_taken (OfMember at) w.at (unit_in w.source) (asked_notes (OfMember at) s units) (asked_book (OfMember at) w units s after (note_messages at m w piece s b))))
 
   other_noted : IsOther m.running w.link → OwnHolds plan n t given b → OwnHolds plan n t given (note_member (Some m) at w piece s after b)
   other_noted other holds =

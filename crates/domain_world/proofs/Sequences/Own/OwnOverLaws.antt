@@ -1,47 +1,42 @@
--- At the end of a move what is known of the calls of a member's turns is known with the turns of the move written down:
--- it dialled once at most, and then its dial waits. So it is known after a run, if each step keeps it.
+-- At the end of a move what is known of the calls of a requester's turns is known with the turns of the move written
+-- down: it dialled once at most, and then its dial waits. So it is known after a run, if each step keeps it.
 -- It serves `Proved.sequences`.
-use Rattle.std.proofs.Common.{◌≡◌, ℕ, ◌≤◌, List, [], ◌++◌, inl, inr, Option, Some, None, slice_get, sym, ap, ◌∙◌, arith}
-use Rattle.std.proofs.lemmas.List.Elements.{filter-append}
+use Rattle.std.proofs.Common.{◌≡◌, ℕ, ◌≤◌, List, [], ◌++◌, inl, inr, Some, None, sym, ap, ◌∙◌, arith}
 use Rattle.channel_events.specs.Marks.{Mark}
-use Rattle.member_server.specs.State.{State as MemberState}
 use Rattle.member_server.specs.declared.state.Running.{Running}
-use Rattle.step_notes.specs.MemberNotes.{turn_in, turn_of}
-use Rattle.step_notes.specs.Records.{Book, ChannelTurn, OfMember, blank, same_requester}
+use Rattle.step_notes.specs.MemberNotes.{turn_of}
+use Rattle.step_notes.specs.Records.{Book, ChannelTurn, blank, RequesterId}
 use Rattle.world_moves.specs.declared.moves.Move.{Move}
 use Rattle.world_moves.specs.declared.plan.Plan.{Plan}
 use Rattle.world_moves.specs.declared.state.State.{State}
 use Rattle.world_moves.specs.Acting.{Given}
 use Rattle.world_moves.specs.World.{first_world}
-use Rattle.domain_world.specs.Past.{controller_of, note_given, running_in, turns_in}
+use Rattle.domain_world.specs.Past.{note_given, turns_in, controller_asked}
 use Rattle.domain_world.proofs.Frames.StepFrameLaws.{ActionFact, HoldsAfterRun, KeepsWith, NoFact, RunFact, run_beside}
 use Rattle.domain_world.proofs.Sequences.CallStepLaws.{OwnCalls}
 use Rattle.domain_world.proofs.Sequences.DialCountLaws.{given_dials}
 use Rattle.domain_world.proofs.Sequences.DialWalkLaws.{AtState, OfDials, dials_keep}
 use Rattle.domain_world.proofs.Sequences.Own.OwnFrameLaws.{TurnsKnown}
-use Rattle.domain_world.proofs.Sequences.Own.OwnRunLaws.{all_mine, first_known, turns_keep}
+use Rattle.domain_world.proofs.Sequences.Own.OwnRunLaws.{first_known, turns_keep, all_turns}
 use Rattle.domain_world.proofs.Sequences.Own.OwnTurnLaws.{TurnsOf, mine, no_times, none_or_one, one_time, times}
 use Rattle.domain_world.proofs.Frames.PlacedLaws.{HasBytes}
+use Rattle.domain_world.proofs.Frames.RequesterLaws.{asked_now, asker_in}
 
--- ---- of one member
+-- ---- of one requester
 
-pub own_over : (Done : ℕ → Type 0) (marks : List Mark) (s : State) (given : Given) (turns : List ChannelTurn) (k : ℕ) (m : MemberState) (running : Running) →
-    slice_get s.ends.members k ≡ Some m → m.running ≡ Some running → TurnsOf k (controller_of k s) None [] s.dials s.chances.drawn given turns running →
-    OwnCalls Done marks s.chances.drawn turns given (controller_of k s) k running → OwnCalls Done marks s.chances.drawn (turns ++ turns_in given s) [] (controller_of k s) k running
-own_over Done marks s given turns k m running there runs dials old =
-    let turn : List ChannelTurn = turn_of (controller_of k s) (OfMember k) running.logons.channel in
-    let same : turn_in (controller_of k s) k (running_in (slice_get s.ends.members k)) ≡ turn =
-    ap (λ (found : Option MemberState). turn_in (controller_of k s) k (running_in found)) there ∙ ap (λ (x : Option Running). turn_in (controller_of k s) k x) runs in
-    let all : mine k (turns ++ turns_in given s) ≡ mine k turns ++ times (given_dials k given) turn =
-    filter-append (λ (one : ChannelTurn). same_requester one.requester (OfMember k)) turns (turns_in given s)
-    ∙ ap (λ (l : List ChannelTurn). mine k turns ++ l) (all_mine s k given)
-    ∙ ap (λ (l : List ChannelTurn). mine k turns ++ times (given_dials k given) l) same in
-    let own : old.own ≡ mine k turns ++ times (given_dials k given) turn =
-    elim (none_or_one (given_dials k given) dials.given_once) [
-      | inl none ↦ old.none none ∙ sym (no_times (given_dials k given) turn (mine k turns) none)
+pub own_over : (Done : ℕ → Type 0) (marks : List Mark) (s : State) (given : Given) (turns : List ChannelTurn) (who : RequesterId) (running : Running) → asker_in who s.ends ≡ Some running →
+    TurnsOf who (controller_asked who s) None [] s.dials s.chances.drawn given turns running → OwnCalls Done marks s.chances.drawn turns given (controller_asked who s) who running →
+    OwnCalls Done marks s.chances.drawn (turns ++ turns_in given s) [] (controller_asked who s) who running
+own_over Done marks s given turns who running runs dials old =
+    let turn : List ChannelTurn = turn_of (controller_asked who s) who running.logons.channel in
+    let all : mine who (turns ++ turns_in given s) ≡ mine who turns ++ times (given_dials who given) turn =
+    all_turns s who running turns given runs ∙ ap (λ (c : ℕ). mine who turns ++ times (given_dials who given) (turn_of c who running.logons.channel)) (asked_now who s) in
+    let own : old.own ≡ mine who turns ++ times (given_dials who given) turn =
+    elim (none_or_one (given_dials who given) dials.given_once) [
+      | inl none ↦ old.none none ∙ sym (no_times (given_dials who given) turn (mine who turns) none)
       | inr one ↦
-          (let some : 1 ≤ given_dials k given = omega (arith, one) in
-          old.one one (dials.given_waits some).0 ∙ sym (one_time (given_dials k given) turn (mine k turns) one))
+          (let some : 1 ≤ given_dials who given = omega (arith, one) in
+          old.one one (dials.given_waits some).0 ∙ sym (one_time (given_dials who given) turn (mine who turns) one))
     ] in
     record {
       own = old.own;

@@ -1,8 +1,7 @@
--- After every run the seed of a member's open channel is that of its turns on it.
+-- After every run the seed of a requester's open channel is that of its turns on it.
 -- It serves `Proved.own`.
-use Rattle.std.proofs.Common.{◌≡◌, ℕ, zero, suc, ◌+◌, ◌≤◌, ◌==◌, ◌&&◌, Bool, true, false, List, [], ◌∷◌, ◌++◌, drop, map, inl, inr, Option, Some, None, slice_get, slice_set, refl, sym, ap, subst, ◌∙◌, arith, if◌then◌else◌}
+use Rattle.std.proofs.Common.{◌≡◌, ℕ, zero, suc, ◌+◌, ◌≤◌, ◌&&◌, Bool, true, false, List, [], ◌∷◌, ◌++◌, drop, map, inl, inr, Option, Some, None, slice_get, refl, sym, ap, subst, ◌∙◌, arith, if◌then◌else◌}
 use Rattle.std.specs.List.{filter}
-use Rattle.std.proofs.lemmas.Bool.Decides.{Decides-eqb}
 use Rattle.std.proofs.lemmas.List.{append-nil, append_assoc, length-set}
 use Rattle.std.proofs.lemmas.List.Elements.{filter-append}
 use Rattle.outside.specs.declared.action.Action.{Action}
@@ -11,24 +10,21 @@ use Rattle.outside.specs.declared.event.Event.TheVariants as event
 use Rattle.authenticators.specs.Channels.{ChannelIdentity}
 use Rattle.wire_base.specs.declared.authenticator.Authenticator.{Authenticator}
 use Rattle.authenticators.specs.SecureChannels.{SecureChannelState}
-use Rattle.domain_controller.specs.State.{State as ControllerState}
 use Rattle.domain_controller.specs.Step.{first_state}
 use Rattle.logon_client.specs.Machine.{begin_of, fresh_client}
-use Rattle.logon_client.specs.declared.plan.ClientPlan.{ClientPlan}
 use Rattle.channel_client.specs.Effects.{seed_in, stands_in, step_in, view_of}
-use Rattle.channel_client.specs.declared.state.Standing.{Standing}
 use Rattle.channel_client.specs.declared.state.Step.{Step}
 use Rattle.channel_client.specs.declared.state.Step.TheVariants as step
+use Rattle.channel_client.specs.State.{Requester}
 use Rattle.channel_events.specs.Seeds.{channel_seed}
 use Rattle.channel_events.proofs.ListLaws.{some_is}
 use Rattle.logon_stubs.specs.declared.calls.Call.TheVariants as call
 use Rattle.member_server.specs.Machine.{fresh_member}
-use Rattle.member_server.specs.State.{State as MemberState}
 use Rattle.member_server.specs.declared.plan.MemberPlan.{MemberPlan}
 use Rattle.member_server.specs.declared.state.Running.{Running}
 use Rattle.member_server.proofs.AskedLaws.{asks_what_waits}
 use Rattle.step_notes.specs.MemberNotes.{stamped, turn_by, turn_in, turn_of}
-use Rattle.step_notes.specs.Records.{ChannelTurn, OfMember, same_requester}
+use Rattle.step_notes.specs.Records.{ChannelTurn, OfMember, same_requester, RequesterId}
 use Rattle.world_moves.specs.declared.links.EndId.{EndId}
 use Rattle.world_moves.specs.declared.links.EndId.TheVariants.{Controller, Member, Client}
 use Rattle.world_moves.specs.declared.moves.Move.{Move}
@@ -37,21 +33,19 @@ use Rattle.world_moves.specs.declared.state.State.{State}
 use Rattle.world_moves.specs.declared.state.WaitingDial.{WaitingDial}
 use Rattle.world_moves.specs.Acting.{Given, forget, is_of_other, perform_quietly}
 use Rattle.world_moves.specs.Moving.{renew}
-use Rattle.world_moves.specs.Ends.{EndStates, renew_client, renew_controller, renew_member, with_client, with_member}
+use Rattle.world_moves.specs.Ends.{EndStates, renew_client, renew_controller, renew_member}
 use Rattle.world_moves.specs.World.{first_world}
 use Rattle.world_moves.proofs.EndKindLaws.{IfMember, renew_by}
 use Rattle.domain_world.specs.Claims.SharedSequences.{SequencesAreOwn, Stands, timestamps_on}
-use Rattle.domain_world.specs.Past.{controller_of, controller_of_plan, past, running_in, turns_by, turns_in}
-use Rattle.domain_world.proofs.Challenges.MessageOnceLaws.{set_cases}
+use Rattle.domain_world.specs.Past.{past, running_in, turns_by, turns_in, controller_asked}
 use Rattle.domain_world.proofs.Frames.DrawnRunLaws.{draws_differ}
-use Rattle.domain_world.proofs.Frames.MarkPlaceLaws.{got_map}
-use Rattle.domain_world.proofs.Requests.CallHoldsLaws.{controller_same}
-use Rattle.domain_world.proofs.Sequences.DialCountLaws.{counted, dials_out, done_same, forgotten_few, given_dials, gone_all, is_member, none_counted, one_if, waiting_dials}
+use Rattle.domain_world.proofs.Sequences.DialCountLaws.{counted, dials_out, done_same, forgotten_few, given_dials, gone_all, none_counted, one_if, waiting_dials}
 use Rattle.domain_world.proofs.Sequences.DialWalkLaws.{AtState, KeepsDials, dials_after}
 use Rattle.domain_world.proofs.Sequences.Own.OwnFrameLaws.{TurnsHold, TurnsKnown, begin_holds, hear_holds, same_turns}
 use Rattle.domain_world.proofs.Sequences.Own.OwnTurnLaws.{AreDrawn, TurnsIf, TurnsOf, both_drawn, mine, times, turn_drawn}
 use Rattle.domain_world.proofs.Sequences.SeedTurnLaws.{Turned, on_channel, stamps_on, turned_blank}
-use Rattle.domain_world.proofs.Frames.RequesterLaws.{StandsAtMember, stands_at}
+use Rattle.domain_world.proofs.Frames.RequesterLaws.{asked_in, asked_now, asking_end, asks_at, not_controller, not_client, asker_in, RunsWith, asker_runs, stands_open, asker_first, asker_same, asked_put, same_is, same_asks}
+use Rattle.domain_world.proofs.Requests.CallHoldsLaws.{SameNumbers}
 
 -- ---- dials
 
@@ -59,11 +53,11 @@ first_of_dials : (dials : List WaitingDial) (dial : WaitingDial) → slice_get d
 first_of_dials [] dial is = absurd (let x = is in cc)
 first_of_dials (first ∷ dials) dial is = let same : first ≡ dial = some_is first dial is in ap (λ (one : WaitingDial). one ∷ dials) same
 
--- of a member that takes no step, where nothing was given: as many dials are out, or fewer
-fewer_out : (k controller : ℕ) (d later : Option EndId) (dials waiting : List WaitingDial) (drawn : List (List ℕ)) (turns : List ChannelTurn) (r : Option Running) →
-    dials_out k later [] waiting ≤ dials_out k d [] dials → TurnsIf k controller d [] dials drawn [] turns r → TurnsIf k controller later [] waiting drawn [] turns r
-fewer_out k controller d later dials waiting drawn turns None few old = tt
-fewer_out k controller d later dials waiting drawn turns (Some running) few old = record {
+-- of one that takes no step, where nothing was given: as many dials are out, or fewer
+fewer_out : (who : RequesterId) (controller : ℕ) (d later : Option EndId) (dials waiting : List WaitingDial) (drawn : List (List ℕ)) (turns : List ChannelTurn) (r : Option Running) →
+    dials_out who later [] waiting ≤ dials_out who d [] dials → TurnsIf who controller d [] dials drawn [] turns r → TurnsIf who controller later [] waiting drawn [] turns r
+fewer_out who controller d later dials waiting drawn turns None few old = tt
+fewer_out who controller d later dials waiting drawn turns (Some running) few old = record {
   order = old.order;
   out_once = omega (arith, few, old.out_once);
   out_waits = λ some. old.out_waits (omega (arith, few, some));
@@ -78,9 +72,10 @@ first_holds dial s turns is known differ =
     let holds = known differ in
     record {
       before = holds.before;
-      members = λ k m there.
-          let count : waiting_dials k s.dials ≡ one_if (is_member k dial.end) + waiting_dials k (drop 1 s.dials) = ap (λ (l : List WaitingDial). waiting_dials k l) (first_of_dials s.dials dial is) in
-          fewer_out k (controller_of_plan (slice_get s.member_plans k) s.ends) None (Some dial.end) s.dials (drop 1 s.dials) s.chances.drawn turns m.running (omega (arith, count)) (holds.members k m there);
+      asks = λ who.
+          let count : waiting_dials who s.dials ≡ one_if (asks_at who dial.end) + waiting_dials who (drop 1 s.dials) =
+          ap (λ (l : List WaitingDial). waiting_dials who l) (first_of_dials s.dials dial is) in
+          fewer_out who (asked_in who s.member_plans s.ends) None (Some dial.end) s.dials (drop 1 s.dials) s.chances.drawn turns (asker_in who s.ends) (omega (arith, count)) (holds.asks who);
     }
 
 forgets_hold : (end : EndId) (s : State) (turns : List ChannelTurn) → TurnsKnown None [] s.member_plans s.ends s.dials s.chances [] turns →
@@ -89,9 +84,9 @@ forgets_hold end s turns known differ =
     let holds = known differ in
     record {
       before = holds.before;
-      members = λ k m there.
-          fewer_out k (controller_of_plan (slice_get s.member_plans k) s.ends) None None s.dials (filter (is_of_other end) s.dials) s.chances.drawn turns m.running
-          (omega (arith, forgotten_few k end s.dials)) (holds.members k m there);
+      asks = λ who.
+          fewer_out who (asked_in who s.member_plans s.ends) None None s.dials (filter (is_of_other end) s.dials) s.chances.drawn turns (asker_in who s.ends)
+          (omega (arith, forgotten_few who end s.dials)) (holds.asks who);
     }
 
 -- ---- an end is made anew
@@ -100,8 +95,9 @@ module _ (plans : List MemberPlan) (ends : EndStates) (dials : List WaitingDial)
   abbrev Now : EndStates → List WaitingDial → Type 0
   Now now waiting = TurnsHold None [] plans now waiting drawn [] turns
 
-  anew : (k controller : ℕ) (plan : MemberPlan) (waiting : List WaitingDial) → waiting_dials k waiting ≡ 0 → TurnsIf k controller None [] waiting drawn [] turns (fresh_member plan).running
-  anew k controller plan waiting none = record {
+  anew : (who : RequesterId) (controller : ℕ) (plan : MemberPlan) (waiting : List WaitingDial) → waiting_dials who waiting ≡ 0 →
+      TurnsIf who controller None [] waiting drawn [] turns (fresh_member plan).running
+  anew who controller plan waiting none = record {
     order = asks_what_waits.fresh plan;
     out_once = omega (arith, none);
     out_waits = λ some. absurd (omega (arith, none, some));
@@ -110,40 +106,18 @@ module _ (plans : List MemberPlan) (ends : EndStates) (dials : List WaitingDial)
     turned = turned_blank _ _ drawn refl refl;
   }
 
-  controller_renewed : (c : ControllerState) (at : ℕ) → Now ends dials → Now (renew_controller (Some c) at ends) dials
-  controller_renewed c at holds = record {
+  other_renewed : (now : EndStates) → now.members ≡ ends.members → SameNumbers ends now → Now ends dials → Now now dials
+  other_renewed now same numbers holds = record {
     before = holds.before;
-    members = λ k m there.
-        subst (λ (j : ℕ). TurnsIf k j None [] dials drawn [] turns m.running)
-        (sym (controller_same (slice_get plans k) ends (record ends { controllers = slice_set ends.controllers at (first_state c.table c.name) })
-        (record { controllers = length-set ends.controllers at (first_state c.table c.name); members = refl; clients = refl })))
-        (holds.members k m there);
-  }
-
-  client_renewed : (plan : ClientPlan) (at : ℕ) → Now ends dials → Now (renew_client (Some plan) at ends) dials
-  client_renewed plan at holds = record {
-    before = holds.before;
-    members = λ k m there.
-        subst (λ (j : ℕ). TurnsIf k j None [] dials drawn [] turns m.running)
-        (sym (controller_same (slice_get plans k) ends (with_client at (fresh_client plan) ends)
-        (record { controllers = refl; members = refl; clients = length-set ends.clients at (fresh_client plan) })))
-        (holds.members k m there);
+    asks = λ who. asker_same (λ (c : ℕ) (r : Option Running). TurnsIf who c None [] dials drawn [] turns r) who plans ends now same numbers (holds.asks who);
   }
 
   -- none of its dials waits
-  member_renewed : (plan : MemberPlan) (at : ℕ) → waiting_dials at dials ≡ 0 → Now ends dials → Now (renew_member (Some plan) at ends) dials
+  member_renewed : (plan : MemberPlan) (at : ℕ) → waiting_dials (OfMember at) dials ≡ 0 → Now ends dials → Now (renew_member (Some plan) at ends) dials
   member_renewed plan at none holds = record {
     before = holds.before;
-    members = λ k m there.
-        subst (λ (j : ℕ). TurnsIf k j None [] dials drawn [] turns m.running)
-        (sym (controller_same (slice_get plans k) ends (with_member at (fresh_member plan) ends)
-        (record { controllers = refl; members = length-set ends.members at (fresh_member plan); clients = refl })))
-        (elim (set_cases ends.members at k (fresh_member plan) m there) [
-          | inl here ↦
-              subst (λ (x : MemberState). TurnsIf k (controller_of_plan (slice_get plans k) ends) None [] dials drawn [] turns x.running) here.1
-              (anew k (controller_of_plan (slice_get plans k) ends) plan dials (ap (λ (j : ℕ). waiting_dials j dials) here.0 ∙ none))
-          | inr other ↦ holds.members k m other.1
-        ]);
+    asks = asked_put (λ (who : RequesterId) (c : ℕ) (r : Option Running). TurnsIf who c None [] dials drawn [] turns r) plans at (fresh_member plan) ends (λ who c. tt)
+        (anew (OfMember at) (asked_in (OfMember at) plans ends) plan dials none) (λ who differs. holds.asks who);
   }
 
 renews_hold : (end : EndId) (s : State) (turns : List ChannelTurn) → TurnsKnown None [] s.member_plans s.ends s.dials s.chances [] turns →
@@ -151,11 +125,16 @@ renews_hold : (end : EndId) (s : State) (turns : List ChannelTurn) → TurnsKnow
 renews_hold end s turns known differ =
     let dials : List WaitingDial = filter (is_of_other end) s.dials in
     let holds : TurnsHold None [] s.member_plans s.ends dials s.chances.drawn [] turns = forgets_hold end s turns known differ in
-    renew_by (λ (one : EndId) (ends : EndStates). IfMember (λ (at : ℕ). waiting_dials at dials ≡ 0) one → TurnsHold None [] s.member_plans ends dials s.chances.drawn [] turns) (forget end s)
-    (λ one none. holds) (λ at c is none. controller_renewed s.member_plans s.ends dials s.chances.drawn turns c at holds)
+    renew_by (λ (one : EndId) (ends : EndStates). IfMember (λ (at : ℕ). waiting_dials (OfMember at) dials ≡ 0) one → TurnsHold None [] s.member_plans ends dials s.chances.drawn [] turns) (forget end s)
+    (λ one none. holds)
+    (λ at c is none.
+    other_renewed s.member_plans s.ends dials s.chances.drawn turns (renew_controller (Some c) at s.ends) refl
+    (record { controllers = length-set s.ends.controllers at (first_state c.table c.name); members = refl; clients = refl }) holds)
     (λ at plan is none. member_renewed s.member_plans s.ends dials s.chances.drawn turns plan at (none at refl) holds)
-    (λ at plan is none. client_renewed s.member_plans s.ends dials s.chances.drawn turns plan at holds) end
-    (λ at is. subst (λ (one : EndId). waiting_dials at (filter (is_of_other one) s.dials) ≡ 0) (sym is) (gone_all at s.dials))
+    (λ at plan is none.
+    other_renewed s.member_plans s.ends dials s.chances.drawn turns (renew_client (Some plan) at s.ends) refl
+    (record { controllers = refl; members = refl; clients = length-set s.ends.clients at (fresh_client plan) }) holds) end
+    (λ at is. subst (λ (one : EndId). waiting_dials (OfMember at) (filter (is_of_other one) s.dials) ≡ 0) (sym is) (gone_all (OfMember at) s.dials))
 
 -- ---- the turns of a move are written down
 
@@ -169,83 +148,98 @@ abbrev kept_if : Bool → List ChannelTurn → List ChannelTurn
 kept_if false turns = []
 kept_if true turns = turns
 
-stamped_mine : (hit : Bool) (k j : ℕ) (channel : Option ChannelIdentity) (stamp : Option Authenticator) → (j == k) ≡ hit → mine k (stamped channel stamp (OfMember j)) ≡ kept_if hit (stamped channel stamp (OfMember j))
-stamped_mine false k j None stamp is = refl
-stamped_mine true k j None stamp is = refl
-stamped_mine false k j (Some channel) None is = refl
-stamped_mine true k j (Some channel) None is = refl
-stamped_mine false k j (Some channel) (Some stamp) is = ap (λ (hit : Bool). if hit then record { requester = OfMember j; channel = channel; timestamp = stamp.timestamp } ∷ [] else []) is
-stamped_mine true k j (Some channel) (Some stamp) is = ap (λ (hit : Bool). if hit then record { requester = OfMember j; channel = channel; timestamp = stamp.timestamp } ∷ [] else []) is
+stamped_mine : (hit : Bool) (who other : RequesterId) (channel : Option ChannelIdentity) (stamp : Option Authenticator) → same_requester other who ≡ hit →
+    mine who (stamped channel stamp other) ≡ kept_if hit (stamped channel stamp other)
+stamped_mine false who other None stamp is = refl
+stamped_mine true who other None stamp is = refl
+stamped_mine false who other (Some channel) None is = refl
+stamped_mine true who other (Some channel) None is = refl
+stamped_mine false who other (Some channel) (Some stamp) is = ap (λ (hit : Bool). if hit then record { requester = other; channel = channel; timestamp = stamp.timestamp } ∷ [] else []) is
+stamped_mine true who other (Some channel) (Some stamp) is = ap (λ (hit : Bool). if hit then record { requester = other; channel = channel; timestamp = stamp.timestamp } ∷ [] else []) is
 
 none_mine : (hit : Bool) → [] ≡ kept_if hit []
 none_mine false = refl
 none_mine true = refl
 
-by_mine : (hit : Bool) (k j : ℕ) (st : Option Step) (channel : Option ChannelIdentity) → (j == k) ≡ hit → mine k (turn_by st channel (OfMember j)) ≡ kept_if hit (turn_by st channel (OfMember j))
-by_mine hit k j None channel is = none_mine hit
-by_mine hit k j (Some (step.Bind (call.Logon c))) channel is = stamped_mine hit k j channel c.authenticator is
-by_mine hit k j (Some (step.Bind (call.Challenge c))) channel is = none_mine hit
-by_mine hit k j (Some (step.Bind (call.Authenticate c))) channel is = none_mine hit
-by_mine hit k j (Some (step.Bind (call.Logoff c))) channel is = none_mine hit
-by_mine hit k j (Some (step.Reply q)) channel is = none_mine hit
+by_mine : (hit : Bool) (who other : RequesterId) (st : Option Step) (channel : Option ChannelIdentity) → same_requester other who ≡ hit →
+    mine who (turn_by st channel other) ≡ kept_if hit (turn_by st channel other)
+by_mine hit who other None channel is = none_mine hit
+by_mine hit who other (Some (step.Bind (call.Logon c))) channel is = stamped_mine hit who other channel c.authenticator is
+by_mine hit who other (Some (step.Bind (call.Challenge c))) channel is = none_mine hit
+by_mine hit who other (Some (step.Bind (call.Authenticate c))) channel is = none_mine hit
+by_mine hit who other (Some (step.Bind (call.Logoff c))) channel is = none_mine hit
+by_mine hit who other (Some (step.Reply q)) channel is = none_mine hit
 
-in_mine : (hit : Bool) (k j controller : ℕ) (r : Option Running) → (j == k) ≡ hit → mine k (turn_in controller j r) ≡ kept_if hit (turn_in controller j r)
-in_mine hit k j controller None is = none_mine hit
-in_mine hit k j controller (Some running) is =
-    by_mine hit k j (step_in running.logons.channel.turn) (stands_in controller running.logons.channel.caller.computer running.logons.channel.standing) is
+-- the turn whose bind waits, where its end runs
+abbrev turn_if : ℕ → RequesterId → Option Running → List ChannelTurn
+turn_if controller who None = []
+turn_if controller who (Some running) = turn_of controller who running.logons.channel
 
--- what is written down of an action: the turn that a member dials for, or nothing
-turn_cases : (P : EndId → Action → (State → List ChannelTurn) → Type 0) → ((end : EndId) (what : Action) → ((k : ℕ) → counted (is_member k end) what ≡ 0) → P end what (λ after. [])) →
-    ((j : ℕ) (peer : List ℕ) → P (Member j) (Dial peer) (λ after. turn_in (controller_of j after) j (running_in (slice_get after.ends.members j)))) → (end : EndId) (what : Action) →
-    P end what (turns_by end what)
-turn_cases P none dials (Controller at) what = none (Controller at) what (λ k. refl)
-turn_cases P none dials (Client at) what = none (Client at) what (λ k. refl)
-turn_cases P none dials (Member j) (Dial peer) = dials j peer
-turn_cases P none dials (Member j) (Keep bytes) = none (Member j) (Keep bytes) (λ k. none_counted (j == k) (Keep bytes) refl)
-turn_cases P none dials (Member j) (Send link bytes) = none (Member j) (Send link bytes) (λ k. none_counted (j == k) (Send link bytes) refl)
-turn_cases P none dials (Member j) (Close link cause) = none (Member j) (Close link cause) (λ k. none_counted (j == k) (Close link cause) refl)
-turn_cases P none dials (Member j) (Told link outcome) = none (Member j) (Told link outcome) (λ k. none_counted (j == k) (Told link outcome) refl)
-turn_cases P none dials (Member j) (Judged how) = none (Member j) (Judged how) (λ k. none_counted (j == k) (Judged how) refl)
+of_member : (controller j : ℕ) (r : Option Running) → turn_if controller (OfMember j) r ≡ turn_in controller j r
+of_member controller j None = refl
+of_member controller j (Some running) = refl
+
+if_mine : (hit : Bool) (who other : RequesterId) (controller : ℕ) (r : Option Running) → same_requester other who ≡ hit → mine who (turn_if controller other r) ≡ kept_if hit (turn_if controller other r)
+if_mine hit who other controller None is = none_mine hit
+if_mine hit who other controller (Some running) is =
+    by_mine hit who other (step_in running.logons.channel.turn) (stands_in controller running.logons.channel.caller.computer running.logons.channel.standing) is
 
 module _ (s : State) where
-  -- the turn of a member, as it is read after the move
-  abbrev turn_now : ℕ → List ChannelTurn
-  turn_now j = turn_in (controller_of j s) j (running_in (slice_get s.ends.members j))
+  -- the turn of a requester, as it is read after the move
+  abbrev turn_now : RequesterId → List ChannelTurn
+  turn_now who = turn_if (asked_in who s.member_plans s.ends) who (asker_in who s.ends)
 
-  dial_mine : (hit : Bool) (k j : ℕ) (peer : List ℕ) → (j == k) ≡ hit → mine k (turn_now j) ≡ times (counted hit (Dial peer)) (turn_now k)
-  dial_mine false k j peer is = in_mine false k j (controller_of j s) (running_in (slice_get s.ends.members j)) is
-  dial_mine true k j peer is =
-      in_mine true k j (controller_of j s) (running_in (slice_get s.ends.members j)) is ∙ ap turn_now ((Decides-eqb j k).0 is) ∙ sym (append-nil (turn_now k))
+  -- what is written down of an action: the turn that a requester dials for, or nothing
+  turn_cases : (P : EndId → Action → List ChannelTurn → Type 0) → ((end : EndId) (what : Action) → ((who : RequesterId) → counted (asks_at who end) what ≡ 0) → P end what []) →
+      ((who : RequesterId) (peer : List ℕ) → P (asking_end who) (Dial peer) (turn_now who)) → (end : EndId) (what : Action) → P end what (turns_by end what s)
+  turn_cases P none dials (Controller at) what = none (Controller at) what (λ who. ap (λ (hit : Bool). counted hit what) (not_controller who at))
+  turn_cases P none dials (Client at) what = none (Client at) what (λ who. ap (λ (hit : Bool). counted hit what) (not_client who at))
+  turn_cases P none dials (Member j) (Dial peer) =
+      subst (P (Member j) (Dial peer)) (of_member (asked_in (OfMember j) s.member_plans s.ends) j (running_in (slice_get s.ends.members j))) (dials (OfMember j) peer)
+  turn_cases P none dials (Member j) (Keep bytes) = none (Member j) (Keep bytes) (λ who. none_counted (asks_at who (Member j)) (Keep bytes) refl)
+  turn_cases P none dials (Member j) (Send link bytes) = none (Member j) (Send link bytes) (λ who. none_counted (asks_at who (Member j)) (Send link bytes) refl)
+  turn_cases P none dials (Member j) (Close link cause) = none (Member j) (Close link cause) (λ who. none_counted (asks_at who (Member j)) (Close link cause) refl)
+  turn_cases P none dials (Member j) (Told link outcome) = none (Member j) (Told link outcome) (λ who. none_counted (asks_at who (Member j)) (Told link outcome) refl)
+  turn_cases P none dials (Member j) (Judged how) = none (Member j) (Judged how) (λ who. none_counted (asks_at who (Member j)) (Judged how) refl)
 
-  one_mine : (k : ℕ) (end : EndId) (what : Action) → mine k (turns_by end what s) ≡ times (counted (is_member k end) what) (turn_now k)
-  one_mine k =
-      turn_cases (λ (end : EndId) (what : Action) (turns : State → List ChannelTurn). mine k (turns s) ≡ times (counted (is_member k end) what) (turn_now k))
-      (λ end what none. ap (λ (n : ℕ). times n (turn_now k)) (sym (none k))) (λ j peer. dial_mine (j == k) k j peer refl)
+  dial_mine : (hit : Bool) (who other : RequesterId) (peer : List ℕ) → same_requester other who ≡ hit → mine who (turn_now other) ≡ times (counted hit (Dial peer)) (turn_now who)
+  dial_mine false who other peer is = if_mine false who other (asked_in other s.member_plans s.ends) (asker_in other s.ends) is
+  dial_mine true who other peer is =
+      if_mine true who other (asked_in other s.member_plans s.ends) (asker_in other s.ends) is ∙ ap turn_now (same_is other who is) ∙ sym (append-nil (turn_now who))
 
-  -- those of a member are its turn, as often as it dialled
-  pub all_mine : (k : ℕ) (given : Given) → mine k (turns_in given s) ≡ times (given_dials k given) (turn_now k)
-  all_mine k [] = refl
-  all_mine k (one ∷ given) =
-      filter-append (λ (turn : ChannelTurn). same_requester turn.requester (OfMember k)) (turns_by one.0 one.1 s) (turns_in given s)
-      ∙ ap (λ (l : List ChannelTurn). l ++ mine k (turns_in given s)) (one_mine k one.0 one.1)
-      ∙ ap (λ (l : List ChannelTurn). times (counted (is_member k one.0) one.1) (turn_now k) ++ l) (all_mine k given)
-      ∙ sym (times_more (counted (is_member k one.0) one.1) (given_dials k given) (turn_now k))
+  one_mine : (who : RequesterId) (end : EndId) (what : Action) → mine who (turns_by end what s) ≡ times (counted (asks_at who end) what) (turn_now who)
+  one_mine who =
+      turn_cases (λ (end : EndId) (what : Action) (turns : List ChannelTurn). mine who turns ≡ times (counted (asks_at who end) what) (turn_now who))
+      (λ end what none. ap (λ (n : ℕ). times n (turn_now who)) (sym (none who))) (λ other peer. dial_mine (asks_at who (asking_end other)) who other peer (same_asks other who))
+
+  -- those of a requester are its turn, as often as it dialled
+  pub all_mine : (who : RequesterId) (given : Given) → mine who (turns_in given s) ≡ times (given_dials who given) (turn_now who)
+  all_mine who [] = refl
+  all_mine who (one ∷ given) =
+      filter-append (λ (turn : ChannelTurn). same_requester turn.requester who) (turns_by one.0 one.1 s) (turns_in given s)
+      ∙ ap (λ (l : List ChannelTurn). l ++ mine who (turns_in given s)) (one_mine who one.0 one.1)
+      ∙ ap (λ (l : List ChannelTurn). times (counted (asks_at who one.0) one.1) (turn_now who) ++ l) (all_mine who given)
+      ∙ sym (times_more (counted (asks_at who one.0) one.1) (given_dials who given) (turn_now who))
+
+  -- where its end runs, with those before
+  pub all_turns : (who : RequesterId) (running : Running) (turns : List ChannelTurn) (given : Given) → asker_in who s.ends ≡ Some running →
+      mine who (turns ++ turns_in given s) ≡ mine who turns ++ times (given_dials who given) (turn_of (asked_in who s.member_plans s.ends) who running.logons.channel)
+  all_turns who running turns given runs =
+      filter-append (λ (one : ChannelTurn). same_requester one.requester who) turns (turns_in given s)
+      ∙ ap (λ (l : List ChannelTurn). mine who turns ++ l) (all_mine who given)
+      ∙ ap (λ (r : Option Running). mine who turns ++ times (given_dials who given) (turn_if (asked_in who s.member_plans s.ends) who r)) runs
 
   -- ---- they were on channels whose client's challenge was drawn
 
   module _ (given : Given) (turns : List ChannelTurn) (holds : TurnsHold None [] s.member_plans s.ends s.dials s.chances.drawn given turns) where
-    running_drawn : (j : ℕ) (r : Option Running) → TurnsIf j (controller_of j s) None [] s.dials s.chances.drawn given turns r → AreDrawn s.chances.drawn (turn_in (controller_of j s) j r)
-    running_drawn j None known = tt
-    running_drawn j (Some running) known = turn_drawn (controller_of j s) (OfMember j) running.logons.channel _ s.chances.drawn known.turned
-
-    found_drawn : (j : ℕ) (found : Option MemberState) → slice_get s.ends.members j ≡ found → AreDrawn s.chances.drawn (turn_in (controller_of j s) j (running_in found))
-    found_drawn j None is = tt
-    found_drawn j (Some m) is = running_drawn j m.running (holds.members j m is)
+    if_drawn : (who : RequesterId) (controller : ℕ) (r : Option Running) → TurnsIf who controller None [] s.dials s.chances.drawn given turns r → AreDrawn s.chances.drawn (turn_if controller who r)
+    if_drawn who controller None known = tt
+    if_drawn who controller (Some running) known = turn_drawn controller who running.logons.channel _ s.chances.drawn known.turned
 
     one_drawn : (end : EndId) (what : Action) → AreDrawn s.chances.drawn (turns_by end what s)
     one_drawn =
-        turn_cases (λ (end : EndId) (what : Action) (turns : State → List ChannelTurn). AreDrawn s.chances.drawn (turns s)) (λ end what none. tt)
-        (λ j peer. found_drawn j (slice_get s.ends.members j) refl)
+        turn_cases (λ (end : EndId) (what : Action) (turns : List ChannelTurn). AreDrawn s.chances.drawn turns) (λ end what none. tt)
+        (λ who peer. if_drawn who (asked_in who s.member_plans s.ends) (asker_in who s.ends) (holds.asks who))
 
     all_drawn : (some : Given) → AreDrawn s.chances.drawn (turns_in some s)
     all_drawn [] = tt
@@ -253,31 +247,23 @@ module _ (s : State) where
 
     -- ---- so what is known stays known
 
-    member_over : (k : ℕ) (m : MemberState) (r : Option Running) → slice_get s.ends.members k ≡ Some m → m.running ≡ r →
-        TurnsIf k (controller_of k s) None [] s.dials s.chances.drawn given turns r → TurnsIf k (controller_of k s) None [] s.dials s.chances.drawn [] (turns ++ turns_in given s) r
-    member_over k m None there runs old = tt
-    member_over k m (Some running) there runs old =
-        let turn : List ChannelTurn = turn_of (controller_of k s) (OfMember k) running.logons.channel in
-        let same : turn_now k ≡ turn =
-        ap (λ (found : Option MemberState). turn_in (controller_of k s) k (running_in found)) there ∙ ap (λ (x : Option Running). turn_in (controller_of k s) k x) runs in
-        let all : mine k (turns ++ turns_in given s) ++ [] ≡ mine k turns ++ times (given_dials k given) turn =
-        append-nil (mine k (turns ++ turns_in given s))
-        ∙ filter-append (λ (one : ChannelTurn). same_requester one.requester (OfMember k)) turns (turns_in given s)
-        ∙ ap (λ (l : List ChannelTurn). mine k turns ++ l) (all_mine k given)
-        ∙ ap (λ (l : List ChannelTurn). mine k turns ++ times (given_dials k given) l) same in
-        record {
-          order = old.order;
-          out_once = old.out_once;
-          out_waits = old.out_waits;
-          given_once = omega arith;
-          given_waits = λ some. absurd (omega (arith, some));
-          turned = subst (λ (l : List ChannelTurn). Turned (view_of (controller_of k s) running.logons.channel) l s.chances.drawn) (sym all) old.turned;
-        }
+    one_over : (who : RequesterId) (r : Option Running) → asker_in who s.ends ≡ r → TurnsIf who (asked_in who s.member_plans s.ends) None [] s.dials s.chances.drawn given turns r →
+        TurnsIf who (asked_in who s.member_plans s.ends) None [] s.dials s.chances.drawn [] (turns ++ turns_in given s) r
+    one_over who None runs old = tt
+    one_over who (Some running) runs old = record {
+      order = old.order;
+      out_once = old.out_once;
+      out_waits = old.out_waits;
+      given_once = omega arith;
+      given_waits = λ some. absurd (omega (arith, some));
+      turned = subst (λ (l : List ChannelTurn). Turned (view_of (asked_in who s.member_plans s.ends) running.logons.channel) l s.chances.drawn)
+          (sym (append-nil (mine who (turns ++ turns_in given s)) ∙ all_turns who running turns given runs)) old.turned;
+    }
 
     pub hold_over : TurnsHold None [] s.member_plans s.ends s.dials s.chances.drawn [] (turns ++ turns_in given s)
     hold_over = record {
       before = both_drawn s.chances.drawn turns (turns_in given s) holds.before (all_drawn given);
-      members = λ k m there. member_over k m m.running there refl (holds.members k m there);
+      asks = λ who. one_over who (asker_in who s.ends) refl (holds.asks who);
     }
 
 -- ---- an action is done
@@ -288,9 +274,9 @@ acts_hold d rest end what s given turns known differ =
     let holds = known differ in
     record {
       before = holds.before;
-      members = λ k m there.
-          same_turns k (controller_of_plan (slice_get s.member_plans k) s.ends) d d ((end, what) ∷ rest) rest s.dials (perform_quietly end what s).dials s.chances.drawn s.chances.drawn given given
-          turns m.running (omega (arith, done_same k d rest end what s)) (omega arith) refl (λ challenge is. is) (holds.members k m there);
+      asks = λ who.
+          same_turns who (asked_in who s.member_plans s.ends) d d ((end, what) ∷ rest) rest s.dials (perform_quietly end what s).dials s.chances.drawn s.chances.drawn given given
+          turns (asker_in who s.ends) (omega (arith, done_same who d rest end what s)) (omega arith) refl (λ challenge is. is) (holds.asks who);
     }
 
 -- ---- through a run
@@ -317,10 +303,8 @@ first_known plan differ =
     let s : State = (first_world plan).state in
     record {
       before = tt;
-      members = λ k m there.
-          let found = got_map fresh_member plan.members k m there in
-          subst (λ (x : MemberState). TurnsIf k (controller_of k s) None [] [] s.chances.drawn [] [] x.running) found.2
-          (anew s.member_plans s.ends [] s.chances.drawn [] k (controller_of k s) found.0 [] refl);
+      asks = asker_first (λ (who : RequesterId) (r : Option Running). TurnsIf who (asked_in who s.member_plans s.ends) None [] [] s.chances.drawn [] [] r) plan (λ who. tt)
+          (λ who own. anew s.member_plans s.ends [] s.chances.drawn [] who (asked_in who s.member_plans s.ends) own [] refl);
     }
 
 -- ---- the claim
@@ -334,27 +318,31 @@ and_filter one other (turn ∷ turns) = and_one (one turn) turn (filter one turn
     and_one true turn first both is = ap (λ (l : List ChannelTurn). if other turn then turn ∷ l else l) is
     and_one false turn first both is = is
 
--- the timestamps of a member's turns on a channel
-pub own_stamps : (k : ℕ) (channel : ChannelIdentity) (turns : List ChannelTurn) → stamps_on channel (mine k turns) ≡ timestamps_on (OfMember k) channel turns
-own_stamps k channel turns = ap (λ (l : List ChannelTurn). map (λ (turn : ChannelTurn). turn.timestamp) l) (sym (and_filter (λ (turn : ChannelTurn). same_requester turn.requester (OfMember k)) (on_channel channel) turns))
+-- the timestamps of its turns on a channel
+pub own_stamps : (who : RequesterId) (channel : ChannelIdentity) (turns : List ChannelTurn) → stamps_on channel (mine who turns) ≡ timestamps_on who channel turns
+own_stamps who channel turns = ap (λ (l : List ChannelTurn). map (λ (turn : ChannelTurn). turn.timestamp) l) (sym (and_filter (λ (turn : ChannelTurn). same_requester turn.requester who) (on_channel channel) turns))
 
-own_seed : (s : State) (k : ℕ) (channel : ChannelIdentity) (o : SecureChannelState) (turns : List ChannelTurn) → TurnsHold None [] s.member_plans s.ends s.dials s.chances.drawn [] turns →
-    Stands s (OfMember k) channel o → o.seed ≡ channel_seed channel (timestamps_on (OfMember k) channel turns)
-own_seed s k channel o turns holds its =
-    let c : ℕ = controller_of k s in
-    let stands : StandsAtMember s k channel o its.turn = stands_at s k channel o its in
-    let running : Running = stands.running in
-    let known : TurnsOf k c None [] s.dials s.chances.drawn [] turns running =
-    subst (λ (r : Option Running). TurnsIf k c None [] s.dials s.chances.drawn [] turns r) stands.runs (holds.members k stands.state stands.at) in
-    let open_channel : stands_in c running.logons.channel.caller.computer running.logons.channel.standing ≡ Some channel =
-    ap (λ (how : Standing). stands_in c running.logons.channel.caller.computer how) stands.open_so ∙ ap Some (sym stands.is) in
-    let seed : Some o.seed ≡ Some (channel_seed channel (stamps_on channel (mine k turns ++ []))) = sym (ap seed_in stands.open_so) ∙ known.turned.seed channel open_channel in
-    some_is o.seed (channel_seed channel (stamps_on channel (mine k turns ++ []))) seed
-    ∙ ap (λ (l : List ChannelTurn). channel_seed channel (stamps_on channel l)) (append-nil (mine k turns))
-    ∙ ap (channel_seed channel) (own_stamps k channel turns)
+-- of each requester, with the controller that it asks
+pub turns_at : (s : State) (given : Given) (turns : List ChannelTurn) → TurnsHold None [] s.member_plans s.ends s.dials s.chances.drawn given turns → (who : RequesterId) →
+    TurnsIf who (controller_asked who s) None [] s.dials s.chances.drawn given turns (asker_in who s.ends)
+turns_at s given turns holds who = subst (λ (c : ℕ). TurnsIf who c None [] s.dials s.chances.drawn given turns (asker_in who s.ends)) (asked_now who s) (holds.asks who)
+
+own_seed : (s : State) (who : RequesterId) (channel : ChannelIdentity) (o : SecureChannelState) (turns : List ChannelTurn) → TurnsHold None [] s.member_plans s.ends s.dials s.chances.drawn [] turns →
+    Stands s who channel o → o.seed ≡ channel_seed channel (timestamps_on who channel turns)
+own_seed s who channel o turns holds stands =
+    let c : ℕ = controller_asked who s in
+    let with : RunsWith (asker_in who s.ends) stands.requester = asker_runs who s stands.requester stands.at in
+    let known : TurnsOf who c None [] s.dials s.chances.drawn [] turns with.running =
+    subst (TurnsIf who c None [] s.dials s.chances.drawn [] turns) with.runs (turns_at s [] turns holds who) in
+    let turned : Turned (view_of c stands.requester) (mine who turns ++ []) s.chances.drawn =
+    subst (λ (x : Requester). Turned (view_of c x) (mine who turns ++ []) s.chances.drawn) with.is known.turned in
+    let seed : Some o.seed ≡ Some (channel_seed channel (stamps_on channel (mine who turns ++ []))) = sym (ap seed_in stands.open_so) ∙ turned.seed channel (stands_open s who channel o stands) in
+    some_is o.seed (channel_seed channel (stamps_on channel (mine who turns ++ []))) seed
+    ∙ ap (λ (l : List ChannelTurn). channel_seed channel (stamps_on channel l)) (append-nil (mine who turns))
+    ∙ ap (channel_seed channel) (own_stamps who channel turns)
 
 pub sequences_own : (plan : Plan) (moves : List Move) → SequencesAreOwn (past plan moves)
-sequences_own plan moves (OfMember member) channel o stands =
+sequences_own plan moves who channel o stands =
     let known : AtState TurnsKnown None [] (past plan moves).world.state [] (past plan moves).book.turns =
     dials_after TurnsKnown turns_keep plan moves (first_known plan) in
-    own_seed (past plan moves).world.state member channel o (past plan moves).book.turns (known (draws_differ plan moves)) stands
+    own_seed (past plan moves).world.state who channel o (past plan moves).book.turns (known (draws_differ plan moves)) stands

@@ -1,7 +1,6 @@
 -- What is known of the calls of members' turns stays where no member takes a step, and where one does with no whole
 -- unit on the link of its turn. It serves `Proved.sequences`.
-use Rattle.std.proofs.Common.{◌≡◌, ℕ, ◌==◌, Bool, true, false, List, ◌++◌, inl, inr, Option, Some, None, slice_get, refl, sym, ap, subst, ◌∙◌, arith}
-use Rattle.std.proofs.lemmas.Bool.Decides.{Decides-eqb}
+use Rattle.std.proofs.Common.{◌≡◌, ◌≢◌, ℕ, List, ◌++◌, Option, Some, None, slice_get, refl, sym, ap, subst, ◌∙◌, arith}
 use Rattle.outside.specs.declared.action.Action.{Action}
 use Rattle.outside.specs.declared.event.Event.{Event}
 use Rattle.authenticators.specs.Channels.{ChannelIdentity}
@@ -12,39 +11,41 @@ use Rattle.member_server.specs.Machine.{step_of}
 use Rattle.member_server.specs.State.{State as MemberState}
 use Rattle.member_server.specs.declared.state.Running.{Running}
 use Rattle.member_server.proofs.AskedLaws.{asks_what_waits}
-use Rattle.step_notes.specs.Records.{Book, ChannelTurn, Sent}
+use Rattle.step_notes.specs.Records.{Book, ChannelTurn, Sent, OfMember, RequesterId}
 use Rattle.world_moves.specs.declared.links.EndId.TheVariants.{Member}
 use Rattle.world_moves.specs.declared.plan.Plan.{Plan}
 use Rattle.world_moves.specs.declared.state.State.{State}
 use Rattle.world_moves.specs.Acting.{Given, Heard, given_by, heard_by}
-use Rattle.world_moves.specs.Ends.{actions_by, member_step}
+use Rattle.world_moves.specs.Ends.{actions_by, member_step, with_member}
 use Rattle.world_moves.specs.MemberPlans.{AreAlikeButSecrets}
 use Rattle.domain_world.specs.Accepting.Sequences.{IsTakenFor}
-use Rattle.domain_world.specs.Past.{controller_of}
-use Rattle.domain_world.proofs.Accepting.Turns.TurnFactLaws.{GrowsTo, SameEnds, past_at, taken_stays, world_in}
-use Rattle.domain_world.proofs.Challenges.MessageOnceLaws.{set_cases}
+use Rattle.domain_world.specs.Past.{controller_asked, running_in}
+use Rattle.domain_world.proofs.Accepting.Turns.TurnFactLaws.{GrowsTo, past_at, taken_stays, world_in}
 use Rattle.domain_world.proofs.Frames.MarkPlaceLaws.{got_map}
-use Rattle.domain_world.proofs.Frames.MemberPlanLaws.{controllers_alike}
-use Rattle.domain_world.proofs.Requests.CallHoldsLaws.{controller_same, differ_front, mark_there, marks_in}
+use Rattle.domain_world.proofs.Requests.CallHoldsLaws.{differ_front, mark_there, marks_in}
 use Rattle.domain_world.proofs.Requests.StepApartLaws.{Differ, HearsNone}
 use Rattle.domain_world.proofs.Sequences.CallStepLaws.{OwnCalls, own_grows}
-use Rattle.domain_world.proofs.Sequences.DialCountLaws.{given_append, given_dials, given_other, is_member}
+use Rattle.domain_world.proofs.Sequences.DialCountLaws.{given_append, given_dials, given_other}
 use Rattle.domain_world.proofs.Sequences.Own.OwnFrameLaws.{StillDrawn, still_drawn}
 use Rattle.domain_world.proofs.Sequences.Own.OwnStepLaws.{OwnIf, own_quiet}
 use Rattle.domain_world.proofs.Sequences.Own.OwnTurnLaws.{AreDrawn}
 use Rattle.domain_world.proofs.Sequences.SeedTurnLaws.{drawn_still}
+use Rattle.domain_world.proofs.Frames.RequesterLaws.{asked_stays, asking_end, not_that, asker_in, asker_kept, asker_put}
 
 -- ---- what is known
 
-abbrev pub MemberOwn : (ℕ → Type 0) → List Mark → List (List ℕ) → List ChannelTurn → Given → ℕ → ℕ → Option Running → Type 0
-MemberOwn Done marks drawn turns given controller k r = InOrderUnlessStopped r × OwnIf Done marks drawn turns given controller k r
+abbrev pub OwnBy : (ℕ → Type 0) → List Mark → List (List ℕ) → List ChannelTurn → Given → ℕ → RequesterId → Option Running → Type 0
+OwnBy Done marks drawn turns given controller who r = InOrderUnlessStopped r × OwnIf Done marks drawn turns given controller who r
+
+-- of a requester in that state
+abbrev pub OwnOf : Plan → State → Given → Book → RequesterId → Option Running → Type 0
+OwnOf plan s given b who r = OwnBy (IsTakenFor (past_at plan s b)) (marks_in b.sent) s.chances.drawn b.turns given (controller_asked who s) who r
 
 -- The turns that are written down were on channels whose client's challenge was drawn; and so much is known of each
--- member.
+-- requester.
 pub record OwnFacts (plan : Plan) (s : State) (given : Given) (b : Book) : Type 0 where
   pub before : AreDrawn s.chances.drawn b.turns
-  pub members : (k : ℕ) (m : MemberState) → slice_get s.ends.members k ≡ Some m →
-      MemberOwn (IsTakenFor (past_at plan s b)) (marks_in b.sent) s.chances.drawn b.turns given (controller_of k s) k m.running
+  pub asks : (who : RequesterId) → OwnOf plan s given b who (asker_in who s.ends)
 
 -- ---- it grows
 
@@ -57,11 +58,6 @@ pub marks_still : (sent later : List Sent) → ((k : ℕ) (one : Sent) → slice
 marks_still sent later grown j mark there =
     let found = got_map (λ (one : Sent). one.mark) sent j mark there in mark_there later j found.0 (grown j found.0 found.1) ∙ ap Some found.2
 
-pub controller_kept : (k : ℕ) (s t : State) → AreAlikeButSecrets s.member_plans t.member_plans → SameEnds s.ends t.ends → controller_of k t ≡ controller_of k s
-controller_kept k s t plans same =
-    controllers_alike s.member_plans t.member_plans k t.ends plans
-    ∙ controller_same (slice_get s.member_plans k) s.ends t.ends (record { controllers = sym same.controllers; members = sym same.members; clients = sym same.clients })
-
 -- each call was written down before
 abbrev pub NoNewCalls : List Mark → List Mark → Type 0
 NoNewCalls marks later =
@@ -72,49 +68,58 @@ abbrev pub NoNewOn : List Mark → List Mark → ChannelIdentity → Type 0
 NoNewOn marks later c =
     (n number timestamp : ℕ) (e : ChannelIdentity) → slice_get later n ≡ Some (Calling e number timestamp) → e.client ≡ c.client → slice_get marks n ≡ Some (Calling e number timestamp)
 
--- the channel that stands at the member, if one does, is such
+-- the channel that stands at the requester, if one does, is such
 abbrev pub OnStanding : (ChannelIdentity → Type 0) → ℕ → Option Running → Type 0
 OnStanding P controller None = Unit {0}
 OnStanding P controller (Some running) = (c : ChannelIdentity) → stands_in controller running.logons.channel.caller.computer running.logons.channel.standing ≡ Some c → P c
 
-module _ (plan : Plan) (s t : State) (b d : Book) (given more : Given) (plans : AreAlikeButSecrets s.member_plans t.member_plans) (grows : GrowsTo s t b d) (drawn : StillDrawn s.chances.drawn t.chances.drawn)
-    (turns : d.turns ≡ b.turns) where
-  -- of a member that takes no step
-  pub one_stays : (k : ℕ) (r : Option Running) → given_dials k more ≡ given_dials k given → OnStanding (NoNewOn (marks_in b.sent) (marks_in d.sent)) (controller_of k s) r →
-      MemberOwn (IsTakenFor (past_at plan s b)) (marks_in b.sent) s.chances.drawn b.turns given (controller_of k s) k r →
-      MemberOwn (IsTakenFor (past_at plan t d)) (marks_in d.sent) t.chances.drawn d.turns more (controller_of k t) k r
-  one_stays k None count new old = (tt, tt)
-  one_stays k (Some running) count new old = (
+module _ (plan : Plan) (s t : State) (b d : Book) (plans : AreAlikeButSecrets s.member_plans t.member_plans) (grows : GrowsTo s t b d) where
+  -- of one that takes no step, by what is drawn, written down and given
+  pub own_on : (who : RequesterId) (drawn later : List (List ℕ)) (turns : List ChannelTurn) (given more : Given) (r : Option Running) → given_dials who more ≡ given_dials who given →
+      StillDrawn drawn later → OnStanding (NoNewOn (marks_in b.sent) (marks_in d.sent)) (controller_asked who s) r →
+      OwnBy (IsTakenFor (past_at plan s b)) (marks_in b.sent) drawn turns given (controller_asked who s) who r →
+      OwnBy (IsTakenFor (past_at plan t d)) (marks_in d.sent) later turns more (controller_asked who t) who r
+  own_on who drawn later turns given more None count still new old = (tt, tt)
+  own_on who drawn later turns given more (Some running) count still new old = (
     old.0,
-    subst (λ (all : List ChannelTurn). OwnCalls (IsTakenFor (past_at plan t d)) (marks_in d.sent) t.chances.drawn all more (controller_of k t) k running) (sym turns)
-        (subst (λ (c : ℕ). OwnCalls (IsTakenFor (past_at plan t d)) (marks_in d.sent) t.chances.drawn b.turns more c k running) (sym (controller_kept k s t plans grows.ends))
-        (own_grows (IsTakenFor (past_at plan s b)) (IsTakenFor (past_at plan t d)) (taken_for_stays plan s t b d grows) (marks_in b.sent) (marks_in d.sent) s.chances.drawn t.chances.drawn b.turns given
-        more (controller_of k s) k running (marks_still b.sent d.sent grows.sent) new count drawn old.1)),
+    subst (λ (c : ℕ). OwnCalls (IsTakenFor (past_at plan t d)) (marks_in d.sent) later turns more c who running) (sym (asked_stays who s t plans grows.ends))
+        (own_grows (IsTakenFor (past_at plan s b)) (IsTakenFor (past_at plan t d)) (taken_for_stays plan s t b d grows) (marks_in b.sent) (marks_in d.sent) drawn later turns given more
+        (controller_asked who s) who running (marks_still b.sent d.sent grows.sent) new count still old.1),
   )
 
-  pub before_stays : AreDrawn s.chances.drawn b.turns → AreDrawn t.chances.drawn d.turns
-  before_stays all = subst (λ (ts : List ChannelTurn). AreDrawn t.chances.drawn ts) (sym turns) (still_drawn s.chances.drawn t.chances.drawn b.turns drawn all)
+  pub on_any : (controller : ℕ) (r : Option Running) → NoNewCalls (marks_in b.sent) (marks_in d.sent) → OnStanding (NoNewOn (marks_in b.sent) (marks_in d.sent)) controller r
+  on_any controller None none = tt
+  on_any controller (Some running) none = λ c stands n number timestamp e there client. none n number timestamp e there
 
-  pub on_any : (k : ℕ) (r : Option Running) → NoNewCalls (marks_in b.sent) (marks_in d.sent) → OnStanding (NoNewOn (marks_in b.sent) (marks_in d.sent)) (controller_of k s) r
-  on_any k None none = tt
-  on_any k (Some running) none = λ c stands n number timestamp e there client. none n number timestamp e there
+  module _ (given more : Given) (drawn : StillDrawn s.chances.drawn t.chances.drawn) (turns : d.turns ≡ b.turns) where
+    one_stays : (who : RequesterId) (r : Option Running) → given_dials who more ≡ given_dials who given → OnStanding (NoNewOn (marks_in b.sent) (marks_in d.sent)) (controller_asked who s) r →
+        OwnOf plan s given b who r → OwnOf plan t more d who r
+    one_stays who r count new old =
+        subst (λ (all : List ChannelTurn). OwnBy (IsTakenFor (past_at plan t d)) (marks_in d.sent) t.chances.drawn all more (controller_asked who t) who r) (sym turns)
+        (own_on who s.chances.drawn t.chances.drawn b.turns given more r count drawn new old)
 
-  -- no member takes a step, and no call goes out
-  pub all_stay : t.ends.members ≡ s.ends.members → ((k : ℕ) → given_dials k more ≡ given_dials k given) → NoNewCalls (marks_in b.sent) (marks_in d.sent) → OwnFacts plan s given b → OwnFacts plan t more d
-  all_stay members count none old = record {
-    before = before_stays old.before;
-    members = λ k m there.
-        one_stays k m.running (count k) (on_any k m.running none) (old.members k m (subst (λ (all : List MemberState). slice_get all k ≡ Some m) members there));
-  }
+    pub before_stays : AreDrawn s.chances.drawn b.turns → AreDrawn t.chances.drawn d.turns
+    before_stays all = subst (λ (ts : List ChannelTurn). AreDrawn t.chances.drawn ts) (sym turns) (still_drawn s.chances.drawn t.chances.drawn b.turns drawn all)
+
+    -- no member takes a step, and no call goes out
+    pub all_stay : t.ends.members ≡ s.ends.members → ((who : RequesterId) → given_dials who more ≡ given_dials who given) → NoNewCalls (marks_in b.sent) (marks_in d.sent) → OwnFacts plan s given b →
+        OwnFacts plan t more d
+    all_stay members count none old = record {
+      before = before_stays old.before;
+      asks = λ who.
+          subst (OwnOf plan t more d who) (sym (asker_kept who s.ends t.ends members))
+          (one_stays who (asker_in who s.ends) (count who) (on_any (controller_asked who s) (asker_in who s.ends) none) (old.asks who));
+    }
+
+    -- a member takes a step, and the others stay
+    pub own_put : (at : ℕ) (new : MemberState) → OwnOf plan t more d (OfMember at) new.running → ((who : RequesterId) → who ≢ OfMember at → given_dials who more ≡ given_dials who given) →
+        ((who : RequesterId) → who ≢ OfMember at → OnStanding (NoNewOn (marks_in b.sent) (marks_in d.sent)) (controller_asked who s) (asker_in who s.ends)) → OwnFacts plan s given b →
+        (who : RequesterId) → OwnOf plan t more d who (asker_in who (with_member at new s.ends))
+    own_put at new own count none old =
+        asker_put (OwnOf plan t more d) at new s.ends (λ who. (tt, tt)) own
+        (λ who differs. one_stays who (asker_in who s.ends) (count who differs) (none who differs) (old.asks who))
 
 -- ---- a member takes a step
-
-pub not_that : (k at : ℕ) → (k ≡ at → ⊥) → is_member k (Member at) ≡ false
-not_that k at differs = by (at == k) refl
-  where
-    by : (hit : Bool) → (at == k) ≡ hit → hit ≡ false
-    by false is = refl
-    by true is = absurd (differs (sym ((Decides-eqb at k).0 is)))
 
 -- no whole unit comes on the link of its turn, if it runs
 abbrev pub HearsIf : Option MemberState → Event → Type 0
@@ -123,15 +128,16 @@ HearsIf (Some m) what = HearsNone m.running what
 
 module _ (plan : Plan) (s : State) (given : Given) (b : Book) where
   -- one that runs, on the link of whose turn no whole unit comes
-  quiet_own : (at controller : ℕ) (r : Option Running) (what : Event) → HearsNone r what →
-      MemberOwn (IsTakenFor (past_at plan s b)) (marks_in b.sent) s.chances.drawn b.turns given controller at r →
+  quiet_own : (who : RequesterId) (controller : ℕ) (r : Option Running) (what : Event) → HearsNone r what →
+      OwnBy (IsTakenFor (past_at plan s b)) (marks_in b.sent) s.chances.drawn b.turns given controller who r →
       let step = step_of (record { running = r }) what s.moment s.chances.left in
       Differ (s.chances.drawn ++ step.drawn) →
-      MemberOwn (IsTakenFor (past_at plan s b)) (marks_in b.sent) (s.chances.drawn ++ step.drawn) b.turns (given ++ given_by (Member at) (actions_by step.answer)) controller at step.state.running
-  quiet_own at controller None what none old differ = (tt, tt)
-  quiet_own at controller (Some running) what none old differ = (
+      OwnBy (IsTakenFor (past_at plan s b)) (marks_in b.sent) (s.chances.drawn ++ step.drawn) b.turns (given ++ given_by (asking_end who) (actions_by step.answer)) controller who
+      step.state.running
+  quiet_own who controller None what none old differ = (tt, tt)
+  quiet_own who controller (Some running) what none old differ = (
     asks_what_waits.keeps (record { running = Some running }) running what s.moment s.chances.left refl old.0,
-    own_quiet (IsTakenFor (past_at plan s b)) (marks_in b.sent) s.chances.drawn b.turns given controller at running what s.moment s.chances.left none old.0 old.1 differ,
+    own_quiet (IsTakenFor (past_at plan s b)) (marks_in b.sent) s.chances.drawn b.turns given controller who running what s.moment s.chances.left none old.0 old.1 differ,
   )
 
   abbrev HeardBy : MemberState → ℕ → Event → Heard
@@ -148,35 +154,14 @@ module _ (plan : Plan) (s : State) (given : Given) (b : Book) where
       let more : Given = given ++ given_by (Member at) actions in
       let still : StillDrawn s.chances.drawn t.chances.drawn = λ challenge was. drawn_still challenge s.chances.drawn step.drawn was in
       let old : OwnFacts plan s given b = known (differ_front s.chances.drawn step.drawn differ) in
-      let own : MemberOwn (IsTakenFor (past_at plan t b)) (marks_in b.sent) t.chances.drawn b.turns more (controller_of at t) at step.state.running =
-      now_stays at step.state.running
-      (quiet_own at (controller_of at s) m.running what none (old.members at m is) differ) in
+      let its : ℕ = controller_asked (OfMember at) s in
+      let was : OwnOf plan s given b (OfMember at) m.running = subst (λ (found : Option MemberState). OwnOf plan s given b (OfMember at) (running_in found)) is (old.asks (OfMember at)) in
+      let own : OwnOf plan t more b (OfMember at) step.state.running =
+      own_on plan s t b b refl grows (OfMember at) t.chances.drawn t.chances.drawn b.turns more more step.state.running refl (λ challenge drawn. drawn)
+      (on_any plan s t b b refl grows its step.state.running (λ n number timestamp e there. there)) (quiet_own (OfMember at) its m.running what none was differ) in
       record {
-        before = before_stays plan s t b b given more refl grows still refl old.before;
-        members = λ k one there.
-            elim (set_cases s.ends.members at k step.state one there) [
-              | inl here ↦
-                  subst (λ (x : MemberState). MemberOwn (IsTakenFor (past_at plan t b)) (marks_in b.sent) t.chances.drawn b.turns more (controller_of k t) k x.running) here.1
-                  (subst (λ (j : ℕ). MemberOwn (IsTakenFor (past_at plan t b)) (marks_in b.sent) t.chances.drawn b.turns more (controller_of j t) j step.state.running) (sym here.0) own)
-              | inr other ↦
-                  one_stays plan s t b b given more refl grows still refl k one.running
-                  (omega (arith, given_append k given (given_by (Member at) actions), given_other k (Member at) actions (not_that k at other.0)))
-                  (on_any plan s t b b given more refl grows still refl k one.running (λ n number timestamp e there. there)) (old.members k one other.1)
-            ];
+        before = before_stays plan s t b b refl grows given more still refl old.before;
+        asks = own_put plan s t b b refl grows given more still refl at step.state own
+            (λ who differs. omega (arith, given_append who given (given_by (Member at) actions), given_other who (Member at) actions (not_that who at differs)))
+            (λ who differs. on_any plan s t b b refl grows (controller_asked who s) (asker_in who s.ends) (λ n number timestamp e there. there)) old;
       }
-    where
-      -- the same after the step: more is answered
-      now_stays : (j : ℕ) (r : Option Running) →
-          let t : State = (HeardBy m at what).state in
-          let more : Given = given ++ given_by (Member at) (actions_by (step_of m what s.moment s.chances.left).answer) in
-          MemberOwn (IsTakenFor (past_at plan s b)) (marks_in b.sent) t.chances.drawn b.turns more (controller_of j s) j r →
-          MemberOwn (IsTakenFor (past_at plan t b)) (marks_in b.sent) t.chances.drawn b.turns more (controller_of j t) j r
-      now_stays j None own = (tt, tt)
-      now_stays j (Some running) own =
-          let t : State = (HeardBy m at what).state in
-          let more : Given = given ++ given_by (Member at) (actions_by (step_of m what s.moment s.chances.left).answer) in (
-            own.0,
-            subst (λ (c : ℕ). OwnCalls (IsTakenFor (past_at plan t b)) (marks_in b.sent) t.chances.drawn b.turns more c j running) (sym (controller_kept j s t refl grows.ends))
-                (own_grows (IsTakenFor (past_at plan s b)) (IsTakenFor (past_at plan t b)) (taken_for_stays plan s t b b grows) (marks_in b.sent) (marks_in b.sent) t.chances.drawn t.chances.drawn
-                b.turns more more (controller_of j s) j running (λ k mark there. there) (λ c stands n number timestamp e there client. there) refl (λ challenge drawn. drawn) own.1),
-          )

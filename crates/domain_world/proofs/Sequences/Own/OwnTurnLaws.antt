@@ -33,21 +33,21 @@ use Rattle.channel_client.specs.declared.state.Step.{Step}
 use Rattle.channel_client.specs.declared.state.Step.TheVariants as step
 use Rattle.logon_stubs.specs.declared.calls.Call.TheVariants as call
 use Rattle.step_notes.specs.MemberNotes.{stamped, turn_by, turn_of}
-use Rattle.step_notes.specs.Records.{ChannelTurn, OfMember, RequesterId, same_requester}
+use Rattle.step_notes.specs.Records.{ChannelTurn, RequesterId, same_requester}
 use Rattle.step_notes.proofs.Members.RestLaws.{event_rest}
 use Rattle.world_moves.specs.declared.links.EndId.{EndId}
-use Rattle.world_moves.specs.declared.links.EndId.TheVariants.{Member}
 use Rattle.world_moves.specs.declared.state.WaitingDial.{WaitingDial}
 use Rattle.world_moves.specs.Acting.{Given, given_by}
 use Rattle.world_moves.specs.Ends.{actions_by}
 use Rattle.domain_world.proofs.Requests.StepApartLaws.{Differ, fresh_last}
-use Rattle.domain_world.proofs.Sequences.DialCountLaws.{answered_dials, dials_out, given_append, given_dials, given_own, is_itself, one_if}
+use Rattle.domain_world.proofs.Sequences.DialCountLaws.{answered_dials, dials_out, given_append, given_dials, given_own, one_if}
 use Rattle.domain_world.proofs.Sequences.SeedTurnLaws.{Turned, comes_so, drawn_still, starts_so, turned_alike, turned_later}
+use Rattle.domain_world.proofs.Frames.RequesterLaws.{asking_end, is_itself}
 
 -- ---- the turns of a member
 
-abbrev pub mine : ℕ → List ChannelTurn → List ChannelTurn
-mine k turns = filter (λ (turn : ChannelTurn). same_requester turn.requester (OfMember k)) turns
+abbrev pub mine : RequesterId → List ChannelTurn → List ChannelTurn
+mine who turns = filter (λ (turn : ChannelTurn). same_requester turn.requester who) turns
 
 -- so often
 abbrev pub times : ℕ → List ChannelTurn → List ChannelTurn
@@ -57,19 +57,19 @@ times (suc n) turns = turns ++ times n turns
 -- ---- what is known of a member that runs: of the dial of its turn, and of its turns, where the one that started in
 -- this move isn't written down yet
 
-pub record TurnsOf (k controller : ℕ) (d : Option EndId) (rest : Given) (dials : List WaitingDial) (drawn : List (List ℕ)) (given : Given) (turns : List ChannelTurn) (running : Running) : Type 0 where
+pub record TurnsOf (who : RequesterId) (controller : ℕ) (d : Option EndId) (rest : Given) (dials : List WaitingDial) (drawn : List (List ℕ)) (given : Given) (turns : List ChannelTurn) (running : Running) : Type 0 where
   pub order : IsInOrder (is_dialled running.dialling) running.logons
   -- one dial is out at most, and the turn waits for it then
-  pub out_once : dials_out k d rest dials ≤ 1
-  pub out_waits : 1 ≤ dials_out k d rest dials → IsWaiting running.dialling
+  pub out_once : dials_out who d rest dials ≤ 1
+  pub out_waits : 1 ≤ dials_out who d rest dials → IsWaiting running.dialling
   -- one was given at most, which wasn't answered then
-  pub given_once : given_dials k given ≤ 1
-  pub given_waits : 1 ≤ given_dials k given → IsWaiting running.dialling × (answered_dials k d ≡ 0)
-  pub turned : Turned (view_of controller running.logons.channel) (mine k turns ++ times (given_dials k given) (turn_of controller (OfMember k) running.logons.channel)) drawn
+  pub given_once : given_dials who given ≤ 1
+  pub given_waits : 1 ≤ given_dials who given → IsWaiting running.dialling × (answered_dials who d ≡ 0)
+  pub turned : Turned (view_of controller running.logons.channel) (mine who turns ++ times (given_dials who given) (turn_of controller who running.logons.channel)) drawn
 
-abbrev pub TurnsIf : ℕ → ℕ → Option EndId → Given → List WaitingDial → List (List ℕ) → Given → List ChannelTurn → Option Running → Type 0
-TurnsIf k controller d rest dials drawn given turns None = Unit {0}
-TurnsIf k controller d rest dials drawn given turns (Some running) = TurnsOf k controller d rest dials drawn given turns running
+abbrev pub TurnsIf : RequesterId → ℕ → Option EndId → Given → List WaitingDial → List (List ℕ) → Given → List ChannelTurn → Option Running → Type 0
+TurnsIf who controller d rest dials drawn given turns None = Unit {0}
+TurnsIf who controller d rest dials drawn given turns (Some running) = TurnsOf who controller d rest dials drawn given turns running
 
 -- the turns were on channels whose client's challenge was drawn
 abbrev pub AreDrawn : List (List ℕ) → List ChannelTurn → Type 0
@@ -124,42 +124,42 @@ turn_drawn controller who s own drawn turned =
 -- ---- a step in which a turn may start
 
 -- what is known once the event came and a turn started, or none
-record HasStarted (k controller : ℕ) (drawn : List (List ℕ)) (turns : List ChannelTurn) (new : Requester) (how : Dialling) (count : ℕ) : Type 0 where
+record HasStarted (who : RequesterId) (controller : ℕ) (drawn : List (List ℕ)) (turns : List ChannelTurn) (new : Requester) (how : Dialling) (count : ℕ) : Type 0 where
   few : count ≤ 1
   waits : 1 ≤ count → IsWaiting how
-  turned : Turned (view_of controller new) (mine k turns ++ times count (turn_of controller (OfMember k) new)) drawn
+  turned : Turned (view_of controller new) (mine who turns ++ times count (turn_of controller who new)) drawn
 
-module _ (k controller : ℕ) (drawn : List (List ℕ)) (turns : List ChannelTurn) (before : AreDrawn drawn (mine k turns)) where
-  unstarted : (mid new : Requester) (how : Dialling) (count : ℕ) (after : List (List ℕ)) → new ≡ mid → count ≡ 0 → Turned (view_of controller mid) (mine k turns) drawn →
-      HasStarted k controller (drawn ++ after) turns new how count
+module _ (who : RequesterId) (controller : ℕ) (drawn : List (List ℕ)) (turns : List ChannelTurn) (before : AreDrawn drawn (mine who turns)) where
+  unstarted : (mid new : Requester) (how : Dialling) (count : ℕ) (after : List (List ℕ)) → new ≡ mid → count ≡ 0 → Turned (view_of controller mid) (mine who turns) drawn →
+      HasStarted who controller (drawn ++ after) turns new how count
   unstarted mid new how count after same none turned = record {
     few = omega (arith, none);
     waits = λ one. absurd (omega (arith, none, one));
-    turned = turned_later (view_of controller new) (mine k turns ++ times count (turn_of controller (OfMember k) new)) drawn (drawn ++ after) (λ challenge is. drawn_still challenge drawn after is)
-        (subst (λ (all : List ChannelTurn). Turned (view_of controller new) all drawn) (sym (no_times count (turn_of controller (OfMember k) new) (mine k turns) none))
-        (subst (λ (x : Requester). Turned (view_of controller x) (mine k turns) drawn) (sym same) turned));
+    turned = turned_later (view_of controller new) (mine who turns ++ times count (turn_of controller who new)) drawn (drawn ++ after) (λ challenge is. drawn_still challenge drawn after is)
+        (subst (λ (all : List ChannelTurn). Turned (view_of controller new) all drawn) (sym (no_times count (turn_of controller who new) (mine who turns) none))
+        (subst (λ (x : Requester). Turned (view_of controller x) (mine who turns) drawn) (sym same) turned));
   }
 
   with_start : (new : Requester) (how : Dialling) (count : ℕ) (later : List (List ℕ)) → count ≡ 1 → IsWaiting how →
-      Turned (view_of controller new) (mine k turns ++ turn_of controller (OfMember k) new) later → HasStarted k controller later turns new how count
+      Turned (view_of controller new) (mine who turns ++ turn_of controller who new) later → HasStarted who controller later turns new how count
   with_start new how count later one waits turned = record {
     few = omega (arith, one);
     waits = λ some. waits;
-    turned = subst (λ (all : List ChannelTurn). Turned (view_of controller new) all later) (sym (one_time count (turn_of controller (OfMember k) new) (mine k turns) one)) turned;
+    turned = subst (λ (all : List ChannelTurn). Turned (view_of controller new) all later) (sym (one_time count (turn_of controller who new) (mine who turns) one)) turned;
   }
 
   started : (starts needs : Bool) (now : ℕ) (mid : Requester) (left rest_left : List (List ℕ)) (new : Requester) (after : List (List ℕ)) (how : Dialling) (dial_work : DialWork) →
       can_start mid.turn mid.waiting ≡ starts → needs_challenge mid.standing ≡ needs → IsNextTurn starts needs now mid rest_left new after → IsRest rest_left left → IsDialledBy starts how dial_work →
-      IsCoherent mid → Differ (drawn ++ draws_between left after) → Turned (view_of controller mid) (mine k turns) drawn →
-      HasStarted k controller (drawn ++ draws_between left after) turns new dial_work.1 (dials_in dial_work.0.actions)
+      IsCoherent mid → Differ (drawn ++ draws_between left after) → Turned (view_of controller mid) (mine who turns) drawn →
+      HasStarted who controller (drawn ++ draws_between left after) turns new dial_work.1 (dials_in dial_work.0.actions)
   started false needs now mid left rest_left new after how dial_work can need next rest dials coherent differ turned =
       unstarted mid new dial_work.1 (dials_in dial_work.0.actions) (draws_between left after) next.0 dials.0 turned
   started true false now mid left rest_left new after how dial_work can need next rest dials coherent differ turned =
       let t : Requester = (start_of mid (timestamp_of now) (replicate 8 0)).state in
       with_start new dial_work.1 (dials_in dial_work.0.actions) (drawn ++ draws_between left after) dials.0 dials.1
-      (subst (λ (x : Requester). Turned (view_of controller x) (mine k turns ++ turn_of controller (OfMember k) x) (drawn ++ draws_between left after)) (sym next.0)
-      (turned_later (view_of controller t) (mine k turns ++ turn_of controller (OfMember k) t) drawn (drawn ++ draws_between left after) (λ challenge is. drawn_still challenge drawn (draws_between left after) is)
-      (starts_so (mine k turns) drawn controller (OfMember k) (timestamp_of now) (replicate 8 0) false mid can need tt before coherent turned)))
+      (subst (λ (x : Requester). Turned (view_of controller x) (mine who turns ++ turn_of controller who x) (drawn ++ draws_between left after)) (sym next.0)
+      (turned_later (view_of controller t) (mine who turns ++ turn_of controller who t) drawn (drawn ++ draws_between left after) (λ challenge is. drawn_still challenge drawn (draws_between left after) is)
+      (starts_so (mine who turns) drawn controller who (timestamp_of now) (replicate 8 0) false mid can need tt before coherent turned)))
   started true true now mid left rest_left new after how dial_work can need next rest dials coherent differ turned =
       let challenge : List ℕ = next.0 in
       let t : Requester = (start_of mid (timestamp_of now) challenge).state in
@@ -167,32 +167,32 @@ module _ (k controller : ℕ) (drawn : List (List ℕ)) (turns : List ChannelTur
       let same : all ≡ (drawn ++ rest.front) ++ challenge ∷ [] = one_drawn drawn left rest_left after rest challenge next.1 in
       let fresh : IsDrawn challenge (drawn ++ rest.front) → ⊥ = fresh_last (drawn ++ rest.front) challenge (subst Differ same differ) in
       with_start new dial_work.1 (dials_in dial_work.0.actions) all dials.0 dials.1
-      (subst (λ (x : Requester). Turned (view_of controller x) (mine k turns ++ turn_of controller (OfMember k) x) all) (sym next.2)
-      (turned_later (view_of controller t) (mine k turns ++ turn_of controller (OfMember k) t) (drawn ++ challenge ∷ []) all
+      (subst (λ (x : Requester). Turned (view_of controller x) (mine who turns ++ turn_of controller who x) all) (sym next.2)
+      (turned_later (view_of controller t) (mine who turns ++ turn_of controller who t) (drawn ++ challenge ∷ []) all
       (λ one is. subst (IsDrawn one) (sym same) (drawn_between one drawn rest.front challenge is))
-      (starts_so (mine k turns) drawn controller (OfMember k) (timestamp_of now) challenge true mid can need (λ is. fresh (drawn_still challenge drawn rest.front is)) before coherent turned)))
+      (starts_so (mine who turns) drawn controller who (timestamp_of now) challenge true mid can need (λ is. fresh (drawn_still challenge drawn rest.front is)) before coherent turned)))
 
   free_by : (part : Result (Part DialWork) StepRefused) (running : Running) (what : Event) (now : ℕ) (left : List (List ℕ)) (d : Option EndId) (rest : Given) (dials : List WaitingDial) (given : Given) →
       TurnStepsIfTaken running.logons.channel (by_event what running.dialling (work_of running) left) now part →
-      InOrderUnlessStopped (step_by actions_in state_in halted_state left part).state.running → dials_out k d rest dials ≡ 0 → given_dials k given ≡ 0 → IsCoherent running.logons.channel →
-      Turned (view_of controller running.logons.channel) (mine k turns) drawn → Differ (drawn ++ (step_by actions_in state_in halted_state left part).drawn) →
+      InOrderUnlessStopped (step_by actions_in state_in halted_state left part).state.running → dials_out who d rest dials ≡ 0 → given_dials who given ≡ 0 → IsCoherent running.logons.channel →
+      Turned (view_of controller running.logons.channel) (mine who turns) drawn → Differ (drawn ++ (step_by actions_in state_in halted_state left part).drawn) →
       let actions : List Action = actions_by (step_by actions_in state_in halted_state left part).answer in
-      TurnsIf k controller d (given_by (Member k) actions ++ rest) dials (drawn ++ (step_by actions_in state_in halted_state left part).drawn) (given ++ given_by (Member k) actions) turns
+      TurnsIf who controller d (given_by (asking_end who) actions ++ rest) dials (drawn ++ (step_by actions_in state_in halted_state left part).drawn) (given ++ given_by (asking_end who) actions) turns
       (step_by actions_in state_in halted_state left part).state.running
   free_by (Err why) running what now left d rest dials given steps order out none coherent turned differ = tt
   free_by (Ok part) running what now left d rest dials given steps order out none coherent turned differ =
       let mid : Requester = steps.part.value.0.logons.channel in
       let actions : List Action = part.value.0.actions in
-      let comes = comes_so (mine k turns) drawn controller running.logons.channel mid steps.comes coherent turned in
+      let comes = comes_so (mine who turns) drawn controller running.logons.channel mid steps.comes coherent turned in
       let rest_left : IsRest steps.part.left left =
       subst (λ (first : Result (Part DialWork) StepRefused). IsRest (left_by first) left) steps.is (event_rest what running.dialling (work_of running) left) in
-      let has : HasStarted k controller (drawn ++ draws_between left part.left) turns part.value.0.logons.channel part.value.1 (dials_in actions) =
+      let has : HasStarted who controller (drawn ++ draws_between left part.left) turns part.value.0.logons.channel part.value.1 (dials_in actions) =
       started (can_start mid.turn mid.waiting) (needs_challenge mid.standing) now mid left steps.part.left part.value.0.logons.channel part.left steps.part.value.1 part.value refl refl steps.next
       rest_left steps.dials comes.0 differ comes.1 in
-      let count : given_dials k (given_by (Member k) actions) ≡ dials_in actions = given_own k (Member k) actions (is_itself k) in
-      let given_after : given_dials k (given ++ given_by (Member k) actions) ≡ dials_in actions = omega (arith, given_append k given (given_by (Member k) actions), count, none) in
-      let rest_after : given_dials k (given_by (Member k) actions ++ rest) ≡ dials_in actions + given_dials k rest = omega (arith, given_append k (given_by (Member k) actions) rest, count) in
-      let out_after : dials_out k d (given_by (Member k) actions ++ rest) dials ≡ dials_in actions = omega (arith, rest_after, out) in
+      let count : given_dials who (given_by (asking_end who) actions) ≡ dials_in actions = given_own who (asking_end who) actions (is_itself who) in
+      let given_after : given_dials who (given ++ given_by (asking_end who) actions) ≡ dials_in actions = omega (arith, given_append who given (given_by (asking_end who) actions), count, none) in
+      let rest_after : given_dials who (given_by (asking_end who) actions ++ rest) ≡ dials_in actions + given_dials who rest = omega (arith, given_append who (given_by (asking_end who) actions) rest, count) in
+      let out_after : dials_out who d (given_by (asking_end who) actions ++ rest) dials ≡ dials_in actions = omega (arith, rest_after, out) in
       record {
         order = order;
         out_once = omega (arith, out_after, has.few);
@@ -200,7 +200,7 @@ module _ (k controller : ℕ) (drawn : List (List ℕ)) (turns : List ChannelTur
         given_once = omega (arith, given_after, has.few);
         given_waits = λ some. (has.waits (omega (arith, given_after, some)), omega (arith, out));
         turned = subst
-            (λ (n : ℕ). Turned (view_of controller part.value.0.logons.channel) (mine k turns ++ times n (turn_of controller (OfMember k) part.value.0.logons.channel)) (drawn ++ draws_between left part.left))
+            (λ (n : ℕ). Turned (view_of controller part.value.0.logons.channel) (mine who turns ++ times n (turn_of controller who part.value.0.logons.channel)) (drawn ++ draws_between left part.left))
             (sym given_after) has.turned;
       }
 
@@ -220,12 +220,12 @@ opening_same : (old new : Requester) → new.standing ≡ old.standing → new.t
 opening_same old new standing turn =
     ap (λ (how : Standing). opening_in how (step_in new.turn)) standing ∙ ap (λ (t : Option Pending). opening_in old.standing (step_in t)) turn
 
-module _ (k controller : ℕ) (turns : List ChannelTurn) where
+module _ (who : RequesterId) (controller : ℕ) (turns : List ChannelTurn) where
   waits_by : (part : Result (Part DialWork) StepRefused) (running : Running) (left : List (List ℕ)) (d : Option EndId) (rest : Given) (dials : List WaitingDial) (drawn : List (List ℕ)) (given : Given) →
       StaysOutIfTaken running.logons.channel running.dialling part → InOrderUnlessStopped (step_by actions_in state_in halted_state left part).state.running →
-      TurnsOf k controller d rest dials drawn given turns running →
+      TurnsOf who controller d rest dials drawn given turns running →
       let actions : List Action = actions_by (step_by actions_in state_in halted_state left part).answer in
-      TurnsIf k controller d (given_by (Member k) actions ++ rest) dials (drawn ++ (step_by actions_in state_in halted_state left part).drawn) (given ++ given_by (Member k) actions) turns
+      TurnsIf who controller d (given_by (asking_end who) actions ++ rest) dials (drawn ++ (step_by actions_in state_in halted_state left part).drawn) (given ++ given_by (asking_end who) actions) turns
       (step_by actions_in state_in halted_state left part).state.running
   waits_by (Err why) running left d rest dials drawn given stays order old = tt
   waits_by (Ok part) running left d rest dials drawn given stays order old =
@@ -233,13 +233,13 @@ module _ (k controller : ℕ) (turns : List ChannelTurn) where
       let before : Requester = running.logons.channel in
       let new : Requester = part.value.0.logons.channel in
       let later : List (List ℕ) = drawn ++ draws_between left part.left in
-      let count : given_dials k (given_by (Member k) actions) ≡ 0 = given_own k (Member k) actions (is_itself k) ∙ stays.none in
-      let given_after : given_dials k (given ++ given_by (Member k) actions) ≡ given_dials k given = omega (arith, given_append k given (given_by (Member k) actions), count) in
-      let rest_after : given_dials k (given_by (Member k) actions ++ rest) ≡ given_dials k rest = omega (arith, given_append k (given_by (Member k) actions) rest, count) in
-      let own : List ChannelTurn = mine k turns ++ times (given_dials k given) (turn_of controller (OfMember k) before) in
-      let same : mine k turns ++ times (given_dials k (given ++ given_by (Member k) actions)) (turn_of controller (OfMember k) new) ≡ own =
-      ap (λ (n : ℕ). mine k turns ++ times n (turn_of controller (OfMember k) new)) given_after
-      ∙ ap (λ (l : List ChannelTurn). mine k turns ++ times (given_dials k given) l) (turn_same controller (OfMember k) before new stays.caller stays.standing stays.turn) in
+      let count : given_dials who (given_by (asking_end who) actions) ≡ 0 = given_own who (asking_end who) actions (is_itself who) ∙ stays.none in
+      let given_after : given_dials who (given ++ given_by (asking_end who) actions) ≡ given_dials who given = omega (arith, given_append who given (given_by (asking_end who) actions), count) in
+      let rest_after : given_dials who (given_by (asking_end who) actions ++ rest) ≡ given_dials who rest = omega (arith, given_append who (given_by (asking_end who) actions) rest, count) in
+      let own : List ChannelTurn = mine who turns ++ times (given_dials who given) (turn_of controller who before) in
+      let same : mine who turns ++ times (given_dials who (given ++ given_by (asking_end who) actions)) (turn_of controller who new) ≡ own =
+      ap (λ (n : ℕ). mine who turns ++ times n (turn_of controller who new)) given_after
+      ∙ ap (λ (l : List ChannelTurn). mine who turns ++ times (given_dials who given) l) (turn_same controller who before new stays.caller stays.standing stays.turn) in
       record {
         order = order;
         out_once = omega (arith, rest_after, old.out_once);
@@ -271,28 +271,28 @@ waits_dialled (dialling.On number said) waits = absurd waits
 none_of : (n : ℕ) → n ≤ 1 → (1 ≤ n → ⊥) → n ≡ 0
 none_of n few never = elim (none_or_one n few) [ inl none ↦ none | inr one ↦ absurd (never (omega (arith, one))) ]
 
-module _ (k controller : ℕ) (turns : List ChannelTurn) where
+module _ (who : RequesterId) (controller : ℕ) (turns : List ChannelTurn) where
   order_after : (running : Running) (what : Event) (now : ℕ) (left : List (List ℕ)) → IsInOrder (is_dialled running.dialling) running.logons →
       InOrderUnlessStopped (step_by actions_in state_in halted_state left (event_part running what now left)).state.running
   order_after running what now left order = asks_what_waits.keeps (record { running = Some running }) running what now left refl order
 
   free_step : (running : Running) (what : Event) (now : ℕ) (left : List (List ℕ)) (d later : Option EndId) (rest : Given) (dials : List WaitingDial) (drawn : List (List ℕ)) (given : Given) →
-      dials_out k later rest dials ≡ 0 → given_dials k given ≡ 0 → TurnsOf k controller d rest dials drawn given turns running → AreDrawn drawn (mine k turns) →
+      dials_out who later rest dials ≡ 0 → given_dials who given ≡ 0 → TurnsOf who controller d rest dials drawn given turns running → AreDrawn drawn (mine who turns) →
       Differ (drawn ++ (step_by actions_in state_in halted_state left (event_part running what now left)).drawn) →
       let actions : List Action = actions_by (step_by actions_in state_in halted_state left (event_part running what now left)).answer in
-      TurnsIf k controller later (given_by (Member k) actions ++ rest) dials (drawn ++ (step_by actions_in state_in halted_state left (event_part running what now left)).drawn)
-      (given ++ given_by (Member k) actions) turns (step_by actions_in state_in halted_state left (event_part running what now left)).state.running
+      TurnsIf who controller later (given_by (asking_end who) actions ++ rest) dials (drawn ++ (step_by actions_in state_in halted_state left (event_part running what now left)).drawn)
+      (given ++ given_by (asking_end who) actions) turns (step_by actions_in state_in halted_state left (event_part running what now left)).state.running
   free_step running what now left d later rest dials drawn given out none old before differ =
-      free_by k controller drawn turns before (event_part running what now left) running what now left later rest dials given (turns_dialled.starts running what now left)
+      free_by who controller drawn turns before (event_part running what now left) running what now left later rest dials given (turns_dialled.starts running what now left)
       (order_after running what now left old.order) out none old.order.coherent
       (subst (λ (all : List ChannelTurn). Turned (view_of controller running.logons.channel) all drawn)
-      (no_times (given_dials k given) (turn_of controller (OfMember k) running.logons.channel) (mine k turns) none) old.turned) differ
+      (no_times (given_dials who given) (turn_of controller who running.logons.channel) (mine who turns) none) old.turned) differ
 
   pub member_step : (r : Option Running) (what : Event) (now : ℕ) (left : List (List ℕ)) (d later : Option EndId) (rest : Given) (dials : List WaitingDial) (drawn : List (List ℕ)) (given : Given) →
-      Answers (Member k) what d later rest → TurnsIf k controller d rest dials drawn given turns r → AreDrawn drawn (mine k turns) →
+      Answers (asking_end who) what d later rest → TurnsIf who controller d rest dials drawn given turns r → AreDrawn drawn (mine who turns) →
       let step = step_of (record { running = r }) what now left in
       Differ (drawn ++ step.drawn) →
-      TurnsIf k controller later (given_by (Member k) (actions_by step.answer) ++ rest) dials (drawn ++ step.drawn) (given ++ given_by (Member k) (actions_by step.answer)) turns step.state.running
+      TurnsIf who controller later (given_by (asking_end who) (actions_by step.answer) ++ rest) dials (drawn ++ step.drawn) (given ++ given_by (asking_end who) (actions_by step.answer)) turns step.state.running
   member_step None what now left d later rest dials drawn given answers old before differ = tt
   member_step (Some running) what now left d later rest dials drawn given answers old before differ = elim answers [
     | inl quiet ↦
@@ -301,20 +301,20 @@ module _ (k controller : ℕ) (turns : List ChannelTurn) where
               subst
               (λ (e : Option EndId).
               let step = step_of (record { running = Some running }) what now left in
-              TurnsIf k controller e (given_by (Member k) (actions_by step.answer) ++ rest) dials (drawn ++ step.drawn) (given ++ given_by (Member k) (actions_by step.answer)) turns
+              TurnsIf who controller e (given_by (asking_end who) (actions_by step.answer) ++ rest) dials (drawn ++ step.drawn) (given ++ given_by (asking_end who) (actions_by step.answer)) turns
               step.state.running) (sym quiet.1)
-              (waits_by k controller turns (event_part running what now left) running left d rest dials drawn given
+              (waits_by who controller turns (event_part running what now left) running left d rest dials drawn given
               (turns_dialled.waits running what now left waits quiet.0 (subst (λ (b : Bool). IsInOrder b running.logons) (waits_dialled running.dialling waits) old.order))
               (order_after running what now left old.order) old)
           | inr not_so ↦
               free_step running what now left d later rest dials drawn given
-              (subst (λ (e : Option EndId). dials_out k e rest dials ≡ 0) (sym quiet.1) (none_of (dials_out k d rest dials) old.out_once (λ some. not_so (old.out_waits some))))
-              (none_of (given_dials k given) old.given_once (λ some. not_so (old.given_waits some).0)) old before differ
+              (subst (λ (e : Option EndId). dials_out who e rest dials ≡ 0) (sym quiet.1) (none_of (dials_out who d rest dials) old.out_once (λ some. not_so (old.out_waits some))))
+              (none_of (given_dials who given) old.given_once (λ some. not_so (old.given_waits some).0)) old before differ
         ]
     | inr answered ↦
-        let one : answered_dials k d ≡ 1 = ap (λ (e : Option EndId). answered_dials k e) answered.0 ∙ ap one_if (is_itself k) in
-        let rest_none : given_dials k rest ≡ 0 = ap (λ (g : Given). given_dials k g) answered.2 in
-        let now_none : answered_dials k later ≡ 0 = ap (λ (e : Option EndId). answered_dials k e) answered.1 in
+        let one : answered_dials who d ≡ 1 = ap (λ (e : Option EndId). answered_dials who e) answered.0 ∙ ap one_if (is_itself who) in
+        let rest_none : given_dials who rest ≡ 0 = ap (λ (g : Given). given_dials who g) answered.2 in
+        let now_none : answered_dials who later ≡ 0 = ap (λ (e : Option EndId). answered_dials who e) answered.1 in
         free_step running what now left d later rest dials drawn given (omega (arith, one, rest_none, now_none, old.out_once))
-        (none_of (given_dials k given) old.given_once (λ some. absurd (omega (arith, (old.given_waits some).1, one)))) old before differ
+        (none_of (given_dials who given) old.given_once (λ some. absurd (omega (arith, (old.given_waits some).1, one)))) old before differ
   ]

@@ -1,6 +1,6 @@
 -- What is known of the calls of members' turns is kept as a whole unit comes on the link of a member's turn, and so as
 -- bytes come at a member. It serves `Proved.sequences`.
-use Rattle.std.proofs.Common.{◌≡◌, ◌⊎◌, ℕ, zero, suc, ◌+◌, ◌≤◌, Bool, true, false, List, [], ◌∷◌, ◌++◌, drop, length, map, inl, inr, Option, Some, None, Result, Ok, Err, slice_get, refl, sym, ap, subst, ◌∙◌, arith}
+use Rattle.std.proofs.Common.{◌≡◌, ◌≢◌, ◌⊎◌, ℕ, zero, suc, ◌+◌, ◌≤◌, Bool, true, false, List, [], ◌∷◌, ◌++◌, drop, length, map, inl, inr, Option, Some, None, Result, Ok, Err, slice_get, refl, sym, ap, subst, ◌∙◌, arith}
 use Rattle.outside.specs.Machine.{Part, step_by}
 use Rattle.outside.specs.declared.action.StepRefused.{StepRefused}
 use Rattle.outside.specs.declared.event.Event.{Event}
@@ -10,6 +10,7 @@ use Rattle.channel_client.specs.Effects.{stands_in, view_of}
 use Rattle.channel_client.specs.Machine.{take_of}
 use Rattle.channel_client.specs.State.{Requester}
 use Rattle.channel_events.specs.Marks.{Mark, Calling}
+use Rattle.channel_events.specs.Requests.{Requests}
 use Rattle.member_server.specs.Machine.{actions_in, event_part, halted_state, state_in, step_of}
 use Rattle.member_server.specs.State.{State as MemberState}
 use Rattle.member_server.specs.Turns.{DialWork}
@@ -19,7 +20,7 @@ use Rattle.channel_turns.specs.declared.state.TurnTalk.{TurnTalk}
 use Rattle.member_server.proofs.AskedLaws.{asks_what_waits}
 use Rattle.end_links.specs.Links.{LinkState}
 use Rattle.step_notes.specs.MemberNotes.{TurnNote, taking_note}
-use Rattle.step_notes.specs.Records.{Book, ChannelTurn, Sent, unit_in}
+use Rattle.step_notes.specs.Records.{Book, ChannelTurn, Sent, unit_in, OfMember, RequesterId}
 use Rattle.world_moves.specs.declared.links.EndId.TheVariants.{Member}
 use Rattle.world_moves.specs.declared.plan.Plan.{Plan}
 use Rattle.world_moves.specs.declared.state.State.{State}
@@ -27,35 +28,37 @@ use Rattle.world_moves.specs.Acting.{Given, Heard, given_by, hear, heard_by, hea
 use Rattle.world_moves.specs.Ends.{actions_by, member_step}
 use Rattle.world_moves.proofs.EndKindLaws.{of_member}
 use Rattle.domain_world.specs.Accepting.Sequences.{IsTakenFor}
-use Rattle.domain_world.specs.Past.{Coming, controller_of, note_member, sent_at}
+use Rattle.domain_world.specs.Past.{Coming, note_member, sent_at, controller_asked, running_in}
+use Rattle.domain_world.specs.Accepting.Runs.{view_with}
 use Rattle.domain_world.proofs.Accepting.LetInStepLaws.{IsDialledBy}
 use Rattle.domain_world.proofs.Accepting.Turns.TurnFactLaws.{AreApart, GrowsTo, MarksAreKnown, TurnFacts, apart_front, marks_before, past_at}
 use Rattle.domain_world.proofs.Accepting.Turns.TurnQuietLaws.{told_yet}
 use Rattle.domain_world.proofs.Accepting.Turns.TurnRunLaws.{TurnSide, rests_on}
-use Rattle.domain_world.proofs.Accepting.Turns.TurnSideLaws.{TurnSide as RestSide, comes, dialled_on, ends_same, first_book, hears as heard_whole, is_back, messages_in, new_in, numbers, sent_stays, turns_clash, units_of, whole}
+use Rattle.domain_world.proofs.Accepting.Turns.TurnSideLaws.{TurnSide as RestSide, comes, dialled_on, ends_same, first_book, hears as heard_whole, is_back, messages_in, new_in, sent_stays, turns_clash, units_of, whole}
 use Rattle.domain_world.proofs.Challenges.MessageApartLaws.{links_append, links_in, turns_links}
-use Rattle.domain_world.proofs.Challenges.MessageOnceLaws.{set_cases}
 use Rattle.domain_world.proofs.Frames.ComingLaws.{CameFrom, CameInUnit, IsPieceOf, came_in_unit, kept_same}
 use Rattle.domain_world.proofs.Frames.OpenMadeLaws.{IsAtSide}
 use Rattle.domain_world.proofs.Requests.CallComesLaws.{IsWhole, marks, request_placed, served, turn, units_whole}
 use Rattle.domain_world.proofs.Requests.CallFrameLaws.{TurnOn, turn_case}
-use Rattle.domain_world.proofs.Requests.CallHoldsLaws.{CallsHold, differ_front, marks_append, marks_in, marks_sent}
+use Rattle.domain_world.proofs.Requests.CallHoldsLaws.{CallsHold, differ_front, marks_append, marks_in, marks_sent, requests_at}
 use Rattle.domain_world.proofs.Requests.CallStepLaws.{most_steps}
 use Rattle.domain_world.proofs.Requests.LooserLaws.{IsPlaced, NoRequests, Placed}
-use Rattle.domain_world.proofs.Requests.StepApartLaws.{Differ, PlacedBy, seen_member}
+use Rattle.domain_world.proofs.Requests.StepApartLaws.{Differ, PlacedBy, seen_member, seen_running}
 use Rattle.domain_world.proofs.Requests.WholeNotedLaws.{placed_part}
 use Rattle.domain_world.proofs.Sequences.CallTakenLaws.{IsAnswer}
 use Rattle.domain_world.proofs.Sequences.DialCountLaws.{given_append, given_other}
 use Rattle.domain_world.proofs.Sequences.Own.OwnFrameLaws.{StillDrawn}
 use Rattle.domain_world.proofs.Sequences.Own.OwnKeepLaws.{OwnHolds, own_hears}
 use Rattle.domain_world.proofs.Sequences.Own.OwnOtherLaws.{other_comes}
-use Rattle.domain_world.proofs.Sequences.Own.OwnStayLaws.{HearsIf, MemberOwn, NoNewOn, OnStanding, OwnFacts, before_stays, controller_kept, not_that, one_stays, taken_for_stays}
+use Rattle.domain_world.proofs.Sequences.Own.OwnStayLaws.{HearsIf, NoNewOn, OnStanding, OwnFacts, before_stays, taken_for_stays, OwnOf, own_put}
 use Rattle.domain_world.proofs.Sequences.Own.OwnStepLaws.{OwnIf, own_whole}
 use Rattle.domain_world.proofs.Sequences.Own.OwnTakenLaws.{called_on, taken_for}
 use Rattle.domain_world.proofs.Sequences.Own.OwnWalkLaws.{MemberComes}
 use Rattle.domain_world.proofs.Sequences.SeedTurnLaws.{drawn_still}
 use Rattle.domain_world.proofs.Frames.EndNoteLaws.{turns_leave}
 use Rattle.domain_world.proofs.Frames.TurnFrameLaws.{turns_sent}
+use Rattle.domain_world.proofs.Frames.RequesterLaws.{asked_stays, asker_in, asker_is, not_that}
+use Rattle.domain_world.proofs.Requests.ByRequesterLaws.{seen_so, by_requester_apart}
 
 -- ---- the marks that are written down
 
@@ -107,7 +110,7 @@ module _ (plan : Plan) (n at : ℕ) (w : Coming) (piece : List ℕ)
   m = record { running = Some running }
 
   abbrev its : ℕ
-  its = controller_of at s
+  its = controller_asked (OfMember at) s
 
   abbrev c : Requester
   c = running.logons.channel
@@ -137,7 +140,7 @@ module _ (plan : Plan) (n at : ℕ) (w : Coming) (piece : List ℕ)
     now_marks : marks_in d.sent ≡ marks_in b.sent ++ new
     now_marks =
         ap (λ (old : List Sent). marks_in (old ++ map (sent_at w.at) new))
-        (turns_sent its (units_of plan at w piece s after given b (Some running)) (unit_in w.source) (numbers plan at w piece s after given b) (first_book plan at w piece s after given b (Some running)))
+        (turns_sent (OfMember at) w (units_of plan at w piece s after given b (Some running)) s after (first_book plan at w piece s after given b (Some running)))
         ∙ marks_append b.sent (map (sent_at w.at) new) ∙ ap (λ (more : List Mark). marks_in b.sent ++ more) (marks_sent w.at new)
 
     placed_by : PlacedBy part_of note new
@@ -152,33 +155,35 @@ module _ (plan : Plan) (n at : ℕ) (w : Coming) (piece : List ℕ)
           only_by note.sends note.mark new (subst (λ (p : Result (Part DialWork) StepRefused). PlacedBy p note new) ok placed_by)
           (λ sends. request_placed n at w piece s after b running whole_one link even bag part ok sends)
 
-      -- of another member
-      others_new : CallsHold n s.member_plans s.ends s.chances.drawn s.links b.sent b.messages → (k : ℕ) (r : Option Running) → slice_get s.ends.members k ≡ Some (record { running = r }) →
-          (k ≡ at → ⊥) → OnStanding (NoNewOn (marks_in b.sent) (marks_in d.sent)) (controller_of k s) r
-      others_new holds k None there differs = tt
-      others_new holds k (Some other) there differs = λ channel stands i number timestamp e called client.
+      -- of another requester
+      others_new : CallsHold n s.member_plans s.ends s.chances.drawn s.links b.sent b.messages → (who : RequesterId) → who ≢ OfMember at → (r : Option Running) → asker_in who s.ends ≡ r →
+          OnStanding (NoNewOn (marks_in b.sent) (marks_in d.sent)) (controller_asked who s) r
+      others_new holds who differs None runs = tt
+      others_new holds who differs (Some other) runs = λ channel stands i number timestamp e called client.
           elim (behind_or (marks_in b.sent) new note.mark (only_new part_of refl) i number timestamp e
           (subst (λ (all : List Mark). slice_get all i ≡ Some (Calling e number timestamp)) now_marks called)) [
             | inl old ↦ old
             | inr mark ↦
                 (let own : stands_in its c.caller.computer c.standing ≡ Some e = called_on its c e number timestamp whole_one.unit mark in
-                absurd (differs (holds.apart.apart k at (view_of (controller_of k s) other.logons.channel) (view_of its c) e.client
-                (ap (λ (x : Option MemberState). seen_member (controller_of k s) x) there) (ap (λ (x : Option MemberState). seen_member its x) is)
+                let asked : ℕ = controller_asked who s in
+                let r : Requests ℕ = requests_at n s.member_plans s.ends s.chances.drawn b.sent in
+                absurd (differs ((by_requester_apart r holds.apart).apart who (OfMember at) (view_of asked other.logons.channel) (view_of its c) e.client
+                (seen_so r s (λ k. refl) who ∙ ap (view_with asked) (asker_is who s) ∙ ap (seen_running asked) runs) (ap (λ (x : Option MemberState). seen_member its x) is)
                 (record { how = inr (channel, stands, sym client) }) (record { how = inr (e, own, refl) }))))
           ]
 
       -- of the member itself
       own_at : (part : Result (Part DialWork) StepRefused) → part_of ≡ part → CallsHold n s.member_plans s.ends s.chances.drawn s.links b.sent b.messages →
-          MemberOwn (IsTakenFor (past_at plan s b)) (marks_in b.sent) s.chances.drawn b.turns given its at (Some running) →
+          OwnOf plan s given b (OfMember at) (Some running) →
           ((p : Part DialWork) → part_of ≡ Ok p → (channel : ChannelIdentity) (number : ℕ) → IsAnswer (take_of c whole_one.unit).taken → (view_of its c).stands ≡ Some channel →
           (view_of its c).asking ≡ Some number → (i timestamp : ℕ) → slice_get (marks_in b.sent) i ≡ Some (Calling channel number timestamp) → IsTakenFor (past_at plan t d) i) →
           Differ t.chances.drawn →
-          OwnIf (IsTakenFor (past_at plan t d)) (marks_in b.sent ++ new) t.chances.drawn b.turns more_given its at (step_of m what s.moment s.chances.left).state.running
+          OwnIf (IsTakenFor (past_at plan t d)) (marks_in b.sent ++ new) t.chances.drawn b.turns more_given its (OfMember at) (step_of m what s.moment s.chances.left).state.running
       own_at (Err why) err holds old done differ =
           subst (λ (p : Result (Part DialWork) StepRefused).
-          OwnIf (IsTakenFor (past_at plan t d)) (marks_in b.sent ++ new) t.chances.drawn b.turns more_given its at (step_by actions_in state_in halted_state s.chances.left p).state.running) (sym err) tt
+          OwnIf (IsTakenFor (past_at plan t d)) (marks_in b.sent ++ new) t.chances.drawn b.turns more_given its (OfMember at) (step_by actions_in state_in halted_state s.chances.left p).state.running) (sym err) tt
       own_at (Ok part) ok holds old done differ =
-          own_whole (IsTakenFor (past_at plan s b)) (IsTakenFor (past_at plan t d)) (taken_for_stays plan s t b d grows) (marks_in b.sent) new s.chances.drawn b.turns given its at running
+          own_whole (IsTakenFor (past_at plan s b)) (IsTakenFor (past_at plan t d)) (taken_for_stays plan s t b d grows) (marks_in b.sent) new s.chances.drawn b.turns given its (OfMember at) running
           w.link whole_one.said piece whole_one.frames whole_one.unit s.moment s.chances.left whole_one.on whole_one.rest whole_one.none whole_one.heard old.0
           (λ challenge opening i number timestamp e there client.
           holds.apart.opening at (view_of its c) i number timestamp e (ap (λ (x : Option MemberState). seen_member its x) is) (opening ∙ ap (λ (x : List ℕ). Some x) (sym client)) there)
@@ -197,39 +202,35 @@ module _ (plan : Plan) (n at : ℕ) (w : Coming) (piece : List ℕ)
           let turns : d.turns ≡ b.turns = turns_leave m at w piece s after b in
           let still : StillDrawn s.chances.drawn t.chances.drawn = λ challenge was. drawn_still challenge s.chances.drawn (step_of m what s.moment s.chances.left).drawn was in
           let state : MemberState = (step_of m what s.moment s.chances.left).state in
-          let own : MemberOwn (IsTakenFor (past_at plan t d)) (marks_in d.sent) t.chances.drawn d.turns more_given (controller_of at t) at state.running = (
-            asks_what_waits.keeps m running what s.moment s.chances.left refl (old.members at m is).0,
-            subst (λ (all : List ChannelTurn). OwnIf (IsTakenFor (past_at plan t d)) (marks_in d.sent) t.chances.drawn all more_given (controller_of at t) at state.running) (sym turns)
-                (subst (λ (all : List Mark). OwnIf (IsTakenFor (past_at plan t d)) all t.chances.drawn b.turns more_given (controller_of at t) at state.running) (sym now_marks)
-                (subst (λ (k : ℕ). OwnIf (IsTakenFor (past_at plan t d)) (marks_in b.sent ++ new) t.chances.drawn b.turns more_given k at state.running) (sym (controller_kept at s t refl grows.ends))
-                (own_at part_of refl holds (old.members at m is) done differ))),
+          let was : OwnOf plan s given b (OfMember at) (Some running) = subst (λ (found : Option MemberState). OwnOf plan s given b (OfMember at) (running_in found)) is (old.asks (OfMember at)) in
+          let now : ℕ = controller_asked (OfMember at) t in
+          let own : OwnOf plan t more_given d (OfMember at) state.running = (
+            asks_what_waits.keeps m running what s.moment s.chances.left refl was.0,
+            subst (λ (all : List ChannelTurn). OwnIf (IsTakenFor (past_at plan t d)) (marks_in d.sent) t.chances.drawn all more_given now (OfMember at) state.running) (sym turns)
+                (subst (λ (all : List Mark). OwnIf (IsTakenFor (past_at plan t d)) all t.chances.drawn b.turns more_given now (OfMember at) state.running) (sym now_marks)
+                (subst (λ (c : ℕ). OwnIf (IsTakenFor (past_at plan t d)) (marks_in b.sent ++ new) t.chances.drawn b.turns more_given c (OfMember at) state.running)
+                (sym (asked_stays (OfMember at) s t refl grows.ends)) (own_at part_of refl holds was done differ))),
           ) in
           record {
-            before = before_stays plan s t b d given more_given refl grows still turns old.before;
-            members = λ k one there.
-                elim (set_cases s.ends.members at k state one there) [
-                  | inl here ↦
-                      subst (λ (x : MemberState). MemberOwn (IsTakenFor (past_at plan t d)) (marks_in d.sent) t.chances.drawn d.turns more_given (controller_of k t) k x.running) here.1
-                      (subst (λ (j : ℕ). MemberOwn (IsTakenFor (past_at plan t d)) (marks_in d.sent) t.chances.drawn d.turns more_given (controller_of j t) j state.running) (sym here.0) own)
-                  | inr other ↦
-                      one_stays plan s t b d given more_given refl grows still turns k one.running
-                      (omega (
-                        arith,
-                        given_append k given (given_by (Member at) (actions_by (step_of m what s.moment s.chances.left).answer)),
-                        given_other k (Member at) (actions_by (step_of m what s.moment s.chances.left).answer) (not_that k at other.0),
-                      ))
-                      (others_new holds k one.running other.1 other.0) (old.members k one other.1)
-                ];
+            before = before_stays plan s t b d refl grows given more_given still turns old.before;
+            asks = own_put plan s t b d refl grows given more_given still turns at state own
+                (λ who differs.
+                omega (
+                  arith,
+                  given_append who given (given_by (Member at) (actions_by (step_of m what s.moment s.chances.left).answer)),
+                  given_other who (Member at) (actions_by (step_of m what s.moment s.chances.left).answer) (not_that who at differs),
+                ))
+                (λ who differs. others_new holds who differs (asker_in who s.ends) refl) old;
           }
 
   -- with what is known at that time
   from_bag : (u : ℕ) → IsPieceOf s u w piece → unit_in w.source ≡ Some u → IsAtSide s.links w.link w.back (Member at) → TurnSide plan n s given b → OwnHolds plan n s given b → OwnHolds plan (n + 1) t more_given d
   from_bag u piece_of carried at_side side known few unclashed apart marks_known differ =
       let first : AreApart (links_in (messages_in plan at w piece s after given b (Some running))) =
-      subst AreApart (turns_links its (units_of plan at w piece s after given b (Some running)) (unit_in w.source) (numbers plan at w piece s after given b) (first_book plan at w piece s after given b (Some running))) apart in
+      subst AreApart (turns_links (OfMember at) w (units_of plan at w piece s after given b (Some running)) s after (first_book plan at w piece s after given b (Some running))) apart in
       let few_before : n ≤ most_steps = omega (arith, few) in
       let unclashed_before : b.clash ≡ false =
-      turns_clash its (units_of plan at w piece s after given b (Some running)) (unit_in w.source) (numbers plan at w piece s after given b) (first_book plan at w piece s after given b (Some running)) unclashed in
+      turns_clash (OfMember at) w (units_of plan at w piece s after given b (Some running)) s after (first_book plan at w piece s after given b (Some running)) unclashed in
       let apart_before : AreApart (links_in b.messages) =
       apart_front (links_in b.messages) (links_in (new_in plan at w piece s after given b (Some running)))
       (subst AreApart (links_append b.messages (new_in plan at w piece s after given b (Some running))) first) in
