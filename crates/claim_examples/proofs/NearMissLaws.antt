@@ -4,6 +4,7 @@ use Rattle.std.proofs.Common.{◌≡◌, ◌≢◌, ◌+◌, ℕ, zero, suc, Boo
 use Rattle.std.specs.Prelude.{◌%◌, ◌^◌}
 use Rattle.std.proofs.lemmas.Bool.{eqb-true}
 use Rattle.wire_base.specs.Maps.{lookup, same_number}
+use Rattle.rpc_units.specs.declared.unit.Unit.{Unit as RpcUnit}
 use Rattle.rpc_units.specs.Writing.{written}
 use Rattle.end_links.specs.Binding.{nak_of}
 use Rattle.end_links.specs.Links.{LinkState}
@@ -52,13 +53,16 @@ use Rattle.world_moves.specs.declared.links.Route.TheVariants.{ToController, ToM
 use Rattle.world_moves.specs.Forms.{HasMoveForm, IsByte}
 use Rattle.world_moves.specs.World.{IsMove}
 use Rattle.domain_world.specs.Accepting.Answered.{IsItsWay, MarksHaveTheirWay, PassesAreUnclashed}
+use Rattle.domain_world.specs.Accepting.Carried.{IsPlain, IsWholeAsMarked, IsWholeUnit, MarkedUnitsAreWhole}
+use Rattle.domain_world.proofs.Accepting.CarriedLaws.{one_unit}
+use Rattle.domain_world.proofs.Frames.PlainFormLaws.{plain_is}
 use Rattle.domain_world.specs.Claims.MarkedUnits.{CallsAreMarked, IsMarkedAsCall, IsMarkedAsReply, RepliesAreMarked}
 use Rattle.domain_world.specs.Claims.{IsAccepted, IsClear, IsGrantedBy, IsItsControllersAnswer, IsPlainlyAccepted, passed_on, judged_timestamp}
 use Rattle.domain_world.specs.Claims.Counts.{RaisesCount}
 use Rattle.domain_world.specs.Past.{Past, sent_at}
 use Rattle.claim_examples.specs.ClaimExamples.{challenge_on, client_plan, elsewhere, extended_flags, judged_as, judging, last_timestamp, made_keeping, message, message_of_link, on_channel, one_logon, open_running, small_account, small_challenge, small_hash, small_logon, small_member, small_name, small_plan, small_run, small_table, small_world}
 use Rattle.claim_examples.specs.GrantExamples.{wrong_call}
-use Rattle.claim_examples.specs.NearMisses.{NearMissesTellApart, OfAcceptingAll, OfAcceptingOnly, OfAsking, OfClearRuns, OfCounts, OfKeeping, OfKeys, OfLeavingOut, OfMaking, OfMarks, OfSchedules, OfShortResponses, OfTables, OfTelling, OfUnits, OfWritingDown, at_two_members, barred_again, bob, called_as, each_move, extended_taken, foreign, half_timestamp, in_client, judged_by, judged_two, keeping, kept_client, kept_link, kept_running, kept_terms, locking_table, long_taken, noting, passed_for, sent_one, small_bound, taking, ten_keeping, untold, waiting_on, wrong_among}
+use Rattle.claim_examples.specs.NearMisses.{replied_at, NearMissesTellApart, OfAcceptingAll, OfAcceptingOnly, OfAsking, OfClearRuns, OfCounts, OfKeeping, OfKeys, OfLeavingOut, OfMaking, OfMarks, OfWhole, carried_in, OfSchedules, OfShortResponses, OfTables, OfTelling, OfUnits, OfWritingDown, at_two_members, barred_again, bob, called_as, each_move, extended_taken, foreign, half_timestamp, in_client, judged_by, judged_two, keeping, kept_client, kept_link, kept_running, kept_terms, locking_table, long_taken, noting, passed_for, sent_one, small_bound, taking, ten_keeping, untold, waiting_on, wrong_among}
 use Rattle.claim_examples.proofs.ClaimLaws.{its_controller, moved_by_one, of_wraps, the_two}
 use Rattle.claim_examples.proofs.CompletenessLaws.{lost_schedule}
 use Rattle.claim_examples.proofs.LogonLaws.{extended_pair, free_small, granted_small, only_draw, plain_small, stored_small, this_step}
@@ -310,6 +314,34 @@ of_units = record {
   fails_passes = not_alike;
 }
 
+-- the one unit is what its mark says
+its_mark : (bytes : List ℕ) (mark : Mark) → (IsPlain mark → ⊥) → MarkedUnitsAreWhole (carried_in bytes mark) → IsWholeAsMarked mark bytes
+its_mark bytes mark marked claim = subst (IsWholeAsMarked mark) (plain_is (sent_at 6 mark ∷ []) 0 _) (claim 0 _ (sent_at 6 mark) refl refl marked)
+
+-- under one number
+one_number : (bytes : List ℕ) (one other : IsWholeUnit bytes) → one.unit.call ≡ other.unit.call
+one_number bytes one other = ap (λ (u : RpcUnit). u.call) (one_unit bytes one other)
+
+of_whole : OfWhole
+of_whole = record {
+  plain = λ n unit one there noted marked. absurd (only_plain n one noted marked);
+  opening = λ bytes one other first second.
+      let a = its_mark bytes (Opening small_name one) (λ plain. plain) first in
+      let b = its_mark bytes (Opening small_name other) (λ plain. plain) second in
+      sym a.marked.1 ∙ one_number bytes a.whole b.whole ∙ b.marked.1;
+  call = λ bytes one other first second.
+      let a = its_mark bytes (Calling small_name one 0) (λ plain. plain) first in
+      let b = its_mark bytes (Calling small_name other 0) (λ plain. plain) second in
+      sym a.marked ∙ one_number bytes a.whole b.whole ∙ b.marked;
+  opened = λ bytes one other first second.
+      let a = its_mark bytes (Opened small_name one 7) (λ plain. plain) first in
+      let b = its_mark bytes (Opened small_name other 7) (λ plain. plain) second in
+      sym a.marked.2 ∙ one_number bytes a.whole b.whole ∙ b.marked.2;
+} where
+  only_plain : (n : ℕ) (one : Sent) → slice_get (sent_at 6 Plain ∷ []) n ≡ Some one → (IsPlain one.mark → ⊥) → ⊥
+  only_plain zero one noted marked = marked (subst (λ (s : Sent). IsPlain s.mark) (some_is (sent_at 6 Plain) one noted) tt)
+  only_plain (suc n) one noted marked = got_nothing n one noted
+
 -- the mark of the call, and that of the reply
 the_call : (mark reply : Mark) → CallsAreMarked (called_as mark reply) → (channel : ChannelIdentity) × (number : ℕ) × (timestamp : ℕ) × (mark ≡ Calling channel number timestamp) × (channel.controller ≡ 0)
 the_call mark reply claim =
@@ -322,6 +354,14 @@ the_answer mark claim =
     let at : 8 ≡ it.reply = some_is 8 it.reply it.is in
     let there : Some (sent_at 6 mark) ≡ Some it.sent = ap (λ (n : ℕ). slice_get (called_as Plain mark).book.sent n) at ∙ it.there in
     ap Sent.mark (some_is (sent_at 6 mark) it.sent there) ∙ it.mark ∙ ap (λ (c : ChannelIdentity). ReplyTo c 3 7) (sym (some_is small_name it.channel it.passed))
+
+-- the step at which the reply was sent
+the_step : (moves : ℕ) → RepliesAreMarked (replied_at moves) → moves ≡ 6
+the_step moves claim =
+    let it : IsMarkedAsReply (replied_at moves) (on_channel 0) 7 = claim.0 7 refl refl in
+    let at : 8 ≡ it.reply = some_is 8 it.reply it.is in
+    let there : Some (sent_at moves (ReplyTo small_name 3 7)) ≡ Some it.sent = ap (λ (n : ℕ). slice_get (replied_at moves).book.sent n) at ∙ it.there in
+    ap Sent.at (some_is (sent_at moves (ReplyTo small_name 3 7)) it.sent there) ∙ it.step
 
 of_marks : OfMarks
 of_marks = record {
@@ -354,6 +394,7 @@ of_marks = record {
       channel = small_name;
       passed = refl;
       mark = refl;
+      step = refl;
     }),
     tt,
   );
@@ -365,6 +406,7 @@ of_marks = record {
       absurd (let never : 1 ≡ 0 = ap (λ (c : ChannelIdentity). c.controller) channel in cc);
   fails_number = λ claim. absurd (let never : ReplyTo small_name 4 7 ≡ ReplyTo small_name 3 7 = the_answer (ReplyTo small_name 4 7) claim in cc);
   fails_unit = λ claim. absurd (let never : ReplyTo small_name 3 6 ≡ ReplyTo small_name 3 7 = the_answer (ReplyTo small_name 3 6) claim in cc);
+  fails_step = λ claim. absurd (let never : 5 ≡ 6 = the_step 5 claim in cc);
   fails_none = λ claim. let it = claim.0 7 refl refl in no_some it.reply it.is;
   outside = ((λ n is. absurd (let never = is in cc)), tt);
 }
@@ -658,6 +700,7 @@ near_misses = record {
   keys = of_keys;
   counts = of_counts;
   units = of_units;
+  whole = of_whole;
   marks = of_marks;
   asking = of_asking;
   written = of_written;

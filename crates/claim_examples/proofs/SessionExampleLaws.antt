@@ -7,11 +7,11 @@ use Rattle.wire_base.specs.Names as names
 use Rattle.wire_base.specs.Names.{same_name}
 use Rattle.rc4_stream.proofs.Rc4Laws.{applied-applied}
 use Rattle.wire_base.specs.Units.{units_of}
-use Rattle.authenticators.specs.SecureChannels.{key_of_channel}
+use Rattle.authenticators.specs.SecureChannels.{SecureChannelState, key_of_channel}
 use Rattle.authenticators.specs.Sequences.{authenticator_of}
 use Rattle.outside.specs.declared.action.Judged.{Judged}
 use Rattle.outside.specs.declared.action.Judged.TheVariants as judged
-use Rattle.logon_stubs.specs.Status.{insufficient_resources, wrong_password}
+use Rattle.logon_stubs.specs.Status.{insufficient_resources, no_such_logon_session, wrong_password}
 use Rattle.logon_stubs.specs.declared.info.Verdict.{Verdict}
 use Rattle.logon_stubs.specs.declared.info.Verdict.TheVariants.{Granted, Status}
 use Rattle.interactive_logon.specs.declared.calls.InteractiveInfo.{InteractiveInfo}
@@ -27,14 +27,16 @@ use Rattle.domain_controller.specs.State.{State as ControllerState}
 use Rattle.domain_controller.specs.declared.state.Running.{Running}
 use Rattle.step_notes.specs.Judged.{IsNextOn}
 use Rattle.step_notes.specs.Records.{Judging}
+use Rattle.step_notes.specs.ReplySends.{done_on}
 use Rattle.step_notes.proofs.Controllers.GrantVerdictLaws.{not_zero}
 use Rattle.step_notes.proofs.Controllers.JudgedStepLaws.{same_status}
 use Rattle.domain_world.specs.Claims.{info_asked}
 use Rattle.domain_world.specs.Claims.Grants.{IsToBeLetOn}
+use Rattle.domain_world.specs.Claims.Statuses.{TellsItsStatus}
 use Rattle.domain_world.specs.Claims.Sessions.{AreBySince, ControllerRenewed, HasSessions, SessionsFollow, last_start, sessions_behind, sessions_since}
 use Rattle.channel_events.proofs.ListLaws.{got_nothing, some_is}
 use Rattle.claim_examples.specs.ClaimExamples.{judged_as, message, small_channel, small_hash, small_table}
-use Rattle.claim_examples.specs.SessionExamples.{OfHashGrants, OfSessions, ann_call, ann_session, barred_by, controller_with, hash_call, hash_info, hash_logon, other_hash, renewed_by, run_with, running_with}
+use Rattle.claim_examples.specs.SessionExamples.{OfHashGrants, OfSessions, OfStatuses, ann_call, ann_session, barred_by, controller_with, hash_call, hash_info, hash_logon, logoff_call, other_hash, renewed_by, run_with, running_with, too_many}
 use Rattle.claim_examples.proofs.ClaimLaws.{no_channel}
 use Rattle.claim_examples.proofs.GrantExampleLaws.{may_small}
 
@@ -144,6 +146,11 @@ follow kept calls renewed judged is few = record {
 none_some : (sessions : List Session) → [] ≡ sessions → sessions ≡ ann_session → ⊥
 none_some sessions none is = absurd (let never : [] ≡ ann_session = none ∙ is in cc)
 
+-- her logoff takes her session out
+ann_leaves : sessions_behind (logoff_call ann_session) ≡ []
+unfolding same_name names.upper_of units_of
+ann_leaves = refl
+
 pub of_sessions : OfSessions
 of_sessions = record {
   opens = ann_opens;
@@ -151,7 +158,37 @@ of_sessions = record {
   earlier = follow ann_session (ann_call ∷ []) (renewed_by 6) (refl, tt) (sym ann_opens) (omega arith);
   later = follow [] (ann_call ∷ []) (renewed_by 7) (refl, tt) refl (omega arith);
   again = follow ann_session (barred_by ann_session ∷ ann_call ∷ []) [] (sym ann_opens, (refl, tt)) refl (omega arith);
+  logs_off = follow [] (logoff_call ann_session ∷ ann_call ∷ []) [] (sym ann_opens, (refl, tt)) (sym ann_leaves) (omega arith);
+  fails_stays = λ claim. none_some ann_session (sym (claim.stands 0 ann_session (has_of ann_session (logoff_call ann_session ∷ ann_call ∷ [])) ∙ ann_leaves)) refl;
+  fails_many = λ calls renewed claim. absurd (let few : length too_many ≤ session_limit = claim.few 0 too_many (has_of too_many calls) in omega (arith, few, length-replicate 10001 (session_of (codes "FILE1") [] 0)));
   fails_lost = λ claim. none_some (sessions_behind ann_call) (claim.stands 0 [] (has_of [] (ann_call ∷ []))) ann_opens;
   fails_kept = λ claim. none_some ann_session (sym (claim.stands 0 ann_session (has_of ann_session (ann_call ∷ [])))) refl;
   fails_judged = λ claim. none_some (sessions_behind ann_call) claim.judged.0 ann_opens;
+}
+
+-- ---- which statuses are told
+
+open_status : (done_on (logoff_call ann_session) (small_channel [])).status ≡ 0
+unfolding same_name names.upper_of units_of
+open_status = refl
+
+none_status : (done_on (logoff_call []) (small_channel [])).status ≡ no_such_logon_session
+none_status = refl
+
+-- a logoff with that status, told with it
+tells_so : (status : ℕ) (sessions : List Session) → (done_on (logoff_call sessions) (small_channel [])).status ≡ status → TellsItsStatus (judged_as (judged.Passed status) (logoff_call sessions))
+tells_so status sessions is channel stands passed =
+    ap (λ (n : ℕ). Some (judged.Passed n))
+    (sym is ∙ ap (λ (c : SecureChannelState). (done_on (logoff_call sessions) c).status) (some_is (small_channel []) channel stands))
+
+status_of_two : (told status : ℕ) (sessions : List Session) → (done_on (logoff_call sessions) (small_channel [])).status ≡ status → TellsItsStatus (judged_as (judged.Passed told) (logoff_call sessions)) → told ≡ status
+status_of_two told status sessions is tells = same_status told (done_on (logoff_call sessions) (small_channel [])).status (tells (small_channel []) refl refl) ∙ is
+
+pub of_statuses : OfStatuses
+of_statuses = record {
+  meets = (tells_so 0 ann_session open_status, tt);
+  none = (tells_so no_such_logon_session [] none_status, tt);
+  barred = ((λ channel stands passed. absurd (let never : false ≡ true = passed in cc)), tt);
+  fails_open = λ claim. not_zero no_such_logon_session refl (status_of_two no_such_logon_session 0 ann_session open_status claim.0);
+  fails_none = λ claim. not_zero no_such_logon_session refl (sym (status_of_two 0 no_such_logon_session [] none_status claim.0));
 }

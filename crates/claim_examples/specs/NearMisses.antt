@@ -1,7 +1,7 @@
 -- Near misses beside those of the other files (this project's own choice): runs that differ in one thing more from one
 -- that meets a claim, so that a claim which leaves that thing out, or which asks it besides, is told apart. Responses
 -- are the values of their functions.
-use Rattle.std.specs.Prelude.{ℕ, ◌≡◌, ◌-◌, ◌^◌, Bool, true, false, List, [], ◌∷◌, ◌++◌, replicate, Some, None, Ok, codes, slice_get}
+use Rattle.std.specs.Prelude.{ℕ, ◌≡◌, ◌-◌, ◌^◌, Bool, true, false, List, [], ◌∷◌, ◌++◌, replicate, Some, None, Ok, codes, slice_get, ◌%◌}
 use Rattle.outside.specs.declared.action.Judged.{Judged}
 use Rattle.outside.specs.declared.action.Judged.TheVariants as judged
 use Rattle.ntlm_responses.specs.Hashes.{key_v2_of}
@@ -47,6 +47,7 @@ use Rattle.domain_world.specs.Accepting.Answered.{MarksHaveTheirWay, MessagesAre
 use Rattle.domain_world.specs.Claims.{AcceptsAllGranted, AcceptsOnlyGranted, IsClear, KeysAgree, ShortResponsesServeOnce, TellsOfCallsAlone, taken_answer_on}
 use Rattle.domain_world.specs.Claims.Counts.{EachCallRaisesOnce, RaisesCount}
 use Rattle.domain_world.specs.Claims.LeftOut.{Answers, DrawsFor, Takes, TakesOn}
+use Rattle.domain_world.specs.Accepting.Carried.{MarkedUnitsAreWhole}
 use Rattle.domain_world.specs.Claims.MarkedUnits.{CallsAreMarked, EachUnitIsMarked, RepliesAreMarked}
 use Rattle.domain_world.specs.Claims.Tables.{TablesFollowVerdicts}
 use Rattle.domain_world.specs.Claims.WrittenDown.{ClientsAreWrittenDown, MembersAreWrittenDown, MessagesAreOfTheirClients}
@@ -190,6 +191,28 @@ sent_one back mark =
     })
     (record blank { sent = sent_at 6 mark ∷ [] })
 
+-- the same with these bytes
+abbrev pub carried_in : List ℕ → Mark → Past
+carried_in bytes mark =
+    run_in
+    (record small_world {
+      state = record small_world.state {
+        bag = record { bytes = bytes; link = 0; kind = kind.ToController; back = false; is_settled = false } ∷ [];
+      };
+    })
+    (record blank { sent = sent_at 6 mark ∷ [] })
+
+-- A unit is what its mark says: of an opening, a call, and the reply to an opening, only under one number. Of units
+-- that were made for no channel nothing is asked.
+pub record OfWhole : Type 0 where
+  pub plain : MarkedUnitsAreWhole (carried_in [] Plain)
+  pub opening : (bytes : List ℕ) (one other : ℕ) → MarkedUnitsAreWhole (carried_in bytes (Opening small_name one)) →
+      MarkedUnitsAreWhole (carried_in bytes (Opening small_name other)) → one ≡ other
+  pub call : (bytes : List ℕ) (one other : ℕ) → MarkedUnitsAreWhole (carried_in bytes (Calling small_name one 0)) →
+      MarkedUnitsAreWhole (carried_in bytes (Calling small_name other 0)) → one ≡ other
+  pub opened : (bytes : List ℕ) (one other : ℕ) → MarkedUnitsAreWhole (carried_in bytes (Opened small_name one 7)) →
+      MarkedUnitsAreWhole (carried_in bytes (Opened small_name other 7)) → one % 2 ^ 32 ≡ other % 2 ^ 32
+
 -- a call passed in unit 0, which was made for this, and it was written down whether there was a clash
 abbrev pub passed_for : Mark → Bool → Past
 passed_for mark clash =
@@ -219,10 +242,15 @@ abbrev pub called_as : Mark → Mark → Past
 called_as call reply =
     small_run (record one_logon { sent = replicate 7 (sent_at 0 Plain) ++ sent_at 5 call ∷ sent_at 6 reply ∷ []; judged = on_channel 0 ∷ [] })
 
+-- the same with a reply that is marked so, and was sent after so many moves
+abbrev pub replied_at : ℕ → Past
+replied_at moves =
+    small_run (record one_logon { sent = replicate 7 (sent_at 0 Plain) ++ sent_at 5 Plain ∷ sent_at moves (ReplyTo small_name 3 7) ∷ []; judged = on_channel 0 ∷ [] })
+
 -- A message's call is marked as a call with the member's controller: not where its unit is marked as nothing, as an
 -- opening, or as a call with another one. The reply to a call that passed is marked as the reply to it: not where its
--- unit is marked as nothing, as that of another channel, call or unit, or where it has no unit. Of a call from outside
--- nothing is asked.
+-- unit is marked as nothing, as that of another channel, call or unit, where it was sent at another step than that of
+-- the judging, or where it has no unit. Of a call from outside nothing is asked.
 pub record OfMarks : Type 0 where
   pub call : CallsAreMarked (called_as (Calling small_name 3 0) Plain)
   pub fails_plain : CallsAreMarked (called_as Plain Plain) → ⊥
@@ -233,6 +261,7 @@ pub record OfMarks : Type 0 where
   pub fails_channel : RepliesAreMarked (called_as Plain (ReplyTo (record small_name { controller = 1 }) 3 7)) → ⊥
   pub fails_number : RepliesAreMarked (called_as Plain (ReplyTo small_name 4 7)) → ⊥
   pub fails_unit : RepliesAreMarked (called_as Plain (ReplyTo small_name 3 6)) → ⊥
+  pub fails_step : RepliesAreMarked (replied_at 5) → ⊥
   pub fails_none : RepliesAreMarked (small_run (record one_logon { judged = record (on_channel 0) { reply = None } ∷ [] })) → ⊥
   pub outside : RepliesAreMarked (small_run (record one_logon { judged = record (on_channel 0) { source = Outside; reply = None } ∷ [] }))
 
@@ -465,6 +494,7 @@ pub record NearMissesTellApart : Type 0 where
   pub keys : OfKeys
   pub counts : OfCounts
   pub units : OfUnits
+  pub whole : OfWhole
   pub marks : OfMarks
   pub asking : OfAsking
   pub written : OfWritingDown

@@ -4,12 +4,12 @@ use Rattle.std.specs.Prelude.{ℕ, ◌≡◌, List, [], ◌∷◌, replicate, So
 use Rattle.rc4_stream.specs.Rc4.{applied}
 use Rattle.authenticators.specs.SecureChannels.{key_of_channel}
 use Rattle.outside.specs.declared.action.Judged.TheVariants as judged
-use Rattle.logon_stubs.specs.Status.{insufficient_resources, wrong_password}
+use Rattle.logon_stubs.specs.Status.{insufficient_resources, no_such_logon_session, wrong_password}
 use Rattle.interactive_logon.specs.declared.calls.InteractiveCall.{InteractiveCall}
 use Rattle.interactive_logon.specs.declared.calls.InteractiveInfo.{InteractiveInfo}
 use Rattle.interactive_logon.specs.declared.sessions.Session.{Session}
 use Rattle.interactive_logon.specs.Sessions.{session_limit, session_of}
-use Rattle.controller_calls.specs.declared.calls.JudgedCall.TheVariants.{Interactive}
+use Rattle.controller_calls.specs.declared.calls.JudgedCall.TheVariants.{Interactive, Logoff}
 use Rattle.domain_controller.specs.State.{State as ControllerState}
 use Rattle.domain_controller.specs.declared.state.Running.{Running as ControllerRunning}
 use Rattle.step_notes.specs.Records.{Judging, blank}
@@ -17,6 +17,7 @@ use Rattle.world_moves.specs.World.{World}
 use Rattle.domain_world.specs.Claims.{info_asked}
 use Rattle.domain_world.specs.Claims.Grants.{GrantsWhoseHashIsStored}
 use Rattle.domain_world.specs.Claims.Sessions.{ControllerRenewed, SessionsFollow, sessions_behind}
+use Rattle.domain_world.specs.Claims.Statuses.{StatusesAreTold}
 use Rattle.domain_world.specs.Past.{Past}
 use Rattle.claim_examples.specs.ClaimExamples.{judged_as, keeping_controller, message, next_call, next_logon, run_in, small_channel, small_computers, small_hash, small_world}
 use Rattle.claim_examples.specs.GrantExamples.{judged_all}
@@ -103,14 +104,37 @@ barred_by sessions = record (judged_as judged.Barred ann_call) { at = 8; session
 abbrev pub renewed_by : ℕ → List ControllerRenewed
 renewed_by moves = record { moves = moves; controller = 0 } ∷ []
 
--- Sessions: ann's logon opens hers, which then stands; behind a later restart none does. It isn't so where the session
--- is lost without a restart, or kept over one, nor where a later call was judged as if none stood.
+-- her logoff, by these sessions
+abbrev pub logoff_call : List Session → Judging
+logoff_call sessions = record ann_call { at = 8; asked = Logoff (hash_logon small_hash); sessions = sessions }
+
+-- one more than may stand
+abbrev pub too_many : List Session
+too_many = replicate 10001 (session_of (codes "FILE1") [] 0)
+
+-- Sessions: ann's logon opens hers, which then stands; behind a later restart or her logoff none does. It isn't so
+-- where the session is lost without a restart, or kept over one or over the logoff, nor where a later call was judged
+-- as if none stood. Nor is it where 10,001 stand, whatever was judged.
 pub record OfSessions : Type 0 where
   pub opens : sessions_behind ann_call ≡ ann_session
   pub meets : SessionsFollow (run_with ann_session (ann_call ∷ [])) []
   pub earlier : SessionsFollow (run_with ann_session (ann_call ∷ [])) (renewed_by 6)
   pub later : SessionsFollow (run_with [] (ann_call ∷ [])) (renewed_by 7)
   pub again : SessionsFollow (run_with ann_session (barred_by ann_session ∷ ann_call ∷ [])) []
+  pub logs_off : SessionsFollow (run_with [] (logoff_call ann_session ∷ ann_call ∷ [])) []
+  pub fails_stays : SessionsFollow (run_with ann_session (logoff_call ann_session ∷ ann_call ∷ [])) [] → ⊥
+  pub fails_many : (calls : List Judging) (renewed : List ControllerRenewed) → SessionsFollow (run_with too_many calls) renewed → ⊥
   pub fails_lost : SessionsFollow (run_with [] (ann_call ∷ [])) [] → ⊥
   pub fails_kept : SessionsFollow (run_with ann_session (ann_call ∷ [])) (renewed_by 7) → ⊥
   pub fails_judged : SessionsFollow (run_with ann_session (barred_by [] ∷ ann_call ∷ [])) [] → ⊥
+
+-- ---- which statuses are told
+
+-- Statuses: the logoff of a session that stands was told with 0, and of one that doesn't with
+-- STATUS_NO_SUCH_LOGON_SESSION; not the other way. Of a call that was barred nothing is asked.
+pub record OfStatuses : Type 0 where
+  pub meets : StatusesAreTold (judged_all (logoff_call ann_session ∷ []))
+  pub none : StatusesAreTold (judged_all (judged_as (judged.Passed no_such_logon_session) (logoff_call []) ∷ []))
+  pub barred : StatusesAreTold (judged_all (judged_as judged.Barred (logoff_call []) ∷ []))
+  pub fails_open : StatusesAreTold (judged_all (judged_as (judged.Passed no_such_logon_session) (logoff_call ann_session) ∷ [])) → ⊥
+  pub fails_none : StatusesAreTold (judged_all (logoff_call [] ∷ [])) → ⊥

@@ -12,7 +12,7 @@ ghost use Rattle.claim_examples.specs.OwnChallengeExamples.{OfOwnChallenges};
 ghost use Rattle.claim_examples.specs.ReplyExamples.{OfReplies};
 ghost use Rattle.claim_examples.specs.RequestExamples.{OfAnsweredCalls, OfOpeningAnswers, OfRequestNumbers};
 ghost use Rattle.claim_examples.specs.SequenceMisses.{SequencesTellApart};
-ghost use Rattle.claim_examples.specs.SessionExamples.{OfHashGrants, OfSessions};
+ghost use Rattle.claim_examples.specs.SessionExamples.{OfHashGrants, OfSessions, OfStatuses};
 ghost use Rattle.claim_examples.specs.SuccessMisses.{SuccessTellsApart};
 
 /// No claim is true, or false, of everything that could be written down of a run: each is met by some small run and not
@@ -83,13 +83,14 @@ pub fn sequences_tell_apart()
     ensures { SequencesTellApart }
 {}
 
-/// The claims on interactive logons and on sessions are met by small runs in which one is granted, and opens a session.
-/// Others don't meet them: with 10,000 sessions, with a hash that differs in a byte, or where sessions are lost, or
-/// kept over a restart.
-#[tactic(auto, using(crate::proofs::SessionExampleLaws::of_hash_grants, crate::proofs::SessionExampleLaws::of_sessions))]
+/// The claims on interactive logons, on sessions and on statuses are met by small runs in which one is granted, opens a
+/// session, and is logged off. Others don't meet them: with 10,000 sessions, with a hash that differs in a byte, where
+/// sessions are lost, or kept over a restart or a logoff, or where a logoff was told with another status.
+#[tactic(auto, using(crate::proofs::SessionExampleLaws::of_hash_grants, crate::proofs::SessionExampleLaws::of_sessions, crate::proofs::SessionExampleLaws::of_statuses))]
 pub fn sessions_tell_apart()
     ensures grants { OfHashGrants }
     ensures follow { OfSessions }
+    ensures told { OfStatuses }
 {}
 
 /// Of runs that a world made itself: the first logon in a world, of whatever plan, where it is granted, is clear, and

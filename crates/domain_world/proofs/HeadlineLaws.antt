@@ -6,6 +6,7 @@ use Rattle.world_moves.specs.declared.plan.Plan.{Plan}
 use Rattle.domain_world.specs.Headline.{Proved}
 use Rattle.domain_world.specs.Past.{past}
 use Rattle.domain_world.proofs.Accepting.AnsweredRunLaws.{short_responses}
+use Rattle.domain_world.proofs.Accepting.Heard.MarkWholeLaws.{marked_whole}
 use Rattle.domain_world.proofs.Accepting.LetInLaws.{lets_in_who_asked}
 use Rattle.domain_world.proofs.Accepting.MarkRunLaws.{answers_have_calls, calls_marked, openings_marked, replies_marked}
 use Rattle.domain_world.proofs.Accepting.Messages.ClientKeptLaws.{clients_written}
@@ -24,7 +25,7 @@ use Rattle.domain_world.proofs.Completeness.SuccessLaws.{each_succeeds}
 use Rattle.domain_world.proofs.Frames.BagFrameLaws.{each_marked}
 use Rattle.domain_world.proofs.Frames.DrawnRunLaws.{draws_are_blocks, draws_differ}
 use Rattle.domain_world.proofs.Judgements.AloneLaws.{tells_of_calls}
-use Rattle.domain_world.proofs.Judgements.GrantLaws.{grants_who_may}
+use Rattle.domain_world.proofs.Judgements.GrantLaws.{each_status, grants_who_may}
 use Rattle.domain_world.proofs.Judgements.OpeningAnswerLaws.{replies_to_openings}
 use Rattle.domain_world.proofs.Judgements.OpeningReplyLaws.{replies_answer_openings}
 use Rattle.domain_world.proofs.Judgements.OpeningRunLaws.{openings_in_order}
@@ -60,6 +61,7 @@ all_proved plan moves = record {
   unclashed = passes_unclashed plan moves;
   grants = grants_who_may plan moves (users_stay plan moves);
   let_on = grants_by_hash plan moves;
+  statuses = each_status plan moves;
   tables = tables_follow plan moves;
   sessions = sessions_follow plan moves;
   replies = replies_carry plan moves;
@@ -88,6 +90,7 @@ all_proved plan moves = record {
   called = λ schedule clear. turns_are_called plan moves schedule clear;
   marked = each_marked plan moves;
   ways = marks_have_their_way plan moves;
+  whole = marked_whole plan moves;
   have_calls = answers_have_calls plan moves;
   asks_for = λ schedule. (runs_heard.heard plan moves (units_heard plan moves schedule) (draws_differ plan moves)).asks;
   call_marks = calls_marked plan moves;

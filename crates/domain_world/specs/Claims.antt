@@ -23,6 +23,7 @@ pub mod Replies
 pub mod RequestNumbers
 pub mod Sessions
 pub mod SharedSequences
+pub mod Statuses
 pub mod Tables
 pub mod WrittenDown
 use Rattle.std.specs.Prelude.{ℕ, ◌≡◌, ◌≢◌, ◌+◌, ◌%◌, ◌^◌, ◌==◌, ◌&&◌, ◌↔◌, Bool, true, false, List, [], ◌∷◌, ◌++◌, length, replicate, count_by, filter, find, Option, Some, None, slice_get, AllPairs}

@@ -4,6 +4,7 @@ use Rattle.world_moves.specs.declared.moves.Move.{Move}
 use Rattle.world_moves.specs.declared.plan.Plan.{Plan}
 use Rattle.world_moves.specs.Forms.{IsSchedule}
 use Rattle.world_moves.specs.World.{World, first_world, run}
+use Rattle.domain_world.specs.Accepting.Carried.{MarkedUnitsAreWhole}
 use Rattle.domain_world.specs.Accepting.Answered.{CallsAskForMessages, MarksHaveTheirWay, MessagesAreApart, PassesAreUnclashed}
 use Rattle.domain_world.specs.Accepting.KeysMade.{MessagesAreMade, MessagesAreTakenAsSent}
 use Rattle.domain_world.specs.Accepting.Sequences.{RepliesAnswerCalls, TurnsAreCalled}
@@ -23,6 +24,7 @@ use Rattle.domain_world.specs.Claims.Replies.{RepliesCarryTheirJudgement}
 use Rattle.domain_world.specs.Claims.RequestNumbers.{RequestsHaveNumbers}
 use Rattle.domain_world.specs.Claims.Sessions.{SessionsFollow, renewals}
 use Rattle.domain_world.specs.Claims.SharedSequences.{OneTurnIsOut, SequencesAreOwn, SequencesAreShared}
+use Rattle.domain_world.specs.Claims.Statuses.{StatusesAreTold}
 use Rattle.domain_world.specs.Claims.Tables.{TablesFollowVerdicts}
 use Rattle.domain_world.specs.Claims.WrittenDown.{ClientsAreWrittenDown, MembersAreWrittenDown, MessagesAreOfTheirClients}
 use Rattle.domain_world.specs.Past.{past}
@@ -31,8 +33,9 @@ use Rattle.domain_world.specs.Past.{past}
 -- members accept, how often a count is raised, what the ends of a channel share, and which calls turns made, is of
 -- schedules that are clear: in them no credential passed on a unit made for another channel or for none, and no seed
 -- came round. Of the others `unclashed`, and a part of `opened`, ask that no credential clashed. `names`, `answered`
--- and `opened_by` ask for a schedule besides, and `as_made`, `numbers`, `have_calls`, `asks_for`, `call_marks`,
--- `reply_marks` and `opened_marks` for a schedule alone. `complete` and `one_by_one` ask for logons one at a time.
+-- and `opened_by` ask for a schedule besides, and `as_made`, `numbers`, `whole`, `have_calls`, `asks_for`,
+-- `call_marks`, `reply_marks` and `opened_marks` for a schedule alone. `complete` and `one_by_one` ask for logons one
+-- at a time.
 pub record Proved (plan : Plan) (moves : List Move) : Type 0 where
   -- challenges, and the messages that are made for them
   pub challenges : ChallengesServeOnce (past plan moves)
@@ -53,6 +56,7 @@ pub record Proved (plan : Plan) (moves : List Move) : Type 0 where
   pub unclashed : PassesAreUnclashed (past plan moves)
   pub grants : GrantsWhoMayLogOn (past plan moves)
   pub let_on : GrantsWhoseHashIsStored (past plan moves)
+  pub statuses : StatusesAreTold (past plan moves)
   pub tables : TablesFollowVerdicts (past plan moves)
   pub sessions : SessionsFollow (past plan moves) (renewals moves (first_world plan) [])
   pub replies : RepliesCarryTheirJudgement (past plan moves)
@@ -87,6 +91,8 @@ pub record Proved (plan : Plan) (moves : List Move) : Type 0 where
   -- the units of the bag, and which way they go
   pub marked : EachUnitIsMarked (past plan moves)
   pub ways : MarksHaveTheirWay (past plan moves)
+  -- each that was made for a channel is one whole unit, and has the number of its mark
+  pub whole : IsSchedule plan moves → MarkedUnitsAreWhole (past plan moves)
   -- A message whose answer was taken has a call. What was judged in the unit of a message's call is a network logon
   -- that asks what the message asks.
   pub have_calls : IsSchedule plan moves → AnswersHaveCalls (past plan moves)
@@ -96,7 +102,7 @@ pub record Proved (plan : Plan) (moves : List Move) : Type 0 where
   pub call_marks : IsSchedule plan moves → CallsAreMarked (past plan moves)
   pub reply_marks : IsSchedule plan moves → RepliesAreMarked (past plan moves)
   pub opened_marks : IsSchedule plan moves → OpeningsAreMarked (past plan moves)
-  -- logons that come one at a time succeed, and where each does no credential clashes
+  -- logons that come one at a time succeed where they can, and whatever they come to no credential clashes
   pub complete : EachSucceeds (past plan moves) moves
   pub one_by_one : NoneClashes (past plan moves) moves
 

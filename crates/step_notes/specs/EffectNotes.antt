@@ -1,5 +1,5 @@
 -- What is written down of a step of a requester (`turn_note`) is what its effect on the channel says (`Effects` of
--- `channel_client`). So what `SoundEvents` asks of a requester's step can be had from the step itself.
+-- `channel_client`). So marks of requests, and the channels on which credentials pass, can be had from the step itself.
 use Rattle.std.specs.Prelude.{ℕ, ◌≡◌, ◌⊎◌, Bool, true, false, List, Option, Some, None}
 use Rattle.rpc_units.specs.declared.unit.Unit.{Unit as RpcUnit}
 use Rattle.logon_stubs.specs.declared.info.NetworkInfo.{NetworkInfo}

@@ -63,10 +63,9 @@ pub record IsReplyOfCall (channel : ChannelIdentity) (number request : ℕ) (j :
   pub call : j.number ≡ number
   pub carries : IsItsReply j bytes
 
--- These bytes are all frames of the reply that opens a channel (MS-NRPC 3.5.4.4.2), under some call's number: it has
+-- These bytes are all frames of the reply that opens a channel (MS-NRPC 3.5.4.4.2), under that call's number: it has
 -- the credential of a server challenge under some session key, and the flags that are granted of those offered.
-pub record IsOpeningReply (bytes : List ℕ) : Type 0 where
-  pub number : ℕ
+pub record IsOpeningReply (number : ℕ) (bytes : List ℕ) : Type 0 where
   pub context : ℕ
   pub limit : ℕ
   pub key : List ℕ
@@ -77,11 +76,11 @@ pub record IsOpeningReply (bytes : List ℕ) : Type 0 where
 -- ---- at one step
 
 -- a unit that is marked as a reply carries that of the call that was judged, and one that is marked as the reply to an
--- opening is a reply that opens a channel; none is marked as a request
+-- opening is a reply that opens a channel, under the number of the mark; none is marked as a request
 abbrev pub CarriesReply : Mark → Option Judging → List ℕ → Type 0
 CarriesReply Plain j bytes = Unit {0}
 CarriesReply (Opening channel number) j bytes = ⊥
-CarriesReply (Opened channel number request) j bytes = IsOpeningReply bytes
+CarriesReply (Opened channel number request) j bytes = IsOpeningReply number bytes
 CarriesReply (Calling channel number timestamp) j bytes = ⊥
 CarriesReply (ReplyTo channel number request) None bytes = ⊥
 CarriesReply (ReplyTo channel number request) (Some j) bytes = IsReplyOfCall channel number request j bytes
@@ -105,7 +104,7 @@ standing_at at controller source c now = record { at = at; controller = controll
 
 -- Whatever bytes come at a controller, and whoever sent them: it sends one unit of bytes for each unit that is written
 -- down as answered, in their order. Each that is marked as a reply carries what its call came to, and each that is
--- marked as the reply to an opening is a reply that opens a channel. None is marked as a request.
+-- marked as the reply to an opening is a reply that opens a channel, under its number. None is marked as a request.
 abbrev pub RepliesAreSentAsJudged : Type 0
 RepliesAreSentAsJudged =
     (c : ControllerState) (at controller : ℕ) (source : Source) (link : ℕ) (piece : List ℕ) (now : ℕ) (left : List (List ℕ)) (actions : List Action) →

@@ -39,8 +39,9 @@ use Rattle.logon_runs.proofs.First.ExampleLogonLaws.{an_example_logs_on, ann_can
 use Rattle.logon_runs.proofs.First.FirstLogonRunLaws.{joined_still}
 use Rattle.logon_runs.proofs.First.FirstWorldLaws.{comes_first, first_shows, first_worlds_run}
 use Rattle.logon_runs.proofs.Seen.LinkSceneLaws.{meetings_are_seen}
-use Rattle.domain_world.specs.Claims.OneByOne.{EachCanSucceed}
+use Rattle.domain_world.specs.Claims.OneByOne.{HaveOwnMembers}
 use Rattle.domain_world.proofs.Clear.ClearWalkLaws.{none_clashes}
+use Rattle.domain_world.proofs.Completeness.ApartLaws.{own_member}
 use Rattle.domain_world.proofs.Completeness.SuccessLaws.{each_succeeds}
 use Rattle.claim_examples.specs.ClearSuccess.{AnnCanSucceed, ann_clashed, ann_run}
 use Rattle.claim_examples.proofs.Runs.ClearRunLaws.{NoKeyIsLost, ann_once, ann_plain, ann_quiet, keys_arrive}
@@ -209,8 +210,8 @@ ann_arrives =
     (λ c never own. never) (kept how))
     (keys_arrive ann_plan 0 0 0 ann_can an_example_logs_on.schedule.start an_example_logs_on.schedule.forms 0 refl (λ signed. absurd cc) ann_key_arrives)
 
-ann_each : EachCanSucceed ann_run ann_moves
-ann_each = ((ann_can_so, ann_arrives), tt)
+ann_each : HaveOwnMembers ann_run ann_moves
+ann_each = (own_member ann_plan ann_moves 0 ann_can_so, tt)
 
 ann_comes_so : ComesOneAtATime ann_clashed ann_moves
 ann_comes_so = record { schedule = ann_comes.schedule; plain = ann_comes.plain; once = ann_comes.once; quiet = ann_comes.quiet }

@@ -143,7 +143,7 @@ module _ (past : Past) where
   requested_by Plain one channel j request number is marked there on whole numbered = absurd (let x = on in cc)
   requested_by (Opening c k) one channel j request number is marked there on whole numbered =
       let its = whole (λ none. none) in
-      absurd (its.marked j.asked (ap (λ (u : RpcUnit). call_carried u.body) (one_unit (plain_form past.book.sent request is.carrier) its.whole is.whole) ∙ is.carried))
+      absurd (its.marked.0 j.asked (ap (λ (u : RpcUnit). call_carried u.body) (one_unit (plain_form past.book.sent request is.carrier) its.whole is.whole) ∙ is.carried))
   requested_by (Opened c k r) one channel j request number is marked there on whole numbered =
       let its = whole (λ none. none) in
       absurd (its.marked.0 j.asked (ap (λ (u : RpcUnit). call_carried u.body) (one_unit (plain_form past.book.sent request is.carrier) its.whole is.whole) ∙ is.carried))

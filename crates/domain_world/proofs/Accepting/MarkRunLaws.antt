@@ -92,7 +92,7 @@ record IsCallOn (plan : Plan) (links : List Route) (sent : List Sent) (link n : 
 
 record MarksStand (plan : Plan) (links : List Route) (b : Book) : Type 0 where
   calls : AllGood (IsCallOn plan links b.sent) b.messages
-  replies : AllByRecursion (HasReply (IsMarkedAs b.sent)) b.judged
+  replies : AllByRecursion (HasReply (IsMarkedAt b.sent)) b.judged
   opened : AllByRecursion (HasAnswer (IsMarkedAt b.sent)) b.accepted
 
 -- what it rests on: what is under way is whole, units went between ends of the world, and what is known of calls
@@ -134,9 +134,10 @@ call_still plan links after sent more onward grow link n it = record {
   call = it.call;
 }
 
-replies_still : (sent more : List Sent) (judged : List Judging) → GrowTo sent more → AllByRecursion (HasReply (IsMarkedAs sent)) judged → AllByRecursion (HasReply (IsMarkedAs more)) judged
+replies_still : (sent more : List Sent) (judged : List Judging) → GrowTo sent more → AllByRecursion (HasReply (IsMarkedAt sent)) judged → AllByRecursion (HasReply (IsMarkedAt more)) judged
 replies_still sent more judged grow all =
-    all_weaker (HasReply (IsMarkedAs sent)) (HasReply (IsMarkedAs more)) judged (λ j has. reply_so (IsMarkedAs sent) (IsMarkedAs more) (λ n mark it. marked_still sent more grow n mark it) j has) all
+    all_weaker (HasReply (IsMarkedAt sent)) (HasReply (IsMarkedAt more)) judged
+    (λ j has. reply_so (IsMarkedAt sent) (IsMarkedAt more) (λ moves n mark it. marked_at_still sent more grow moves n mark it) j has) all
 
 opened_still : (sent more : List Sent) (accepted : List ChannelAccepted) → GrowTo sent more → AllByRecursion (HasAnswer (IsMarkedAt sent)) accepted → AllByRecursion (HasAnswer (IsMarkedAt more)) accepted
 opened_still sent more accepted grow all =
@@ -149,7 +150,7 @@ stand_on : (plan : Plan) (links after : List Route) (b d : Book) → ((k link : 
 stand_on plan links after b d onward grow messages judged accepted stand = record {
   calls = subst (λ (all : List MessageTaken). AllGood (IsCallOn plan after d.sent) all) (sym messages)
       (good_so (IsCallOn plan links b.sent) (IsCallOn plan after d.sent) (λ link n it. call_still plan links after b.sent d.sent onward grow link n it) b.messages stand.calls);
-  replies = subst (λ (all : List Judging). AllByRecursion (HasReply (IsMarkedAs d.sent)) all) (sym judged) (replies_still b.sent d.sent b.judged grow stand.replies);
+  replies = subst (λ (all : List Judging). AllByRecursion (HasReply (IsMarkedAt d.sent)) all) (sym judged) (replies_still b.sent d.sent b.judged grow stand.replies);
   opened = subst (λ (all : List ChannelAccepted). AllByRecursion (HasAnswer (IsMarkedAt d.sent)) all) (sym accepted) (opened_still b.sent d.sent b.accepted grow stand.opened);
 }
 
@@ -171,9 +172,6 @@ module _ (plan : Plan) (c : ControllerState) (at : ℕ) (w : Coming) (piece : Li
       let numbers : List ℕ = numbers_on w.link true s.bag after.bag in
       let sent : List Sent = b.sent ++ map (sent_at w.at) given in
       let grow : GrowTo b.sent sent = λ n one there. got_append b.sent (map (sent_at w.at) given) n one there in
-      let numbered : AtNumbers (IsMarkedAs sent) marks numbers =
-      numbers_so (IsGiven given (length s.bag)) (IsMarkedAs sent) (λ n mark it. given_marked b.sent (length s.bag) w.at given n mark even it) marks numbers
-      (marks_numbered w.link true (drop (length s.bag) after.bag) marks (length s.bag)) in
       let numbered_at : AtNumbers (IsMarkedAt sent w.at) marks numbers =
       numbers_so (IsGiven given (length s.bag)) (IsMarkedAt sent w.at) (λ n mark it. given_at b.sent (length s.bag) w.at given n mark even it) marks numbers
       (marks_numbered w.link true (drop (length s.bag) after.bag) marks (length s.bag)) in
@@ -187,8 +185,8 @@ module _ (plan : Plan) (c : ControllerState) (at : ℕ) (w : Coming) (piece : Li
       record {
         calls = good_so (IsCallOn plan s.links b.sent) (IsCallOn plan s.links sent)
             (λ link n it. call_still plan s.links s.links b.sent sent (λ k on accepted. accepted) grow link n it) b.messages stand.calls;
-        replies = onto_hold (HasReply (IsMarkedAs sent)) (judged_of answers numbers) b.judged
-            (answers_replied (IsMarkedAs sent) w.source answers numbers (answers_so (at_controller at c w s) w.link (units_of_controller c w.link piece s.moment s.chances.left)) numbered enough)
+        replies = onto_hold (HasReply (IsMarkedAt sent)) (judged_of answers numbers) b.judged
+            (answers_replied (IsMarkedAt sent) w.at w.source answers numbers (answers_so (at_controller at c w s) w.link (units_of_controller c w.link piece s.moment s.chances.left)) numbered_at enough)
             (replies_still b.sent sent b.judged grow stand.replies);
         opened = onto_all (HasAnswer (IsMarkedAt sent)) (accepted_of answers numbers) b.accepted
             (all_answered (IsMarkedAt sent) w.at w.source answers numbers (accepts_so (at_controller at c w s) w.link (units_of_controller c w.link piece s.moment s.chances.left)) numbered_at enough)
@@ -252,8 +250,8 @@ module _ (plan : Plan) (m : MemberState) (at : ℕ) (w : Coming) (piece : List �
       let sends : now.sent ≡ sent = ap (λ (old : List Sent). old ++ map (sent_at w.at) given) (turns_sent (OfMember at) w units s after first) in
       record {
         calls = subst (λ (all : List Sent). AllGood (IsCallOn plan s.links all) now.messages) (sym sends) calls;
-        replies = subst (λ (all : List Sent). AllByRecursion (HasReply (IsMarkedAs all)) now.judged) (sym sends)
-            (subst (λ (judged : List Judging). AllByRecursion (HasReply (IsMarkedAs sent)) judged) (sym (judged_so.members m at w piece s after b)) (replies_still b.sent sent b.judged grow stand.replies));
+        replies = subst (λ (all : List Sent). AllByRecursion (HasReply (IsMarkedAt all)) now.judged) (sym sends)
+            (subst (λ (judged : List Judging). AllByRecursion (HasReply (IsMarkedAt sent)) judged) (sym (judged_so.members m at w piece s after b)) (replies_still b.sent sent b.judged grow stand.replies));
         opened = subst (λ (all : List Sent). AllByRecursion (HasAnswer (IsMarkedAt all)) now.accepted) (sym sends)
             (subst (λ (accepted : List ChannelAccepted). AllByRecursion (HasAnswer (IsMarkedAt sent)) accepted) (sym (accepted_so.members m at w piece s after b))
             (opened_still b.sent sent b.accepted grow stand.opened));
@@ -393,12 +391,12 @@ answers_have_calls plan moves schedule =
 pub replies_marked : OfSchedules (λ plan moves. RepliesAreMarked (past plan moves))
 replies_marked plan moves schedule =
     let p : Past = past plan moves in
-    all_zip (HasReply (IsMarkedAs p.book.sent)) IsJudgedRight (λ (j : Judging). (n : ℕ) → j.source ≡ InUnit n → has_passed j.how ≡ true → IsMarkedAsReply p j n) p.book.judged
+    all_zip (HasReply (IsMarkedAt p.book.sent)) IsJudgedRight (λ (j : Judging). (n : ℕ) → j.source ≡ InUnit n → has_passed j.how ≡ true → IsMarkedAsReply p j n) p.book.judged
     (λ j has right n came passed.
     let stands : StandsFor j = channel_there j right passed in
     let it = has n stands.channel came stands.passed in
-    let marked : IsMarkedAs p.book.sent it.0 (ReplyTo stands.channel j.number n) = it.2 in
-    record { reply = it.0; is = it.1; sent = marked.one; there = marked.there; channel = stands.channel; passed = stands.passed; mark = marked.is })
+    let marked : IsMarkedAt p.book.sent j.at it.0 (ReplyTo stands.channel j.number n) = it.2 in
+    record { reply = it.0; is = it.1; sent = marked.one; there = marked.there; channel = stands.channel; passed = stands.passed; mark = marked.is; step = marked.step })
     (marks_hold plan moves schedule).2.replies (judged_rightly plan moves)
 
 -- and so is the reply to each opening that was accepted, and came in a unit of the bag

@@ -1,43 +1,33 @@
--- In each phase of a logon that is granted, where no credential clashed, none does as a unit comes: the unit that
+-- In each phase of a logon, whatever it comes to, where no credential clashed, none does as a unit comes: the unit that
 -- carries a call, and the one that carries its reply, was made for the channel on which the credential passes.
 -- It serves `Proved.one_by_one`.
 use Rattle.std.proofs.Common.{◌≡◌, ◌≢◌, ℕ, ◌+◌, ◌==◌, arith, Bool, true, false, List, [], ◌∷◌, ◌++◌, length, map, Option, Some, None, refl, sym, ap, ap₂, subst, ◌∙◌, slice_get}
 use Rattle.std.proofs.lemmas.Bool.{false_from_ne_true}
 use Rattle.std.proofs.lemmas.Bool.Decides.{Decides-eqb}
 use Rattle.authenticators.specs.Channels.{ChannelIdentity}
-use Rattle.authenticators.specs.SecureChannels.{SecureChannelState, channel_of}
-use Rattle.outside.specs.declared.action.Judged.TheVariants as judged
-use Rattle.outside.specs.declared.event.Event.TheVariants as event
+use Rattle.authenticators.specs.SecureChannels.{SecureChannelState, channel_of, key_of_channel}
 use Rattle.rpc_units.specs.Writing.{written}
 use Rattle.logon_stubs.specs.declared.calls.Call.{Call}
 use Rattle.logon_stubs.specs.declared.calls.Reply.{Reply}
-use Rattle.logon_stubs.specs.declared.calls.Reply.TheVariants as reply
-use Rattle.logon_stubs.specs.declared.info.SamInfo.{SamInfo}
 use Rattle.account_table.specs.AccountTable.{AccountTable}
 use Rattle.end_links.specs.Links.{LinkState}
-use Rattle.end_links.specs.Serving.{ServedUnit}
-use Rattle.sam_logon.specs.MayLogOn.{MayLogOn}
-use Rattle.channel_client.specs.Machine.{Taking, after, offered_flags, wait_for}
+use Rattle.end_links.specs.Serving.{ServedUnit, ServedPart}
+use Rattle.channel_client.specs.Machine.{after, offered_flags, wait_for, take_of}
 use Rattle.channel_client.specs.State.{Requester}
-use Rattle.channel_client.specs.declared.state.Question.TheVariants as question
-use Rattle.channel_client.specs.declared.state.Step.TheVariants as step
 use Rattle.channel_events.specs.Marks.{Calling, Opened, Opening, Plain, ReplyTo}
 use Rattle.channel_events.proofs.ListLaws.{got_append}
 use Rattle.domain_controller.specs.Hearing.{bound_talk, served_call}
-use Rattle.domain_controller.specs.Machine.{Desk, by_call}
-use Rattle.domain_controller.specs.State.{State as ControllerState}
-use Rattle.channel_client.specs.Machine as requester
+use Rattle.domain_controller.specs.Machine.{Desk, by_call, status_of}
 use Rattle.logon_client.specs.Answering.{bind_for}
-use Rattle.logon_client.specs.declared.state.Phase.TheVariants as client_phase
 use Rattle.member_server.specs.Machine.{step_of}
 use Rattle.member_server.specs.Turns.{AtTurn, turn_talk}
 use Rattle.member_server.specs.declared.state.Logons.{Logons}
 use Rattle.member_server.specs.declared.state.Talk.{Talk}
 use Rattle.channel_turns.specs.declared.state.TurnTalk.{TurnTalk}
-use Rattle.step_notes.specs.ChannelNames.{Expects, HasChannel, place_answered}
+use Rattle.step_notes.specs.ChannelNames.{Expects, HasChannel, place_answered, channel_marked}
 use Rattle.step_notes.specs.ControllerNotes.{Answered, has_passed, judged_in, judging_of, new_actions, opening, passing}
 use Rattle.step_notes.specs.Marking.{answered_marks, clashes}
-use Rattle.step_notes.specs.MemberNotes.{half_channel, taking_note, turn_units, turn_units_by}
+use Rattle.step_notes.specs.MemberNotes.{half_channel, taking_note, turn_units, turn_units_by, asked_note, taken_note}
 use Rattle.step_notes.specs.Records.{Book, Judging, Sent}
 use Rattle.controller_calls.specs.declared.calls.JudgedCall.TheVariants.{Network}
 use Rattle.step_notes.specs.Served.{units_if_taken, work_after}
@@ -45,47 +35,72 @@ use Rattle.step_notes.proofs.Channels.ChannelNameLaws.{channels_are_named_alike}
 use Rattle.world_moves.specs.MemberPlans.{but_secret}
 use Rattle.world_moves.specs.declared.links.EndId.TheVariants.{Client, Controller}
 use Rattle.world_moves.specs.declared.links.Route.TheVariants.{ToMember}
-use Rattle.world_moves.specs.declared.moves.Move.TheVariants as move
 use Rattle.world_moves.specs.declared.state.State.{State}
 use Rattle.world_moves.specs.declared.state.WaitingDial.{WaitingDial}
 use Rattle.world_moves.specs.Moving.{act, connect_first, end_of_peer, onward, tick, without_first}
 use Rattle.world_moves.specs.Bag.{first_waiting}
 use Rattle.logon_steps.specs.Answering.{IsInStep}
 use Rattle.logon_steps.specs.Answers.{auth3_for}
-use Rattle.logon_steps.specs.ControllerTurns.{reply_bytes}
-use Rattle.logon_steps.specs.Granting.{info_told}
+use Rattle.logon_steps.specs.ControllerTurns.{reply_bytes, passed_reply, turn_link}
 use Rattle.logon_steps.specs.Meeting.{ack_for, challenged_talk, fresh_talk}
-use Rattle.logon_steps.specs.MemberAnswers.{granting}
 use Rattle.logon_steps.specs.MemberTurns.{logons_in_turn, member_at, on_turn}
-use Rattle.logon_steps.specs.Turning.{IsTurnCall, IsTurnReply, turn_agreed}
+use Rattle.logon_steps.specs.Turning.{turn_response, IsTurnCall, IsTurnReply, turn_agreed}
 use Rattle.logon_steps.proofs.AnswersLaws.{answers_are_asked}
-use Rattle.logon_steps.proofs.AskingLaws.{logons_are_asked}
 use Rattle.logon_steps.proofs.CallingLaws.{calls_can_go}
 use Rattle.logon_steps.proofs.ControllerTurnLaws.{controllers_step}
 use Rattle.logon_steps.proofs.MeetingLaws.{ack_sends, bind_sends}
-use Rattle.logon_steps.proofs.TurningLaws.{turns_go_through, unit_comes}
-use Rattle.std.specs.Prelude.{IsSomeAnd}
-use Rattle.logon_runs.specs.Seen.LinkScenes.{its_link, unit_down, unit_up}
-use Rattle.logon_runs.specs.Seen.TurnScenes.{IsBetween, Turn, with_accounts}
+use Rattle.logon_steps.proofs.TurningLaws.{unit_comes}
+use Rattle.logon_runs.specs.Seen.LinkScenes.{its_link, unit_down, unit_up, Meeting}
+use Rattle.logon_runs.specs.Seen.TurnScenes.{IsBetween, Turn, with_accounts, turn_scene, unit_back}
 use Rattle.logon_runs.specs.Seen.WaitingUnits.{waiting}
-use Rattle.logon_runs.specs.Phases.{Aim, Coming, First, Fits, HasThree, HasUser, IsAimed, IsAsking, IsKnown, IsOpening, IsReady, IsTurning, LogonPhase, MayLogOnAt, NotYet, Progress, Second, Third, TurnAt, WasJudged, WasOpened, WasTold, WhoAsked, call_for, meeting_at, own, progress_answered, progress_called, progress_of, progress_onward, scene_of, standing_for, turn_before, turn_on, with_its_controller}
-use Rattle.logon_runs.specs.Phases.{Acked, Answers, Binds, BindsBefore, BindsHeld, Calls, Challenged, Dials, DialsBefore, DialsHeld, Echoed, Echoes, Granted, Halved, Named, Proved}
-use Rattle.logon_runs.specs.Runs.{Asked, goes, hidden, info_asked, message_for, sam_for}
+use Rattle.logon_runs.specs.Phases.{Aim, Coming, First, HasThree, IsAsking, IsOpening, LogonPhase, NotYet, Progress, progress_answered, progress_onward, Second, Third, TurnAt, WasJudged, WasOpened, WasTold, WhoAsked, call_for, own, progress_called, progress_of, scene_of, standing_for, turn_before, turn_on, with_its_controller, Acked, Answers, Binds, BindsBefore, BindsHeld, Calls, Challenged, Dials, DialsBefore, DialsHeld, Echoed, Echoes, Granted, Halved, Named, Proved, IsAnswering}
+use Rattle.logon_runs.specs.Runs.{Asked, goes, info_asked, message_for}
 use Rattle.logon_runs.specs.Scenes.{Shows}
-use Rattle.logon_runs.proofs.Phases.PhaseEndLaws.{reply_then}
 use Rattle.logon_runs.proofs.Phases.PhaseStartLaws.{left_so}
-use Rattle.logon_runs.proofs.Phases.PhaseTurnLaws.{grants_then}
 use Rattle.logon_runs.proofs.RunLaws.{between_still}
 use Rattle.logon_runs.proofs.Seen.LinkSceneLaws.{found_here, heard_down}
 use Rattle.logon_runs.proofs.Seen.TwoLinkLaws.{turns_have_links}
 use Rattle.logon_runs.proofs.Seen.WaitingLaws.{waiting_comes}
 use Rattle.domain_world.specs.Past.{judged_of, note, note_given, note_onward}
 use Rattle.domain_world.proofs.Completeness.HeardOnceLaws.{either_way, turn_line}
-use Rattle.domain_world.proofs.Completeness.JudgedNoteLaws.{passed_so}
 use Rattle.domain_world.proofs.Completeness.UnitNotedLaws.{comes_so}
 use Rattle.domain_world.proofs.Clear.NotedLaws.{Fine, Waits, given_fine, grows, world_at}
 use Rattle.domain_world.proofs.Clear.NotedOnLaws.{waits_marked}
 use Rattle.domain_world.proofs.Clear.UnitComesLaws.{Called, FineAnd, Names, ack_leads, answer_in_turn, bind_leads, call_comes, channel_in_turn, client_comes, connect_fine, desk_in_turn, dial_leads, judged_bag, meeting_leads, quiet_leads, replied_bag, reply_leads, reply_waits, where_in_turn}
+use Rattle.logon_runs.specs.Any.AnyPhases.{progress_in, progress_next, AnyPhase, Away, HasSecret, IsAble, IsOwn, IsReadyBy, IsThere, IsTurningBy, Judged, KeepsInStep, MayAim, MayFit, MayFitAway, MayFitOn, On, Told, any_scene, proof_reply}
+use Rattle.logon_runs.specs.Keys.LetIn.{let_in_scene, Asks, FitsLetIn, Hears, IsOnLink, LetInPhase}
+use Rattle.logon_runs.specs.Failing.TurnedAway.{AwayPhase, Faulted, Refused, Unheard, away_scene, settled_in}
+use Rattle.domain_controller.specs.declared.state.Talk.{Talk as ControllerTalk}
+use Rattle.logon_stubs.specs.Ranges.{IsBlock}
+use Rattle.world_moves.specs.declared.plan.Plan.{Plan}
+use Rattle.channel_client.specs.declared.state.Question.{Question}
+use Rattle.rpc_units.specs.declared.unit.Unit.{Unit as RpcUnit}
+use Rattle.channel_client.specs.declared.state.Standing.{Standing}
+use Rattle.channel_client.specs.declared.state.Step.{Step}
+use Rattle.channel_client.specs.declared.answers.Taken.{Taken}
+use Rattle.logon_runs.specs.Any.ControllerAnswers.{ToldChallenge}
+use Rattle.logon_stubs.specs.declared.info.Verdict.{Verdict}
+use Rattle.logon_runs.proofs.Any.ControllerAnswerLaws.{controllers_answer}
+use Rattle.end_links.specs.Sending.{fault_of}
+use Rattle.logon_runs.proofs.Failing.FailingStepLaws.{fault_sends}
+use Rattle.authenticators.specs.Sequences.{return_of}
+use Rattle.rpc_units.specs.Numbers.{rpc_s_server_unavailable}
+use Rattle.channel_client.specs.Effects.{stands_in, step_in}
+use Rattle.member_server.specs.Requests.{talk_in}
+use Rattle.sam_logon.specs.Verdict.{verdict_of}
+use Rattle.logon_runs.specs.Failing.FailingSteps.{out_talk, who_fault}
+use Rattle.logon_steps.proofs.AnsweringLaws.{calls_are_answered}
+use Rattle.outside.specs.declared.action.Judged.TheVariants as judged
+use Rattle.outside.specs.declared.event.Event.TheVariants as event
+use Rattle.logon_stubs.specs.declared.calls.Reply.TheVariants as reply
+use Rattle.channel_client.specs.declared.state.Question.TheVariants as question
+use Rattle.channel_client.specs.declared.state.Step.TheVariants as step
+use Rattle.channel_client.specs.Machine as requester
+use Rattle.logon_client.specs.declared.state.Phase.TheVariants as client_phase
+use Rattle.world_moves.specs.declared.moves.Move.TheVariants as move
+use Rattle.channel_client.specs.declared.state.Standing.TheVariants as standing
+use Rattle.logon_stubs.specs.declared.info.Verdict.TheVariants as verdict
+use Rattle.channel_client.specs.declared.answers.Taken.TheVariants as taken
 
 -- ---- what holds
 
@@ -127,10 +142,10 @@ pub record IsClearFor (p : Coming) (far : Progress) (s : State) (b : Book) : Typ
   pub clean : IsClean s b
   pub waits : WaitsFor p far s b
 
--- the member's plan is that of the world, but for the secret, and names the controller
-pub record IsPlanned (p : Coming) (s : State) : Type 0 where
-  pub plan : slice_get (map but_secret s.member_plans) p.meeting.at_member ≡ Some (but_secret p.meeting.plan)
-  pub reach : end_of_peer p.meeting.plan.controller s.ends ≡ Some (Controller p.meeting.at_controller)
+-- the member's plan is that of the world, but for the secret, and names the controller where it reaches one
+pub record IsPlanned (plan : Plan) (p : Coming) (s : State) : Type 0 where
+  pub is_plan : slice_get (map but_secret s.member_plans) p.meeting.at_member ≡ Some (but_secret p.meeting.plan)
+  pub reach : IsThere plan p → end_of_peer p.meeting.plan.controller s.ends ≡ Some (Controller p.meeting.at_controller)
 
 -- both ends name the channel alike
 named_alike : (controller : ℕ) (computer : List ℕ) (o c : SecureChannelState) → IsInStep o c → channel_of controller computer c ≡ channel_of controller computer o
@@ -147,6 +162,58 @@ other_quiet logons links link other now piece left apart =
     (turn_units_by hit (record { rest = []; talk = turn_talk None }) other piece (record { logons = logons; links = links; dialling = on_turn link }) left)) differs
     ∙ either_way (λ (units : List (ServedUnit AtTurn TurnTalk)). units ≡ []) (step_of (member_at logons links (on_turn link)) (event.Bytes other piece) now left).answer [] refl refl
 
+-- ---- a member takes a unit of its turn
+
+-- the unit was made for the channel that is half open, or that is open
+abbrev IsMadeFor : ℕ → Requester → Standing → Option ℕ → List Sent → Type 0
+IsMadeFor controller channel standing.Nothing unit sent = Unit {0}
+IsMadeFor controller channel (standing.Half client server) unit sent = channel_marked unit sent ≡ Some (half_channel controller channel client server)
+IsMadeFor controller channel (standing.Open o) unit sent = channel_marked unit sent ≡ Some (channel_of controller channel.caller.computer o)
+
+made_open : (controller : ℕ) (channel : Requester) (how : Standing) (unit : Option ℕ) (sent : List Sent) (named : ChannelIdentity) → stands_in controller channel.caller.computer how ≡ Some named →
+    IsMadeFor controller channel how unit sent → channel_marked unit sent ≡ Some named
+made_open controller channel standing.Nothing unit sent named stands made = absurd cc
+made_open controller channel (standing.Half client server) unit sent named stands made = absurd cc
+made_open controller channel (standing.Open o) unit sent named stands made = made ∙ stands
+
+-- what is asked checks no credential
+asks_unchecked : (what : Option Step) (how : Standing) (controller : ℕ) (before after : Requester) → (asked_note what how controller before after).checked ≡ None
+asks_unchecked None how controller before after = refl
+asks_unchecked (Some (step.Bind call)) how controller before after = refl
+asks_unchecked (Some (step.Reply (question.Challenge client))) how controller before after = refl
+asks_unchecked (Some (step.Reply question.Authenticate)) standing.Nothing controller before after = refl
+asks_unchecked (Some (step.Reply question.Authenticate)) (standing.Half client server) controller before after = refl
+asks_unchecked (Some (step.Reply question.Authenticate)) (standing.Open o) controller before after = refl
+asks_unchecked (Some (step.Reply question.Logon)) standing.Nothing controller before after = refl
+asks_unchecked (Some (step.Reply question.Logon)) (standing.Half client server) controller before after = refl
+asks_unchecked (Some (step.Reply question.Logon)) (standing.Open o) controller before after = refl
+
+module _ (controller : ℕ) (channel : Requester) (unit : RpcUnit) (number : Option ℕ) (sent : List Sent) (made : IsMadeFor controller channel channel.standing number sent) where
+  abbrev IsOwnTaking : Type 0
+  IsOwnTaking = clashes (taking_note (Some (take_of channel unit)) controller channel).checked number sent ≡ false
+
+  abbrev checked_by : Taken → Bool
+  checked_by found = clashes (taken_note found controller channel (take_of channel unit).state).checked number sent
+
+  taking_own : (found : Taken) → (take_of channel unit).taken ≡ found → IsOwnTaking
+  taking_own (taken.Skip right) is = ap checked_by is
+  taking_own (taken.Next right frames) is =
+      ap checked_by is
+      ∙ ap (λ (checked : Option ChannelIdentity). clashes checked number sent)
+      (asks_unchecked (step_in (take_of channel unit).state.turn) (take_of channel unit).state.standing controller channel (take_of channel unit).state)
+  taking_own taken.Half is = ap checked_by is
+  taking_own taken.Opened is =
+      let at = channels_are_named_alike.standings.opens controller channel unit is in
+      channels_are_named_alike.exchanges.opened controller channel unit at.0 at.1 number sent at.2 is (subst (λ (how : Standing). IsMadeFor controller channel how number sent) at.2 made)
+  taking_own (taken.Answer place verdict) is =
+      let answered : place_answered (take_of channel unit).taken ≡ Some place = ap place_answered is in
+      let at = channels_are_named_alike.calls.takes controller channel unit place answered in
+      channels_are_named_alike.exchanges.answered controller channel unit place at.0 number sent at.1 answered (made_open controller channel channel.standing number sent at.0 at.1 made)
+  taking_own (taken.Dropped place cause) is = ap checked_by is
+
+  pub takes_own : IsOwnTaking
+  takes_own = taking_own (take_of channel unit).taken refl
+
 -- ---- a unit comes
 
 -- none waits
@@ -156,7 +223,8 @@ idle_clean s k b clean none =
     (subst (λ (one : Book). Fine (goes s) (length b.judged) (note_given k (onward s).given (goes s) one)) (sym (ap (λ (found : Option ℕ). note_onward found k s b) (waiting_comes.none s.bag none)))
     (given_fine k (onward s).given (goes s) (length b.judged) b clean.apart (omega arith) (omega (arith, clean.marked, grows s move.Onward))))
 
-module _ (p : Coming) (s : State) (k : ℕ) (b : Book) (known : IsKnown p) (ready : IsReady p s) (planned : IsPlanned p s) (clean : IsClean s b) (left : List (List ℕ)) (moment : ℕ) where
+module _ (plan : Plan) (p : Coming) (s : State) (k : ℕ) (b : Book) (able : IsAble plan p) (planned : IsPlanned plan p s) (own_so : IsThere plan p → IsOwn plan p) (clean : IsClean s b) (left : List (List ℕ))
+    (moment : ℕ) where
   abbrev now : Book
   now = note (world_at k s) move.Onward b
 
@@ -169,12 +237,12 @@ module _ (p : Coming) (s : State) (k : ℕ) (b : Book) (known : IsKnown p) (read
   fine : Fine s count b
   fine = fine_of s b clean
 
-  names_of : (t : Turn) → t.at_member ≡ p.meeting.at_member → t.at_controller ≡ p.meeting.at_controller → t.plan ≡ p.meeting.plan → Names s t
-  names_of t member controller plan = record {
+  names_of : (t : Turn) → t.at_member ≡ p.meeting.at_member → t.at_controller ≡ p.meeting.at_controller → t.plan ≡ p.meeting.plan → IsThere plan p → Names s t
+  names_of t member controller own_plan there = record {
     plan = subst (λ (at : ℕ). slice_get (map but_secret s.member_plans) at ≡ Some (but_secret t.plan)) (sym member)
-        (subst (λ (own_plan : _). slice_get (map but_secret s.member_plans) p.meeting.at_member ≡ Some (but_secret own_plan)) (sym plan) planned.plan);
+        (subst (λ (one : _). slice_get (map but_secret s.member_plans) p.meeting.at_member ≡ Some (but_secret one)) (sym own_plan) planned.is_plan);
     reach = subst (λ (at : ℕ). end_of_peer t.plan.controller s.ends ≡ Some (Controller at)) (sym controller)
-        (subst (λ (own_plan : _). end_of_peer own_plan.controller s.ends ≡ Some (Controller p.meeting.at_controller)) (sym plan) planned.reach);
+        (subst (λ (one : _). end_of_peer one.controller s.ends ≡ Some (Controller p.meeting.at_controller)) (sym own_plan) (planned.reach there));
   }
 
   binds_clear : Shows s (scene_of p Binds left moment) → After NotYet
@@ -185,7 +253,7 @@ module _ (p : Coming) (s : State) (k : ℕ) (b : Book) (known : IsKnown p) (read
     waits = tt;
   }
 
-  challenged_clear : (challenge : List ℕ) → Fits p (Challenged challenge) → Shows s (scene_of p (Challenged challenge) left moment) → After NotYet
+  challenged_clear : (challenge : List ℕ) → IsBlock 8 challenge → Shows s (scene_of p (Challenged challenge) left moment) → After NotYet
   challenged_clear challenge fits shows =
       let ack : List ℕ = written (ack_for p.meeting.plan p.meeting.task challenge) in
       record {
@@ -193,18 +261,18 @@ module _ (p : Coming) (s : State) (k : ℕ) (b : Book) (known : IsKnown p) (read
             (client_comes s (unit_down (own p) ack) [] p.meeting.at_client count
             (comes_so s _ (unit_down (own p) ack) [] (Client p.meeting.at_client) shows
             (heard_down (with_its_controller p (own p)) client_phase.Bound (challenged_talk p.meeting.task challenge) ack [] left moment
-            (unit_comes (ack_for p.meeting.plan p.meeting.task challenge) (ack_sends p.meeting.plan p.meeting.task challenge known.names fits.0)))) k b fine);
+            (unit_comes (ack_for p.meeting.plan p.meeting.task challenge) (ack_sends p.meeting.plan p.meeting.task challenge able.names fits.0)))) k b fine);
         waits = tt;
       }
 
   module _ (a : Asked) (who : WhoAsked p a) where
-    answers_clear : Fits p (Answers a who) → Shows s (scene_of p (Answers a who) left moment) → After NotYet
+    answers_clear : IsAnswering p a → Shows s (scene_of p (Answers a who) left moment) → After NotYet
     answers_clear fits shows = record {
       clean = clean_of (goes s) count now
           (meeting_leads s (with_its_controller p (own p)) _ (challenged_talk p.meeting.task a.challenge) (written (auth3_for p.meeting.task (message_for (own p) a)))
           (unit_up (own p) who.sent ∷ []) left moment count
           (unit_comes (auth3_for p.meeting.task (message_for (own p) a))
-          (answers_are_asked.sends p.meeting.plan p.meeting.task a.challenge a.one a.two a.three a.then_now known.can known.names fits.draws)) shows k b fine);
+          (answers_are_asked.sends p.meeting.plan p.meeting.task a.challenge a.one a.two a.three a.then_now able.can able.names fits.draws)) shows k b fine);
       waits = tt;
     }
 
@@ -212,7 +280,7 @@ module _ (p : Coming) (s : State) (k : ℕ) (b : Book) (known : IsKnown p) (read
       abbrev t_on : Aim → Turn
       t_on aim = turn_on p a who.later (who.sent ∷ []) v aim
 
-      between_on : (aim : Aim) → IsTurning p a v → IsBetween (t_on aim)
+      between_on : (aim : Aim) → IsTurningBy plan p a v → IsBetween (t_on aim)
       between_on aim is = turns_have_links.between (own p) (turn_before p a who.later (who.sent ∷ []) v) (standing_for aim) is.joined_so
 
       before_clear : (aim : Aim) → Shows s (scene_of p (DialsBefore a who v aim) left moment) → After NotYet
@@ -230,7 +298,7 @@ module _ (p : Coming) (s : State) (k : ℕ) (b : Book) (known : IsKnown p) (read
         waits = tt;
       }
 
-      held_clear : (aim : Aim) → IsTurning p a v → Shows s (scene_of p (BindsBefore a who v aim) left moment) → After NotYet
+      held_clear : (aim : Aim) → IsTurningBy plan p a v → Shows s (scene_of p (BindsBefore a who v aim) left moment) → After NotYet
       held_clear aim is shows =
           let before : Turn = turn_before p a who.later [] v in
           let t : Turn = turn_on p a who.later [] v aim in
@@ -250,7 +318,7 @@ module _ (p : Coming) (s : State) (k : ℕ) (b : Book) (known : IsKnown p) (read
             waits = tt;
           }
 
-      bound_clear : (aim : Aim) → IsTurning p a v → Shows s (scene_of p (BindsHeld a who v aim) left moment) → After NotYet
+      bound_clear : (aim : Aim) → IsTurningBy plan p a v → Shows s (scene_of p (BindsHeld a who v aim) left moment) → After NotYet
       bound_clear aim is shows = record {
         clean = clean_of (goes s) count now
             (bind_leads s (t_on aim) v.next v.number (step.Bind (call_for p a aim)) v.computers left moment count (between_on aim is) is.number_below shows k b fine);
@@ -258,196 +326,179 @@ module _ (p : Coming) (s : State) (k : ℕ) (b : Book) (known : IsKnown p) (read
       }
 
       -- the call goes out
-      acked_clear : (aim : Aim) → IsTurning p a v → Shows s (scene_of p (Acked a who v aim) left moment) → After (progress_called aim)
-      acked_clear (First client) is shows =
+      acked_clear : (aim : Aim) → IsTurningBy plan p a v → IsThere plan p → Shows s (scene_of p (Acked a who v aim) left moment) → After (progress_called aim)
+      acked_clear (First client) is there shows =
           let t : Turn = t_on (First client) in
           let f : FineAnd (goes s) count None now =
-          ack_leads s t v.next v.number (call_for p a (First client)) v.computers left moment count Plain None (between_on (First client) is) is.number_below (names_of t refl refl refl) refl shows k b fine in
+          ack_leads s t v.next v.number (call_for p a (First client)) v.computers left moment count Plain None (between_on (First client) is) is.number_below (names_of t refl refl refl there) refl shows k b fine in
           record { clean = clean_of (goes s) count now f.fine; waits = tt }
-      acked_clear (Second client server) is shows =
+      acked_clear (Second client server) is there shows =
           let t : Turn = t_on (Second client server) in
           let asks : Requester = channel_in_turn t v.next v.number (step.Bind (call_for p a (Second client server))) in
           let f : FineAnd (goes s) count (Some (half_of p client server)) now =
           ack_leads s t v.next v.number (call_for p a (Second client server)) v.computers left moment count
           (Opening (half_channel t.at_controller (wait_for asks t.place (step.Reply question.Authenticate)) client server) asks.next_call) None (between_on (Second client server) is) is.number_below
-          (names_of t refl refl refl) refl shows k b fine in
+          (names_of t refl refl refl there) refl shows k b fine in
           record { clean = clean_of (goes s) count now f.fine; waits = f.waits }
-      acked_clear (Third o c timestamp) is shows =
+      acked_clear (Third o c timestamp) is there shows =
           let t : Turn = t_on (Third o c timestamp) in
           let asks : Requester = channel_in_turn t v.next v.number (step.Bind (call_for p a (Third o c timestamp))) in
           let f : FineAnd (goes s) count (Some (open_of p o)) now =
           ack_leads s t v.next v.number (call_for p a (Third o c timestamp)) v.computers left moment count (Calling (open_of p o) asks.next_call timestamp) (Some t.place)
-          (between_on (Third o c timestamp) is) is.number_below (names_of t refl refl refl) refl shows k b fine in
+          (between_on (Third o c timestamp) is) is.number_below (names_of t refl refl refl there) refl shows k b fine in
           record { clean = clean_of (goes s) count now f.fine; waits = f.waits }
 
       -- the controller answers
-      first_clear : (client : List ℕ) → IsTurning p a v → IsAimed p v (First client) → Shows s (scene_of p (Calls a who v (First client)) left moment) → After NotYet
-      first_clear client is aimed shows =
-          let t : Turn = t_on (First client) in
-          let three : HasThree s.chances.left = ready.draws in
-          let more : List (List ℕ) = three.two ∷ three.three ∷ three.more in
-          let can : IsTurnCall (call_for p a (First client)) = calls_can_go.challenge p.meeting.caller client known.caller aimed in
-          record {
-            clean = clean_of (goes s) count now
-                (call_comes s t (after v.next) v.next (step.Reply (question.Challenge client)) (call_for p a (First client)) v.computers (three.one ∷ more) more moment count count _ _
-                (between_on (First client) is) is.next_below can
-                (controllers_step.challenged p.table p.name v.computers (length v.links) moment v.next p.meeting.caller client three.one more is.next_below can known.knows)
-                (left_so s (λ (l : List (List ℕ)). scene_of p (Calls a who v (First client)) l moment) left _ shows.left three.are shows) k b fine
-                (λ unit first. refl) (λ unit numbers. omega arith)).has.fine;
-            waits = tt;
-          }
+      module _ (is : IsTurningBy plan p a v) (there : IsThere plan p) where
+        first_clear : (client : List ℕ) → HasThree s.chances.left → IsBlock 8 client → Shows s (scene_of p (Calls a who v (First client)) left moment) → After NotYet
+        first_clear client three block shows =
+            let t : Turn = t_on (First client) in
+            let more : List (List ℕ) = three.two ∷ three.three ∷ three.more in
+            let can : IsTurnCall (call_for p a (First client)) = calls_can_go.challenge p.meeting.caller client able.caller block in
+            let told : ToldChallenge p.table p.name v.computers (length v.links) moment v.next p.meeting.caller client three.one more =
+            controllers_answer.challenge p.table p.name v.computers (length v.links) moment v.next p.meeting.caller client three.one more is.next_below can in
+            record {
+              clean = clean_of (goes s) count now
+                  (call_comes s t (after v.next) v.next (step.Reply (question.Challenge client)) (call_for p a (First client)) v.computers (three.one ∷ more) more moment count count _ _
+                  (between_on (First client) is) is.next_below can told.steps
+                  (left_so s (λ (l : List (List ℕ)). scene_of p (Calls a who v (First client)) l moment) left _ shows.left three.are shows) k b fine
+                  (λ unit first. refl) (λ unit numbers. omega arith)).has.fine;
+              waits = tt;
+            }
 
-      second_clear : (client server : List ℕ) → IsTurning p a v → IsAimed p v (Second client server) → Waits s (Some (half_of p client server)) b →
-          Shows s (scene_of p (Calls a who v (Second client server)) left moment) → After (WasOpened client server)
-      second_clear client server is aimed waits shows =
-          let t : Turn = t_on (Second client server) in
-          let call : Call = call_for p a (Second client server) in
-          let r : Reply = reply.Authenticate (record { credential = requester.server_credential p.meeting.caller.secret client server; flags = offered_flags; status = 0 }) in
-          let can : IsTurnCall call = calls_can_go.authenticate p.meeting.caller client server known.caller in
-          let steps = controllers_step.proved p.table p.name v.computers (length v.links) moment v.next p.meeting.caller client server p.machine left is.next_below can
-          (known.machine_found client server) known.secret aimed in
-          let channel : Requester = channel_in_turn t (after v.next) v.next (step.Reply question.Authenticate) in
-          let named : ChannelIdentity = half_channel t.at_controller channel client server in
-          let d : Desk = desk_in_turn t v.computers in
-          let then_so : Option Desk = work_after (by_call (served_call call) (turn_line t.link v.next) (bound_talk None turn_agreed) t.name moment d left) in
-          let expects : Expects d channel client server = record { account = p.machine; found = known.machine_found client server; secret = known.secret; pair = aimed } in
-          let one : (unit : ℕ) → answer_in_turn s t v.next call v.computers k unit left moment ≡ opening (Some named) (where_in_turn s t v.next call v.computers k unit) v.next =
-          λ unit. channels_are_named_alike.openings.opens channel client server (where_in_turn s t v.next call v.computers k unit) (turn_line t.link v.next) d then_so expects in
-          let called : Called s t v.next call v.computers k count left moment b =
-          call_comes s t (after v.next) v.next (step.Reply question.Authenticate) call v.computers left left moment count count _ _ (between_on (Second client server) is) is.next_below can steps shows k b fine
-          (λ unit first. channels_are_named_alike.exchanges.opening channel client server (where_in_turn s t v.next call v.computers k unit) (turn_line t.link v.next) d then_so b.sent expects
-          (waits_marked s (Some named) b unit waits first))
-          (λ unit numbers. omega (arith, ap (λ (x : Answered). length (judged_of (x ∷ []) numbers)) (one unit))) in
-          let f : FineAnd (goes s) count (Some named) now =
-          reply_waits s t v.next call v.computers k count count left moment b (reply_bytes v.next r) (Some named) fine called (Opened named v.next called.came.number)
-          (ap (λ (x : Answered). answered_marks (x ∷ [])) (one called.came.number)) refl
-          (replied_bag s t (after v.next) v.next (step.Reply question.Authenticate) call v.computers left left moment (reply_bytes v.next r) _ called.came.number (between_on (Second client server) is) steps shows) in
-          record { clean = clean_of (goes s) count now f.fine; waits = f.waits }
+        second_clear : (client server : List ℕ) → MayAim plan p v (Second client server) → Waits s (Some (half_of p client server)) b →
+            Shows s (scene_of p (Calls a who v (Second client server)) left moment) → After (WasOpened client server)
+        second_clear client server aimed waits shows =
+            let t : Turn = t_on (Second client server) in
+            let call : Call = call_for p a (Second client server) in
+            let r : Reply = reply.Authenticate (record { credential = requester.server_credential p.meeting.caller.secret client server; flags = offered_flags; status = 0 }) in
+            let can : IsTurnCall call = calls_can_go.authenticate p.meeting.caller client server able.caller in
+            let own_secret : HasSecret p = able.own_secret (own_so there) in
+            let pending = aimed (own_so there) in
+            let steps = controllers_step.proved p.table p.name v.computers (length v.links) moment v.next p.meeting.caller client server own_secret.machine left is.next_below can
+            (own_secret.found client server) own_secret.secret pending in
+            let channel : Requester = channel_in_turn t (after v.next) v.next (step.Reply question.Authenticate) in
+            let named : ChannelIdentity = half_channel t.at_controller channel client server in
+            let d : Desk = desk_in_turn t v.computers in
+            let then_so : Option Desk = work_after (by_call (served_call call) (turn_line t.link v.next) (bound_talk None turn_agreed) t.name moment d left) in
+            let expects : Expects d channel client server = record { account = own_secret.machine; found = own_secret.found client server; secret = own_secret.secret; pair = pending } in
+            let one : (unit : ℕ) → answer_in_turn s t v.next call v.computers k unit left moment ≡ opening (Some named) (where_in_turn s t v.next call v.computers k unit) v.next =
+            λ unit. channels_are_named_alike.openings.opens channel client server (where_in_turn s t v.next call v.computers k unit) (turn_line t.link v.next) d then_so expects in
+            let called : Called s t v.next call v.computers k count left moment b =
+            call_comes s t (after v.next) v.next (step.Reply question.Authenticate) call v.computers left left moment count count _ _ (between_on (Second client server) is) is.next_below can steps shows k b fine
+            (λ unit first. channels_are_named_alike.exchanges.opening channel client server (where_in_turn s t v.next call v.computers k unit) (turn_line t.link v.next) d then_so b.sent expects
+            (waits_marked s (Some named) b unit waits first))
+            (λ unit numbers. omega (arith, ap (λ (x : Answered). length (judged_of (x ∷ []) numbers)) (one unit))) in
+            let f : FineAnd (goes s) count (Some named) now =
+            reply_waits s t v.next call v.computers k count count left moment b (reply_bytes v.next r) (Some named) fine called (Opened named v.next called.came.number)
+            (ap (λ (x : Answered). answered_marks (x ∷ [])) (one called.came.number)) refl
+            (replied_bag s t (after v.next) v.next (step.Reply question.Authenticate) call v.computers left left moment (reply_bytes v.next r) _ called.came.number (between_on (Second client server) is) steps shows) in
+            record { clean = clean_of (goes s) count now f.fine; waits = f.waits }
 
-      third_clear : (o c : SecureChannelState) (timestamp : ℕ) → HasUser p → MayLogOnAt p s → IsTurning p a v → IsAimed p v (Third o c timestamp) → Waits s (Some (open_of p o)) b →
-          Shows s (scene_of p (Calls a who v (Third o c timestamp)) left moment) → After (WasJudged a o)
-      third_clear o c timestamp user may_log is aimed waits shows =
-          let t : Turn = t_on (Third o c timestamp) in
-          let call : Call = call_for p a (Third o c timestamp) in
-          let sam : SamInfo = sam_for (own p) a p.table p.name p.account moment in
-          let r : Reply = granting o timestamp 0 1 (hidden o sam) in
-          let may_then : MayLogOn p.table (info_told p.meeting.task) s.moment =
-          subst (λ (found : Option ControllerState). IsSomeAnd found (λ (x : ControllerState). MayLogOn x.table (info_told p.meeting.task) s.moment)) shows.controller may_log in
-          let may : MayLogOn p.table (info_told p.meeting.task) moment = subst (λ (at : ℕ). MayLogOn p.table (info_told p.meeting.task) at) shows.moment may_then in
-          let can : IsTurnCall call = calls_can_go.logon p.meeting.caller o timestamp (info_asked (own p) a) known.caller aimed.0 is.answering.info in
-          let steps = grants_then p a v o c timestamp moment left known user is aimed may can in
-          let named : ChannelIdentity = open_of p o in
-          let d : Desk = desk_in_turn t v.computers in
-          let then_so : Option Desk = work_after (by_call (served_call call) (turn_line t.link v.next) (bound_talk None turn_agreed) t.name moment d left) in
-          let has : HasChannel v.computers named = record { state = c; kept = aimed.1; is = named_alike p.meeting.at_controller p.meeting.caller.computer o c aimed.2 } in
-          let passed : has_passed (judged_in (new_actions then_so d)) ≡ true = ap has_passed (passed_so p a v o c timestamp moment left known user is aimed may) in
-          let j : ℕ → Judging = λ unit. judging_of (where_in_turn s t v.next call v.computers k unit) (turn_line t.link v.next) (Network _) d then_so in
-          let one : (unit : ℕ) → answer_in_turn s t v.next call v.computers k unit left moment ≡ passing (Some named) (j unit) =
-          λ unit. channels_are_named_alike.calls.passes (j unit) v.computers named refl refl refl has passed in
-          let called : Called s t v.next call v.computers k (1 + count) left moment b =
-          call_comes s t (after v.next) v.next (step.Reply question.Logon) call v.computers left left moment count (1 + count) _ _ (between_on (Third o c timestamp) is) is.next_below can steps shows k b fine
-          (λ unit first. channels_are_named_alike.exchanges.calling (j unit) v.computers named b.sent refl refl refl has passed (waits_marked s (Some named) b unit waits first))
-          (λ unit numbers. omega (arith, ap (λ (x : Answered). length (judged_of (x ∷ []) numbers)) (one unit))) in
-          let f : FineAnd (goes s) (1 + count) (Some named) now =
-          reply_waits s t v.next call v.computers k count (1 + count) left moment b (reply_bytes v.next r) (Some named) fine called (ReplyTo named v.next called.came.number)
-          (ap (λ (x : Answered). answered_marks (x ∷ [])) (one called.came.number)) refl
-          (judged_bag s t (after v.next) v.next (step.Reply question.Logon) call v.computers left left moment (judged.Passed 0) (reply_bytes v.next r) _ called.came.number (between_on (Third o c timestamp) is) steps shows) in
-          record { clean = clean_of (goes s) (1 + count) now f.fine; waits = f.waits }
+        third_clear : (o c : SecureChannelState) (timestamp : ℕ) → MayAim plan p v (Third o c timestamp) → Waits s (Some (open_of p o)) b →
+            Shows s (scene_of p (Calls a who v (Third o c timestamp)) left moment) → After (WasJudged a o)
+        third_clear o c timestamp aimed waits shows =
+            let t : Turn = t_on (Third o c timestamp) in
+            let call : Call = call_for p a (Third o c timestamp) in
+            let found : Verdict = verdict_of p.table p.name (info_asked (own p) a) moment in
+            let r : Reply = passed_reply (key_of_channel o) (return_of (key_of_channel o) o.seed timestamp) found in
+            let can : IsTurnCall call = calls_can_go.logon p.meeting.caller o timestamp (info_asked (own p) a) able.caller aimed.0 is.answering.info in
+            let in_step : KeepsInStep p v.computers o = aimed.1 (own_so there) in
+            let steps = controllers_step.judged p.table p.name v.computers (length v.links) moment v.next timestamp p.meeting.caller o in_step.channel (info_asked (own p) a) left is.next_below can
+            in_step.keeps in_step.in_step in
+            let named : ChannelIdentity = open_of p o in
+            let d : Desk = desk_in_turn t v.computers in
+            let then_so : Option Desk = work_after (by_call (served_call call) (turn_line t.link v.next) (bound_talk None turn_agreed) t.name moment d left) in
+            let has : HasChannel v.computers named =
+            record { state = in_step.channel; kept = in_step.keeps; is = named_alike p.meeting.at_controller p.meeting.caller.computer o in_step.channel in_step.in_step } in
+            let passed : has_passed (judged_in (new_actions then_so d)) ≡ true =
+            ap (λ (part : ServedPart Desk ControllerTalk). has_passed (judged_in (new_actions (work_after part) d)))
+            (calls_are_answered.judges p.meeting.caller o in_step.channel (info_asked (own p) a) timestamp (turn_line t.link v.next) (bound_talk None turn_agreed) t.name moment d left in_step.keeps
+            in_step.in_step) in
+            let j : ℕ → Judging = λ unit. judging_of (where_in_turn s t v.next call v.computers k unit) (turn_line t.link v.next) (Network _) d then_so in
+            let one : (unit : ℕ) → answer_in_turn s t v.next call v.computers k unit left moment ≡ passing (Some named) (j unit) =
+            λ unit. channels_are_named_alike.calls.passes (j unit) v.computers named refl refl refl has passed in
+            let called : Called s t v.next call v.computers k (1 + count) left moment b =
+            call_comes s t (after v.next) v.next (step.Reply question.Logon) call v.computers left left moment count (1 + count) _ _ (between_on (Third o c timestamp) is) is.next_below can steps shows k b fine
+            (λ unit first. channels_are_named_alike.exchanges.calling (j unit) v.computers named b.sent refl refl refl has passed (waits_marked s (Some named) b unit waits first))
+            (λ unit numbers. omega (arith, ap (λ (x : Answered). length (judged_of (x ∷ []) numbers)) (one unit))) in
+            let f : FineAnd (goes s) (1 + count) (Some named) now =
+            reply_waits s t v.next call v.computers k count (1 + count) left moment b (reply_bytes v.next r) (Some named) fine called (ReplyTo named v.next called.came.number)
+            (ap (λ (x : Answered). answered_marks (x ∷ [])) (one called.came.number)) refl
+            (judged_bag s t (after v.next) v.next (step.Reply question.Logon) call v.computers left left moment (judged.Passed (status_of found)) (reply_bytes v.next r) _ called.came.number
+            (between_on (Third o c timestamp) is) steps shows) in
+            record { clean = clean_of (goes s) (1 + count) now f.fine; waits = f.waits }
 
-      calls_clear : (aim : Aim) → HasUser p → MayLogOnAt p s → IsTurning p a v → IsAimed p v aim → WaitsFor p (progress_called aim) s b → Shows s (scene_of p (Calls a who v aim) left moment) →
-          After (progress_answered a aim)
-      calls_clear (First client) user may is aimed waits shows = first_clear client is aimed shows
-      calls_clear (Second client server) user may is aimed waits shows = second_clear client server is aimed waits shows
-      calls_clear (Third o c timestamp) user may is aimed waits shows = third_clear o c timestamp user may is aimed waits shows
+        calls_clear : (aim : Aim) → IsReadyBy plan p s → MayAim plan p v aim → WaitsFor p (progress_called aim) s b → Shows s (scene_of p (Calls a who v aim) left moment) →
+            After (progress_answered a aim)
+        calls_clear (First client) ready aimed waits shows = first_clear client ready.draws aimed shows
+        calls_clear (Second client server) ready aimed waits shows = second_clear client server aimed waits shows
+        calls_clear (Third o c timestamp) ready aimed waits shows = third_clear o c timestamp aimed waits shows
 
-      -- the member takes the reply
-      halved_clear : (client server : List ℕ) → Fits p (Halved a who v client server) → Shows s (scene_of p (Halved a who v client server) left moment) → After NotYet
-      halved_clear client server fits shows =
-          let t : Turn = t_on (First client) in
-          let r : Reply = reply.Challenge (record { challenge = server; status = 0 }) in
-          let is_reply = calls_can_go.challenged client server fits.1 in
-          let channel : Requester = channel_in_turn t (after v.next) v.next (step.Reply (question.Challenge client)) in
-          let takes =
-          turns_go_through.takes.reply channel v.next t.place (question.Challenge client) r is_reply ∙ logons_are_asked.half t.caller t.info t.place (after v.next) v.next client server in
-          record {
-            clean = clean_of (goes s) count now
-                (reply_leads s t (after v.next) v.next (question.Challenge client) r v.computers left moment count (between_on (First client) fits.0) fits.0.next_below is_reply (names_of t refl refl refl) shows k b fine
-                (λ unit first. ap (λ (taking : Taking). clashes (taking_note (Some taking) t.at_controller channel).checked (Some unit) b.sent) takes));
-            waits = tt;
-          }
+        -- the member takes a reply, whichever it is
+        replied_clean : (aim : Aim) (accounts : AccountTable) (q : Question) (r : Reply) → IsTurnReply q r →
+            ((unit : ℕ) → first_waiting s.bag ≡ Some unit →
+            IsMadeFor p.meeting.at_controller (channel_in_turn (t_on aim) (after v.next) v.next (step.Reply q)) (standing_for aim) (Some unit) b.sent) →
+            Shows s (turn_scene (with_accounts accounts (t_on aim)) (after v.next) v.next (step.Reply q) v.computers (turn_link (length v.links))
+            (unit_back (with_accounts accounts (t_on aim)) (reply_bytes v.next r) ∷ []) left moment) → IsClean (goes s) now
+        replied_clean aim accounts q r goes_so made shows =
+            let t : Turn = with_accounts accounts (t_on aim) in
+            clean_of (goes s) count now
+            (reply_leads s t (after v.next) v.next q r v.computers left moment count (between_still (t_on aim) accounts (between_on aim is)) is.next_below goes_so (names_of t refl refl refl there) shows k b fine
+            (λ unit first. takes_own t.at_controller (channel_in_turn t (after v.next) v.next (step.Reply q)) (turn_response v.next r) (Some unit) b.sent (made unit first)))
 
-      proved_clear : (client server : List ℕ) → Fits p (Proved a who v client server) → Waits s (Some (half_of p client server)) b → Shows s (scene_of p (Proved a who v client server) left moment) → After NotYet
-      proved_clear client server fits waits shows =
-          let t : Turn = t_on (Second client server) in
-          let r : Reply = reply.Authenticate (record { credential = requester.server_credential p.meeting.caller.secret client server; flags = offered_flags; status = 0 }) in
-          let is_reply = calls_can_go.proved p.meeting.caller.secret client server in
-          let channel : Requester = channel_in_turn t (after v.next) v.next (step.Reply question.Authenticate) in
-          let named : ChannelIdentity = half_channel t.at_controller channel client server in
-          let takes =
-          turns_go_through.takes.reply channel v.next t.place question.Authenticate r is_reply ∙ logons_are_asked.opened t.caller t.info t.place (after v.next) v.next offered_flags client server refl in
-          record {
-            clean = clean_of (goes s) count now
-                (reply_leads s t (after v.next) v.next question.Authenticate r v.computers left moment count (between_on (Second client server) fits.0) fits.0.next_below is_reply (names_of t refl refl refl) shows k b fine
-                (λ unit first. channels_are_named_alike.exchanges.opened t.at_controller channel _ client server (Some unit) b.sent refl (ap (λ (taking : Taking). taking.taken) takes)
-                (waits_marked s (Some named) b unit waits first)));
-            waits = tt;
-          }
+  -- ---- in each phase of a turn, and before it
 
-      granted_clear : (o c : SecureChannelState) (timestamp judged_at : ℕ) (accounts : AccountTable) → Fits p (Granted a who v o c timestamp judged_at accounts) → Waits s (Some (open_of p o)) b →
-          Shows s (scene_of p (Granted a who v o c timestamp judged_at accounts) left moment) → After (WasTold a)
-      granted_clear o c timestamp judged_at accounts fits waits shows =
-          let before : Turn = t_on (Third o c timestamp) in
-          let t : Turn = with_accounts accounts before in
-          let sam : SamInfo = sam_for (own p) a p.table p.name p.account judged_at in
-          let r : Reply = granting o timestamp 0 1 (hidden o sam) in
-          let is_reply : IsTurnReply question.Logon r = reply_then p a o timestamp judged_at known fits.1 in
-          let channel : Requester = channel_in_turn t (after v.next) v.next (step.Reply question.Logon) in
-          let named : ChannelIdentity = open_of p o in
-          let takes =
-          turns_go_through.takes.reply channel v.next t.place question.Logon r is_reply ∙ logons_are_asked.granted t.caller o t.info (hidden o sam) t.place (after v.next) v.next timestamp 0 1 in
-          record {
-            clean = clean_of (goes s) count now
-                (reply_leads s t (after v.next) v.next question.Logon r v.computers left moment count (between_still before accounts (between_on (Third o c timestamp) fits.0)) fits.0.next_below is_reply
-                (names_of t refl refl refl) shows k b fine
-                (λ unit first. channels_are_named_alike.exchanges.answered t.at_controller channel _ t.place named (Some unit) b.sent refl (ap (λ (taking : Taking). place_answered taking.taken) takes)
-                (waits_marked s (Some named) b unit waits first)));
-            waits = tt;
-          }
-
-  -- so it is in each phase
-  pub onward_clear : (phase : LogonPhase p) → HasUser p → MayLogOnAt p s → Fits p phase → WaitsFor p (progress_of phase) s b → Shows s (scene_of p phase left moment) → After (progress_onward phase)
-  onward_clear Dials user may fits waits shows = record { clean = idle_clean s k b clean shows.units; waits = tt }
-  onward_clear Binds user may fits waits shows = binds_clear shows
-  onward_clear (Challenged challenge) user may fits waits shows = challenged_clear challenge fits shows
-  onward_clear (Answers a who) user may fits waits shows = answers_clear a who fits shows
-  onward_clear (DialsBefore a who v aim) user may fits waits shows = before_clear a who v aim shows
-  onward_clear (DialsHeld a who v aim) user may fits waits shows = record { clean = idle_clean s k b clean shows.units; waits = tt }
-  onward_clear (BindsBefore a who v aim) user may fits waits shows = held_clear a who v aim fits.0 shows
-  onward_clear (BindsHeld a who v aim) user may fits waits shows = bound_clear a who v aim fits.0 shows
-  onward_clear (Acked a who v aim) user may fits waits shows = acked_clear a who v aim fits.0 shows
-  onward_clear (Calls a who v aim) user may fits waits shows = calls_clear a who v aim user may fits.0 fits.1 waits shows
-  onward_clear (Halved a who v client server) user may fits waits shows = halved_clear a who v client server fits shows
-  onward_clear (Proved a who v client server) user may fits waits shows = proved_clear a who v client server fits waits shows
-  onward_clear (Granted a who v o c timestamp judged_at accounts) user may fits waits shows = granted_clear a who v o c timestamp judged_at accounts fits waits shows
-  onward_clear (Named a e on one other back) user may fits waits shows = record {
-    clean = clean_of (goes s) count now
-        (client_comes s (unit_down (own p) back.sent) [] p.meeting.at_client count
-        (comes_so s _ (unit_down (own p) back.sent) [] (Client p.meeting.at_client) shows
-        (heard_down (meeting_at p e) _ _ back.sent [] left moment (record { some = back.some; short = omega (arith, back.short) }))) k b fine);
+  on_clear : (phase : LogonPhase p) → IsReadyBy plan p s → MayFitOn plan p phase → WaitsFor p (progress_of phase) s b → Shows s (scene_of p phase left moment) → After (progress_onward phase)
+  on_clear Dials ready fits waits shows = record { clean = idle_clean s k b clean shows.units; waits = tt }
+  on_clear Binds ready fits waits shows = binds_clear shows
+  on_clear (Challenged challenge) ready fits waits shows = challenged_clear challenge fits shows
+  on_clear (Answers a who) ready fits waits shows = answers_clear a who fits shows
+  on_clear (DialsBefore a who v aim) ready fits waits shows = before_clear a who v aim shows
+  on_clear (DialsHeld a who v aim) ready fits waits shows = record { clean = idle_clean s k b clean shows.units; waits = tt }
+  on_clear (BindsBefore a who v aim) ready fits waits shows = held_clear a who v aim fits.0 shows
+  on_clear (BindsHeld a who v aim) ready fits waits shows = bound_clear a who v aim fits.0 shows
+  on_clear (Acked a who v aim) ready fits waits shows = acked_clear a who v aim fits.0 fits.2 shows
+  on_clear (Calls a who v aim) ready fits waits shows = calls_clear a who v fits.0 fits.2 aim ready fits.1 waits shows
+  on_clear (Halved a who v client server) ready fits waits shows = record {
+    clean = replied_clean a who v fits.0 fits.3 (First client) p.table (question.Challenge client) (reply.Challenge (record { challenge = server; status = 0 }))
+        (calls_can_go.challenged client server fits.1) (λ unit first. tt) shows;
     waits = tt;
   }
-  onward_clear (Echoes a e on one asks) user may fits waits shows = record {
+  on_clear (Proved a who v client server) ready fits waits shows = absurd fits
+  on_clear (Granted a who v o c timestamp judged_at accounts) ready fits waits shows = absurd fits
+  on_clear (Named a e on one other back) ready fits waits shows = absurd fits
+  on_clear (Echoes a e on one asks) ready fits waits shows = absurd fits
+  on_clear (Echoed a e talk one other back) ready fits waits shows = absurd fits
+
+  -- ---- where a reply waits, and where the logon is turned away
+
+  away_clear : (phase : AwayPhase p) → MayFitAway plan p phase → Shows s (away_scene p phase left moment) → After NotYet
+  away_clear (Refused a who v o c timestamp accounts status) fits shows = absurd fits
+  away_clear (Unheard a who e) fits shows = record {
     clean = clean_of (goes s) count now
-        (meeting_leads s (meeting_at p e) _ _ asks.sent [] left moment count (record { some = asks.some; short = omega (arith, asks.short) }) shows k b fine);
+        (meeting_leads s (settled_in p e) _ (out_talk p.meeting.task rpc_s_server_unavailable) who.sent [] left moment count (record { some = who.some; short = omega (arith, who.short) }) shows k b fine);
     waits = tt;
   }
-  onward_clear (Echoed a e talk one other back) user may fits waits shows = record {
+  away_clear (Faulted a later e status) fits shows = record {
     clean = clean_of (goes s) count now
-        (client_comes s (unit_down (own p) back.sent) [] p.meeting.at_client count
-        (comes_so s _ (unit_down (own p) back.sent) [] (Client p.meeting.at_client) shows
-        (heard_down (meeting_at p e) _ _ back.sent [] left moment (record { some = back.some; short = omega (arith, back.short) }))) k b fine);
+        (client_comes s (unit_down (own p) (who_fault status)) [] p.meeting.at_client count
+        (comes_so s _ (unit_down (own p) (who_fault status)) [] (Client p.meeting.at_client) shows
+        (heard_down (settled_in p e) _ (out_talk p.meeting.task status) (who_fault status) [] left moment (unit_comes (fault_of 2 0 status) (fault_sends 2 status (omega arith) fits.1)))) k b fine);
     waits = tt;
   }
+
+  pub onward_clear : (phase : AnyPhase p) → IsReadyBy plan p s → MayFit plan p phase → WaitsFor p (progress_in phase) s b → Shows s (any_scene p phase left moment) → After (progress_next phase)
+  onward_clear (On phase) ready fits waits shows = on_clear phase ready fits waits shows
+  onward_clear (Told a who v client server credential status) ready fits waits shows = record {
+    clean = replied_clean a who v fits.0 fits.3 (Second client server) p.table question.Authenticate (proof_reply credential status) fits.1 (λ unit first. waits_marked s _ b unit waits first) shows;
+    waits = tt;
+  }
+  onward_clear (Judged a who v o c timestamp accounts answer) ready fits waits shows = record {
+    clean = replied_clean a who v fits.turning fits.there (Third o c timestamp) accounts question.Logon answer fits.goes (λ unit first. waits_marked s _ b unit waits first) shows;
+    waits = tt;
+  }
+  onward_clear (Away phase) ready fits waits shows = away_clear phase fits shows
 
 -- ---- no unit comes
 
@@ -492,26 +543,52 @@ module _ (p : Coming) (s : State) (k : ℕ) (b : Book) (clean : IsClean s b) whe
     waits = waits_kept p far s (act s move.Connect).state b _ (note (world_at k s) move.Connect b) (no_dial s k b clean none) refl waits;
   }
 
-  pub connect_clear : (phase : LogonPhase p) (left : List (List ℕ)) (moment : ℕ) → WaitsFor p (progress_of phase) s b → Shows s (scene_of p phase left moment) → Connected (progress_of phase)
-  connect_clear Dials left moment waits shows = record { clean = connect_clean s k b clean; waits = tt }
-  connect_clear Binds left moment waits shows = record { clean = connect_clean s k b clean; waits = tt }
-  connect_clear (Challenged challenge) left moment waits shows = record { clean = connect_clean s k b clean; waits = tt }
-  connect_clear (Answers a who) left moment waits shows = record { clean = connect_clean s k b clean; waits = tt }
-  connect_clear (DialsBefore a who v aim) left moment waits shows = record { clean = connect_clean s k b clean; waits = tt }
-  connect_clear (DialsHeld a who v aim) left moment waits shows = record { clean = connect_clean s k b clean; waits = tt }
-  connect_clear (BindsBefore a who v aim) left moment waits shows = record { clean = connect_clean s k b clean; waits = tt }
-  connect_clear (BindsHeld a who v aim) left moment waits shows = record { clean = connect_clean s k b clean; waits = tt }
-  connect_clear (Acked a who v aim) left moment waits shows = record { clean = connect_clean s k b clean; waits = tt }
-  connect_clear (Calls a who v aim) left moment waits shows = still (progress_called aim) shows.dials waits
-  connect_clear (Halved a who v client server) left moment waits shows = record { clean = connect_clean s k b clean; waits = tt }
-  connect_clear (Proved a who v client server) left moment waits shows = still (WasOpened client server) shows.dials waits
-  connect_clear (Granted a who v o c timestamp judged_at accounts) left moment waits shows = still (WasJudged a o) shows.dials waits
-  connect_clear (Named a e on one other back) left moment waits shows = record { clean = connect_clean s k b clean; waits = tt }
-  connect_clear (Echoes a e on one asks) left moment waits shows = record { clean = connect_clean s k b clean; waits = tt }
-  connect_clear (Echoed a e talk one other back) left moment waits shows = record { clean = connect_clean s k b clean; waits = tt }
-
   pub tick_clear : (far : Progress) (more : ℕ) → WaitsFor p far s b → IsClearFor p far (act s (move.Tick more)).state (note (world_at k s) (move.Tick more) b)
   tick_clear far more waits = record {
     clean = tick_clean s k b clean more;
     waits = waits_kept p far s (act s (move.Tick more)).state b _ (note (world_at k s) (move.Tick more) b) refl refl waits;
   }
+
+-- a dial is answered, or reaches nobody
+module _ (plan : Plan) (p : Coming) (s : State) (k : ℕ) (b : Book) (clean : IsClean s b) (left : List (List ℕ)) (moment : ℕ) where
+  no_wait : Connected p s k b clean NotYet
+  no_wait = record { clean = connect_clean s k b clean; waits = tt }
+
+  dials_clear : (phase : LogonPhase p) → MayFitOn plan p phase → WaitsFor p (progress_of phase) s b → Shows s (scene_of p phase left moment) → Connected p s k b clean (progress_of phase)
+  dials_clear Dials fits waits shows = no_wait
+  dials_clear Binds fits waits shows = no_wait
+  dials_clear (Challenged challenge) fits waits shows = no_wait
+  dials_clear (Answers a who) fits waits shows = no_wait
+  dials_clear (DialsBefore a who v aim) fits waits shows = no_wait
+  dials_clear (DialsHeld a who v aim) fits waits shows = no_wait
+  dials_clear (BindsBefore a who v aim) fits waits shows = no_wait
+  dials_clear (BindsHeld a who v aim) fits waits shows = no_wait
+  dials_clear (Acked a who v aim) fits waits shows = no_wait
+  dials_clear (Calls a who v aim) fits waits shows = still p s k b clean (progress_called aim) shows.dials waits
+  dials_clear (Halved a who v client server) fits waits shows = no_wait
+  dials_clear (Proved a who v client server) fits waits shows = absurd fits
+  dials_clear (Granted a who v o c timestamp judged_at accounts) fits waits shows = absurd fits
+  dials_clear (Named a e on one other back) fits waits shows = absurd fits
+  dials_clear (Echoes a e on one asks) fits waits shows = absurd fits
+  dials_clear (Echoed a e talk one other back) fits waits shows = absurd fits
+
+  pub connect_clear : (phase : AnyPhase p) → MayFit plan p phase → WaitsFor p (progress_in phase) s b → Shows s (any_scene p phase left moment) → Connected p s k b clean (progress_in phase)
+  connect_clear (On phase) fits waits shows = dials_clear phase fits waits shows
+  connect_clear (Told a who v client server credential status) fits waits shows = still p s k b clean (WasOpened client server) shows.dials waits
+  connect_clear (Judged a who v o c timestamp accounts answer) fits waits shows = still p s k b clean (WasJudged a o) shows.dials waits
+  connect_clear (Away phase) fits waits shows = no_wait
+
+-- ---- once the client is let in
+
+pub link_clean : (g : Meeting) (left : List (List ℕ)) (s : State) (k : ℕ) (b : Book) → IsOnLink g left s → IsClean s b → IsClean (goes s) (note (world_at k s) move.Onward b)
+link_clean g left s k b at clean = by_phase at.phase at.fits at.shows where
+  by_phase : (phase : LetInPhase) → FitsLetIn g phase → Shows s (let_in_scene g phase left at.moment) → IsClean (goes s) (note (world_at k s) move.Onward b)
+  by_phase (Asks terms question on bytes) fits shows =
+      clean_of (goes s) (length b.judged) (note (world_at k s) move.Onward b)
+      (meeting_leads s g (client_phase.Asked terms question) (talk_in None on) bytes [] left at.moment (length b.judged) (record { some = fits.0.some; short = omega (arith, fits.0.short) }) shows k b
+      (fine_of s b clean))
+  by_phase (Hears terms question on bytes) fits shows =
+      clean_of (goes s) (length b.judged) (note (world_at k s) move.Onward b)
+      (client_comes s (unit_down g bytes) [] g.at_client (length b.judged)
+      (comes_so s _ (unit_down g bytes) [] (Client g.at_client) shows
+      (heard_down g (client_phase.Asked terms question) (talk_in None on) bytes [] left at.moment (record { some = fits.0.some; short = omega (arith, fits.0.short) }))) k b (fine_of s b clean))

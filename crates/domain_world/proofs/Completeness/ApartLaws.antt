@@ -1,5 +1,5 @@
 -- Who can succeed comes at a member that has its own computer, and can be granted the logon.
--- It serves `Proved.complete`.
+-- It serves `Proved.complete`, and `ann_can_succeed` of claim_examples.
 use Rattle.std.proofs.Common.{◌≡◌, ◌≢◌, ℕ, zero, suc, ◌<◌, Bool, true, false, refl, sym, ap, subst, ◌∙◌, List, [], ◌∷◌, Option, Some, inl, inr, slice_get, arith}
 use Rattle.std.specs.Prelude.{◌⊎◌, ◌==◌, AllPairs, filter}
 use Rattle.std.specs.List.{AllByRecursion}
@@ -7,6 +7,7 @@ use Rattle.std.proofs.lemmas.Bool.{cases_Bool}
 use Rattle.std.proofs.lemmas.Bool.Decides.{nat_tests}
 use Rattle.std.proofs.lemmas.List.Elements.{recursion_from_All}
 use Rattle.wire_base.specs.Names.{SameName, same_name}
+use Rattle.account_table.specs.AccountTable.{AccountTable}
 use Rattle.wire_base.proofs.NameLaws.{same_name-Decides}
 use Rattle.logon_client.specs.declared.plan.AuthKind.{AuthKind}
 use Rattle.logon_client.specs.declared.plan.AuthKind.TheVariants.{V1, V1Ess, V2}
@@ -15,7 +16,7 @@ use Rattle.logon_stubs.specs.declared.info.NetworkInfo.{NetworkInfo}
 use Rattle.member_server.specs.declared.plan.MemberPlan.{MemberPlan}
 use Rattle.channel_events.proofs.ListLaws.{got_nothing, some_is}
 use Rattle.world_moves.specs.declared.links.EndId.{EndId}
-use Rattle.world_moves.specs.declared.links.EndId.TheVariants.{Controller}
+use Rattle.world_moves.specs.declared.links.EndId.TheVariants.{Controller, Member}
 use Rattle.world_moves.specs.declared.moves.Move.{Move}
 use Rattle.world_moves.specs.declared.plan.Plan.{Plan}
 use Rattle.world_moves.specs.Links.{is_end}
@@ -24,7 +25,8 @@ use Rattle.world_moves.specs.World.{first_ends}
 use Rattle.logon_steps.specs.Granting.{info_told, response_told}
 use Rattle.logon_runs.specs.AnyLogons.{HasServers}
 use Rattle.logon_runs.specs.Rests.{CanBeGranted, HasOwnComputer}
-use Rattle.domain_world.specs.Claims.Completeness.{CanSucceed, info_planned, response_planned}
+use Rattle.domain_world.specs.Claims.OneByOne.{AreApart, HasOwnMember}
+use Rattle.domain_world.specs.Claims.Completeness.{CanSucceed, HasComputer, info_planned, members_of, response_planned}
 
 -- ---- each two of those that are kept
 
@@ -83,7 +85,7 @@ same_controller n = grind (arith, nat_tests)
 kept_so : (end : Option EndId) (controller : ℕ) → end ≡ Some (Controller controller) → is_end end (Controller controller) ≡ true
 kept_so end controller is = ap (λ (e : Option EndId). is_end e (Controller controller)) is ∙ same_controller controller
 
-abbrev Differ : MemberPlan → MemberPlan → Type 0
+abbrev pub Differ : MemberPlan → MemberPlan → Type 0
 Differ one other = SameName one.computer other.computer → ⊥
 
 either_order : (i j : ℕ) → i ≢ j → (i < j) ⊎ (j < i)
@@ -92,32 +94,37 @@ either_order zero (suc j) differ = inl (omega arith)
 either_order (suc i) zero differ = inr (omega arith)
 either_order (suc i) (suc j) differ = elim (either_order i j (λ same. differ (ap suc same))) [ inl less ↦ inl (omega (arith, less)) | inr more ↦ inr (omega (arith, more)) ]
 
-module _ (plan : Plan) (moves : List Move) (client : ℕ) (can : CanSucceed plan moves client) where
+module _ (plan : Plan) (controller member : ℕ) (work : MemberPlan) (apart : AllPairs Differ (members_of (first_ends plan) controller plan.members)) (is_work : slice_get plan.members member ≡ Some work)
+    (is_controller : end_of_peer work.controller (first_ends plan) ≡ Some (Controller controller)) where
   abbrev keeps : MemberPlan → Bool
-  keeps peer = is_end (end_of_peer peer.controller (first_ends plan)) (Controller can.controller)
+  keeps peer = is_end (end_of_peer peer.controller (first_ends plan)) (Controller controller)
 
-  pub apart_so : (other : ℕ) (peer : MemberPlan) → other ≢ can.member → slice_get plan.members other ≡ Some peer → end_of_peer peer.controller (first_ends plan) ≡ Some (Controller can.controller) →
-      same_name peer.computer can.member_plan.computer ≡ false
-  apart_so other peer differ is reaches =
-      let of_peer : keeps peer ≡ true = kept_so (end_of_peer peer.controller (first_ends plan)) can.controller reaches in
-      let of_own : keeps can.member_plan ≡ true = kept_so (end_of_peer can.member_plan.controller (first_ends plan)) can.controller can.is_controller in
-      not_same peer.computer can.member_plan.computer (elim (either_order other can.member differ) [
-        | inl less ↦ of_pairs keeps Differ plan.members can.apart other can.member peer can.member_plan less is can.is_member_plan of_peer of_own
-        | inr more ↦ (λ same. of_pairs keeps Differ plan.members can.apart can.member other can.member_plan peer more can.is_member_plan is of_own of_peer (sym same))
+  pub apart_at : (other : ℕ) (peer : MemberPlan) → other ≢ member → slice_get plan.members other ≡ Some peer → end_of_peer peer.controller (first_ends plan) ≡ Some (Controller controller) →
+      same_name peer.computer work.computer ≡ false
+  apart_at other peer differ is reaches =
+      let of_peer : keeps peer ≡ true = kept_so (end_of_peer peer.controller (first_ends plan)) controller reaches in
+      let of_own : keeps work ≡ true = kept_so (end_of_peer work.controller (first_ends plan)) controller is_controller in
+      not_same peer.computer work.computer (elim (either_order other member differ) [
+        | inl less ↦ of_pairs keeps Differ plan.members apart other member peer work less is is_work of_peer of_own
+        | inr more ↦ (λ same. of_pairs keeps Differ plan.members apart member other work peer more is_work is of_own of_peer (sym same))
       ])
 
-  abbrev pub own_computer : HasOwnComputer plan can.member can.member_plan can.controller
-  own_computer = record {
-    reaches = can.is_controller;
-    table = can.table;
-    is_table = can.is_table;
-    machine = can.computer.account;
-    machine_found = can.computer.found;
-    kind = can.computer.kind;
-    enabled = can.computer.enabled;
-    secret = can.computer.secret;
-    apart = apart_so;
+  abbrev pub computer_of : (table : AccountTable) → slice_get plan.tables controller ≡ Some table → HasComputer table work → HasOwnComputer plan member work controller
+  computer_of table is_table has = record {
+    reaches = is_controller;
+    table = table;
+    is_table = is_table;
+    machine = has.account;
+    machine_found = has.found;
+    kind = has.kind;
+    enabled = has.enabled;
+    secret = has.secret;
+    apart = apart_at;
   }
+
+module _ (plan : Plan) (moves : List Move) (client : ℕ) (can : CanSucceed plan moves client) where
+  abbrev pub own_computer : HasOwnComputer plan can.member can.member_plan can.controller
+  own_computer = computer_of plan can.controller can.member can.member_plan can.apart can.is_member_plan can.is_controller can.table can.is_table can.computer
 
   abbrev pub can_be_granted : CanBeGranted plan client can.member can.controller
   can_be_granted = record {
@@ -143,6 +150,30 @@ module _ (plan : Plan) (moves : List Move) (client : ℕ) (can : CanSucceed plan
     member_plan = can.member_plan;
     is_member_plan = can.is_member_plan;
   }
+
+-- ---- who can succeed reaches a member that has its own computer
+
+member_same : (one other : ℕ) → Some (Member one) ≡ Some (Member other) → one ≡ other
+member_same one other is = cc
+
+controller_same : (one other : ℕ) → Some (Controller one) ≡ Some (Controller other) → one ≡ other
+controller_same one other is = cc
+
+pub own_member : (plan : Plan) (moves : List Move) (client : ℕ) → CanSucceed plan moves client → HasOwnMember plan client
+own_member plan moves client can = record {
+  servers = has_servers plan moves client can;
+  computer = λ task member work controller table is_task to_member is_work to_controller is_table.
+      let of_task : can.task ≡ task = some_is can.task task (sym can.is_task ∙ is_task) in
+      let of_member : can.member ≡ member =
+      member_same can.member member (sym can.is_member ∙ ap (λ (one : ClientPlan). end_of_peer one.server (first_ends plan)) of_task ∙ to_member) in
+      let of_work : can.member_plan ≡ work = some_is can.member_plan work (sym can.is_member_plan ∙ ap (λ (at : ℕ). slice_get plan.members at) of_member ∙ is_work) in
+      let of_controller : can.controller ≡ controller =
+      controller_same can.controller controller (sym can.is_controller ∙ ap (λ (one : MemberPlan). end_of_peer one.controller (first_ends plan)) of_work ∙ to_controller) in
+      let of_table : can.table ≡ table = some_is can.table table (sym can.is_table ∙ ap (λ (at : ℕ). slice_get plan.tables at) of_controller ∙ is_table) in (
+        subst (λ (one : MemberPlan). HasComputer table one) of_work (subst (λ (one : AccountTable). HasComputer one can.member_plan) of_table can.computer),
+        subst (AreApart plan) of_controller can.apart,
+      );
+}
 
 -- ---- what is asked of the user
 

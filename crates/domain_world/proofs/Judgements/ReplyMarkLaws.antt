@@ -27,12 +27,12 @@ use Rattle.domain_world.proofs.Judgements.JudgedLaws.{HoldsIf}
 abbrev IsReplyMark : Mark → Judging → Type 0
 IsReplyMark mark j = (n : ℕ) (channel : ChannelIdentity) → j.source ≡ InUnit n → passed_channel j ≡ Some channel → mark ≡ ReplyTo channel j.number n
 
--- a call that was judged has an answer with its mark, and came from there
-abbrev IsAnsweredBy : Source → Bool → Mark → Judging → Type 0
-IsAnsweredBy source sends mark j = (sends ≡ true) × (j.source ≡ source) × IsReplyMark mark j
+-- a call that was judged has an answer with its mark, and came from there, after so many moves
+abbrev IsAnsweredBy : ℕ → Source → Bool → Mark → Judging → Type 0
+IsAnsweredBy moves source sends mark j = (sends ≡ true) × (j.source ≡ source) × (j.at ≡ moves) × IsReplyMark mark j
 
-abbrev pub AnswersSo : Source → Answered → Type 0
-AnswersSo source one = HoldsIf (IsAnsweredBy source one.sends one.mark) one.judging
+abbrev pub AnswersSo : ℕ → Source → Answered → Type 0
+AnswersSo moves source one = HoldsIf (IsAnsweredBy moves source one.sends one.mark) one.judging
 
 not_passed : (j : Judging) (channel : ChannelIdentity) → has_passed j.how ≡ false → passed_channel j ≡ Some channel → ⊥
 not_passed j channel is passed = no_some channel (sym (ap (λ (p : Bool). channel_if p j) is) ∙ passed)
@@ -40,51 +40,53 @@ not_passed j channel is passed = no_some channel (sym (ap (λ (p : Bool). channe
 on_channel : (j : Judging) (channel : ChannelIdentity) → has_passed j.how ≡ true → passed_channel j ≡ Some channel → channel_in j.controller (computer_named j.asked) j.checks ≡ Some channel
 on_channel j channel is passed = sym (ap (λ (p : Bool). channel_if p j) is) ∙ passed
 
-passing_so : (found : Option ChannelIdentity) (j : Judging) → channel_in j.controller (computer_named j.asked) j.checks ≡ found → has_passed j.how ≡ true → AnswersSo j.source (passing found j)
-passing_so None j is how = (refl, refl, λ n channel came passed. absurd (no_some channel (sym is ∙ on_channel j channel how passed)))
+passing_so : (found : Option ChannelIdentity) (j : Judging) → channel_in j.controller (computer_named j.asked) j.checks ≡ found → has_passed j.how ≡ true → AnswersSo j.at j.source (passing found j)
+passing_so None j is how = (refl, refl, refl, λ n channel came passed. absurd (no_some channel (sym is ∙ on_channel j channel how passed)))
 passing_so (Some own) j is how = (
+  refl,
   refl,
   refl,
   λ n channel came passed.
       ap (λ (source : Source). reply_mark (unit_in source) own j.number) came ∙ ap (λ (c : ChannelIdentity). ReplyTo c j.number n) (some_is own channel (sym is ∙ on_channel j channel how passed)),
 )
 
-judging_so : (p : Bool) (j : Judging) → has_passed j.how ≡ p → AnswersSo j.source (judging_by p j)
-judging_so false j is = (refl, refl, λ n channel came passed. absurd (not_passed j channel is passed))
+judging_so : (p : Bool) (j : Judging) → has_passed j.how ≡ p → AnswersSo j.at j.source (judging_by p j)
+judging_so false j is = (refl, refl, refl, λ n channel came passed. absurd (not_passed j channel is passed))
 judging_so true j is = passing_so (channel_in j.controller (computer_named j.asked) j.checks) j refl is
 
-opening_so : (source : Source) (channel : Option ChannelIdentity) (w : Where) (number : ℕ) → AnswersSo source (opening channel w number)
-opening_so source None w number = tt
-opening_so source (Some channel) w number = tt
+opening_so : (moves : ℕ) (source : Source) (channel : Option ChannelIdentity) (w : Where) (number : ℕ) → AnswersSo moves source (opening channel w number)
+opening_so moves source None w number = tt
+opening_so moves source (Some channel) w number = tt
 
-heard_so : (what : Heard) (w : Where) (d : Desk) (after : Option Desk) → AnswersSo w.source (heard_answer what w d after)
+heard_so : (what : Heard) (w : Where) (d : Desk) (after : Option Desk) → AnswersSo w.at w.source (heard_answer what w d after)
 heard_so (heard.Close cause) w d after = tt
 heard_so (heard.Answer bytes talk) w d after = tt
 heard_so (heard.Waits talk) w d after = tt
 heard_so (heard.Asked line (call.Challenge c) talk) w d after = tt
-heard_so (heard.Asked line (call.Authenticate c) talk) w d after = opening_so w.source (opened_by w.controller c d) w line.call
+heard_so (heard.Asked line (call.Authenticate c) talk) w d after = opening_so w.at w.source (opened_by w.controller c d) w line.call
 heard_so (heard.Asked line (call.Judged c) talk) w d after =
     judging_so (has_passed (judging_of w line c d after).how) (judging_of w line c d after) refl
 
-pub answers_so : (w : Where) (link : ℕ) (units : List (ServedUnit Desk Talk)) → AllByRecursion (AnswersSo w.source) (map (answer_on link w) units)
+pub answers_so : (w : Where) (link : ℕ) (units : List (ServedUnit Desk Talk)) → AllByRecursion (AnswersSo w.at w.source) (map (answer_on link w) units)
 answers_so w link [] = tt
 answers_so w link (unit ∷ units) = (heard_so (hear link unit.bytes unit.talk) w unit.work (work_after unit.part), answers_so w link units)
 
 -- ---- in the order in which answers go out
 
--- the call has a reply at whose number that mark is, where it came in a unit of the bag and passed on a channel
-abbrev pub HasReply : (ℕ → Mark → Type 0) → Judging → Type 0
+-- the call has a reply at whose number that mark is, after as many moves, where it came in a unit of the bag and passed
+-- on a channel
+abbrev pub HasReply : (ℕ → ℕ → Mark → Type 0) → Judging → Type 0
 HasReply At j =
-    (n : ℕ) (channel : ChannelIdentity) → j.source ≡ InUnit n → passed_channel j ≡ Some channel → (r : ℕ) × (j.reply ≡ Some r) × At r (ReplyTo channel j.number n)
+    (n : ℕ) (channel : ChannelIdentity) → j.source ≡ InUnit n → passed_channel j ≡ Some channel → (r : ℕ) × (j.reply ≡ Some r) × At j.at r (ReplyTo channel j.number n)
 
-pub reply_so : (At Later : ℕ → Mark → Type 0) → ((n : ℕ) (mark : Mark) → At n mark → Later n mark) → (j : Judging) → HasReply At j → HasReply Later j
-reply_so At Later so j has n channel came passed = let it = has n channel came passed in (it.0, it.1, so it.0 (ReplyTo channel j.number n) it.2)
+pub reply_so : (At Later : ℕ → ℕ → Mark → Type 0) → ((moves n : ℕ) (mark : Mark) → At moves n mark → Later moves n mark) → (j : Judging) → HasReply At j → HasReply Later j
+reply_so At Later so j has n channel came passed = let it = has n channel came passed in (it.0, it.1, so j.at it.0 (ReplyTo channel j.number n) it.2)
 
 same_channel : (passed : Bool) (j : Judging) (reply : Option ℕ) → channel_if passed (record j { reply = reply }) ≡ channel_if passed j
 same_channel false j reply = refl
 same_channel true j reply = refl
 
-module _ (At : ℕ → Mark → Type 0) (source : Source) where
+module _ (At : ℕ → ℕ → Mark → Type 0) (moves : ℕ) (source : Source) where
   -- there are enough numbers, where the calls came in a unit of the bag
   abbrev AreEnough : List Mark → List ℕ → Type 0
   AreEnough marks numbers = (n : ℕ) → source ≡ InUnit n → length marks ≤ length numbers
@@ -94,8 +96,8 @@ module _ (At : ℕ → Mark → Type 0) (source : Source) where
   enough_later true mark more [] few = absurd (omega (arith, few))
   enough_later true mark more (n ∷ numbers) few = omega (arith, few)
 
-  first_replied : (sends : Bool) (mark : Mark) (judging : Option Judging) (numbers : List ℕ) (more : List Mark) (later : List Judging) → HoldsIf (IsAnsweredBy source sends mark) judging →
-      AtNumbers At (mark_if sends mark ++ more) numbers → AreEnough (mark_if sends mark ++ more) numbers → AllByRecursion (HasReply At) later →
+  first_replied : (sends : Bool) (mark : Mark) (judging : Option Judging) (numbers : List ℕ) (more : List Mark) (later : List Judging) → HoldsIf (IsAnsweredBy moves source sends mark) judging →
+      AtNumbers (At moves) (mark_if sends mark ++ more) numbers → AreEnough (mark_if sends mark ++ more) numbers → AllByRecursion (HasReply At) later →
       AllByRecursion (HasReply At) (with_reply judging (first_of numbers) ++ later)
   first_replied sends mark None numbers more later so at enough each = each
   first_replied false mark (Some j) numbers more later so at enough each = absurd (let never : false ≡ true = so.0 in cc)
@@ -104,15 +106,16 @@ module _ (At : ℕ → Mark → Type 0) (source : Source) where
     each,
   )
   first_replied true mark (Some j) (r ∷ numbers) more later so at enough each = (
-    (λ n channel came passed. (r, refl, subst (At r) (so.2 n channel came (sym (same_channel (has_passed j.how) j (Some r)) ∙ passed)) at.0)),
+    (λ n channel came passed.
+        (r, refl, subst (λ (k : ℕ). At k r (ReplyTo channel j.number n)) (sym so.2) (subst (At moves r) (so.3 n channel came (sym (same_channel (has_passed j.how) j (Some r)) ∙ passed)) at.0))),
     each,
   )
 
-  pub answers_replied : (answers : List Answered) (numbers : List ℕ) → AllByRecursion (AnswersSo source) answers → AtNumbers At (answered_marks answers) numbers →
+  pub answers_replied : (answers : List Answered) (numbers : List ℕ) → AllByRecursion (AnswersSo moves source) answers → AtNumbers (At moves) (answered_marks answers) numbers →
       AreEnough (answered_marks answers) numbers → AllByRecursion (HasReply At) (judged_of answers numbers)
   answers_replied [] numbers so at enough = tt
   answers_replied (one ∷ answers) numbers so at enough =
       let more : List Mark = answered_marks answers in
       first_replied one.sends one.mark one.judging numbers more (judged_of answers (later_of one.sends numbers)) so.0 at enough
-      (answers_replied answers (later_of one.sends numbers) so.1 (at_later At one.sends one.mark more numbers at)
+      (answers_replied answers (later_of one.sends numbers) so.1 (at_later (At moves) one.sends one.mark more numbers at)
       (λ n is. enough_later one.sends one.mark more numbers (enough n is)))

@@ -105,7 +105,7 @@ module _ (past : Past) (known : IsProved past) (heard : AnswersAreHeard past) (c
       mark_channel mark ≡ Some named → named.client ≡ channel.client → IsItsUnit n j
   by_mark Plain n j sent named carried there is made client = absurd (let x = made in cc)
   by_mark (Opening other number) n j sent named carried there is made client =
-      absurd (no_call n j sent (Opening other number) carried there is (λ plain. plain) (λ unit marked. marked))
+      absurd (no_call n j sent (Opening other number) carried there is (λ plain. plain) (λ unit marked. marked.0))
   by_mark (Opened other number request) n j sent named carried there is made client =
       absurd (no_call n j sent (Opened other number request) carried there is (λ plain. plain) (λ unit marked. marked.0))
   by_mark (ReplyTo other number request) n j sent named carried there is made client =

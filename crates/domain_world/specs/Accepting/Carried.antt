@@ -1,7 +1,7 @@
 -- What is below the premises of the claims on answers (`Answered`): of each unit of the bag that its bytes are those of
 -- one whole unit, of each mark what such a unit is, and of each message which calls were made for it and in which turn
 -- its answer was taken. From these follow three of the eight premises (`CarriedCallsAreHeard`).
-use Rattle.std.specs.Prelude.{ℕ, ◌≡◌, true, false, List, Some, Ok, slice_get}
+use Rattle.std.specs.Prelude.{ℕ, ◌≡◌, ◌%◌, ◌^◌, true, false, List, Some, Ok, slice_get}
 use Rattle.std.specs.List.{AllByRecursion}
 use Rattle.wire_base.specs.declared.authenticator.Authenticator.{Authenticator}
 use Rattle.authenticators.specs.Channels.{ChannelIdentity, SameChannel}
@@ -55,11 +55,11 @@ pub record IsReadAsAnswer (unit : RpcUnit) : Type 0 where
 abbrev pub IsNoAnswer : RpcUnit → Type 0
 IsNoAnswer unit = IsReadAsAnswer unit → ⊥
 
--- by what a unit was made for
+-- by what a unit was made for; its number is that of its mark
 abbrev pub IsAsMarked : Mark → RpcUnit → Type 0
 IsAsMarked Plain unit = Unit {0}
-IsAsMarked (Opening channel number) unit = IsNotJudged unit
-IsAsMarked (Opened channel number request) unit = IsNotJudged unit × IsNoAnswer unit
+IsAsMarked (Opening channel number) unit = IsNotJudged unit × (unit.call ≡ number)
+IsAsMarked (Opened channel number request) unit = IsNotJudged unit × IsNoAnswer unit × (unit.call ≡ number % 2 ^ 32)
 IsAsMarked (Calling channel number timestamp) unit = unit.call ≡ number
 IsAsMarked (ReplyTo channel number request) unit = IsNotJudged unit × (unit.call ≡ number)
 

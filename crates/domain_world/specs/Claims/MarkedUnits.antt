@@ -36,8 +36,8 @@ CallsAreMarked past =
 abbrev pub AnswersHaveCalls : Past → Type 0
 AnswersHaveCalls past = AllByRecursion (λ (message : MessageTaken). (u : ℕ) → message.reply ≡ Some u → (n : ℕ) × (message.call ≡ Some n)) past.book.messages
 
--- the call has a reply in the bag, which is marked as the reply to it: on the channel on which it passed, by its
--- number, and by the unit in which it came
+-- The call has a reply in the bag, which is marked as the reply to it: on the channel on which it passed, by its
+-- number, and by the unit in which it came. It was judged at the step that sent the reply.
 pub record IsMarkedAsReply (past : Past) (j : Judging) (n : ℕ) : Type 0 where
   pub reply : ℕ
   pub is : j.reply ≡ Some reply
@@ -46,6 +46,7 @@ pub record IsMarkedAsReply (past : Past) (j : Judging) (n : ℕ) : Type 0 where
   pub channel : ChannelIdentity
   pub passed : passed_channel j ≡ Some channel
   pub mark : sent.mark ≡ ReplyTo channel j.number n
+  pub step : sent.at ≡ j.at
 
 -- so it is of each call that passed and came in a unit of the bag
 abbrev pub RepliesAreMarked : Past → Type 0

@@ -10,11 +10,11 @@ use Rattle.world_moves.specs.Moving.{act, moment_after, onward, tick}
 use Rattle.logon_steps.specs.ClientSteps.{client_ended}
 use Rattle.logon_runs.specs.Seen.LinkScenes.{rest_scene}
 use Rattle.logon_runs.specs.Seen.Others.{IsStepOn}
-use Rattle.logon_runs.specs.Phases.{Acked, Answers, Binds, BindsBefore, BindsHeld, Calls, Challenged, Coming, Dials, DialsBefore, DialsHeld, Echoed, Echoes, Granted, Halved, LogonPhase, Named, Proved, scene_of}
+use Rattle.logon_runs.specs.Phases.{Acked, Answers, Binds, BindsBefore, BindsHeld, Calls, Challenged, Coming, Dials, DialsBefore, DialsHeld, Echoed, Echoes, Granted, Halved, LogonPhase, Named, Progress, Proved, progress_onward, scene_of}
 use Rattle.logon_runs.specs.Scenes.{Scene, Shows}
 use Rattle.logon_runs.specs.Failing.TurnedAway.{AwayPhase, Faulted, Refused, Unheard, away_scene, settled_in}
 use Rattle.logon_runs.specs.Seen.WaitingUnits.{waiting}
-use Rattle.logon_runs.specs.Any.AnyPhases.{AnyPhase, AnyPhasesGoOn, Away, IsAble, IsAnywhere, IsDone, IsLetIn, IsOnward, IsReadyBy, Judged, MayFit, MayFitOn, On, Told, any_scene}
+use Rattle.logon_runs.specs.Any.AnyPhases.{AnyPhase, AnyPhasesGoOn, Away, IsAble, IsAnywhere, IsDone, GoesTo, IsLetIn, IsReadyBy, Judged, MayFit, MayFitOn, On, Told, any_scene, progress_by, progress_in, progress_next}
 use Rattle.logon_runs.proofs.Phases.PhaseLaws.{at_moment, one_waits, same_scene, waits_so}
 use Rattle.logon_runs.proofs.Seen.StartLaws.{starts_are_seen}
 use Rattle.logon_runs.proofs.Seen.TurningSceneLaws.{scenes_turn}
@@ -27,12 +27,12 @@ module _ (plan : Plan) (p : Coming) (s : State) where
 
   -- where none waits
   stays_heard : (phase : AnyPhase p) (left : List (List ℕ)) (moment : ℕ) → MayFit plan p phase → (any_scene p phase left moment).units ≡ [] → Shows s (any_scene p phase left moment) →
-      IsOnward plan p s (onward s).state
+      GoesTo plan p (progress_in phase) s (onward s).state
   stays_heard phase left moment fits none shows =
       leads plan p s _ phase left moment (any_seen p s phase left moment shows) fits (starts_are_seen.no_unit s (any_scene p phase left moment) none shows)
 
   on_comes : (phase : LogonPhase p) (left : List (List ℕ)) (moment : ℕ) → IsAble plan p → IsReadyBy plan p s → MayFitOn plan p phase → Shows s (scene_of p phase left moment) →
-      IsOnward plan p s (onward s).state
+      GoesTo plan p (progress_onward phase) s (onward s).state
   on_comes Dials left moment able ready fits shows = stays_heard (On Dials) left moment fits refl shows
   on_comes Binds left moment able ready fits shows = any_binds plan p s left moment able ready shows
   on_comes (Challenged challenge) left moment able ready fits shows = any_challenged plan p s challenge left moment able ready fits shows
@@ -51,7 +51,7 @@ module _ (plan : Plan) (p : Coming) (s : State) where
   on_comes (Echoed a e talk one other back) left moment able ready fits shows = absurd fits
 
   any_comes : (phase : AnyPhase p) (left : List (List ℕ)) (moment : ℕ) → IsAble plan p → IsReadyBy plan p s → MayFit plan p phase → Shows s (any_scene p phase left moment) →
-      IsOnward plan p s (onward s).state ⊎ IsLetIn plan p s
+      GoesTo plan p (progress_next phase) s (onward s).state ⊎ IsLetIn plan p s
   any_comes (On phase) left moment able ready fits shows = inl (on_comes phase left moment able ready fits shows)
   any_comes (Told a who v client server credential status) left moment able ready fits shows =
       inl (any_told plan p s a who v client server credential status left moment able fits.0 fits.1 fits.2 shows)
@@ -71,7 +71,7 @@ module _ (plan : Plan) (p : Coming) (s : State) where
   any_same (Judged a who v o c timestamp accounts answer) left moment later = refl
   any_same (Away phase) left moment later = away_same phase left moment later
 
-  any_ticks : (phase : AnyPhase p) (left : List (List ℕ)) (moment more : ℕ) → MayFit plan p phase → Shows s (any_scene p phase left moment) → IsOnward plan p s (tick more s)
+  any_ticks : (phase : AnyPhase p) (left : List (List ℕ)) (moment more : ℕ) → MayFit plan p phase → Shows s (any_scene p phase left moment) → GoesTo plan p (progress_in phase) s (tick more s)
   any_ticks phase left moment more fits shows =
       let later : ℕ = moment_after more (any_scene p phase left moment).moment in
       leads plan p s _ phase left later (any_seen p s phase left moment shows) fits
@@ -79,14 +79,16 @@ module _ (plan : Plan) (p : Coming) (s : State) where
 
   -- ---- a move
 
-  let_in_or : IsOnward plan p s (onward s).state ⊎ IsLetIn plan p s → IsOnward plan p s (act s move.Onward).state ⊎ (IsLetIn plan p s × (move.Onward ≡ move.Onward))
-  let_in_or (inl on) = inl on
-  let_in_or (inr let_in) = inr (let_in, refl)
+  let_in_or : (far : Progress) → GoesTo plan p far s (onward s).state ⊎ IsLetIn plan p s → GoesTo plan p far s (act s move.Onward).state ⊎ (IsLetIn plan p s × (move.Onward ≡ move.Onward))
+  let_in_or far (inl on) = inl on
+  let_in_or far (inr let_in) = inr (let_in, refl)
 
-  goes_so : (what : Move) → IsAble plan p → IsReadyBy plan p s → IsStepOn what → IsAnywhere plan p s → IsOnward plan p s (act s what).state ⊎ (IsLetIn plan p s × (what ≡ move.Onward))
+  goes_so : (what : Move) → IsAble plan p → IsReadyBy plan p s → IsStepOn what → (at : IsAnywhere plan p s) →
+      GoesTo plan p (progress_by what at.phase) s (act s what).state ⊎ (IsLetIn plan p s × (what ≡ move.Onward))
   goes_so what able ready steps at =
-      by_step (λ (one : Move). IsOnward plan p s (act s one).state ⊎ (IsLetIn plan p s × (one ≡ move.Onward))) (inl (any_connects plan p s at.phase at.left at.moment able ready at.fits at.shows))
-      (let_in_or (any_comes at.phase at.left at.moment able ready at.fits at.shows)) (λ more. inl (any_ticks at.phase at.left at.moment more at.fits at.shows)) what steps
+      by_step (λ (one : Move). GoesTo plan p (progress_by one at.phase) s (act s one).state ⊎ (IsLetIn plan p s × (one ≡ move.Onward)))
+      (inl (any_connects plan p s at.phase at.left at.moment able ready at.fits at.shows))
+      (let_in_or (progress_next at.phase) (any_comes at.phase at.left at.moment able ready at.fits at.shows)) (λ more. inl (any_ticks at.phase at.left at.moment more at.fits at.shows)) what steps
 
   -- ---- something waits
 

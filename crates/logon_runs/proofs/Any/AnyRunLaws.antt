@@ -46,7 +46,7 @@ pub moved_same : (moves : List Move) (s : State) → HasSameEnds s (moved_by mov
 moved_same [] s = ends_stay.none s
 moved_same (what ∷ moves) s = both_same s (act s what).state (moved_by moves (act s what).state) (ends_stay.acts s what) (moved_same moves (act s what).state)
 
-heard_still : (plan : Plan) (p : Coming) (s now : State) → IsHeard plan p s → HasSameEnds s now → IsHeard plan p now
+pub heard_still : (plan : Plan) (p : Coming) (s now : State) → IsHeard plan p s → HasSameEnds s now → IsHeard plan p now
 heard_still plan p s now heard same = record {
   member = reach_still p.meeting.task.server (Member p.meeting.at_member) s now same heard.member;
   controller = elim heard.controller [
@@ -184,7 +184,10 @@ module _ (plan : Plan) (p : Coming) (s : State) (able : IsAble plan p) (heard : 
   goes_by : (now : State) (what : Move) → IsHeard plan p now → HasThree now.chances.left → now.moment < 2 ^ 64 → IsStepOn what → IsAnywhere plan p now ⊎ IsDone plan p now →
       IsOnward plan p now (act now what).state ⊎ (IsLetIn plan p now × (what ≡ move.Onward))
   goes_by now what heard_now three below steps (inl at) =
-      any_phases_go_on.goes_on plan p now what able (record { heard = heard_now; draws = three; below = below }) steps at
+      elim (any_phases_go_on.goes_on plan p now what able (record { heard = heard_now; draws = three; below = below }) steps at) [
+        | inl to ↦ inl (record { few = to.few; at = elim to.at [ inl so ↦ inl so.at | inr done ↦ inr done ] })
+        | inr let_in ↦ inr let_in
+      ]
   goes_by now what heard_now three below steps (inr over) = inl (over_goes now what steps over)
 
   runs_on : (moves : List Move) (now : State) → AllByRecursion IsStepOn moves → AreBelow moves now → HasEnough (length moves) now.chances.left → IsGoing plan p s now →

@@ -21,11 +21,11 @@ use Rattle.logon_steps.proofs.MemoCallLaws.{memo_calls_go}
 use Rattle.logon_steps.proofs.TellingLaws.{logons_are_short}
 use Rattle.logon_runs.specs.Seen.LinkScenes.{its_link, unit_up}
 use Rattle.logon_runs.specs.Runs.{Asked, asked_at, message_for}
-use Rattle.logon_runs.specs.Phases.{Acked, Aim, Answers, Binds, BindsBefore, BindsHeld, Calls, Challenged, Coming, Dials, DialsBefore, DialsHeld, Echoed, Echoes, First, Granted, Halved, HasThree, IsAnswering, LogonPhase, Named, Proved, Third, TurnAt, WhoAsked, call_for, key_at, own, scene_of, standing_for, terms_at, turn_before, waits_for, with_its_controller}
+use Rattle.logon_runs.specs.Phases.{Acked, Aim, Answers, Binds, BindsBefore, BindsHeld, Calls, Challenged, Coming, Dials, DialsBefore, DialsHeld, Echoed, Echoes, First, Granted, Halved, HasThree, IsAnswering, LogonPhase, Named, NotYet, Proved, Third, TurnAt, WhoAsked, call_for, key_at, own, progress_of, scene_of, standing_for, terms_at, turn_before, waits_for, with_its_controller}
 use Rattle.logon_runs.specs.Scenes.{Shows}
 use Rattle.logon_runs.specs.Failing.TurnedAway.{AwayPhase, Faulted, Refused, Unheard, away_scene}
 use Rattle.logon_runs.specs.Seen.TurnScenes.{Turn}
-use Rattle.logon_runs.specs.Any.AnyPhases.{AnyPhase, Away, IsAble, IsLeft, IsOnward, IsReadyBy, IsTurningBy, Judged, MayAim, MayFit, MayFitAway, MayFitOn, MayStand, On, Told, any_scene}
+use Rattle.logon_runs.specs.Any.AnyPhases.{AnyPhase, Away, IsAble, GoesTo, IsLeft, IsReadyBy, IsTurningBy, Judged, MayAim, MayFit, MayFitAway, MayFitOn, MayStand, On, Told, any_scene, progress_in}
 use Rattle.logon_runs.proofs.Seen.AskSceneLaws.{logons_are_seen}
 use Rattle.logon_runs.proofs.Failing.FailingLaws.{failings_are_seen}
 use Rattle.logon_runs.proofs.First.FirstTraceLaws.{after_below}
@@ -57,20 +57,20 @@ any_seen p s (Away phase) left moment shows = away_seen p s phase left moment sh
 module _ (plan : Plan) (p : Coming) (s : State) where
   -- these challenges were drawn
   pub leads_less : (after : State) (phase : AnyPhase p) (front left : List (List ℕ)) (moment : ℕ) → length front ≤ 3 → s.chances.left ≡ front ++ left → MayFit plan p phase →
-      Shows after (any_scene p phase left moment) → IsOnward plan p s after
+      Shows after (any_scene p phase left moment) → GoesTo plan p (progress_in phase) s after
   leads_less after phase front left moment few are fits shows = record {
     few = record { front = front; few = few; are = are ∙ ap (λ (l : List (List ℕ)). front ++ l) (sym (any_seen p after phase left moment shows)) };
-    at = inl (record { phase = phase; left = left; moment = moment; fits = fits; shows = shows });
+    at = inl (record { at = record { phase = phase; left = left; moment = moment; fits = fits; shows = shows }; is = refl });
   }
 
   -- none was
   pub leads : (after : State) (phase : AnyPhase p) (left : List (List ℕ)) (moment : ℕ) → s.chances.left ≡ left → MayFit plan p phase → Shows after (any_scene p phase left moment) →
-      IsOnward plan p s after
+      GoesTo plan p (progress_in phase) s after
   leads after phase left moment same fits shows = leads_less after phase [] left moment (omega arith) same fits shows
 
   -- ---- a dial is answered, or reaches nobody
 
-  client_connects : (left : List (List ℕ)) (moment : ℕ) → IsReadyBy plan p s → Shows s (scene_of p Dials left moment) → IsOnward plan p s (connect s).state
+  client_connects : (left : List (List ℕ)) (moment : ℕ) → IsReadyBy plan p s → Shows s (scene_of p Dials left moment) → GoesTo plan p NotYet s (connect s).state
   client_connects left moment ready shows =
       leads _ (On Binds) left moment shows.left tt
       (meetings_are_seen.dialled s (with_its_controller p p.meeting) p.meeting.links left moment (got_last p.meeting.links (ToMember p.meeting.at_client p.meeting.at_member)) ready.heard.member shows)
@@ -86,7 +86,7 @@ module _ (plan : Plan) (p : Coming) (s : State) where
   }
 
   module _ (a : Asked) (who : WhoAsked p a) (v : TurnAt) (aim : Aim) (left : List (List ℕ)) (moment : ℕ) (fits : IsTurningBy plan p a v × MayAim plan p v aim) where
-    turn_connects_before : IsAble plan p → IsReadyBy plan p s → Shows s (scene_of p (DialsBefore a who v aim) left moment) → IsOnward plan p s (connect s).state
+    turn_connects_before : IsAble plan p → IsReadyBy plan p s → Shows s (scene_of p (DialsBefore a who v aim) left moment) → GoesTo plan p NotYet s (connect s).state
     turn_connects_before able ready shows =
         let t : Turn = turn_before p a who.later [] v in
         elim ready.heard.controller [
@@ -100,7 +100,7 @@ module _ (plan : Plan) (p : Coming) (s : State) where
               (standing_for aim) v.links v.next v.number (call_for p a aim) v.computers who.sent left moment nobody shows)
         ]
 
-    turn_connects : IsAble plan p → IsReadyBy plan p s → Shows s (scene_of p (DialsHeld a who v aim) left moment) → IsOnward plan p s (connect s).state
+    turn_connects : IsAble plan p → IsReadyBy plan p s → Shows s (scene_of p (DialsHeld a who v aim) left moment) → GoesTo plan p NotYet s (connect s).state
     turn_connects able ready shows =
         let t : Turn = turn_before p a who.later (who.sent ∷ []) v in
         elim ready.heard.controller [
@@ -116,12 +116,12 @@ module _ (plan : Plan) (p : Coming) (s : State) where
 
   -- where no dial waits
   stays_connected : (phase : AnyPhase p) (left : List (List ℕ)) (moment : ℕ) → MayFit plan p phase → (any_scene p phase left moment).dials ≡ [] →
-      Shows s (any_scene p phase left moment) → IsOnward plan p s (connect s).state
+      Shows s (any_scene p phase left moment) → GoesTo plan p (progress_in phase) s (connect s).state
   stays_connected phase left moment fits none shows =
       leads _ phase left moment (any_seen p s phase left moment shows) fits (starts_are_seen.no_dial s (any_scene p phase left moment) none shows)
 
   on_connects : (phase : LogonPhase p) (left : List (List ℕ)) (moment : ℕ) → IsAble plan p → IsReadyBy plan p s → MayFitOn plan p phase → Shows s (scene_of p phase left moment) →
-      IsOnward plan p s (connect s).state
+      GoesTo plan p (progress_of phase) s (connect s).state
   on_connects Dials left moment able ready fits shows = client_connects left moment ready shows
   on_connects Binds left moment able ready fits shows = stays_connected (On Binds) left moment fits refl shows
   on_connects (Challenged challenge) left moment able ready fits shows = stays_connected (On (Challenged challenge)) left moment fits refl shows
@@ -139,13 +139,13 @@ module _ (plan : Plan) (p : Coming) (s : State) where
   on_connects (Echoes a e on one asks) left moment able ready fits shows = absurd fits
   on_connects (Echoed a e talk one other back) left moment able ready fits shows = absurd fits
 
-  away_connects : (phase : AwayPhase p) (left : List (List ℕ)) (moment : ℕ) → MayFitAway plan p phase → Shows s (away_scene p phase left moment) → IsOnward plan p s (connect s).state
+  away_connects : (phase : AwayPhase p) (left : List (List ℕ)) (moment : ℕ) → MayFitAway plan p phase → Shows s (away_scene p phase left moment) → GoesTo plan p NotYet s (connect s).state
   away_connects (Refused a who v o c timestamp accounts status) left moment fits shows = absurd fits
   away_connects (Unheard a who e) left moment fits shows = stays_connected (Away (Unheard a who e)) left moment fits refl shows
   away_connects (Faulted a later e status) left moment fits shows = stays_connected (Away (Faulted a later e status)) left moment fits refl shows
 
   pub any_connects : (phase : AnyPhase p) (left : List (List ℕ)) (moment : ℕ) → IsAble plan p → IsReadyBy plan p s → MayFit plan p phase → Shows s (any_scene p phase left moment) →
-      IsOnward plan p s (connect s).state
+      GoesTo plan p (progress_in phase) s (connect s).state
   any_connects (On phase) left moment able ready fits shows = on_connects phase left moment able ready fits shows
   any_connects (Told a who v client server credential status) left moment able ready fits shows = stays_connected (Told a who v client server credential status) left moment fits refl shows
   any_connects (Judged a who v o c timestamp accounts answer) left moment able ready fits shows = stays_connected (Judged a who v o c timestamp accounts answer) left moment fits refl shows
@@ -153,7 +153,7 @@ module _ (plan : Plan) (p : Coming) (s : State) where
 
   -- ---- a client and its member
 
-  pub any_binds : (left : List (List ℕ)) (moment : ℕ) → IsAble plan p → IsReadyBy plan p s → Shows s (scene_of p Binds left moment) → IsOnward plan p s (onward s).state
+  pub any_binds : (left : List (List ℕ)) (moment : ℕ) → IsAble plan p → IsReadyBy plan p s → Shows s (scene_of p Binds left moment) → GoesTo plan p NotYet s (onward s).state
   any_binds left moment able ready shows =
       let three : HasThree s.chances.left = ready.draws in
       leads_less _ (On (Challenged three.one)) (three.one ∷ []) (three.two ∷ three.three ∷ three.more) moment (omega arith) three.are three.first
@@ -162,7 +162,7 @@ module _ (plan : Plan) (p : Coming) (s : State) where
       (left_so s (λ (l : List (List ℕ)). scene_of p Binds l moment) left _ shows.left three.are shows))
 
   pub any_challenged : (challenge : List ℕ) (left : List (List ℕ)) (moment : ℕ) → IsAble plan p → IsReadyBy plan p s → IsBlock 8 challenge →
-      Shows s (scene_of p (Challenged challenge) left moment) → IsOnward plan p s (onward s).state
+      Shows s (scene_of p (Challenged challenge) left moment) → GoesTo plan p NotYet s (onward s).state
   any_challenged challenge left moment able ready block shows =
       let three : HasThree s.chances.left = ready.draws in
       let a : Asked = asked_at challenge three.one three.two three.three moment in
@@ -192,7 +192,7 @@ module _ (plan : Plan) (p : Coming) (s : State) where
 
   -- by how the member's channel stands
   answers_by : (how : Standing) → p.meeting.how ≡ how → MayStand plan p p.computers how → (a : Asked) (who : WhoAsked p a) (left : List (List ℕ)) (moment : ℕ) → IsAble plan p → IsReadyBy plan p s →
-      IsAnswering p a → Shows s (scene_of p (Answers a who) left moment) → IsOnward plan p s (onward s).state
+      IsAnswering p a → Shows s (scene_of p (Answers a who) left moment) → GoesTo plan p NotYet s (onward s).state
   answers_by standing.Nothing so stands a who left moment able ready is shows =
       let three : HasThree s.chances.left = ready.draws in
       leads_less _ (On (DialsBefore a who (turn_first_of p) (First three.one))) (three.one ∷ []) (three.two ∷ three.three ∷ three.more) moment (omega arith) three.are
@@ -208,6 +208,6 @@ module _ (plan : Plan) (p : Coming) (s : State) where
       so able.can able.names is.draws shows)
 
   pub any_answers : (a : Asked) (who : WhoAsked p a) (left : List (List ℕ)) (moment : ℕ) → IsAble plan p → IsReadyBy plan p s → IsAnswering p a →
-      Shows s (scene_of p (Answers a who) left moment) → IsOnward plan p s (onward s).state
+      Shows s (scene_of p (Answers a who) left moment) → GoesTo plan p NotYet s (onward s).state
   any_answers a who left moment able ready is shows =
       answers_by p.meeting.how refl able.stands a who left moment able ready is shows

@@ -49,12 +49,12 @@ use Rattle.logon_steps.proofs.CallingLaws.{calls_can_go}
 use Rattle.logon_steps.proofs.ControllerTurnLaws.{controllers_step}
 use Rattle.logon_runs.specs.Failing.FailingSteps.{out_talk}
 use Rattle.logon_runs.specs.Seen.LinkScenes.{its_link}
-use Rattle.logon_runs.specs.Phases.{Acked, Aim, BindsBefore, BindsHeld, Calls, Coming, DialsBefore, DialsHeld, First, Halved, HasThree, Second, Third, TurnAt, WhoAsked, call_for, own, scene_of, standing_for, terms_at, turn_before, turn_on, waits_for}
+use Rattle.logon_runs.specs.Phases.{Acked, Aim, BindsBefore, BindsHeld, Calls, Coming, DialsBefore, DialsHeld, First, Halved, HasThree, NotYet, Second, Third, TurnAt, WasJudged, WasOpened, WhoAsked, call_for, own, progress_answered, progress_called, scene_of, standing_for, terms_at, turn_before, turn_on, waits_for}
 use Rattle.logon_runs.specs.Runs.{Asked, info_asked, message_for}
 use Rattle.logon_runs.specs.Scenes.{Shows}
 use Rattle.logon_runs.specs.Failing.TurnedAway.{AwayPhase, Faulted, Refused, Settled, Unheard, away_scene, settled_in}
 use Rattle.logon_runs.specs.Seen.TurnScenes.{IsBetween, Turn, dial_scene, turn_scene, unit_back, with_accounts}
-use Rattle.logon_runs.specs.Any.AnyPhases.{Away, HasSecret, IsAble, IsJudgedBy, IsLeft, IsLetIn, IsOnward, IsOwn, IsReadyBy, IsThere, IsTurningBy, Judged, KeepsInStep, MayAim, MayFitAway, MayStand, On, Told, any_scene, proof_reply}
+use Rattle.logon_runs.specs.Any.AnyPhases.{Away, HasSecret, IsAble, IsJudgedBy, IsLeft, GoesTo, IsLetIn, IsOwn, IsReadyBy, IsThere, IsTurningBy, Judged, KeepsInStep, MayAim, MayFitAway, MayStand, On, Told, any_scene, proof_reply}
 use Rattle.logon_runs.specs.Any.ControllerAnswers.{ToldChallenge, ToldLogon, ToldProof}
 use Rattle.logon_runs.specs.Any.GrantRests.{judged_scene}
 use Rattle.logon_runs.proofs.Seen.AskSceneLaws.{logons_are_seen}
@@ -84,7 +84,7 @@ module _ (plan : Plan) (p : Coming) (s : State) where
   -- ---- the bind, the answer and the call
 
   module _ (a : Asked) (who : WhoAsked p a) (v : TurnAt) (aim : Aim) (left : List (List ℕ)) (moment : ℕ) (turning : IsTurningBy plan p a v) (aimed : MayAim plan p v aim) where
-    pub any_dials_held : Shows s (scene_of p (DialsBefore a who v aim) left moment) → IsOnward plan p s (onward s).state
+    pub any_dials_held : Shows s (scene_of p (DialsBefore a who v aim) left moment) → GoesTo plan p NotYet s (onward s).state
     any_dials_held shows =
         leads plan p s _ (On (DialsHeld a who v aim)) left moment shows.left (turning, aimed)
         (logons_are_seen.held_before s (own p) (turn_before p a who.later [] v) (its_link (own p)) (standing_for aim) v.next v.number 1 2 0 (call_for p a aim) v.computers [] _ _ who []
@@ -93,19 +93,19 @@ module _ (plan : Plan) (p : Coming) (s : State) where
     between : IsBetween (turn_on p a who.later (who.sent ∷ []) v aim)
     between = turns_have_links.between (own p) (turn_before p a who.later (who.sent ∷ []) v) (standing_for aim) turning.joined_so
 
-    pub any_binds_held : IsThere plan p → Shows s (scene_of p (BindsBefore a who v aim) left moment) → IsOnward plan p s (onward s).state
+    pub any_binds_held : IsThere plan p → Shows s (scene_of p (BindsBefore a who v aim) left moment) → GoesTo plan p NotYet s (onward s).state
     any_binds_held there shows =
         let t : Turn = turn_before p a who.later [] v in
         leads plan p s _ (On (BindsHeld a who v aim)) left moment shows.left (turning, aimed, there)
         (logons_are_seen.held_within s (own p) (turn_on p a who.later [] v aim) v.next v.number 1 2 0 (step.Bind (call_for p a aim)) v.computers _ [] _ _ who _
         left moment refl (turns_have_links.own (own p) t (standing_for aim) turning.joined_so) (turns_have_links.apart (own p) t turning.joined_so) shows)
 
-    pub any_bound : IsThere plan p → Shows s (scene_of p (BindsHeld a who v aim) left moment) → IsOnward plan p s (onward s).state
+    pub any_bound : IsThere plan p → Shows s (scene_of p (BindsHeld a who v aim) left moment) → GoesTo plan p NotYet s (onward s).state
     any_bound there shows =
         leads plan p s _ (On (Acked a who v aim)) left moment shows.left (turning, aimed, there)
         (turns_are_seen.bound s (turn_on p a who.later (who.sent ∷ []) v aim) v.next v.number (call_for p a aim) v.computers left moment between turning.number_below shows)
 
-    pub any_acked : IsThere plan p → Shows s (scene_of p (Acked a who v aim) left moment) → IsOnward plan p s (onward s).state
+    pub any_acked : IsThere plan p → Shows s (scene_of p (Acked a who v aim) left moment) → GoesTo plan p (progress_called aim) s (onward s).state
     any_acked there shows =
         leads plan p s _ (On (Calls a who v aim)) left moment shows.left (turning, aimed, there)
         (turns_are_seen.asks s (turn_on p a who.later (who.sent ∷ []) v aim) v.next v.number (call_for p a aim) v.computers left moment between turning.number_below shows)
@@ -167,7 +167,7 @@ module _ (plan : Plan) (p : Coming) (s : State) where
       }
 
   module _ (a : Asked) (who : WhoAsked p a) (v : TurnAt) (left : List (List ℕ)) (moment : ℕ) (able : IsAble plan p) (turning : IsTurningBy plan p a v) (there : IsThere plan p) where
-    first_answered : (client : List ℕ) → IsReadyBy plan p s → IsBlock 8 client → Shows s (scene_of p (Calls a who v (First client)) left moment) → IsOnward plan p s (onward s).state
+    first_answered : (client : List ℕ) → IsReadyBy plan p s → IsBlock 8 client → Shows s (scene_of p (Calls a who v (First client)) left moment) → GoesTo plan p NotYet s (onward s).state
     first_answered client ready block shows =
         let three : HasThree s.chances.left = ready.draws in
         let more : List (List ℕ) = three.two ∷ three.three ∷ three.more in
@@ -178,6 +178,7 @@ module _ (plan : Plan) (p : Coming) (s : State) where
           turning_with a v told.later turning (λ other apart. ap (λ (channels : List (List ℕ × SecureChannelState)). lookup same_name other channels) told.kept) there,
           three.first,
           λ is_own. first_kept v moment client three.one more told turning.next_below can (able.own_secret is_own),
+          there,
         )
         (turns_are_seen.answers s (turn_on p a who.later (who.sent ∷ []) v (First client)) (after v.next) v.next (step.Reply (question.Challenge client)) (call_for p a (First client))
         (reply.Challenge (record { challenge = three.one; status = 0 })) v.computers told.later (three.one ∷ more) more moment
@@ -185,7 +186,7 @@ module _ (plan : Plan) (p : Coming) (s : State) where
         (left_so s (λ (l : List (List ℕ)). scene_of p (Calls a who v (First client)) l moment) left _ shows.left three.are shows))
 
     second_answered : (client server : List ℕ) → MayAim plan p v (Second client server) → Shows s (scene_of p (Calls a who v (Second client server)) left moment) →
-        IsOnward plan p s (onward s).state
+        GoesTo plan p (WasOpened client server) s (onward s).state
     second_answered client server aimed shows =
         let can : IsTurnCall (call_for p a (Second client server)) = calls_can_go.authenticate p.meeting.caller client server able.caller in
         let told : ToldProof p.table p.name v.computers (length v.links) moment v.next p.meeting.caller client server left =
@@ -194,13 +195,14 @@ module _ (plan : Plan) (p : Coming) (s : State) where
           turning_with a v told.later turning told.others there,
           told.is,
           λ is_own. second_kept v moment client server left told turning.next_below can (able.own_secret is_own) (aimed is_own),
+          there,
         )
         (turns_are_seen.answers s (turn_on p a who.later (who.sent ∷ []) v (Second client server)) (after v.next) v.next (step.Reply question.Authenticate) (call_for p a (Second client server))
         (proof_reply told.credential told.status) v.computers told.later left left moment
         (between a who v (Second client server) left moment turning aimed) can told.steps shows)
 
     third_answered : (o c : SecureChannelState) (timestamp : ℕ) → IsReadyBy plan p s → MayAim plan p v (Third o c timestamp) →
-        Shows s (scene_of p (Calls a who v (Third o c timestamp)) left moment) → IsOnward plan p s (onward s).state
+        Shows s (scene_of p (Calls a who v (Third o c timestamp)) left moment) → GoesTo plan p (WasJudged a o) s (onward s).state
     third_answered o c timestamp ready aimed shows =
         let can : IsTurnCall (call_for p a (Third o c timestamp)) = calls_can_go.logon p.meeting.caller o timestamp (info_asked (own p) a) able.caller aimed.0 turning.answering.info in
         let told : ToldLogon p.table p.name v.computers (length v.links) moment v.next timestamp p.meeting.caller o (info_asked (own p) a) left =
@@ -209,6 +211,7 @@ module _ (plan : Plan) (p : Coming) (s : State) where
         leads plan p s _ (Judged a who (record v { computers = told.later }) o c timestamp told.accounts told.answer) left moment shows.left
         (record {
           turning = turning_with a v told.later turning told.others there;
+          there = there;
           goes = told.is;
           names = told.names;
           differs = told.differs;
@@ -220,7 +223,7 @@ module _ (plan : Plan) (p : Coming) (s : State) where
         (between a who v (Third o c timestamp) left moment turning aimed) can told.steps shows)
 
   pub any_calls : (a : Asked) (who : WhoAsked p a) (v : TurnAt) (aim : Aim) (left : List (List ℕ)) (moment : ℕ) → IsAble plan p → IsReadyBy plan p s → IsTurningBy plan p a v → MayAim plan p v aim →
-      IsThere plan p → Shows s (scene_of p (Calls a who v aim) left moment) → IsOnward plan p s (onward s).state
+      IsThere plan p → Shows s (scene_of p (Calls a who v aim) left moment) → GoesTo plan p (progress_answered a aim) s (onward s).state
   any_calls a who v (First client) left moment able ready turning aimed there shows = first_answered a who v left moment able turning there client ready aimed shows
   any_calls a who v (Second client server) left moment able ready turning aimed there shows = second_answered a who v left moment able turning there client server aimed shows
   any_calls a who v (Third o c timestamp) left moment able ready turning aimed there shows = third_answered a who v left moment able turning there o c timestamp ready aimed shows
@@ -237,7 +240,7 @@ module _ (plan : Plan) (p : Coming) (s : State) where
   }
 
   pub any_halved : (a : Asked) (who : WhoAsked p a) (v : TurnAt) (client server : List ℕ) (left : List (List ℕ)) (moment : ℕ) → IsTurningBy plan p a v → IsBlock 8 server →
-      MayAim plan p v (Second client server) → Shows s (scene_of p (Halved a who v client server) left moment) → IsOnward plan p s (onward s).state
+      MayAim plan p v (Second client server) → Shows s (scene_of p (Halved a who v client server) left moment) → GoesTo plan p NotYet s (onward s).state
   any_halved a who v client server left moment turning block aimed shows =
       let t : Turn = turn_before p a who.later (who.sent ∷ []) v in
       let out : Turn = turn_on p a who.later (who.sent ∷ []) v (First client) in
@@ -268,7 +271,7 @@ module _ (plan : Plan) (p : Coming) (s : State) where
     -- it is dropped, and the channel with it
     dropped_on : (q : Question) (r : Reply) (cause : DropCause) → IsTurnReply q r → judge q r (standing_for aim) p.meeting.caller.secret ≡ judgement.Drop cause →
         Shows s (turn_scene (with_accounts accounts (turn_on p a who.later (who.sent ∷ []) v aim)) (after v.next) v.next (step.Reply q) v.computers (turn_link (length v.links))
-        (unit_back (with_accounts accounts (turn_on p a who.later (who.sent ∷ []) v aim)) (reply_bytes v.next r) ∷ []) left moment) → IsOnward plan p s (onward s).state
+        (unit_back (with_accounts accounts (turn_on p a who.later (who.sent ∷ []) v aim)) (reply_bytes v.next r) ∷ []) left moment) → GoesTo plan p NotYet s (onward s).state
     dropped_on q r cause goes judged shows =
         let how : Standing = standing_for aim in
         let before : Turn = turn_before p a who.later (who.sent ∷ []) v in
@@ -284,7 +287,7 @@ module _ (plan : Plan) (p : Coming) (s : State) where
     refused_on : (r : Reply) (o : SecureChannelState) (status : ℕ) → IsTurnReply question.Logon r →
         judge question.Logon r (standing_for aim) p.meeting.caller.secret ≡ judgement.Answer o (verdict.Status status) → (IsOwn plan p → KeepsInStep p v.computers o) →
         Shows s (turn_scene (with_accounts accounts (turn_on p a who.later (who.sent ∷ []) v aim)) (after v.next) v.next (step.Reply question.Logon) v.computers (turn_link (length v.links))
-        (unit_back (with_accounts accounts (turn_on p a who.later (who.sent ∷ []) v aim)) (reply_bytes v.next r) ∷ []) left moment) → IsOnward plan p s (onward s).state
+        (unit_back (with_accounts accounts (turn_on p a who.later (who.sent ∷ []) v aim)) (reply_bytes v.next r) ∷ []) left moment) → GoesTo plan p NotYet s (onward s).state
     refused_on r o status goes judged stands shows =
         let how : Standing = standing_for aim in
         let before : Turn = turn_before p a who.later (who.sent ∷ []) v in
@@ -299,7 +302,7 @@ module _ (plan : Plan) (p : Coming) (s : State) where
   -- the channel opens by the credential that is awaited
   opened_on : (a : Asked) (who : WhoAsked p a) (v : TurnAt) (client server : List ℕ) (left : List (List ℕ)) (moment : ℕ) → IsTurningBy plan p a v →
       (IsOwn plan p → KeepsInStep p v.computers (fresh_channel p.meeting.caller.secret client server offered_flags)) →
-      Shows s (any_scene p (Told a who v client server (server_credential p.meeting.caller.secret client server) 0) left moment) → IsOnward plan p s (onward s).state
+      Shows s (any_scene p (Told a who v client server (server_credential p.meeting.caller.secret client server) 0) left moment) → GoesTo plan p NotYet s (onward s).state
   opened_on a who v client server left moment turning stands shows =
       let t : Turn = turn_before p a who.later (who.sent ∷ []) v in
       let half : Standing = standing.Half client server in
@@ -316,12 +319,12 @@ module _ (plan : Plan) (p : Coming) (s : State) where
 
   pub any_told : (a : Asked) (who : WhoAsked p a) (v : TurnAt) (client server credential : List ℕ) (status : ℕ) (left : List (List ℕ)) (moment : ℕ) → IsAble plan p → IsTurningBy plan p a v →
       IsTurnReply question.Authenticate (proof_reply credential status) → (IsOwn plan p → KeepsInStep p v.computers (fresh_channel p.meeting.caller.secret client server offered_flags)) →
-      Shows s (any_scene p (Told a who v client server credential status) left moment) → IsOnward plan p s (onward s).state
+      Shows s (any_scene p (Told a who v client server credential status) left moment) → GoesTo plan p NotYet s (onward s).state
   any_told a who v client server credential status left moment able turning goes stands shows =
       let secret : List ℕ = p.meeting.caller.secret in
       let half : Standing = standing.Half client server in
       let awaited : List ℕ = server_credential secret client server in
-      let drop : (cause : DropCause) → judge question.Authenticate (proof_reply credential status) half secret ≡ judgement.Drop cause → IsOnward plan p s (onward s).state =
+      let drop : (cause : DropCause) → judge question.Authenticate (proof_reply credential status) half secret ≡ judgement.Drop cause → GoesTo plan p NotYet s (onward s).state =
       λ cause judged. dropped_on a who v (Second client server) left moment p.table turning (differs-none p.table) able.ranged question.Authenticate (proof_reply credential status) cause goes judged shows in
       elim (cases_Bool (status == 0)) [
         | inr refused ↦ drop drop_cause.Denied (ap (λ (z : Bool). judge_auth z half secret credential offered_flags) refused)
@@ -339,7 +342,7 @@ module _ (plan : Plan) (p : Coming) (s : State) where
   module _ (a : Asked) (who : WhoAsked p a) (v : TurnAt) (o c : SecureChannelState) (timestamp : ℕ) (accounts : AccountTable) (answer : Reply) (left : List (List ℕ)) (moment : ℕ)
       (fits : IsJudgedBy plan p a v o timestamp accounts answer) (shows : Shows s (judged_scene p a who v o c timestamp accounts answer left moment)) where
     judged_on : (found : ChannelJudgement) → judge question.Logon answer (standing.Open (after_call o timestamp)) p.meeting.caller.secret ≡ found → IsLogonJudged (info_in answer) (after_call o timestamp) found →
-        IsOnward plan p s (onward s).state ⊎ IsLetIn plan p s
+        GoesTo plan p NotYet s (onward s).state ⊎ IsLetIn plan p s
     judged_on (judgement.Half client server) judged is = absurd is
     judged_on (judgement.Opened state) judged is = absurd is
     judged_on (judgement.Drop cause) judged is =
@@ -364,12 +367,12 @@ module _ (plan : Plan) (p : Coming) (s : State) where
       shows = shows;
     })
 
-    pub any_judged : IsOnward plan p s (onward s).state ⊎ IsLetIn plan p s
+    pub any_judged : GoesTo plan p NotYet s (onward s).state ⊎ IsLetIn plan p s
     any_judged = judged_on (judge question.Logon answer (standing.Open (after_call o timestamp)) p.meeting.caller.secret) refl (logon_judged answer (after_call o timestamp) p.meeting.caller.secret)
 
   -- ---- a logon that is turned away
 
-  pub any_away : (phase : AwayPhase p) (left : List (List ℕ)) (moment : ℕ) → MayFitAway plan p phase → Shows s (away_scene p phase left moment) → IsOnward plan p s (onward s).state
+  pub any_away : (phase : AwayPhase p) (left : List (List ℕ)) (moment : ℕ) → MayFitAway plan p phase → Shows s (away_scene p phase left moment) → GoesTo plan p NotYet s (onward s).state
   any_away (Refused a who v o c timestamp accounts status) left moment fits shows = absurd fits
   any_away (Unheard a who e) left moment fits shows =
       leads plan p s _ (Away (Faulted a who.later e rpc_s_server_unavailable)) left moment shows.left (fits, omega arith)

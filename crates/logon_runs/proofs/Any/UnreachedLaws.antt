@@ -38,7 +38,7 @@ use Rattle.logon_runs.proofs.Any.AnyRunLaws.{none_up_to, route_still}
 use Rattle.logon_runs.proofs.Any.RestAgainLaws.{same_or_not, some_same}
 
 -- the client has its outcome, and all else is as at rest
-abbrev unanswered : Coming → List (List ℕ) → ℕ → Scene
+abbrev pub unanswered : Coming → List (List ℕ) → ℕ → Scene
 unanswered p left moment = rest_scene (with_its_controller p p.meeting) (client_ended p.meeting.task (NoAnswer no_answer.DialFailed)) p.meeting.links left moment []
 
 -- its dial waits, or nobody answered it; these challenges are left
@@ -52,7 +52,7 @@ module _ (p : Coming) (left : List (List ℕ)) (s : State) (nobody : route_to (C
   nobody_now : (now : State) → HasSameEnds s now → route_to (Client p.meeting.at_client) (end_of_peer p.meeting.task.server now.ends) ≡ None
   nobody_now now same = route_still (Client p.meeting.at_client) p.meeting.task.server s now same ∙ nobody
 
-  shows_on : (now : State) (moment : ℕ) (what : Move) → IsStepOn what → HasSameEnds s now → Shows now (scene_of p Dials left moment) ⊎ Shows now (unanswered p left moment) →
+  pub shows_on : (now : State) (moment : ℕ) (what : Move) → IsStepOn what → HasSameEnds s now → Shows now (scene_of p Dials left moment) ⊎ Shows now (unanswered p left moment) →
       (later : ℕ) × (Shows (act now what).state (scene_of p Dials left later) ⊎ Shows (act now what).state (unanswered p left later))
   shows_on now moment what steps same shows =
       by_step (λ (one : Move). (later : ℕ) × (Shows (act now one).state (scene_of p Dials left later) ⊎ Shows (act now one).state (unanswered p left later)))

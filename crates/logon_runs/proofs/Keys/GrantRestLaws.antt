@@ -64,6 +64,21 @@ over_so : (g : Meeting) (left : List (List ℕ)) (now : State) → GoesOn g left
 over_so g left now (inl at) units = absurd (grants_go_on.waits g left now at units)
 over_so g left now (inr over) units = over
 
+-- the reply comes, and lets the client in
+pub let_in_goes : (p : Coming) (s : State) (a : Asked) (who : WhoAsked p a) (v : TurnAt) (o c : SecureChannelState) (timestamp : ℕ) (accounts : AccountTable) (r : Reply)
+    (o_then : SecureChannelState) (sam : SamInfo) (left : List (List ℕ)) (moment : ℕ) → CanGoOn p a v → IsTurnReply question.Logon r → HasShortName sam →
+    judge question.Logon r (standing.Open (after_call o timestamp)) p.meeting.caller.secret ≡ judgement.Answer o_then (verdict.Granted sam) →
+    Shows s (judged_scene p a who v o c timestamp accounts r left moment) → GoesOn (settled_in p (judged_rest p a who v o c timestamp accounts o_then)) left (onward s).state
+let_in_goes p s a who v o c timestamp accounts r o_then sam left moment can reply_is short granted shows =
+    let how : Standing = standing.Open (after_call o timestamp) in
+    let before : Turn = turn_before p a who.later (who.sent ∷ []) v in
+    let out : Turn = turn_on p a who.later (who.sent ∷ []) v (Third o c timestamp) in
+    let asked = grants_go_on.asked p a who in
+    grants_go_on.granted s (own p) (record (terms_at p a) { session = who.later }) out.info a.challenge (message_for (own p) a) who.sent accounts p.name how o_then out.links out.opened (length v.links)
+    (next_number v.next) v.next question.Logon r sam v.computers left moment can.can asked.0 asked.1 short.short short.units can.next_below
+    (between_still out accounts (turns_have_links.between (own p) before how can.joined_so)) reply_is granted (turns_have_links.met (own p) before how can.joined_so)
+    (turns_have_links.taken (own p) before how can.joined_so) shows
+
 rests_so : (p : Coming) (s : State) (a : Asked) (who : WhoAsked p a) (v : TurnAt) (o c : SecureChannelState) (timestamp : ℕ) (accounts : AccountTable) (r : Reply)
     (o_then : SecureChannelState) (sam : SamInfo) (left : List (List ℕ)) (moment : ℕ) → CanGoOn p a v → IsTurnReply question.Logon r → HasShortName sam →
     judge question.Logon r (standing.Open (after_call o timestamp)) p.meeting.caller.secret ≡ judgement.Answer o_then (verdict.Granted sam) →
@@ -73,15 +88,7 @@ rests_so : (p : Coming) (s : State) (a : Asked) (who : WhoAsked p a) (v : TurnAt
 rests_so p s a who v o c timestamp accounts r o_then sam left moment can reply_is short granted shows moves steps units =
     let e : Settled = judged_rest p a who v o c timestamp accounts o_then in
     let g : Meeting = settled_in p e in
-    let how : Standing = standing.Open (after_call o timestamp) in
-    let before : Turn = turn_before p a who.later (who.sent ∷ []) v in
-    let out : Turn = turn_on p a who.later (who.sent ∷ []) v (Third o c timestamp) in
-    let asked = grants_go_on.asked p a who in
-    let first : GoesOn g left (onward s).state =
-    grants_go_on.granted s (own p) (record (terms_at p a) { session = who.later }) out.info a.challenge (message_for (own p) a) who.sent accounts p.name how o_then out.links out.opened (length v.links)
-    (next_number v.next) v.next question.Logon r sam v.computers left moment can.can asked.0 asked.1 short.short short.units can.next_below
-    (between_still out accounts (turns_have_links.between (own p) before how can.joined_so)) reply_is granted (turns_have_links.met (own p) before how can.joined_so)
-    (turns_have_links.taken (own p) before how can.joined_so) shows in
+    let first : GoesOn g left (onward s).state = let_in_goes p s a who v o c timestamp accounts r o_then sam left moment can reply_is short granted shows in
     let others : OthersStay (three_in p) s (onward s).state =
     others_are_left.steps (three_in p) s move.Onward tt (subst (AreAmong (three_in p)) (sym shows.opened) (turn_among p v)) (no_dial_among p s shows.dials) in
     let going : IsGoing p e left s (moved_by moves (onward s).state) = all_going p e left s (onward s).state moves steps (record { others = others; at = first }) in

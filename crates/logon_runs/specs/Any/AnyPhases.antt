@@ -41,7 +41,7 @@ use Rattle.logon_steps.specs.Meeting.{HasShortNames}
 use Rattle.logon_steps.specs.Turning.{IsTurnReply}
 use Rattle.logon_runs.specs.Seen.LinkScenes.{rest_scene}
 use Rattle.logon_runs.specs.Seen.Others.{IsStepOn}
-use Rattle.logon_runs.specs.Phases.{Acked, Aim, Answers, Binds, BindsBefore, BindsHeld, Calls, Challenged, Coming, Dials, DialsBefore, DialsHeld, DrawsFew, Echoed, Echoes, First, Granted, Halved, HasJoined, HasThree, IsAnswering, LogonPhase, Named, Proved, Second, Third, TurnAt, WhoAsked, scene_of, turn_on}
+use Rattle.logon_runs.specs.Phases.{Acked, Aim, Answers, Binds, BindsBefore, BindsHeld, Calls, Challenged, Coming, Dials, DialsBefore, DialsHeld, DrawsFew, Echoed, Echoes, First, Granted, Halved, HasJoined, HasThree, IsAnswering, LogonPhase, Named, NotYet, Progress, Proved, Second, Third, TurnAt, WasJudged, WasOpened, WhoAsked, progress_of, progress_onward, scene_of, turn_on}
 use Rattle.logon_runs.specs.Rests.{HasOwnComputer}
 use Rattle.logon_runs.specs.Runs.{Asked}
 use Rattle.logon_runs.specs.Scenes.{Scene, Shows}
@@ -126,6 +126,23 @@ any_scene p (Told a who v client server credential status) left moment =
 any_scene p (Judged a who v o c timestamp accounts answer) left moment = judged_scene p a who v o c timestamp accounts answer left moment
 any_scene p (Away phase) left moment = away_scene p phase left moment
 
+-- how far it is in each, by what waits between the member and its controller, and once the next unit came
+abbrev pub progress_in : {p : Coming} → AnyPhase p → Progress
+progress_in (On phase) = progress_of phase
+progress_in (Told a who v client server credential status) = WasOpened client server
+progress_in (Judged a who v o c timestamp accounts answer) = WasJudged a o
+progress_in (Away phase) = NotYet
+
+abbrev pub progress_next : {p : Coming} → AnyPhase p → Progress
+progress_next (On phase) = progress_onward phase
+progress_next (Told a who v client server credential status) = NotYet
+progress_next (Judged a who v o c timestamp accounts answer) = NotYet
+progress_next (Away phase) = NotYet
+
+abbrev pub progress_by : {p : Coming} → Move → AnyPhase p → Progress
+progress_by move.Onward phase = progress_next phase
+progress_by _ phase = progress_in phase
+
 -- ---- what holds in each
 
 pub record IsTurningBy (plan : Plan) (p : Coming) (a : Asked) (v : TurnAt) : Type 0 where
@@ -162,7 +179,7 @@ MayFitOn plan p (BindsBefore a who v aim) = IsTurningBy plan p a v × MayAim pla
 MayFitOn plan p (BindsHeld a who v aim) = IsTurningBy plan p a v × MayAim plan p v aim × IsThere plan p
 MayFitOn plan p (Acked a who v aim) = IsTurningBy plan p a v × MayAim plan p v aim × IsThere plan p
 MayFitOn plan p (Calls a who v aim) = IsTurningBy plan p a v × MayAim plan p v aim × IsThere plan p
-MayFitOn plan p (Halved a who v client server) = IsTurningBy plan p a v × IsBlock 8 server × MayAim plan p v (Second client server)
+MayFitOn plan p (Halved a who v client server) = IsTurningBy plan p a v × IsBlock 8 server × MayAim plan p v (Second client server) × IsThere plan p
 MayFitOn plan p (Proved a who v client server) = ⊥
 MayFitOn plan p (Granted a who v o c timestamp judged_at accounts) = ⊥
 MayFitOn plan p (Named a e on one other back) = ⊥
@@ -177,6 +194,7 @@ MayFitAway plan p (Faulted a later e status) = IsLeft plan p e × (status < 2 ^ 
 -- the reply to the third call, and what the member's channel comes to by it
 pub record IsJudgedBy (plan : Plan) (p : Coming) (a : Asked) (v : TurnAt) (o : SecureChannelState) (timestamp : ℕ) (accounts : AccountTable) (answer : Reply) : Type 0 where
   pub turning : IsTurningBy plan p a v
+  pub there : IsThere plan p
   pub goes : IsTurnReply question.Logon answer
   pub names : TellsShort answer
   pub differs : DifferInCounts p.table accounts
@@ -188,6 +206,7 @@ MayFit plan p (On phase) = MayFitOn plan p phase
 MayFit plan p (Told a who v client server credential status) =
     IsTurningBy plan p a v × IsTurnReply question.Authenticate (proof_reply credential status)
     × (IsOwn plan p → KeepsInStep p v.computers (fresh_channel p.meeting.caller.secret client server offered_flags))
+    × IsThere plan p
 MayFit plan p (Judged a who v o c timestamp accounts answer) = IsJudgedBy plan p a v o timestamp accounts answer
 MayFit plan p (Away phase) = MayFitAway plan p phase
 
@@ -231,6 +250,15 @@ pub record IsOnward (plan : Plan) (p : Coming) (s after : State) : Type 0 where
   pub few : DrawsFew s.chances.left after.chances.left
   pub at : IsAnywhere plan p after ⊎ IsDone plan p after
 
+-- or to a phase in which it is so far
+pub record IsSoFar (plan : Plan) (p : Coming) (far : Progress) (after : State) : Type 0 where
+  pub at : IsAnywhere plan p after
+  pub is : progress_in at.phase ≡ far
+
+pub record GoesTo (plan : Plan) (p : Coming) (far : Progress) (s after : State) : Type 0 where
+  pub few : DrawsFew s.chances.left after.chances.left
+  pub at : IsSoFar plan p far after ⊎ IsDone plan p after
+
 -- what the moves need of the state
 pub record IsReadyBy (plan : Plan) (p : Coming) (s : State) : Type 0 where
   pub heard : IsHeard plan p s
@@ -239,8 +267,8 @@ pub record IsReadyBy (plan : Plan) (p : Coming) (s : State) : Type 0 where
 
 pub record AnyPhasesGoOn : Type 0 where
   -- each move leads on, but for that at which the client is let in
-  pub goes_on : (plan : Plan) (p : Coming) (s : State) (what : Move) → IsAble plan p → IsReadyBy plan p s → IsStepOn what → IsAnywhere plan p s →
-      IsOnward plan p s (act s what).state ⊎ (IsLetIn plan p s × (what ≡ move.Onward))
+  pub goes_on : (plan : Plan) (p : Coming) (s : State) (what : Move) → IsAble plan p → IsReadyBy plan p s → IsStepOn what → (at : IsAnywhere plan p s) →
+      GoesTo plan p (progress_by what at.phase) s (act s what).state ⊎ (IsLetIn plan p s × (what ≡ move.Onward))
   -- something waits in each phase
   pub waits : (plan : Plan) (p : Coming) (s : State) → IsAnywhere plan p s → s.dials ≡ [] → waiting s.bag ≡ [] → ⊥
   -- once it is over, moves change nothing of it, and draw no challenge

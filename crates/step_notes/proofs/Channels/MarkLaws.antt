@@ -10,11 +10,9 @@ use Rattle.outside.specs.declared.event.Event.TheVariants as event
 use Rattle.rpc_units.specs.declared.refused.JoinRefused.{JoinRefused}
 use Rattle.rpc_units.specs.declared.refused.JoinRefused.TheVariants as join
 use Rattle.rpc_units.specs.declared.refused.UnitRefused.{UnitRefused}
-use Rattle.rpc_units.specs.declared.unit.Body.TheVariants.{Bind}
 use Rattle.rpc_units.specs.declared.unit.Unit.{Unit as RpcUnit}
 use Rattle.rpc_units.specs.Joining.{answer_of, open_after}
 use Rattle.rpc_units.specs.Reading.{unit_of}
-use Rattle.logon_stubs.specs.declared.calls.Reply.{Reply}
 use Rattle.channel_client.specs.Effects.{step_in}
 use Rattle.channel_client.specs.Machine.{take_of}
 use Rattle.channel_client.specs.State.{Requester}

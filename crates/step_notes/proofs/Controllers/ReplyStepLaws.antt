@@ -40,16 +40,16 @@ one_more actions link bytes = flat_map-append sent_by actions (action.Send link 
 
 -- ---- the reply to an opening
 
--- what opens a channel is the reply that does
-abbrev OpensBy : Option SecureChannelState → List ℕ → Type 0
-OpensBy None bytes = Unit {0}
-OpensBy (Some channel) bytes = IsOpeningReply bytes
+-- what opens a channel is the reply that does, under that number
+abbrev OpensBy : ℕ → Option SecureChannelState → List ℕ → Type 0
+OpensBy number None bytes = Unit {0}
+OpensBy number (Some channel) bytes = IsOpeningReply number bytes
 
 -- one unit more, by the channel that is opened, if one is
 record SendsOpening (opened : Option SecureChannelState) (line : Line) (before after : Work) : Type 0 where
   bytes : List ℕ
   actions : after.actions ≡ before.actions ++ action.Send line.link bytes ∷ []
-  opens : OpensBy opened bytes
+  opens : OpensBy line.call opened bytes
 
 opening_sends : (found : Option Account) (waiting : Option ChallengePair) (line : Line) (c : AuthCall) (taken : Work) →
     SendsOpening (opened_account found waiting c) line taken (judge_account found waiting line c taken)
@@ -62,7 +62,6 @@ opening_sends found waiting line c taken =
             bytes = _;
             actions = refl;
             opens = record {
-              number = line.call;
               context = line.context;
               limit = line.limit;
               key = key_of_channel channel;
@@ -75,11 +74,11 @@ opening_sends found waiting line c taken =
 
 -- and isn't marked as a reply to a call on a secure channel
 
-opened_carries : (unit : Option ℕ) (channel : ChannelIdentity) (number : ℕ) (bytes : List ℕ) → IsOpeningReply bytes → CarriesReply (opened_mark unit channel number) None bytes
+opened_carries : (unit : Option ℕ) (channel : ChannelIdentity) (number : ℕ) (bytes : List ℕ) → IsOpeningReply number bytes → CarriesReply (opened_mark unit channel number) None bytes
 opened_carries None channel number bytes opens = tt
 opened_carries (Some unit) channel number bytes opens = opens
 
-opening_sent : (opened : Option SecureChannelState) (w : Where) (computer : List ℕ) (number : ℕ) (bytes : List ℕ) → OpensBy opened bytes →
+opening_sent : (opened : Option SecureChannelState) (w : Where) (computer : List ℕ) (number : ℕ) (bytes : List ℕ) → OpensBy number opened bytes →
     AreSentFor (opening (identity_by w.controller computer opened) w number ∷ []) (bytes ∷ [])
 opening_sent None w computer number bytes opens = (tt, tt)
 opening_sent (Some channel) w computer number bytes opens = (opened_carries (unit_in w.source) (channel_of w.controller computer channel) number bytes opens, tt)

@@ -96,7 +96,7 @@ pub record IsCallSent (number timestamp : ℕ) (bytes : List ℕ) : Type 0 where
 abbrev pub CarriesMark : Mark → List ℕ → Type 0
 CarriesMark Plain bytes = Unit {0}
 CarriesMark (Opening channel number) bytes = IsRequestSent number 15 bytes
-CarriesMark (Opened channel number request) bytes = IsOpeningReply bytes
+CarriesMark (Opened channel number request) bytes = IsOpeningReply number bytes
 CarriesMark (Calling channel number timestamp) bytes = IsCallSent number timestamp bytes
 CarriesMark (ReplyTo channel number request) bytes = Unit {0}
 

@@ -225,28 +225,29 @@ marks_keep = record {
 -- ---- what a whole unit of those bytes is
 
 -- it carries no call that is judged, nor an answer to one
-opening_no_call : (number : ℕ) (bytes : List ℕ) (frames : List RpcUnit) (unit : RpcUnit) → AreBytes bytes → IsHeard bytes frames unit → IsRequestSent number 15 bytes → IsNotJudged unit
-opening_no_call number bytes frames unit are heard sent asked carries =
+opening_no_call : (number : ℕ) (bytes : List ℕ) (frames : List RpcUnit) (unit : RpcUnit) → AreBytes bytes → IsHeard bytes frames unit → IsRequestSent number 15 bytes →
+    IsNotJudged unit × (unit.call ≡ number)
+opening_no_call number bytes frames unit are heard sent =
     let of : IsOfRequest number 15 unit = of_request number 15 sent.limit sent.stub bytes frames unit sent.small sent.known are sent.is heard in
-    opens_no_logon unit asked (heard_stub bytes frames unit are heard) of.body carries
+    (λ asked carries. opens_no_logon unit asked (heard_stub bytes frames unit are heard) of.body carries, of.number_is)
 
 reply_not_judged : (unit : RpcUnit) (number context : ℕ) (stub : List ℕ) → unit ≡ heard_reply number context stub → IsNotJudged unit
 reply_not_judged unit number context stub is asked carries =
     reply_no_call unit (number % 2 ^ 32) (context % 2 ^ 16) stub (call_judged asked) is carries
 
-opened_is : (bytes : List ℕ) (frames : List RpcUnit) (unit : RpcUnit) (opens : IsOpeningReply bytes) → IsHeard bytes frames unit →
-    unit ≡ heard_reply opens.number opens.context (written_reply (opened_reply (cred_of opens.key opens.server) opens.offered))
-opened_is bytes frames unit opens heard =
+opened_is : (number : ℕ) (bytes : List ℕ) (frames : List RpcUnit) (unit : RpcUnit) (opens : IsOpeningReply number bytes) → IsHeard bytes frames unit →
+    unit ≡ heard_reply number opens.context (written_reply (opened_reply (cred_of opens.key opens.server) opens.offered))
+opened_is number bytes frames unit opens heard =
     let back : IsReadBack (opened_reply (cred_of opens.key opens.server) opens.offered) = replies_are_read_back.opened opens.key opens.server opens.offered in
-    reply_alone opens.number opens.context opens.limit (written_reply (opened_reply (cred_of opens.key opens.server) opens.offered)) frames unit back.few
+    reply_alone number opens.context opens.limit (written_reply (opened_reply (cred_of opens.key opens.server) opens.offered)) frames unit back.few
     (subst (λ (b : List ℕ). IsHeard b frames unit) opens.frames heard)
 
-opened_no_answer : (bytes : List ℕ) (frames : List RpcUnit) (unit : RpcUnit) → IsOpeningReply bytes → IsHeard bytes frames unit → IsNoAnswer unit
-opened_no_answer bytes frames unit opens heard answer =
+opened_no_answer : (number : ℕ) (bytes : List ℕ) (frames : List RpcUnit) (unit : RpcUnit) → IsOpeningReply number bytes → IsHeard bytes frames unit → IsNoAnswer unit
+opened_no_answer number bytes frames unit opens heard answer =
     let back : IsReadBack (opened_reply (cred_of opens.key opens.server) opens.offered) = replies_are_read_back.opened opens.key opens.server opens.offered in
     let stub : List ℕ = written_reply (opened_reply (cred_of opens.key opens.server) opens.offered) in
     answers_are_long.apart _ answer.read answer.given (cred_block opens.key opens.server).0 back.bytes
-    (subst (λ (s : List ℕ). reply_of 2 s ≡ Ok (reply.Logon answer.read)) (ap (λ (u : RpcUnit). stub_of u.body) (opened_is bytes frames unit opens heard)) answer.reads) answer.returned
+    (subst (λ (s : List ℕ). reply_of 2 s ≡ Ok (reply.Logon answer.read)) (ap (λ (u : RpcUnit). stub_of u.body) (opened_is number bytes frames unit opens heard)) answer.reads) answer.returned
 
 module _ (bag : List BagUnit) (js : List Judging) (stand : JudgedStand bag js) (n : ℕ) (bytes : List ℕ) (frames : List RpcUnit) (unit : RpcUnit) (are : AreBytes bytes) (heard : IsHeard bytes frames unit) where
   reply_marked : (channel : ChannelIdentity) (number request : ℕ) → IsReplyOfOne js n bytes (ReplyTo channel number request) → IsAsMarked (ReplyTo channel number request) unit
@@ -269,8 +270,9 @@ module _ (bag : List BagUnit) (js : List Judging) (stand : JudgedStand bag js) (
   as_marked Plain sent replied = tt
   as_marked (Opening channel number) sent replied = opening_no_call number bytes frames unit are heard sent
   as_marked (Opened channel number request) sent replied = (
-    reply_not_judged unit sent.number sent.context _ (opened_is bytes frames unit sent heard),
-    opened_no_answer bytes frames unit sent heard,
+    reply_not_judged unit number sent.context _ (opened_is number bytes frames unit sent heard),
+    opened_no_answer number bytes frames unit sent heard,
+    ap (λ (u : RpcUnit). u.call) (opened_is number bytes frames unit sent heard),
   )
   as_marked (Calling channel number timestamp) sent replied =
       ap (λ (u : RpcUnit). u.call) (one_whole bytes frames sent.frames unit (request_of number 0 (opnum_of_call sent.what) (written_call sent.what)) heard sent.heard)
