@@ -83,10 +83,6 @@ abbrev pub account_by : Change → Account → Account
 account_by (Count count) account = with_count count account
 account_by (Hash hash) account = with_new_hash hash account
 
-without_state-changed : (change : Change) (account : Account) → without_state (account_by change account) ≡ without_state account
-without_state-changed (Count count) account = refl
-without_state-changed (Hash hash) account = refl
-
 pub states-none : (table : AccountTable) → DifferInStates table table
 states-none table = record { domain = refl; sid = refl; policy = refl; accounts = refl; trusts = refl }
 

@@ -1,26 +1,22 @@
 -- Laws of the account table's document.
-use Rattle.std.proofs.Common.{◌≡◌, ℕ, suc, ◌^◌, ◌<◌, ◌≤◌, ltb, true, IsTrue, List, [], ◌∷◌, ◌++◌, length, Option, Some, None, Result, Ok, Err, refl, ap, inl, inr, leb, lit≤}
+use Rattle.std.proofs.Common.{◌≡◌, ℕ, ◌^◌, ◌<◌, ◌≤◌, ltb, true, IsTrue, List, [], ◌∷◌, length, Option, Some, None, Result, Ok, Err, refl, ap, inl, inr, leb, lit≤}
 use Rattle.std.specs.Str.{IsUtf8, is_utf8}
 use Rattle.std.specs.List.{list_all, AllByRecursion}
 use Rattle.std.specs.Option.{option_and_then}
 use Rattle.std.specs.Result.{result_ok}
 use Rattle.std.proofs.lemmas.Bool.{cases_Bool, leb-true, le-leb, lt-ltb}
 use Rattle.std.proofs.lemmas.Str.{IsUtf8-from_is_utf8, is_utf8-from_IsUtf8}
-use Rattle.toml.specs.Data.{Data, Items, no_items, item, Members, as_str, as_array, as_table}
+use Rattle.toml.specs.Data.{Data, Items, no_items, item, Members, as_str, as_array}
 use Rattle.toml.specs.Parse.{parse_document}
-use Rattle.toml.specs.View.{view}
-use Rattle.toml.specs.declared.value.Value.{Value}
 use Rattle.wire_base.specs.Sid.{SidParts, sid_of}
 use Rattle.wire_base.specs.declared.sid.SidRefused.{SidRefused}
 use Rattle.wire_base.proofs.SidLaws.{IsSidText-sid_of}
-use Rattle.account_table.specs.declared.refused.TableRefused.{TableRefused}
 use Rattle.account_table.specs.declared.refused.TableRefused.TheVariants.{BadToml}
 use Rattle.account_table.specs.declared.key.Key.{Key}
-use Rattle.account_table.specs.Document.{document_of, each_entry, optional, formed, formed_or, value_at}
+use Rattle.account_table.specs.Document.{document_of, optional, formed, formed_or, value_at}
 use Rattle.account_table.specs.Forms.{only_if, at_most, rids, a_list, a_rid, with_front, each, a_sid, sids}
 use Rattle.account_table.specs.Index.{has_longs, has_few_sids}
 use Rattle.account_table.specs.Limits.{group_limit, extra_sid_limit, domain_users}
-use Rattle.account_table.specs.Listing.{entries_of}
 
 -- ---- the document of a text
 
@@ -39,18 +35,6 @@ document_of-bytes text other =
       | inl utf8 ↦ absurd (other (IsUtf8-from_is_utf8 text utf8))
       | inr bytes ↦ rw bytes refl
     ]
-
--- ---- entry by entry
-
-module _ {T : Type 0} (account_of : ℕ → List T → Members → Result T TableRefused) where
-  pub accounts_more : (number : ℕ) (before : List T) (value : Value) (entry : Members) (values : List Value) (account : T) → as_table (view value) ≡ Some entry → account_of number before entry ≡ Ok account → each_entry account_of number before (entries_of (value ∷ values)) ≡ each_entry account_of (suc number) (before ++ account ∷ []) (entries_of values)
-  accounts_more number before value entry values account is_table read = rw (is_table, read) refl
-
-  pub accounts_bad : (number : ℕ) (before : List T) (value : Value) (entry : Members) (values : List Value) (refused : TableRefused) → as_table (view value) ≡ Some entry → account_of number before entry ≡ Err refused → each_entry account_of number before (entries_of (value ∷ values)) ≡ Err refused
-  accounts_bad number before value entry values refused is_table read = rw (is_table, read) refl
-
-  pub accounts_other : (number : ℕ) (before : List T) (value : Value) (values : List Value) → as_table (view value) ≡ None → each_entry account_of number before (entries_of (value ∷ values)) ≡ each_entry account_of number before (entries_of values)
-  accounts_other number before value values other = rw other refl
 
 -- ---- groups
 

@@ -69,9 +69,6 @@ newline_of_digit byte digit =
       | inr other ↦ other
     ]
 
-space_is : is_newline 32 ≡ false
-space_is = refl
-
 -- the line without its newline
 abbrev front_of : List ℕ → List ℕ → List ℕ
 front_of name hash = name ++ 32 ∷ encode_lower hash

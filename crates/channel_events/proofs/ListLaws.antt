@@ -47,10 +47,6 @@ pub all_weaker : {T : Type 0} (P Q : T → Type 0) (items : List T) → ((item :
 all_weaker P Q [] so all = tt
 all_weaker P Q (item ∷ items) so all = (so item all.0, all_weaker P Q items so all.1)
 
-pub all_none : {T : Type 0} (P : T → Type 0) (items : List T) → (OneOf P items → ⊥) → AllByRecursion (λ (item : T). P item → ⊥) items
-all_none P [] none = tt
-all_none P (item ∷ items) none = ((λ is. none (inl is)), all_none P items (λ one. none (inr one)))
-
 -- ---- each two of them, and places
 
 pub pairs_first : {T : Type 0} (R : T → T → Type 0) (item : T) (items : List T) → AllByRecursion (R item) items → AllPairs R items → AllPairs R (item ∷ items)

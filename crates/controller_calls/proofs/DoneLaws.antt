@@ -1,42 +1,20 @@
 -- The law `what_passes_is_done`, by what a call on a channel comes to.
-use Rattle.std.proofs.Common.{◌≡◌, ℕ, List, Option, Some, None, subst, ap, ◌∙◌}
+use Rattle.std.proofs.Common.{◌≡◌, ℕ, List, subst, ap, ◌∙◌}
 use Rattle.wire_base.specs.Maps.{lookup}
 use Rattle.wire_base.specs.Names.{same_name}
-use Rattle.authenticators.specs.SecureChannels.{SecureChannelState, key_of_channel}
+use Rattle.authenticators.specs.SecureChannels.{SecureChannelState}
 use Rattle.outside.specs.declared.action.Judged.{Judged}
-use Rattle.outside.specs.declared.action.Judged.TheVariants as judged
-use Rattle.controller_calls.specs.Asking.{answer_judged, answers_to, refuse_asked}
+use Rattle.controller_calls.specs.Asking.{answer_judged}
 use Rattle.controller_calls.specs.Calls.{computer_named, given_in}
 use Rattle.controller_calls.specs.Desk.{Desk}
 use Rattle.controller_calls.specs.Doing.{DoesWhatPasses, IsRefusedCall, how_refused}
-use Rattle.controller_calls.specs.Judging.{answer_return}
 use Rattle.controller_calls.specs.Passing.{IsNext}
-use Rattle.controller_calls.specs.declared.calls.Asked.{Asked}
 use Rattle.controller_calls.specs.declared.calls.JudgedCall.{JudgedCall}
 use Rattle.controller_calls.specs.declared.line.Line.{Line}
 use Rattle.controller_calls.specs.declared.state.Computers.{Computers}
-use Rattle.controller_calls.specs.declared.state.Work.{Work}
 use Rattle.controller_calls.proofs.OutcomeLaws.{IsRefusedAs, IsTurnedAway, JudgedComes, Passes, Refused, WhyRefused, Bare, Barred, asked_done, asked_refused, judged_comes, passed_so}
 use Rattle.controller_calls.proofs.RefusalLaws.{put_back}
 pub use Rattle.controller_calls.proofs.OutcomeLaws.{IsRefusedAs, asked_done, asked_refused, texts_kept}
-
--- ---- what is kept of computers, behind a call on a channel
-
-pub record KeepsPairs (before after : Computers) : Type 0 where
-  pub pending : after.pending ≡ before.pending
-  pub channels : after.channels ≡ before.channels
-
-pub refused_keeps : (what : Asked) (how : Judged) (line : Line) (work : Work) → KeepsPairs work.computers (refuse_asked what how line work).computers
-refused_keeps what how line work =
-    let so : IsRefusedAs how line work (refuse_asked what how line work) = asked_refused what how line work in
-    record { pending = ap (λ (c : Computers). c.pending) so.computers; channels = ap (λ (c : Computers). c.channels) so.computers }
-
-pub return_keeps : (what : Asked) (returned : Option (List ℕ)) (computer : List ℕ) (channel : SecureChannelState) (name : List ℕ) (now : ℕ) (line : Line) (d : Desk) →
-    KeepsPairs d.work.computers (answer_return returned (answers_to what name now line).refused ((answers_to what name now line).passed computer channel) d).work.computers
-return_keeps what None computer channel name now line d = refused_keeps what judged.Barred line d.work
-return_keeps what (Some credential) computer channel name now line d =
-    let so = asked_done what name now line computer (key_of_channel channel) credential d in
-    record { pending = so.pending; channels = so.channels }
 
 -- ---- a call that doesn't pass
 

@@ -70,10 +70,6 @@ pub bits_of_none : bits_of [] ≡ []
 unfolding bits_of
 bits_of_none = refl
 
-pub bits_of-append : (xs ys : List ℕ) → bits_of (xs ++ ys) ≡ bits_of xs ++ bits_of ys
-unfolding bits_of
-bits_of-append xs ys = flat_map-append (number_bits 8) xs ys
-
 pub bits_of_more : (bytes : List ℕ) (i : ℕ) → i < length bytes → bits_of (take (i + 1) bytes) ≡ bits_of (take i bytes) ++ number_bits 8 (get_or bytes i 0)
 unfolding bits_of
 bits_of_more bytes i h =

@@ -1,7 +1,7 @@
 -- What crates above may use of `des_of`, its inverse and `spread_of`: lengths, bounds, that a key's low bits have no
 -- effect, and that DES and its inverse undo each other.
-use Rattle.std.proofs.Common.{◌≡◌, ℕ, zero, suc, ◌+◌, ◌-◌, ◌*◌, ◌/◌, ◌%◌, ◌^◌, ◌<◌, ◌≤◌, ◌==◌, Bool, true, false, cond, List, [], ◌∷◌, ◌++◌, map, length, get_or, take, drop, All, slice_range, reverse, refl, ap, sym, ◌∙◌, arith, nat_lt, add-one, lit<, lit≤}
-use Rattle.std.proofs.lemmas.List.{length-map, length-append, get_or-map, get_or_append_left, get_or-append_right, ext_get_or, length-take, take_all}
+use Rattle.std.proofs.Common.{◌≡◌, ℕ, zero, suc, ◌+◌, ◌-◌, ◌*◌, ◌/◌, ◌%◌, ◌^◌, ◌<◌, ◌≤◌, ◌==◌, Bool, true, false, cond, List, [], ◌∷◌, map, length, get_or, take, drop, All, slice_range, reverse, refl, ap, sym, ◌∙◌, arith, nat_lt, add-one, lit<, lit≤}
+use Rattle.std.proofs.lemmas.List.{length-map, get_or-map, get_or_append_left, get_or-append_right, ext_get_or, length-take, take_all}
 use Rattle.std.proofs.lemmas.Nat.Bits.{bit_at-suc}
 use Rattle.std.proofs.Math.Nat.{mod-lt, pow-le-pow_right, pow-suc}
 use Rattle.std.proofs.lemmas.Bool.{ltb-true}
@@ -13,7 +13,7 @@ use Rattle.des_cipher.specs.Bits.{bit, permuted, number_bits, number_of, bits_of
 use Rattle.des_cipher.specs.Cipher.{cipher}
 use Rattle.des_cipher.specs.Schedule.{round_keys_from, round_keys}
 use Rattle.des_cipher.specs.Tables.{key_choice_c, key_choice_d, rotations}
-use Rattle.des_cipher.specs.Des.{des_of, des_back_of, spread_of, IsBlock, SameButLowBits}
+use Rattle.des_cipher.specs.Des.{des_of, des_back_of, IsBlock, SameButLowBits}
 use Rattle.des_cipher.proofs.BitLemmas.{number_of_push, number_of_none, length-number_bits}
 use Rattle.des_cipher.proofs.ByteLaws.{bytes_of-bits_of, bits_of-bytes_of, length-bits_of}
 use Rattle.des_cipher.proofs.FeistelLaws.{cipher_back, cipher_forth, length-cipher}
@@ -23,10 +23,6 @@ use Rattle.des_cipher.proofs.FeistelLaws.{cipher_back, cipher_forth, length-ciph
 pub length-des_of : (key block : List ℕ) → length (des_of key block) ≡ 8
 unfolding des_of bytes_of
 length-des_of key block = refl
-
-pub length-spread_of : (key : List ℕ) → length (spread_of key) ≡ 8
-unfolding spread_of
-length-spread_of key = refl
 
 -- ---- bounds
 
@@ -78,16 +74,6 @@ IsBlock-des_back_of key block = IsBlock-bytes_of (cipher (reverse (round_keys (b
 -- each of the 8 bytes is below 256
 pub All-des_of : (key block : List ℕ) → All (λ b. b < 256) (des_of key block)
 All-des_of key block = (IsBlock-des_of key block).bytes
-
-pub All-spread_of : (key : List ℕ) → All (λ b. b < 256) (spread_of key)
-unfolding spread_of
-All-spread_of key =
-    let bits = bits_of key in
-    All-map (λ b. b < 256) (λ i. number_of (slice_range bits (7 * i) (7 * i + 7) ++ false ∷ [])) (range_with_len 0 8)
-    (λ k d h.
-    let i : ℕ = get_or (range_with_len 0 8) k d in
-    let seven = slice_range bits (7 * i) (7 * i + 7) in
-    number_of-lt (seven ++ false ∷ []) (omega (arith, length-part bits (7 * i) (7 * i + 7), length-append seven (false ∷ []))))
 
 -- ---- the low bits of a key
 

@@ -1,24 +1,14 @@
 -- Laws of the digests: 16 bytes, each below 256. Of MD4's padding: it ends a block.
-use Rattle.std.proofs.Common.{◌≡◌, ℕ, ◌*◌, ◌/◌, ◌%◌, ◌^◌, ◌<◌, List, ◌∷◌, ◌++◌, length, replicate, slice_index, inl, inr, refl, arith, length-append}
-use Rattle.std.proofs.lemmas.List.{length-replicate, get_or_past}
-use Rattle.std.proofs.lemmas.Bool.{cases_lt}
-use Rattle.std.proofs.lemmas.List.Elements.{All-append, All-from_recursion, All-get_or}
+use Rattle.std.proofs.Common.{◌≡◌, ℕ, ◌/◌, ◌<◌, List, ◌++◌, length, slice_index, refl, arith}
+use Rattle.std.proofs.lemmas.List.Elements.{All-append, All-from_recursion}
 use Rattle.std.specs.List.{All}
-use Rattle.std.specs.Int.{w32, w64, to_le_bytes}
+use Rattle.std.specs.Int.{w32, to_le_bytes}
 use Rattle.md5.specs.Md5.{md5, hash_after, padded_message, digest_bytes}
 use Rattle.digest_parts.specs.Hmac.{hmac_of}
-use Rattle.digest_parts.specs.Md4.{padded, zeros_after, md4_of, register_bytes, after_blocks, initial_registers}
+use Rattle.digest_parts.specs.Md4.{padded, md4_of, register_bytes, after_blocks, initial_registers}
 
 abbrev IsByte : ℕ → Type 0
 IsByte b = b < 256
-
--- of bytes, what stands at each place is below 256, and it is 0 past the end
-at_each_place : (bytes : List ℕ) → All IsByte bytes → (place : ℕ) → slice_index bytes place < 256
-at_each_place bytes all place =
-    elim (cases_lt place (length bytes)) [
-      | inl within ↦ All-get_or IsByte bytes place 0 within all
-      | inr past ↦ rw (get_or_past bytes place 0 past) (omega arith)
-    ]
 
 word_bytes : (n : ℕ) → All IsByte (to_le_bytes w32 n)
 word_bytes n = All-from_recursion IsByte (to_le_bytes w32 n) (omega arith, (omega arith, (omega arith, (omega arith, tt))))
@@ -40,9 +30,6 @@ All-md4_of message =
     let h = after_blocks initial_registers (padded message) in
     four_words (slice_index h 0) (slice_index h 1) (slice_index h 2) (slice_index h 3)
 
-pub bytes_of-md4_of : (message : List ℕ) (place : ℕ) → slice_index (md4_of message) place < 256
-bytes_of-md4_of message place = at_each_place (md4_of message) (All-md4_of message) place
-
 pub length-md5 : (message : List ℕ) → length (md5 message) ≡ 16
 unfolding md5 digest_bytes
 length-md5 message = refl
@@ -53,9 +40,6 @@ All-md5 message =
     let h = hash_after (padded_message message) (length (padded_message message) / 64) in
     four_words (slice_index h 0) (slice_index h 1) (slice_index h 2) (slice_index h 3)
 
-pub bytes_of-md5 : (message : List ℕ) (place : ℕ) → slice_index (md5 message) place < 256
-bytes_of-md5 message place = at_each_place (md5 message) (All-md5 message) place
-
 pub length-hmac_of : (key message : List ℕ) → length (hmac_of key message) ≡ 16
 unfolding hmac_of
 length-hmac_of key message = length-md5 _
@@ -63,18 +47,3 @@ length-hmac_of key message = length-md5 _
 pub All-hmac_of : (key message : List ℕ) → All (λ byte. byte < 256) (hmac_of key message)
 unfolding hmac_of
 All-hmac_of key message = All-md5 _
-
-pub bytes_of-hmac_of : (key message : List ℕ) (place : ℕ) → slice_index (hmac_of key message) place < 256
-bytes_of-hmac_of key message place = at_each_place (hmac_of key message) (All-hmac_of key message) place
-
-length-copies : (n x : ℕ) → length (replicate n x) ≡ n
-length-copies n x = length-replicate n x
-
--- a padded message is whole blocks
-pub length-padded : (message : List ℕ) → length (padded message) % 64 ≡ 0
-unfolding padded
-length-padded message =
-    let zeros = length-copies (zeros_after (length message)) 0 in
-    let front = length-append message (0x80 ∷ replicate (zeros_after (length message)) 0) in
-    let whole = length-append (message ++ 0x80 ∷ replicate (zeros_after (length message)) 0) (to_le_bytes w64 (length message * 8 % 2 ^ 64)) in
-    omega arith

@@ -15,11 +15,6 @@ use Rattle.ntlm_messages.specs.declared.refused.WriteRefused.{WriteRefused}
 use Rattle.ntlm_messages.specs.declared.refused.WriteRefused.TheVariants as write
 use Rattle.ntlm_messages.specs.Fields.{◌>>=◌, Shows, IsRefusal, FieldsFit, IsFirstTooLong, lengths_of, form_of, IsOutside, IsInside, bytes_if, version_of, mic_of, length_at, offset_at, IsHeader, header_of, IsField, field_of, IsText, text_of, long_at, signature}
 
--- the value of a step that wasn't refused
-pub bind_ok : {A B E : Type 0} (r : Result A E) (f : A → Result B E) (y : B) → (r >>= f) ≡ Ok y → (x : A) × (r ≡ Ok x) × (f x ≡ Ok y)
-bind_ok (Ok x) f y e = (x, refl, e)
-bind_ok (Err d) f y e = absurd cc
-
 -- the same, for a proof that goes on with the value
 pub bind_then : {A B E : Type 0} {P : Type 0} (r : Result A E) (f : A → Result B E) (y : B) → (r >>= f) ≡ Ok y → ((x : A) → r ≡ Ok x → f x ≡ Ok y → P) → P
 bind_then (Ok x) f y e next = next x refl e

@@ -17,44 +17,12 @@ use Rattle.ntlm_flags.specs.Flags.{has_flag, negotiate_extended_sessionsecurity,
 use Rattle.ntlm_messages.specs.Text.{units_of_text}
 use Rattle.ntlm_messages.specs.declared.messages.Authenticate.{Authenticate}
 use Rattle.ntlm_messages.proofs.TextLaws.{units_of_text-written}
-use Rattle.ntlm_responses.specs.Hashes.{des7_of, desl_of, nt_hash_of, lm_key_of, lm_text, lm_hash_of, key_v2_of}
+use Rattle.ntlm_responses.specs.Hashes.{des7_of, desl_of, key_v2_of}
 use Rattle.ntlm_responses.specs.Responses.{response_v1_of, hashed_challenge_of, response_ess_of, temp_of, proof_of, response_v2_of, is_ess_pair, challenge_for_of}
 use Rattle.ntlm_responses.specs.Verification.{Verifies, PairVerifies, MessageVerifies, base_key_by, base_key_of}
-use Rattle.ntlm_responses.specs.Keys.{exchange_key_of}
 
 abbrev pub IsByte : ℕ → Type 0
 IsByte b = b < 256
-
--- ---- hashes
-
-pub length-nt_hash_of : (password : List ℕ) → length (nt_hash_of password) ≡ 16
-unfolding nt_hash_of
-length-nt_hash_of password = length-md4_of _
-
-pub All-nt_hash_of : (password : List ℕ) → All IsByte (nt_hash_of password)
-unfolding nt_hash_of
-All-nt_hash_of password = All-md4_of _
-
-pub length-lm_hash_of : (password : List ℕ) → length (lm_hash_of password) ≡ 16
-unfolding lm_hash_of
-length-lm_hash_of password =
-    let first = des7_of (take 7 (lm_key_of password)) lm_text in
-    let second = des7_of (take 7 (drop 7 (lm_key_of password))) lm_text in
-    let one : length first ≡ 8 = length-des_of _ _ in
-    let two : length second ≡ 8 = length-des_of _ _ in
-    omega (arith, length-append first second)
-
-pub All-lm_hash_of : (password : List ℕ) → All IsByte (lm_hash_of password)
-unfolding lm_hash_of
-All-lm_hash_of password = All-append IsByte _ _ (All-des_of _ _) (All-des_of _ _)
-
-pub length-key_v2_of : (hash user domain : List ℕ) → length (key_v2_of hash user domain) ≡ 16
-unfolding key_v2_of
-length-key_v2_of hash user domain = length-hmac_of _ _
-
-pub All-key_v2_of : (hash user domain : List ℕ) → All IsByte (key_v2_of hash user domain)
-unfolding key_v2_of
-All-key_v2_of hash user domain = All-hmac_of _ _
 
 -- ---- responses
 
@@ -187,9 +155,6 @@ unfolding base_key_of
 All-base_key_of hash user domain nt =
     elim (length nt == 24) as (λ v. All IsByte (base_key_by v hash user domain nt))
     [ true ↦ All-md4_of _ | false ↦ All-hmac_of _ _ ]
-
-pub exchange_key_of-plain : (base : List ℕ) (flags : ℕ) (challenge lm nt : List ℕ) → is_ess_pair flags lm nt ≡ false → exchange_key_of base flags challenge lm nt ≡ base
-exchange_key_of-plain base flags challenge lm nt plain = rw plain refl
 
 -- ---- what is written verifies
 

@@ -69,7 +69,3 @@ IsRest-trans last rest all one other = record {
   front = other.front ++ one.front;
   is = append_assoc other.front one.front last ∙ ap (λ z. other.front ++ z) one.is ∙ other.is;
 }
-
--- what was drawn leaves a rest
-pub IsRest-drawn : (old new : Drawing) → DrawsSome old new → IsRest new.left old.left
-IsRest-drawn old new some = record { front = some.draws; is = sym some.all.left }

@@ -1,5 +1,5 @@
 -- What crates above may use of `applied`: its length, its parts, that it undoes itself, and bounds.
-use Rattle.std.proofs.Common.{◌≡◌, ℕ, zero, suc, ◌+◌, ◌<◌, ◌≤◌, List, [], ◌∷◌, ◌++◌, length, get_or, set, All, swap, bit_xor, refl, ap, sym, ◌∙◌, add-zero, arith, lit<, lit≤}
+use Rattle.std.proofs.Common.{◌≡◌, ℕ, zero, suc, ◌+◌, ◌<◌, ◌≤◌, List, [], ◌∷◌, length, get_or, set, All, swap, bit_xor, refl, ap, ◌∙◌, arith, lit<, lit≤}
 use Rattle.std.proofs.lemmas.List.Edits.{length-swap}
 use Rattle.std.proofs.lemmas.List.Elements.{All-cons, All-set}
 use Rattle.std.proofs.lemmas.List.FromFn.{get_or-range_with_len}
@@ -19,20 +19,6 @@ pub length-shuffled : (key : List ℕ) (n : ℕ) → length (shuffled key n).tab
 unfolding shuffled
 length-shuffled key zero = refl
 length-shuffled key (suc n) = length-swap _ _ _ ∙ length-shuffled key n
-
-pub length-state_after : (key : List ℕ) (n : ℕ) → length (state_after key n).table ≡ 256
-unfolding state_after
-length-state_after key zero = length-shuffled key 256
-length-state_after key (suc n) = length-swap _ _ _ ∙ length-state_after key n
-
--- ---- parts
-
-pub applied-append : (key : List ℕ) (used : ℕ) (xs ys : List ℕ) → applied key used (xs ++ ys) ≡ applied key used xs ++ applied key (used + length xs) ys
-unfolding applied
-applied-append key used [] ys = ap (λ n. applied key n ys) (sym (add-zero used))
-applied-append key used (x ∷ xs) ys =
-    let place : used + 1 + length xs ≡ used + suc (length xs) = omega arith in
-    ap (λ zs. bit_xor x (key_byte key used) ∷ zs) (applied-append key (used + 1) xs ys ∙ ap (λ n. applied key (used + 1) xs ++ applied key n ys) place)
 
 -- ---- the same bytes of the key stream give back what they were combined with
 

@@ -1,7 +1,7 @@
 -- From the words of specs/Steps to those of specs/Rc4, and one step of each loop.
 use Rattle.std.proofs.Common.{◌≡◌, ℕ, zero, suc, ◌+◌, ◌-◌, ◌%◌, ◌<◌, ◌≤◌, List, [], ◌∷◌, ◌++◌, length, get_or, set, take, drop, swap, bit_xor, refl, ap, sym, ◌∙◌, add-one, add-zero, lit<, arith}
 use Rattle.std.proofs.lemmas.List.{drop_more, drop_all, take_more_set, drop-set-lt, append_assoc, append-nil, take_all, length-take-le, length-drop, drop-drop, take-append-drop}
-use Rattle.std.proofs.lemmas.List.Edits.{swap_is, swapped_from_swap, Swapped}
+use Rattle.std.proofs.lemmas.List.Edits.{swap_is}
 use Rattle.std.proofs.lemmas.Slice.{take-put_mid, drop-put_mid}
 use borrow.Rule.Slice.PartMut.{mid_of, put_mid}
 use Rattle.std.proofs.Math.Nat.{add-mod, mod-mod, mod-lt}
@@ -43,13 +43,6 @@ advanced-is key used (suc n) =
 -- what is left after the two writes that exchange entries
 pub exchanged : (table : List ℕ) (i j : ℕ) → length table ≡ 256 → i < 256 → j < 256 → set (set table i (get_or table j 0)) j (get_or table i 0) ≡ swap table i j
 exchanged table i j e hi hj = swap_is table i j 0 (omega arith) (omega arith)
-
--- the sum of the two entries is what it was
-pub exchanged_sum : (table : List ℕ) (i j : ℕ) → length table ≡ 256 → i < 256 → j < 256 → get_or (swap table i j) i 0 + get_or (swap table i j) j 0 ≡ get_or table i 0 + get_or table j 0
-exchanged_sum table i j e hi hj =
-    let s : Swapped (λ k. get_or table k 0) (λ k. get_or (swap table i j) k 0) i j =
-    swapped_from_swap table (swap table i j) i j 0 (omega arith) (omega arith) refl in
-    omega (arith, s.0, s.1)
 
 -- ---- one step of the schedule
 

@@ -18,10 +18,6 @@ behind_both one other None = refl
 behind_both one other (Some later) =
     ap (λ (bytes : List ℕ). Some (record { bytes = bytes; session = later.session })) (sym (append_assoc one other later.bytes))
 
-pub behind_nothing : (later : Option Secured) → behind [] later ≡ later
-behind_nothing None = refl
-behind_nothing (Some later) = refl
-
 -- one unit more is done
 pub secure_more : (seals : Bool) (session next : SessionState) (out bytes : List ℕ) (done : Bool) (unit : RpcUnit) (units : List RpcUnit) →
     secure_unit seals session (written unit) ≡ secured_if done bytes next → done ≡ true →

@@ -41,41 +41,6 @@ none_cases test item items none =
           (fail, none_on (place_of test items) (sym later ∙ none))
     ]
 
-before_cons : {A : Type 0} (test : A → Bool) (item : A) (items : List A) (place : ℕ) → test item ≡ false → IsFirstAt test items place → (earlier : ℕ) (d : A) → earlier < suc place → test (get_or (item ∷ items) earlier d) ≡ false
-before_cons test item items place fail first zero d lt = fail
-before_cons test item items place fail first (suc earlier) d lt = first.before earlier d (omega arith)
-
--- what is found stands there
-pub IsFirstAt-place_of : {A : Type 0} (test : A → Bool) (items : List A) (place : ℕ) → place_of test items ≡ Some place → IsFirstAt test items place
-IsFirstAt-place_of test [] place found = absurd cc
-IsFirstAt-place_of test (item ∷ items) place found =
-    elim (place_cases test item items place found) [
-      | inl h ↦ rw h.1 (record { inside = omega arith; passes = λ d. h.0; before = λ earlier d lt. absurd (omega arith) })
-      | inr h ↦
-          let first = IsFirstAt-place_of test items h.1.0 h.1.2 in
-          rw h.1.1 (record { inside = omega (arith, first.inside); passes = first.passes; before = before_cons test item items h.1.0 h.0 first })
-    ]
-
--- and what stands there is found
-pub place_of-IsFirstAt : {A : Type 0} (test : A → Bool) (items : List A) (place : ℕ) → IsFirstAt test items place → place_of test items ≡ Some place
-place_of-IsFirstAt test [] place first = absurd (omega (arith, first.inside))
-place_of-IsFirstAt test (item ∷ items) zero first = rw (first.passes item) refl
-place_of-IsFirstAt test (item ∷ items) (suc place) first =
-    let fail : test item ≡ false = first.before 0 item (omega arith) in
-    let later : IsFirstAt test items place = record {
-      inside = omega (arith, first.inside);
-      passes = first.passes;
-      before = λ earlier d lt. first.before (suc earlier) d (omega arith);
-    } in
-    rw (fail, place_of-IsFirstAt test items place later) refl
-
--- where nothing is found no item passes
-pub none_from_place_of : {A : Type 0} (test : A → Bool) (items : List A) → place_of test items ≡ None → All (λ item. test item ≡ false) items
-none_from_place_of test [] none = All-nil (λ item. test item ≡ false)
-none_from_place_of test (item ∷ items) none =
-    let parts = none_cases test item items none in
-    All-cons (λ x. test x ≡ false) item items parts.0 (none_from_place_of test items parts.1)
-
 -- where no item passes nothing is found
 pub place_of-none : {A : Type 0} (test : A → Bool) (items : List A) → All (λ item. test item ≡ false) items → place_of test items ≡ None
 place_of-none test [] none = refl

@@ -1,11 +1,11 @@
 -- Laws of little-endian numbers at a place of a byte string: what is read is what stands there, and what is written is
 -- read again. They are said once, over the width; at w16, w32 and w64 the premise `IsMessageWidth` is `tt`, and `256 ^
 -- byte_len w` is 2 ^ 16, 2 ^ 32 and 2 ^ 64.
-use Rattle.std.proofs.Common.{◌≡◌, ℕ, zero, suc, ◌+◌, ◌-◌, ◌^◌, ◌<◌, ◌≤◌, List, [], ◌∷◌, ◌++◌, length, take, drop, Some, None, refl, sym, ap, ◌∙◌, arith, inl, inr}
+use Rattle.std.proofs.Common.{◌≡◌, ℕ, zero, suc, ◌+◌, ◌-◌, ◌^◌, ◌<◌, ◌≤◌, List, [], ◌∷◌, ◌++◌, length, take, drop, Some, None, refl, sym, ◌∙◌, arith, inl, inr}
 use Rattle.std.specs.Prelude.{All}
 use Rattle.std.specs.Int.{Width, w8, w16, w32, w64, w128, byte_len, byte_at, bytes_low_first, from_le_bytes, to_le_bytes}
 use Rattle.std.proofs.lemmas.Bool.{cases_lt, le-leb, lt-leb}
-use Rattle.std.proofs.lemmas.List.{take_at, drop_at, take-append-drop, length-append, length-take, length-drop, drop-drop, take-append-le, drop-append-le, get_or-drop, get_or-take, get_or_past, get_or_append_left, get_or-append_right}
+use Rattle.std.proofs.lemmas.List.{take_at, drop_at, length-append, length-take, length-drop, get_or-drop, get_or-take, get_or_past, get_or_append_left, get_or-append_right}
 use Rattle.std.proofs.lemmas.List.Elements.{All-cons, All-get_or, All-nil}
 use Rattle.std.proofs.lemmas.Nat.{le_bytes_2, le_bytes_4, le_bytes_8, from_le_bytes-to_le_bytes_2, from_le_bytes-to_le_bytes_4, from_le_bytes-to_le_bytes_8}
 use Rattle.wire_base.specs.Numbers.{number_at, AreBytes}
@@ -136,36 +136,9 @@ bytes_from-number_at w bytes place n wide fits found =
     (sym
     (to_le_bytes-from_le_bytes w (take (byte_len w) (drop place bytes)) wide (omega (arith, length-take (byte_len w) (drop place bytes), length-drop place bytes)) (AreBytes-take (byte_len w) (drop place bytes) (AreBytes-drop place bytes fits))))
 
--- the bytes before, those of the number, and the rest
-pub parts_from-number_at : (w : Width) (bytes : List ℕ) (place n : ℕ) → IsMessageWidth w → AreBytes bytes → number_at w bytes place ≡ Some n → bytes ≡ take place bytes ++ (to_le_bytes w n ++ drop (place + byte_len w) bytes)
-parts_from-number_at w bytes place n wide fits found =
-    rw (← bytes_from-number_at w bytes place n wide fits found)
-    (sym (take-append-drop place bytes) ∙ ap (λ (t : List ℕ). take place bytes ++ t) (sym (take-append-drop (byte_len w) (drop place bytes)) ∙ ap (λ (t : List ℕ). take (byte_len w) (drop place bytes) ++ t) (drop-drop (byte_len w) place bytes)))
-
 -- what was written at a place is read there
 pub number_at-written : (w : Width) (front rest : List ℕ) (place n : ℕ) → IsMessageWidth w → n < 256 ^ byte_len w → length front ≡ place → number_at w (front ++ (to_le_bytes w n ++ rest)) place ≡ Some n
 number_at-written w front rest place n wide fits here =
     let len = length-to_le_bytes w n in
     number_at-inside w (front ++ (to_le_bytes w n ++ rest)) place (omega (arith, length-append front (to_le_bytes w n ++ rest), length-append (to_le_bytes w n) rest))
     ∙ rw (drop_at front (to_le_bytes w n ++ rest) place here, take_at (to_le_bytes w n) rest (byte_len w) len, from_le_bytes-to_le_bytes w n wide fits) refl
-
--- a number past the front is read in what follows the front
-pub number_at-append : (w : Width) (front rest : List ℕ) (place : ℕ) → number_at w (front ++ rest) (length front + place) ≡ number_at w rest place
-number_at-append w front rest place =
-    let len = length-append front rest in
-    elim (cases_lt (length rest) (place + byte_len w)) [
-      | inl past ↦ number_at-past w (front ++ rest) (length front + place) (omega arith) ∙ sym (number_at-past w rest place past)
-      | inr inside ↦
-          number_at-inside w (front ++ rest) (length front + place) (omega arith)
-          ∙ ap (λ (t : List ℕ). Some (from_le_bytes w (take (byte_len w) t))) (sym (drop-drop place (length front) (front ++ rest)) ∙ ap (drop place) (drop_at front rest (length front) refl))
-          ∙ sym (number_at-inside w rest place inside)
-    ]
-
--- a number in the front is read in the front
-pub number_at-front : (w : Width) (front rest : List ℕ) (place : ℕ) → place + byte_len w ≤ length front → number_at w (front ++ rest) place ≡ number_at w front place
-number_at-front w front rest place inside =
-    let len = length-append front rest in
-    let back = length-drop place front in
-    number_at-inside w (front ++ rest) place (omega arith)
-    ∙ ap (λ (t : List ℕ). Some (from_le_bytes w t)) (ap (take (byte_len w)) (drop-append-le place front rest (omega arith)) ∙ take-append-le (byte_len w) (drop place front) rest (omega arith))
-    ∙ sym (number_at-inside w front place inside)

@@ -197,8 +197,3 @@ unfolding sid_of sid_text
 sid_of-IsSidText text sid written =
     rw (written.whole, split_joined sid.authority sid.numbers (omega (arith, written.form.authority)) written.each)
     (parts_again sid written.form written.each)
-
--- a text writes one identifier
-pub same_from_IsSidText : (text : List ℕ) (one other : SidParts) → IsSidText text one → IsSidText text other → one ≡ other
-same_from_IsSidText text one other first second =
-    ok_is one other (sym (sid_of-IsSidText text one first) ∙ sid_of-IsSidText text other second)

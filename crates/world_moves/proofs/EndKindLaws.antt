@@ -42,11 +42,6 @@ by_member P own others (Controller at) = others (Controller at) refl
 by_member P own others (Member at) = own at
 by_member P own others (Client at) = others (Client at) refl
 
-pub by_client : (P : EndId → Type 0) → ((at : ℕ) → P (Client at)) → ((end : EndId) → is_client end ≡ false → P end) → (end : EndId) → P end
-by_client P own others (Controller at) = others (Controller at) refl
-by_client P own others (Member at) = others (Member at) refl
-by_client P own others (Client at) = own at
-
 -- What is said of an end where it is of that kind: of another end nothing is.
 abbrev pub IfController : (ℕ → Type 0) → EndId → Type 0
 IfController Fact end = (at : ℕ) → end ≡ Controller at → Fact at
@@ -89,11 +84,6 @@ module _ (P : EndId → EndStep → Type 0) (what : Event) (now : ℕ) (ends : E
 -- ---- seen from the ends of one kind: the other ends leave them as they are
 
 module _ (what : Event) (now : ℕ) (ends : EndStates) (chances : Drawing) where
-  pub controllers_by : (P : EndId → List ControllerState → Type 0) → ((end : EndId) → P end ends.controllers) →
-      ((at : ℕ) (c : ControllerState) → slice_get ends.controllers at ≡ Some c → P (Controller at) (slice_set ends.controllers at (controller_step_of c what now chances.left).state)) →
-      (end : EndId) → P end (end_step end what now ends chances).ends.controllers
-  controllers_by P same own end =
-      step_by (λ (one : EndId) (step : EndStep). P one step.ends.controllers) what now ends chances same own (λ at m is. same (Member at)) (λ at c is. same (Client at)) end
 
   pub members_by : (P : EndId → List MemberState → Type 0) → ((end : EndId) → P end ends.members) →
       ((at : ℕ) (m : MemberState) → slice_get ends.members at ≡ Some m → P (Member at) (slice_set ends.members at (member_step_of m what now chances.left).state)) →
@@ -106,16 +96,6 @@ module _ (what : Event) (now : ℕ) (ends : EndStates) (chances : Drawing) where
       (end : EndId) → P end (end_step end what now ends chances).ends.clients
   clients_by P same own end =
       step_by (λ (one : EndId) (step : EndStep). P one step.ends.clients) what now ends chances same (λ at c is. same (Controller at)) (λ at m is. same (Member at)) own end
-
-  pub controllers_same : (end : EndId) → is_controller end ≡ false → (end_step end what now ends chances).ends.controllers ≡ ends.controllers
-  controllers_same =
-      controllers_by (λ (end : EndId) (controllers : List ControllerState). is_controller end ≡ false → controllers ≡ ends.controllers) (λ end other. refl)
-      (λ at c is other. absurd (let never : true ≡ false = other in cc))
-
-  pub members_same : (end : EndId) → is_member end ≡ false → (end_step end what now ends chances).ends.members ≡ ends.members
-  members_same =
-      members_by (λ (end : EndId) (members : List MemberState). is_member end ≡ false → members ≡ ends.members) (λ end other. refl)
-      (λ at m is other. absurd (let never : true ≡ false = other in cc))
 
 -- ---- an end is made anew
 

@@ -17,7 +17,7 @@ use Rattle.world_moves.specs.declared.state.State.{State}
 use Rattle.world_moves.specs.Ends.{EndStep, client_done, client_step, controller_done, controller_step, end_step, member_done, member_step, no_step}
 use Rattle.world_moves.specs.Acting.{done, heard_by, hear_and_act}
 use Rattle.domain_world.specs.Past.{Coming, note_at, note_client, note_controller, note_member, note_messages}
-use Rattle.world_moves.proofs.EndKindLaws.{is_client, is_controller, is_member}
+use Rattle.world_moves.proofs.EndKindLaws.{is_controller}
 use Rattle.domain_world.proofs.Frames.TurnFrameLaws.{asked_leave, turns_told}
 
 -- ---- where an end isn't there, nothing is done and nothing written down
@@ -116,18 +116,6 @@ pub others_of_controllers : {X : Type 0} (part : Book → X) → OfControllers p
 others_of_controllers part of w piece s after b =
     book_by (λ (end : EndId) (now : Book). is_controller end ≡ false → part now ≡ part b) w piece s after b (λ end other. refl) (λ at c is other. absurd (let never : true ≡ false = other in cc))
     (λ at m is other. of.members m at w piece s after b) (λ at c is other. of.clients c at w piece s b)
-
-pub others_of_members : {X : Type 0} (part : Book → X) → OfMembers part → (w : Coming) (piece : List ℕ) (s after : State) (b : Book) (end : EndId) → is_member end ≡ false →
-    part (note_at (Some end) w piece s after b) ≡ part b
-others_of_members part of w piece s after b =
-    book_by (λ (end : EndId) (now : Book). is_member end ≡ false → part now ≡ part b) w piece s after b (λ end other. refl) (λ at c is other. of.controllers c at w piece s after b)
-    (λ at m is other. absurd (let never : true ≡ false = other in cc)) (λ at c is other. of.clients c at w piece s b)
-
-pub others_of_clients : {X : Type 0} (part : Book → X) → OfClients part → (w : Coming) (piece : List ℕ) (s after : State) (b : Book) (end : EndId) → is_client end ≡ false →
-    part (note_at (Some end) w piece s after b) ≡ part b
-others_of_clients part of w piece s after b =
-    book_by (λ (end : EndId) (now : Book). is_client end ≡ false → part now ≡ part b) w piece s after b (λ end other. refl) (λ at c is other. of.controllers c at w piece s after b)
-    (λ at m is other. of.members m at w piece s after b) (λ at c is other. absurd (let never : true ≡ false = other in cc))
 
 -- what was judged is written down at controllers alone, what was taken at members, and what was made at clients
 abbrev pub judgings_of : Book → List Judging

@@ -1,9 +1,9 @@
 -- What holds of each move between starts: what holds where a dial is answered, where a unit comes, and where time
 -- passes. It serves the laws of a logon that goes on.
-use Rattle.std.proofs.Common.{◌≡◌, ℕ, Bool, true, false, refl}
+use Rattle.std.proofs.Common.{◌≡◌, ℕ, Bool, true, false}
 use Rattle.world_moves.specs.declared.moves.Move.{Move}
 use Rattle.world_moves.specs.declared.moves.Move.TheVariants as move
-use Rattle.logon_runs.specs.Seen.Others.{IfSo, IsStepOn, is_onward}
+use Rattle.logon_runs.specs.Seen.Others.{IfSo, IsStepOn}
 
 unfoldable pub by_step : (P : Move → Type 0) → P move.Connect → P move.Onward → ((more : ℕ) → P (move.Tick more)) → (what : Move) → IsStepOn what → P what
 by_step P connects comes ticks move.Connect steps = connects
@@ -28,16 +28,3 @@ if_so true Fact is = is
 pub if_other : (hit : Bool) (Fact : Type 0) → hit ≡ false → IfSo hit Fact
 if_other false Fact other = tt
 if_other true Fact other = absurd (let never : true ≡ false = other in cc)
-
-pub onward_is : (what : Move) → is_onward what ≡ true → what ≡ move.Onward
-onward_is move.Onward is = refl
-onward_is move.Connect is = absurd (let never : false ≡ true = is in cc)
-onward_is (move.Tick more) is = absurd (let never : false ≡ true = is in cc)
-onward_is (move.Start number) is = absurd (let never : false ≡ true = is in cc)
-onward_is (move.Stranger number) is = absurd (let never : false ≡ true = is in cc)
-onward_is move.FailDial is = absurd (let never : false ≡ true = is in cc)
-onward_is move.Lose is = absurd (let never : false ≡ true = is in cc)
-onward_is (move.Deliver unit link) is = absurd (let never : false ≡ true = is in cc)
-onward_is (move.Hand link back bytes) is = absurd (let never : false ≡ true = is in cc)
-onward_is (move.Shut number) is = absurd (let never : false ≡ true = is in cc)
-onward_is (move.Restart number) is = absurd (let never : false ≡ true = is in cc)

@@ -309,11 +309,6 @@ Took May [] After = After May
 Took May (one ∷ []) After = May one × After (λ n. May n × (n ≢ one))
 Took May (one ∷ other ∷ more) After = ⊥
 
-took_so : (May : ℕ → Type 0) (links : List ℕ) (After Later : (ℕ → Type 0) → Type 0) → ((Might : ℕ → Type 0) → After Might → Later Might) → Took May links After → Took May links Later
-took_so May [] After Later so took = so May took
-took_so May (one ∷ []) After Later so took = (took.0, so (λ n. May n × (n ≢ one)) took.1)
-took_so May (one ∷ other ∷ more) After Later so took = absurd took
-
 alone_took : (May : ℕ → Type 0) (links : List ℕ) (at : AtLink) (said : Option Talk) (left : List (List ℕ)) (rest : List ℕ) (number : ℕ) (w : Work) →
     TakesOne (May number) number links (comes_to at said left) → Unserved (λ n p. May n × (n ≢ number)) w.links →
     Took May links (λ Might. Unserved (λ n p. Might n) (keep_link said rest number (after_link at w)).links)
