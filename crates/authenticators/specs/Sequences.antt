@@ -70,8 +70,8 @@ pub record Taking : Type 0 where
   pub answer : Result Unit NotNext
   pub sequence : SequenceState
 
--- the arguments: whether the credential is the awaited one, the sequence and the awaited credential
-abbrev pub taken_by : Bool → SequenceState → List ℕ → Taking
+-- what taking a credential answers, where this one is awaited
+abbrev pub taken_by : (is_awaited : Bool) (sequence : SequenceState) (awaited : List ℕ) → Taking
 taken_by true s awaited = record { answer = Ok tt; sequence = record s { awaited = None } }
 taken_by false s awaited = record { answer = Err (record { awaited = awaited }); sequence = s }
 
@@ -85,8 +85,8 @@ pub record Judging : Type 0 where
   pub answer : Result (List ℕ) NotNext
   pub sequence : SequenceState
 
--- the argument: whether the authenticator passes
-abbrev pub judge_by : Bool → SequenceState → Authenticator → Judging
+-- what judging an authenticator gives
+abbrev pub judge_by : (is_passed : Bool) (sequence : SequenceState) (given : Authenticator) → Judging
 judge_by true s given = record {
   answer = Ok (return_of s.key s.seed given.timestamp);
   sequence = record s { seed = next_seed s.seed given.timestamp };

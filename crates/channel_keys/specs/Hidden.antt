@@ -7,8 +7,8 @@ use Rattle.rc4_stream.specs.Rc4.{applied}
 abbrev pub is_zero : List ℕ → Bool
 is_zero key = bytes_eq key (replicate 16 0)
 
--- the argument: whether the key is all zeros
-abbrev pub crypt_by : Bool → List ℕ → List ℕ → List ℕ
+-- a key as it travels under a session key: one that is all zeros travels as it is
+abbrev pub crypt_by : (is_zeros : Bool) (session_key key : List ℕ) → List ℕ
 crypt_by true session_key key = key
 crypt_by false session_key key = applied session_key 0 key
 

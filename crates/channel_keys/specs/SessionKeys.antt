@@ -33,8 +33,8 @@ des_key_of secret client server =
 
 -- ---- the key that the flags call for
 
--- the argument: whether the strong key was negotiated
-abbrev pub key_by : Bool → List ℕ → List ℕ → List ℕ → List ℕ
+-- the session key of a secret and of the challenges of both sides
+abbrev pub key_by : (is_strong : Bool) (secret client server : List ℕ) → List ℕ
 key_by true secret client server = strong_key_of secret client server
 key_by false secret client server = des_key_of secret client server
 

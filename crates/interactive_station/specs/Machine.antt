@@ -176,8 +176,8 @@ granted info o now link work =
     }))
     (action.Told link (told.In info.domain info.effective_name (crypt_key (key_of_channel o) info.key))))
 
--- the argument: whether a status of 0 comes with validation of the level asked
-abbrev pub logged_on : Bool → Option SamInfo → SecureChannelState → ℕ → ℕ → StationWork → StationWork × Option StationTalk
+-- a Logon of status 0 grants where its validation is of the level that was asked
+abbrev pub logged_on : (is_asked_level : Bool) (info : Option SamInfo) (channel : SecureChannelState) (now link : ℕ) → StationWork → StationWork × Option StationTalk
 logged_on false info o now link work = ends (BadPeer drop_cause.BadReply) link work
 logged_on true None o now link work = ends (BadPeer drop_cause.BadReply) link work
 logged_on true (Some info) o now link work = (granted info o now link work, None)
@@ -187,8 +187,8 @@ abbrev pub logged_off : Option (List ℕ × List ℕ) → ℕ → StationWork �
 logged_off None link work = ends (BadPeer drop_cause.BadReply) link work
 logged_off (Some names) link work = ends (Off names.0 names.1) link work
 
--- the reply to a call on the channel; the argument: whether its status is 0
-abbrev pub settle_reply : Bool → Reply → SecureChannelState → ℕ → ℕ → StationWork → StationWork × Option StationTalk
+-- the reply to a call on the channel
+abbrev pub settle_reply : (is_status_0 : Bool) (reply : Reply) (channel : SecureChannelState) (now link : ℕ) → StationWork → StationWork × Option StationTalk
 settle_reply false (reply.Logon r) o now link work = ends (Refused r.status) link work
 settle_reply true (reply.Logon r) o now link work = logged_on (r.level == validation_level) r.info o now link work
 settle_reply false (reply.Logoff r) o now link work = ends (Refused r.status) link work
@@ -206,8 +206,8 @@ returned_in (reply.Logon r) = r.returned
 returned_in (reply.Logoff r) = r.returned
 returned_in _ = None
 
--- the argument: whether the credential that is returned is the one awaited
-abbrev pub settle_return : Bool → Reply → SecureChannelState → ℕ → ℕ → StationWork → StationWork × Option StationTalk
+-- a reply counts where the credential that it returns is the one awaited
+abbrev pub settle_return : (is_awaited_one : Bool) (reply : Reply) (channel : SecureChannelState) (now link : ℕ) → StationWork → StationWork × Option StationTalk
 settle_return false r o now link work = ends (BadPeer drop_cause.NotNext) link work
 settle_return true r o now link work = settle_reply (status_in r == 0) r (after_return true o) now link work
 
@@ -215,8 +215,8 @@ abbrev pub is_returned : SecureChannelState → Option Authenticator → Bool
 is_returned o None = false
 is_returned o (Some returned) = is_awaited o.awaited returned.credential
 
--- the argument: whether the status is ACCESS_DENIED
-abbrev pub settle_call : Bool → Standing → Reply → ℕ → ℕ → StationWork → StationWork × Option StationTalk
+-- a reply of status ACCESS_DENIED drops the channel, whatever credential it returns
+abbrev pub settle_call : (is_denied : Bool) (how : Standing) (reply : Reply) (now link : ℕ) → StationWork → StationWork × Option StationTalk
 settle_call true how r now link work = ends (BadPeer drop_cause.Denied) link work
 settle_call false (standing.Open o) r now link work = settle_return (is_returned o (returned_in r)) r o now link work
 settle_call false _ r now link work = ends (BadPeer drop_cause.NotNext) link work
@@ -245,8 +245,8 @@ sends c limit link work = (
   Some (record { link = link; joiner = None; number = work.running.next_call; step = Asked c }),
 )
 
--- the argument: whether the first context is accepted
-abbrev pub hear_ack : Bool → StationStep → ℕ → ℕ → StationWork → StationWork × Option StationTalk
+-- a bind_ack on a link that asks for a call
+abbrev pub hear_ack : (is_accepted : Bool) (step : StationStep) (receive link : ℕ) → StationWork → StationWork × Option StationTalk
 hear_ack false st receive link work = ends (BadPeer drop_cause.Bind) link work
 hear_ack true (Bound c) receive link work = sends c (limit_of receive) link work
 hear_ack true (Asked c) receive link work = ends (BadPeer drop_cause.BadReply) link work
@@ -260,8 +260,8 @@ hear_body (Bind send receive group contexts) st now link work = ends (BadPeer dr
 hear_body (Request hint context opnum stub) st now link work = ends (BadPeer drop_cause.BadReply) link work
 hear_body Auth3 st now link work = ends (BadPeer drop_cause.BadReply) link work
 
--- the argument: whether the unit has the number that is waited for
-abbrev pub hear_number : Bool → RpcUnit → Option RpcUnit → ℕ → StationTalk → StationWork → StationWork × Option StationTalk
+-- a unit of another number than the one that is waited for is passed over
+abbrev pub hear_number : (is_awaited_number : Bool) (unit : RpcUnit) (joiner : Option RpcUnit) (now : ℕ) → StationTalk → StationWork → StationWork × Option StationTalk
 hear_number false unit joiner now talk work = (work, Some (record talk { joiner = joiner }))
 hear_number true unit joiner now talk work = hear_body unit.body talk.step now talk.link work
 
@@ -313,15 +313,15 @@ with_talk (Some talk) rest work = record work { running = record work.running { 
 abbrev pub after_stream : List ℕ → StationWork × Option StationTalk → List (List ℕ) → Result (Part StationWork) StepRefused
 after_stream rest served left = stays (with_talk served.1 rest served.0) left
 
--- the argument: whether the piece came on the station's link
-abbrev pub by_piece : Bool → List ℕ → LinkState StationTalk → ℕ → StationWork → List (List ℕ) → Result (Part StationWork) StepRefused
+-- a piece that came
+abbrev pub by_piece : (is_own_link : Bool) (piece : List ℕ) (link : LinkState StationTalk) (now : ℕ) → StationWork → List (List ℕ) → Result (Part StationWork) StepRefused
 by_piece false piece link now work left = stays work left
 by_piece true piece link now work left =
     then_part (served_cut (station_server now) (cut_stream (link.rest ++ piece)) work link.talk left)
     (after_stream (cut_stream (link.rest ++ piece)).rest)
 
--- the argument: whether it is the station's link that was closed
-abbrev pub by_close : Bool → StationWork → List (List ℕ) → Result (Part StationWork) StepRefused
+-- a link was closed
+abbrev pub by_close : (is_own_link : Bool) → StationWork → List (List ℕ) → Result (Part StationWork) StepRefused
 by_close false work left = stays work left
 by_close true work left = stays (conclude (NoAnswer no_station.LinkClosed) work) left
 

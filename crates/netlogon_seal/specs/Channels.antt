@@ -31,8 +31,8 @@ pub record Sealing : Type 0 where
   pub unit : List ℕ
   pub state : NlState
 
--- the arguments: whether the numbers are used up, the end, the unit, its range and the confounder
-abbrev pub seal_by : Bool → NlState → List ℕ → ℕ → ℕ → List ℕ → Sealing
+-- an end seals a unit from one place to another, with a confounder
+abbrev pub seal_by : (is_spent : Bool) (end : NlState) (unit : List ℕ) (from to : ℕ) (confounder : List ℕ) → Sealing
 seal_by true s unit from to confounder = record { answer = Err Spent; unit = unit; state = s }
 seal_by false s unit from to confounder = record {
   answer = Ok tt;

@@ -57,8 +57,8 @@ pub record Taking : Type 0 where
   pub state : NlState
   pub way : Way
 
--- the argument before the end: the units under way
-abbrev pub take_by : List SentUnit → NlState → Way → Taking
+-- an end takes the first of the units that are under way on its way
+abbrev pub take_by : (under_way : List SentUnit) (end : NlState) (way : Way) → Taking
 take_by [] s way = record { state = s; way = way }
 take_by (x ∷ rest) s way =
     let o = open_of s x.unit x.from x.to in

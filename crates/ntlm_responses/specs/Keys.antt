@@ -18,8 +18,8 @@ exchange_key_of base flags challenge lm nt = exchange_key_by (client_challenge_o
 
 -- ---- ExportedSessionKey (3.1.5.1.2 and 3.2.5.1.2)
 
--- the arguments: whether the key field is used, and whether it has 16 bytes
-abbrev pub exported_key_by : Bool → Bool → List ℕ → List ℕ → Option (List ℕ)
+-- the exported key, where the exchange key and the message's key field are these
+abbrev pub exported_key_by : (is_exchanged is_16_bytes : Bool) (exchange key : List ℕ) → Option (List ℕ)
 exported_key_by true true exchange key = Some (applied exchange 0 key)
 exported_key_by true false exchange key = None
 exported_key_by false _ exchange key = Some exchange

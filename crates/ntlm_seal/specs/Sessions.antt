@@ -42,9 +42,8 @@ pub record Sealing : Type 0 where
   pub unit : List ℕ
   pub session : SessionState
 
--- the arguments: whether the session is broken, whether its sending direction is spent, the session, the plain unit and
--- its range
-abbrev pub seal_by : Bool → Bool → SessionState → List ℕ → ℕ → ℕ → Sealing
+-- a session seals a plain unit from one place to another
+abbrev pub seal_by : (is_broken is_spent : Bool) (session : SessionState) (plain : List ℕ) (from to : ℕ) → Sealing
 seal_by true _ s unit from to = record { answer = Err Broken; unit = unit; session = s }
 seal_by false true s unit from to =
     record { answer = Err Spent; unit = unit; session = record s { broken = true } }
@@ -109,8 +108,8 @@ judgement_with answer s from to = record {
   session = record s { receiving = direction_left answer s.receiving from to; broken = is_err answer };
 }
 
--- the arguments: whether the session is broken, the session, the plain unit and its range, and the signature
-abbrev pub judge_by : Bool → SessionState → List ℕ → ℕ → ℕ → List ℕ → Judgement
+-- a session judges a plain unit, from one place to another, by the signature that came with it
+abbrev pub judge_by : (is_broken : Bool) (session : SessionState) (plain : List ℕ) (from to : ℕ) (signature : List ℕ) → Judgement
 judge_by true s plain from to signature = record { answer = Err Broken; session = s }
 judge_by false s plain from to signature =
     judgement_with (verdict_of s.receiving plain from to signature) s from to

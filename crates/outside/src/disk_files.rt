@@ -85,7 +85,7 @@ const MOST_PATH_BYTES: usize = 4096;
 const BESIDE: [u8; 4] = *b".new";
 
 /// Whether the file was replaced: the bytes are written beside it, and that file is then renamed, so that a stop in
-/// between leaves the old one.
+/// between leaves the old one. Then the system is told to keep the folder, so that the renamed file outlives a power cut.
 fn replaces<R: fs::Files>(files: &R, name: &[u8], bytes: &[u8]) -> bool {
     if name.len() > MOST_PATH_BYTES {
         return false;
@@ -100,7 +100,7 @@ fn replaces<R: fs::Files>(files: &R, name: &[u8], bytes: &[u8]) -> bool {
         return false;
     };
     if writes(files, path, beside, bytes) && fs::rename(files, beside, path).is_ok() {
-        return true;
+        return keeps_folder(files, folder_of(path));
     }
     let _removed = fs::remove_file(files, beside);
     false
@@ -118,6 +118,23 @@ fn writes<R: fs::Files>(files: &R, path: &str, beside: &str, bytes: &[u8]) -> bo
         }
     }
     file.write_all(bytes).is_ok() && file.sync_all().is_ok()
+}
+
+/// The folder of a file: its path up to the last `/`.
+fn folder_of(path: &str) -> &str {
+    match path.rsplit_once('/') {
+        None => ".",
+        Some(("", _)) => "/",
+        Some((folder, _)) => folder,
+    }
+}
+
+/// Whether the system wrote down the names of the folder's files.
+fn keeps_folder<R: fs::Files>(files: &R, folder: &str) -> bool {
+    match File::open(files, folder) {
+        Ok(folder) => folder.sync_all().is_ok(),
+        Err(_) => false,
+    }
 }
 
 /// The whole content of the file.
