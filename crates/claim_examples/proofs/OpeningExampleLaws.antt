@@ -42,7 +42,7 @@ runs_here state running at runs =
     let one : keeping_controller small_seed ≡ state = some_is (keeping_controller small_seed) state at in
     some_is (keeping_running small_seed) running (ap ControllerState.running one ∙ runs)
 
--- the argument: whether the name is that computer's
+-- the small run keeps FILE1's channel alone, and it is the last that was accepted
 last_by : (hit : Bool) (computer : List ℕ) (channel : ChannelIdentity) → same_name computer (codes "FILE1") ≡ hit →
     identity_by 0 computer (if hit then Some (small_channel small_seed) else None) ≡ Some channel → IsLastAccepted 0 computer channel (small_accepted ∷ [])
 last_by true computer channel is keeps = record {

@@ -49,8 +49,8 @@ abbrev pub sent_at : ℕ → Mark → Sent
 sent_at at mark = record { mark = mark; at = at }
 
 -- what the new units of the bag were made for: those on the link in that direction by these marks in order, the others
--- for no channel. The argument: whether the unit is on the link in that direction
-abbrev pub marks_by : Bool → List Mark → (List Mark → List Mark) → List Mark
+-- for no channel
+abbrev pub marks_by : (is_on_link : Bool) (marks : List Mark) (later : List Mark → List Mark) → List Mark
 marks_by false marks later = Plain ∷ later marks
 marks_by true [] later = Plain ∷ later []
 marks_by true (mark ∷ marks) later = mark ∷ later marks

@@ -70,7 +70,7 @@ key_so g a o table name account moment draws arrives =
     (ap (λ (k : List ℕ). crypt_key (key_of_channel o) (crypt_key (key_of_channel o) k)) (logons_are_granted.has_key table name account (base_key g.task (message_for g a)) moment)
     ∙ calls_can_go.shown (key_of_channel o) (base_key g.task (message_for g a)) arrives)
 
--- the argument: whether units are signed
+-- where units aren't signed, no session stands on the key
 sessions_so : (signed : Bool) (level : ℕ) (key found : List ℕ) (flags agreed : ℕ) → is_signed level ≡ signed → (signed ≡ true → found ≡ key) →
     AreSessions 1 level (session_for level key flags) (session_in key agreed) → AreSessions 1 level (session_for level key flags) (session_in found agreed)
 sessions_so true level key found flags agreed signed same are = subst (λ (k : List ℕ). AreSessions 1 level (session_for level key flags) (session_in k agreed)) (sym (same refl)) are

@@ -452,7 +452,7 @@ abbrev pub message_of : ClientAt → ClientPlan → List ℕ → List ℕ → Li
 message_of w plan challenge key bytes =
     record { at = w.at; client = w.client; link = w.link; plan = plan; challenge = challenge; bytes = bytes; key = key }
 
--- the argument: whether the message fits into a unit
+-- what is written down of a message, whether or not it fits into a unit
 fit_down : (fits : Bool) (units : List (List ℕ)) (why : Option UnitRefused) (w : ClientAt) (challenge key bytes : List ℕ) (offer : ServerOffer) (link : ℕ) (work : Work) (left : List (List ℕ)) → IsFresh work.task.level work →
     let answer : Work × Option Talk = answers_by (bytes_if fits (auth3_unit work.task.level bytes)) (terms_of work.task.level offer key) link work in
     PartDown work.task.level (message_of w work.task challenge key bytes ∷ later_notes units w answer.0 answer.1 left) (LaterOf units why answer.0 answer.1 left)

@@ -81,8 +81,8 @@ abbrev pub IsNamedBy : Caller → MemberPlan → Type 0
 IsNamedBy caller plan = caller ≡ record (caller_of plan) { secret = caller.secret }
 
 -- What waits for its turn is what is asked for the logons that are kept, in their order; the turn is for the first of
--- them. Who asks has the names of the plan; that the secret is the plan's is said apart. The argument: whether the dial
--- of a turn waits or its link is open.
+-- them. Who asks has the names of the plan; that the secret is the plan's is said apart. `dialled` is whether the
+-- dial of a turn waits or its link is open.
 pub record AsksForKept (dialled : Bool) (logons : Logons) : Type 0 where
   pub caller : IsNamedBy logons.channel.caller logons.plan
   pub secret : logons.channel.caller.secret ≡ logons.plan.secret

@@ -69,8 +69,8 @@ abbrev pub channel_in : ℕ → Option (List ℕ) → Option SecureChannelState 
 channel_in controller None checks = None
 channel_in controller (Some computer) checks = identity_by controller computer checks
 
--- the channel that an accepted NetrServerAuthenticate2 opens; the arguments are those of the controller's own cases
-abbrev pub opened_if : Bool → SecureChannelState → Option SecureChannelState
+-- the channel that an accepted NetrServerAuthenticate2 opens, by the controller's own cases
+abbrev pub opened_if : (is_accepted : Bool) (channel : SecureChannelState) → Option SecureChannelState
 opened_if false channel = None
 opened_if true channel = Some channel
 

@@ -80,7 +80,7 @@ counted_append (one ∷ given) later =
     ap (λ rest. counted_of one.0 (one.1 ∷ []) ++ rest) (counted_append given later)
     ∙ sym (append_assoc (counted_of one.0 (one.1 ∷ [])) (counted_given given) (counted_given later))
 
--- the argument: whether what the end gives is counted
+-- what is counted of an end's actions: all of an end that is counted, none of another
 counted_by : (hit : Bool) (end : EndId) (actions : List Action) → is_counted end ≡ hit → counted_given (given_by end actions) ≡ (if hit then actions else [])
 counted_by false end [] is = refl
 counted_by true end [] is = refl

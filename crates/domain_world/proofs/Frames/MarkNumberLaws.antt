@@ -57,7 +57,7 @@ given_later : (other : Mark) (given : List Mark) (first n : ℕ) (mark : Mark) �
 given_later other given first n mark it = record { place = suc it.place; is = omega (arith, it.is); there = it.there }
 
 module _ (link : ℕ) (back : Bool) where
-  -- the argument: whether the unit is on the link in that direction
+  -- a unit on the link in that direction takes the next mark
   first_numbered : (hit : Bool) (units : List BagUnit) (marks : List Mark) (first : ℕ) →
       ((others : List Mark) → AtNumbers (IsGiven (marks_of link back units others) (first + 1)) others (places_from (is_sent_on link back) (first + 1) units)) →
       AtNumbers (IsGiven (marks_by hit marks (λ rest. marks_of link back units rest)) first) marks

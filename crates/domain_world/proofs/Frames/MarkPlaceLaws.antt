@@ -103,7 +103,7 @@ settled_length number bag = length_by_found (slice_get bag number) number bag
 
 -- ---- marks
 
--- the argument: whether the unit is on the link in that direction
+-- a unit has one mark, whether or not it is on the link in that direction
 length_by : (test : Bool) (marks : List Mark) (later : List Mark → List Mark) (count : ℕ) → ((rest : List Mark) → length (later rest) ≡ count) → length (marks_by test marks later) ≡ suc count
 length_by false marks later count is = ap suc (is marks)
 length_by true [] later count is = ap suc (is [])

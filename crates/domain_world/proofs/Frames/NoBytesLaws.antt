@@ -54,7 +54,7 @@ record StepsSo (running : Option Running) (c : ControllerState) (what : Event) (
   keeps : KeepsComputers running (step_on running c what now left).state.running
   rest : (step_on running c what now left).left ≡ left
 
--- a link opens; the argument: whether as many links are open as may be
+-- what a controller does where a link opens, whether or not as many are open as may be
 record OpensSo (full : Bool) (link : ℕ) (links : LinkMap) (running : Running) (c : ControllerState) (left : List (List ℕ)) : Type 0 where
   acts : AllByRecursion IsBeside
       (actions_by (step_by (λ (after : Desk × LinkMap). after.0.work.actions) (λ after. state_after c after) (halted c) left

@@ -82,8 +82,8 @@ IfPlaced (Opening c number) more = NoRequests more ⊎ IsPlaced more (Opening c 
 IfPlaced (Opened c number request) more = NoRequests more
 IfPlaced (ReplyTo c number request) more = NoRequests more
 
--- the argument: whether there is one
-abbrev pub Placed : Bool → Mark → List Mark → Type 0
+-- where a request goes out, its mark is placed among those that are written down
+abbrev pub Placed : (is_there : Bool) (mark : Mark) (more : List Mark) → Type 0
 Placed false mark more = NoRequests more
 Placed true mark more = IfPlaced mark more
 

@@ -322,9 +322,8 @@ abbrev pub CoherentIf : Option Running → Type 0
 CoherentIf None = Unit {0}
 CoherentIf (Some running) = IsCoherent running.logons.channel
 
--- the mark of the request that goes out, if one does, stands among those that are written down; the argument: what the
--- step comes to
-abbrev pub PlacedBy : Result (Part DialWork) StepRefused → TurnNote → List Mark → Type 0
+-- the mark of the request that goes out, if one does, stands among those that are written down
+abbrev pub PlacedBy : (step : Result (Part DialWork) StepRefused) (note : TurnNote) (more : List Mark) → Type 0
 PlacedBy (Err why) note more = NoRequests more
 PlacedBy (Ok part) note more = Placed note.sends note.mark more
 

@@ -47,8 +47,8 @@ pub record LastIsOut (Done : ℕ → Type 0) (marks : List Mark) (c : ChannelIde
   pub answered : AllDone Done earlier
   pub out : slice_get marks last.0 ≡ Some (Calling c number last.1)
 
--- by what the turn waits for; the argument: its timestamp, where its call waits for its bind
-abbrev pub AreFarBy : (ℕ → Type 0) → List Mark → ChannelIdentity → ℕ → Step → ℕ → List (ℕ × ℕ) → List ℕ → Type 0
+-- by what the turn waits for; a call that waits for its bind has the timestamp `bound`
+abbrev pub AreFarBy : (Done : ℕ → Type 0) (marks : List Mark) (channel : ChannelIdentity) (number : ℕ) (step : Step) (bound : ℕ) (made : List (ℕ × ℕ)) (stamps : List ℕ) → Type 0
 AreFarBy Done marks c number (step.Bind what) bound made stamps = (stamps ≡ stamps_of made ++ bound ∷ []) × AllDone Done made
 AreFarBy Done marks c number (step.Reply q) bound made stamps = LastIsOut Done marks c number made stamps
 

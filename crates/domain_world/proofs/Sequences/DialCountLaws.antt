@@ -18,8 +18,8 @@ abbrev pub one_if : Bool → ℕ
 one_if false = 0
 one_if true = 1
 
--- the argument: whether it asks at that end
-abbrev pub counted : Bool → Action → ℕ
+-- the dials of an action, of an end at which the requester asks
+abbrev pub counted : (is_its_end : Bool) → Action → ℕ
 counted false what = 0
 counted true what = dial_of what
 
@@ -69,7 +69,7 @@ pub forgotten_few : (who : RequesterId) (end : EndId) (dials : List WaitingDial)
 forgotten_few who end [] = omega arith
 forgotten_few who end (dial ∷ dials) = forgotten_one (is_of_other end dial) who end dial dials (forgotten_few who end dials)
 
--- the argument: whether it is one of its dials
+-- where the requester's dials are forgotten, none of them waits
 gone_one : (hit : Bool) (who : RequesterId) (dial : WaitingDial) (dials : List WaitingDial) → asks_at who dial.end ≡ hit →
     waiting_dials who (filter (is_of_other (asking_end who)) dials) ≡ 0 → waiting_dials who (filter (is_of_other (asking_end who)) (dial ∷ dials)) ≡ 0
 gone_one true who dial dials is none =

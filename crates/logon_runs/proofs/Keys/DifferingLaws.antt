@@ -138,7 +138,7 @@ signed_by task sent call stub on s few below short plain is_session has is t =
           signed_reply_sent task.level call stub (mirror s) s short plain t on at (ap Bound.level is.bound) (ap Bound.context is.bound) (ap limit_of is.bound) is_session;
     })
 
--- the arguments: whether the level is the one without signatures, and the session
+-- a reply is sent plain at the level without signatures, else under the session that is kept
 stub_reply : (plain : Bool) (session : Option SessionState) (task : ClientPlan) (sent call : ℕ) (stub : List ℕ) (on : LoggedOn) → is_plain task.level ≡ plain → on.session ≡ session →
     sent < 2 ^ 32 - 1 → call < 2 ^ 32 → length stub ≤ 5792 → IsLetIn task sent on → Serves task sent (λ at. send_reply (is_plain task.level) call 0 stub on None at)
 unfolding Serves
@@ -204,7 +204,7 @@ answer_fits true opnum name stub few are = memo_answer_fits (opnum == 0) (opnum 
 
 -- ---- a request in plain form
 
--- the argument: whether the stub is short enough for a call
+-- a request whose stub is too long for a call is refused
 joined_if : (fits : Bool) (task : ClientPlan) (sent call hint opnum : ℕ) (stub : List ℕ) (trailer : Option Trailer) (on : LoggedOn) (bytes : List ℕ) → nat_le (length stub) 65536 ≡ fits →
     unit_of bytes ≡ Ok (single_unit call (Request hint 0 opnum stub) trailer) → sent < 2 ^ 32 - 1 → call < 2 ^ 32 → IsLetIn task sent on → Serves task sent (λ at. join_unit (unit_of bytes) on None at)
 unfolding joined_of
@@ -246,7 +246,7 @@ opened (Some s) task sent call hint opnum stub trailer on bytes is_session read 
     (λ at. ap (λ (other : Option SessionState). open_request other bytes on None at) is_session)
     (opened_by (open_unit (is_sealed on.bound.level) s bytes) task sent call hint opnum stub trailer on s bytes refl read few below (subst (HasSent sent) is_session is.session) is)
 
--- the argument: whether the trailer is the one that is due
+-- a request without the trailer that is due is refused
 signed_if : (due : Bool) (task : ClientPlan) (sent call hint opnum : ℕ) (stub : List ℕ) (trailer : Option Trailer) (on : LoggedOn) (bytes : List ℕ) → is_due on.bound.level trailer ≡ due →
     unit_of bytes ≡ Ok (single_unit call (Request hint 0 opnum stub) trailer) → sent < 2 ^ 32 - 1 → call < 2 ^ 32 → IsLetIn task sent on → Serves task sent (λ at. unit_in false bytes on None at)
 signed_if false task sent call hint opnum stub trailer on bytes due read few below is =
@@ -262,7 +262,7 @@ signed_if true task sent call hint opnum stub trailer on bytes due read few belo
     ∙ ap (λ (d : Bool). signed_unit (cause_by (Request hint 0 opnum stub) d) bytes on None at) due)
     (opened on.session task sent call hint opnum stub trailer on bytes refl read few below is)
 
--- the argument: whether the level is the one without signatures
+-- at the level without signatures a request is taken as it is
 served_if : (plain : Bool) (task : ClientPlan) (sent call opnum : ℕ) (on : LoggedOn) (bytes : List ℕ) → is_plain on.bound.level ≡ plain → IsRequest call opnum bytes → sent < 2 ^ 32 - 1 → call < 2 ^ 32 →
     IsLetIn task sent on → Serves task sent (λ at. unit_in (is_plain on.bound.level) bytes on None at)
 served_if true task sent call opnum on bytes plain r few below is =
@@ -354,7 +354,7 @@ fails_so task sent (client_question.Echo name) outcome = record { outcome = outc
 
 -- ---- the stub of a whole response
 
--- the argument: whether nothing is echoed
+-- a client that echoes nothing ends where its name comes
 name_if : (silent : Bool) (task : ClientPlan) (sent : ℕ) (terms : Terms) (name : List ℕ) → AreTerms sent terms →
     HearsAs task sent client_question.Who (λ link now. client.hear_name_by silent name terms link (client.work_of task now))
 unfolding HearsAs
@@ -366,7 +366,7 @@ name_heard : (read : Result (List ℕ) MemoRefused) (task : ClientPlan) (sent : 
 name_heard (Err why) task sent terms are = fails_so task sent client_question.Who (BadPeer peer_fault.BadReply)
 name_heard (Ok name) task sent terms are = name_if (task.echo == 0) task sent terms name are
 
--- the argument: whether the same bytes came back
+-- other bytes than those that were sent are no echo
 echo_if : (same : Bool) (task : ClientPlan) (sent : ℕ) (terms : Terms) (name : List ℕ) →
     HearsAs task sent (client_question.Echo name) (λ link now. client.hear_echo_by same name terms link (client.work_of task now))
 echo_if true task sent terms name = fails_so task sent (client_question.Echo name) (In name terms.key task.echo)
@@ -384,7 +384,7 @@ stub_heard (client_question.Echo name) task sent terms stub are = echo_heard (ec
 
 -- ---- a response
 
--- the argument: whether the stub is short enough for a call
+-- a response whose stub is too long for a call is refused
 fragment_if : (fits : Bool) (question : Question) (task : ClientPlan) (sent call hint context : ℕ) (stub : List ℕ) (trailer : Option Trailer) (terms : Terms) → nat_le (length stub) 65536 ≡ fits →
     AreTerms sent terms →
     HearsAs task sent question (λ link now. client.hear_fragment (single_unit call (Response hint context stub) trailer) None terms question link (client.work_of task now))
@@ -414,7 +414,7 @@ opened_heard (Some secured) question task sent call hint context stub trailer te
     (λ link now. ap (λ (u : Result RpcUnit UnitRefused). client.hear_unit_opened u None later question link (client.work_of task now)) taken.0.1)
     (fragment_heard question task sent call hint context taken.0.0 trailer later (record { receive = are.receive; session = taken.1 }))
 
--- the argument: whether the trailer is of the level
+-- a response whose trailer is of another level is refused
 secured_heard : (level : Bool) (question : Question) (task : ClientPlan) (sent call hint context : ℕ) (stub : List ℕ) (trailer : Option Trailer) (terms : Terms) (s : SessionState) (bytes : List ℕ) →
     unit_of bytes ≡ Ok (single_unit call (Response hint context stub) trailer) → HasSent sent (Some s) → AreTerms sent terms →
     HearsAs task sent question (λ link now. client.hear_secured level bytes s None terms question link (client.work_of task now))
@@ -443,7 +443,7 @@ body_heard Auth3 question task sent call trailer terms bytes read are = fails_so
 body_heard (Request hint context opnum stub) question task sent call trailer terms bytes read are = fails_so task sent question _
 body_heard (Fault hint context status) question task sent call trailer terms bytes read are = fails_so task sent question _
 
--- the argument: whether the unit has the number that is waited for
+-- a unit of another number than the one that is waited for is refused
 call_heard : (due : Bool) (body : Body) (question : Question) (task : ClientPlan) (sent call : ℕ) (trailer : Option Trailer) (terms : Terms) (bytes : List ℕ) →
     unit_of bytes ≡ Ok (single_unit call body trailer) → AreTerms sent terms →
     HearsAs task sent question (λ link now. client.hear_call due (single_unit call body trailer) bytes (client.talk_on link None (client_phase.Asked terms question)) (client.work_of task now))

@@ -23,13 +23,13 @@ bytes_of found = made_of (λ (bytes : List ℕ). bytes) found
 value_is : (one other : List ℕ) → ◌≡◌ {A = Result (List ℕ) MemoRefused} (Ok one) (Ok other) → one ≡ other
 value_is one other is = cc
 
--- the argument: whether so many bytes are there
+-- what is read of a count has no more bytes than the count
 raw_fits : (there : Bool) (rest : List ℕ) (count start end : ℕ) (cursor : Cursor) (bytes : List ℕ) →
     bytes_of (refused_as memo_refused (item_by (if there then Some (take count rest) else None) start end cursor)) ≡ Ok bytes → length bytes ≤ count
 raw_fits true rest count start end cursor bytes is = omega (arith, ap length (value_is (take count rest) bytes is), length-take count rest)
 raw_fits false rest count start end cursor bytes is = absurd cc
 
--- the argument: whether the count is at most 4,096
+-- a count of more than 4,096 is refused
 counted_fits : (few : Bool) (count : ℕ) (why : MemoRefused) (cursor : Cursor) (bytes : List ℕ) → nat_le count 4096 ≡ few →
     bytes_of (guarded few why (lifted memo_refused (read (raw count))) cursor) ≡ Ok bytes → length bytes ≤ 4096
 unfolding read_raw

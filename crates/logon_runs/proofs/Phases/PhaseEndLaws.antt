@@ -158,7 +158,7 @@ over p s after a e left moment same fits shows = (
   record { front = []; few = omega arith; are = same ∙ sym shows.left },
 )
 
--- the argument: whether nothing is echoed
+-- a client that echoes nothing ends where its name comes, and another one asks for the echo
 named_by : (silent : Bool) (p : Coming) (s : State) (a : Asked) (e : Ending) (on : LoggedOn) (one other : Option SessionState)
     (back : ReplyGoes 2 p.meeting.task.level 2 (written_who_reply (told_of p)) other one) (left : List (List ℕ)) (moment : ℕ) → IsKnown p → (p.meeting.task.echo == 0) ≡ silent →
     Fits p (Named a e on one other back) → Shows s (scene_of p (Named a e on one other back) left moment) → ComesBy p (WasTold a) s (onward s).state

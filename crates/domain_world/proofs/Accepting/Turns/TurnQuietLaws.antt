@@ -43,7 +43,7 @@ use Rattle.domain_world.proofs.Frames.GivenLaws.{told_cases}
 
 -- ---- what is told, also in the move that is under way
 
--- the argument `given`: what ends gave in the move that isn't written down yet
+-- what was told, with what ends gave in the move and what isn't written down yet
 abbrev pub told_yet : Given → Book → List OutcomeTold
 told_yet given b = b.told ++ told_in given 0
 

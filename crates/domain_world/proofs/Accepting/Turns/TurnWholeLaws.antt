@@ -138,8 +138,8 @@ taken_cases (taken.Answer place v) = inl (place, v, refl)
 taken_cases (taken.Dropped place cause) = inr refl
 
 -- What is known as the bytes come: who hears them and which unit of the bag carries them, what was written down of the
--- unit and of calls, that there is no clash, and what the step gives. The arguments t and d: the state after it, and
--- what is then written down of units.
+-- unit and of calls, that there is no clash, and what the step gives. Behind the step the state is `t`, and `d` is what
+-- is then written down of units.
 pub record ComesWhole (plan : Plan) (k number u : ℕ) (s t : State) (b d : Book) (messages : List MessageTaken) (running : Running) (bytes : List ℕ) (unit : RpcUnit) (controller now : ℕ)
     (left : List (List ℕ)) (part : Part DialWork) : Type 0 where
   pub hears : HearsWhole running number bytes unit
