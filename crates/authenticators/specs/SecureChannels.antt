@@ -70,8 +70,8 @@ abbrev pub is_awaited : Option (List ℕ) → List ℕ → Bool
 is_awaited None credential = false
 is_awaited (Some awaited) credential = bytes_eq credential awaited
 
--- once it came none is awaited; the argument: whether it was the one awaited
-abbrev pub after_return : Bool → SecureChannelState → SecureChannelState
+-- once the awaited credential came, none is awaited
+abbrev pub after_return : (is_awaited_one : Bool) (channel : SecureChannelState) → SecureChannelState
 after_return false c = c
 after_return true c = record c { awaited = None }
 
@@ -81,12 +81,12 @@ after_return true c = record c { awaited = None }
 abbrev pub passes_on : SecureChannelState → Authenticator → Bool
 passes_on c given = passes (key_of_channel c) c.seed given
 
--- the credential that is returned; the argument: whether the authenticator passes
-abbrev pub return_by : Bool → SecureChannelState → Authenticator → Option (List ℕ)
+-- the credential that is returned for an authenticator
+abbrev pub return_by : (is_passed : Bool) (channel : SecureChannelState) (given : Authenticator) → Option (List ℕ)
 return_by false c given = None
 return_by true c given = Some (return_of (key_of_channel c) c.seed given.timestamp)
 
--- the channel afterwards; the argument: whether the authenticator passes. What is awaited stays
-abbrev pub channel_by : Bool → SecureChannelState → Authenticator → SecureChannelState
+-- the channel after an authenticator. What is awaited stays.
+abbrev pub channel_by : (is_passed : Bool) (channel : SecureChannelState) (given : Authenticator) → SecureChannelState
 channel_by false c given = c
 channel_by true c given = record c { seed = next_seed c.seed given.timestamp }

@@ -53,9 +53,8 @@ awaited_sequence s = sequence_bytes s.received (not s.requester)
 abbrev pub plain_of : NlState → List ℕ → ℕ → ℕ → List ℕ
 plain_of s front from to = combine_range (sealing_key_of s.key (awaited_sequence s)) front from to
 
--- What is answered to a signature before its checksum is looked at. The arguments: whether the numbers are used up,
--- whether the signature names the algorithms, whether its number is the next, and the next number.
-abbrev pub expect_by : Bool → Bool → Bool → ℕ → Result Unit NlRefused
+-- what is answered to a signature before its checksum is looked at
+abbrev pub expect_by : (is_spent names_algorithms has_next_number : Bool) (wanted : ℕ) → Result Unit NlRefused
 expect_by true _ _ wanted = Err Spent
 expect_by false false _ wanted = Err BadAlgorithm
 expect_by false true false wanted = Err (BadSequence wanted)
@@ -66,8 +65,8 @@ expect s signature =
     expect_by (s.received == last_number) (bytes_eq (algorithms_in signature) algorithms)
     (bytes_eq (number_in s.key signature) (awaited_sequence s)) s.received
 
--- and then by whether its checksum is that of the unit
-abbrev pub compare_by : Bool → Result Unit NlRefused
+-- what is answered to its checksum
+abbrev pub compare_by : (is_that_of_the_unit : Bool) → Result Unit NlRefused
 compare_by true = Ok tt
 compare_by false = Err BadChecksum
 

@@ -43,9 +43,9 @@ combine d unit from to =
 unfoldable pub checksum_of : List ℕ → ℕ → List ℕ → List ℕ
 checksum_of signing_key number plain = take 8 (hmac_of signing_key (to_le_bytes w32 number ++ plain))
 
--- A checksum as it is sent: with a key exchange it is combined with the bytes of the key stream that follow the used
--- ones. The arguments: whether keys were exchanged, the sealing key, the bytes used, and the checksum.
-abbrev pub sent_form_by : Bool → List ℕ → ℕ → List ℕ → List ℕ
+-- a checksum as it is sent: with a key exchange it is combined with the bytes of the key stream that follow the used
+-- ones
+abbrev pub sent_form_by : (is_exchanged : Bool) (sealing_key : List ℕ) (used : ℕ) (checksum : List ℕ) → List ℕ
 sent_form_by true sealing_key used checksum = applied sealing_key used checksum
 sent_form_by false sealing_key used checksum = checksum
 

@@ -25,9 +25,8 @@ abbrev pub sealing_text : Side → List ℕ
 sealing_text Client = codes "session key to client-to-server sealing key magic constant" ++ 0 ∷ []
 sealing_text Server = codes "session key to server-to-client sealing key magic constant" ++ 0 ∷ []
 
--- how many bytes of the exported session key are taken: 128 bits, else 56, else 40. The arguments: whether 128 bits are
--- agreed, and whether 56 are.
-abbrev pub sealing_length_by : Bool → Bool → ℕ
+-- how many bytes of the exported session key are taken: those of 128 bits, else of 56, else of 40
+abbrev pub sealing_length_by : (is_128_agreed is_56_agreed : Bool) → ℕ
 sealing_length_by true _ = 16
 sealing_length_by false true = 7
 sealing_length_by false false = 5

@@ -57,7 +57,7 @@ abbrev pub seal_of : SessionState → List ℕ → ℕ → ℕ → Sealing
 seal_of s unit from to = seal_by s.broken (is_spent s.sending) s unit from to
 
 -- whether a session may send: its answer, and the session
-abbrev pub may_send_by : Bool → Bool → SessionState → Judgement
+abbrev pub may_send_by : (is_broken is_spent : Bool) (session : SessionState) → Judgement
 may_send_by true _ s = record { answer = Err Broken; session = s }
 may_send_by false true s = record { answer = Err Spent; session = record s { broken = true } }
 may_send_by false false s = record { answer = Ok tt; session = s }
@@ -67,9 +67,8 @@ may_send s = may_send_by s.broken (is_spent s.sending) s
 
 -- ---- checking and opening
 
--- What a direction answers to a signature before its checksum is looked at. The arguments: whether the direction is
--- spent, whether the signature's version is 1, and whether its number is the next.
-abbrev pub expect_by : Bool → Bool → Bool → Direction → List ℕ → Result Unit SealRefused
+-- what a direction answers to a signature before its checksum is looked at
+abbrev pub expect_by : (is_spent is_version_1 has_next_number : Bool) (direction : Direction) (signature : List ℕ) → Result Unit SealRefused
 expect_by true _ _ d signature = Err Spent
 expect_by false false _ d signature = Err BadVersion
 expect_by false true false d signature = Err (BadSequence (number_in signature) d.number)
@@ -79,8 +78,8 @@ abbrev pub expect : Direction → List ℕ → Result Unit SealRefused
 expect d signature =
     expect_by (is_spent d) (version_in signature == 1) (number_in signature == d.number) d signature
 
--- and then by whether its checksum is that of the unit
-abbrev pub compare_by : Bool → Result Unit SealRefused
+-- what it answers to the checksum
+abbrev pub compare_by : (is_that_of_the_unit : Bool) → Result Unit SealRefused
 compare_by true = Ok tt
 compare_by false = Err BadChecksum
 

@@ -85,7 +85,8 @@ const MOST_PATH_BYTES: usize = 4096;
 const BESIDE: [u8; 4] = *b".new";
 
 /// Whether the file was replaced: the bytes are written beside it, and that file is then renamed, so that a stop in
-/// between leaves the old one. Then the system is told to keep the folder, so that the renamed file outlives a power cut.
+/// between leaves the old one. Then the system is told to keep the folder, so that the renamed file outlives a power
+/// cut.
 fn replaces<R: fs::Files>(files: &R, name: &[u8], bytes: &[u8]) -> bool {
     if name.len() > MOST_PATH_BYTES {
         return false;

@@ -26,8 +26,8 @@ next_of s = option_map (λ n. n.secret) s.next
 abbrev pub untried_next : List ℕ → Next
 untried_next secret = record { secret = secret; is_tried = false }
 
--- the secret that is tried: the arguments are whether the next one is, the next one, and the current one
-abbrev pub tried_by : Bool → List ℕ → List ℕ → List ℕ
+-- the secret that is tried
+abbrev pub tried_by : (is_next_tried : Bool) (next current : List ℕ) → List ℕ
 tried_by true next current = next
 tried_by false next current = current
 

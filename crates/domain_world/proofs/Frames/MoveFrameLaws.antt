@@ -89,8 +89,8 @@ AtWork (Some w) None = ⊥
 AtWork (Some w) (Some after) = Unit {0}
 
 -- It holds on where an end takes a step, where an action is done, and where one thing changes beside that. It may rest
--- on a side fact, of which the same is shown apart (`join_moves` puts the two together). `Known` is what is known of the
--- run: that what comes are bytes, and that few pieces come in a move.
+-- on a side fact, of which the same is shown apart (`join_moves` puts the two together). `Known` is what is known of
+-- the run: that what comes are bytes, and that few pieces come in a move.
 pub record KeepsMoves (Known : Type 0) (Side Holds : MoveFact) : Type 0 where
   -- an end takes a step
   pub closes : (n : ℕ) (p : Progress) (end : EndId) (link : ℕ) (s : State) (given : Given) (b : Book) → AtWork p.on p.to → Side n p s given b → Holds n p s given b →

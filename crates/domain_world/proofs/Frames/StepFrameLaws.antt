@@ -47,8 +47,8 @@ pub record HasHeard (Holds : RunFact) (Fine : ActionFact) (n : ℕ) (end : EndId
   pub fine : AllByRecursion (Fine end heard.state.links) heard.actions
 
 -- It holds on where an end takes a step, where an action is done, and where one thing changes beside that. It may rest
--- on a side fact, of which the same is shown apart (`join` puts the two together). `Over` is what is known of the end of
--- a move.
+-- on a side fact, of which the same is shown apart (`join` puts the two together). `Over` is what is known of the end
+-- of a move.
 pub record KeepsWith (Over : Type 0) (Side Holds : RunFact) (Fine : ActionFact) : Type 0 where
   -- an end takes a step
   pub calm : (n : ℕ) (end : EndId) (what : Event) (s : State) (given : Given) (b : Book) → IsCalm what → Side n s given b → Holds n s given b →

@@ -111,7 +111,7 @@ Any number = Unit {0}
 abbrev pub KeepFree : List MemberState → List MessageTaken → Type 0
 KeepFree members messages = (k : ℕ) (m : MemberState) → slice_get members k ≡ Some m → KeptIn (HasFree k messages) Any m.running
 
--- Each answer was taken in the turn of its call, whoever asked, as the book `b` has what is written down of units of the
+-- Each answer was taken in the turn of its call, whoever asked. The book `b` has what is written down of units of the
 -- bag.
 pub record TurnFacts (plan : Plan) (s : State) (b : Book) (messages : List MessageTaken) (answers : List CallTaken) (told : List OutcomeTold) : Type 0 where
   pub taken : AllByRecursion (IsTakenInTurn (past_at plan s b)) answers
