@@ -18,19 +18,25 @@ use Rattle.logon_stubs.specs.declared.calls.Call.{Call}
 use Rattle.logon_stubs.specs.declared.calls.Call.TheVariants as call
 use Rattle.logon_stubs.specs.declared.calls.Reply.{Reply}
 use Rattle.logon_stubs.specs.declared.calls.Reply.TheVariants as reply
+use Rattle.secret_change.specs.Calls.{set_reply_of}
+use Rattle.secret_change.specs.declared.calls.SetCall.{SetCall}
+use Rattle.secret_change.specs.declared.calls.SetReply.{SetReply}
+use Rattle.secret_change.specs.declared.refused.SetRefused.{SetRefused}
 use Rattle.channel_client.specs.State.{Requester}
-use Rattle.channel_client.specs.Machine.{after, waiting_limit, level_asked, offered_flags, server_credential, question_of, opnum_asked, is_accepting, ask_by, start_by, hear_ack, hear_reply, hear_stub, hear_body, hear_by, hear, judge_challenge, judge_flags, judge_credential, judge_auth, judge_level, judge_status, judge_awaited, judge_return, judge_logon, judge, wait_for, later_logons, place_of, settle, act}
-use Rattle.channel_client.specs.Effects.{View, view_at, view_of, step_in, number_in, MatchesCall, MatchesQuestion, MatchesStep, IsForFirst, first_place, AreInOrder, ArePlacesApart, IsCoherent, Changes, effect_start, effect_judged, effect_next, effect_heard, HasEffect, Stays, StepsHaveEffects}
+use Rattle.channel_client.specs.Machine.{SetOutcome, after, waiting_limit, level_asked, offered_flags, server_credential, question_of, opnum_asked, is_accepting, ask_by, start_by, hear_ack, hear_reply, hear_stub, hear_body, hear_by, hear, judge_challenge, judge_flags, judge_credential, judge_auth, judge_level, judge_status, judge_awaited, judge_return, judge_logon, judge, judge_set_awaited, judge_set_return, judge_set_status, judge_set, wait_for, later_logons, place_of, settle, settle_set, hear_set_reply, act}
+use Rattle.channel_client.specs.Effects.{View, view_at, view_of, step_in, number_in, MatchesCall, MatchesQuestion, MatchesSet, MatchesStep, IsForFirst, first_place, AreInOrder, ArePlacesApart, IsCoherent, Changes, effect_start, effect_judged, effect_judged_set, effect_next, effect_heard, HasEffect, Stays, StepsHaveEffects}
 use Rattle.channel_client.specs.declared.state.Standing.{Standing}
 use Rattle.channel_client.specs.declared.state.Standing.TheVariants as standing
 use Rattle.channel_client.specs.declared.state.Question.{Question}
 use Rattle.channel_client.specs.declared.state.Question.TheVariants as question
 use Rattle.channel_client.specs.declared.state.Step.{Step}
 use Rattle.channel_client.specs.declared.state.Step.TheVariants as step
+use Rattle.channel_client.specs.declared.state.SetStep.TheVariants as set_step
 use Rattle.channel_client.specs.declared.state.Pending.{Pending}
 use Rattle.channel_client.specs.declared.state.Waiting.{Waiting}
 use Rattle.channel_client.specs.declared.hearing.Hearing.{Hearing}
 use Rattle.channel_client.specs.declared.hearing.Hearing.TheVariants as hearing
+use Rattle.channel_client.specs.declared.hearing.SetHearing.TheVariants as set_hearing
 use Rattle.channel_client.specs.declared.judging.Judgement.{Judgement}
 use Rattle.channel_client.specs.declared.judging.Judgement.TheVariants as judgement
 
@@ -66,6 +72,13 @@ first_kept : (turn : Option Pending) (logons : List Waiting) (number : ℕ) (q :
 first_kept None logons number q st out is = absurd cc
 first_kept (Some p) [] number q st out is = absurd is
 first_kept (Some p) (logon ∷ logons) number q st out is = (is.0, tt)
+
+-- likewise where it sets a secret
+first_set : (turn : Option Pending) (logons : List Waiting) (number : ℕ) (st : Step) → step_in turn ≡ Some st → IsForFirst turn logons →
+    IsForFirst (Some (record { number = number; place = place_of turn; step = step.Set set_step.Reply })) logons
+first_set None logons number st out is = absurd cc
+first_set (Some p) [] number st out is = absurd is
+first_set (Some p) (logon ∷ logons) number st out is = (is.0, tt)
 
 -- ---- places
 
@@ -106,21 +119,23 @@ asking controller false s info is c = (
 
 -- ---- starting
 
-abbrev pub with_parts : Requester → Standing → List Waiting → Option Pending → Requester
-with_parts s how logons turn = record s { standing = how; waiting = logons; turn = turn }
+abbrev pub with_parts : Requester → Standing → List Waiting → Option Pending → Option (List ℕ) → Requester
+with_parts s how logons turn next = record s { standing = how; waiting = logons; turn = turn; next = next }
 
-starting : (controller : ℕ) (s : Requester) (turn : Option Pending) (logons : List Waiting) (how : Standing) (timestamp : ℕ) (challenge : List ℕ) →
-    IsCoherent (with_parts s how logons turn) →
-    HasEffect controller (effect_start controller turn logons how s.caller.computer timestamp challenge) (with_parts s how logons turn)
-    (start_by turn logons (with_parts s how logons turn) timestamp challenge).state
-starting controller s (Some p) logons how timestamp challenge c = (refl, c)
-starting controller s None [] how timestamp challenge c = (refl, c)
-starting controller s None (logon ∷ logons) standing.Nothing timestamp challenge c =
+starting : (controller : ℕ) (s : Requester) (turn : Option Pending) (logons : List Waiting) (how : Standing) (next : Option (List ℕ)) (timestamp : ℕ) (challenge : List ℕ) →
+    IsCoherent (with_parts s how logons turn next) →
+    HasEffect controller (effect_start controller turn logons how s.caller.computer timestamp challenge) (with_parts s how logons turn next)
+    (start_by turn logons (with_parts s how logons turn next) timestamp challenge).state
+starting controller s (Some p) logons how next timestamp challenge c = (refl, c)
+starting controller s None [] how next timestamp challenge c = (refl, c)
+starting controller s None (logon ∷ logons) standing.Nothing next timestamp challenge c =
     ((refl, refl), record { matches = tt; first = (refl, tt); places = c.places; few = c.few })
-starting controller s None (logon ∷ logons) (standing.Half client server) timestamp challenge c =
+starting controller s None (logon ∷ logons) (standing.Half client server) next timestamp challenge c =
     (refl, record { matches = tt; first = (refl, tt); places = c.places; few = c.few })
-starting controller s None (logon ∷ logons) (standing.Open o) timestamp challenge c =
+starting controller s None (logon ∷ logons) (standing.Open o) None timestamp challenge c =
     ((o.seed, refl, refl, refl, refl), record { matches = tt; first = (refl, refl); places = c.places; few = c.few })
+starting controller s None (logon ∷ logons) (standing.Open o) (Some next) timestamp challenge c =
+    ((o.seed, refl, refl, refl, refl), record { matches = tt; first = (refl, tt); places = c.places; few = c.few })
 
 -- ---- a judgement fits how far the channel was, and what was asked
 
@@ -224,6 +239,43 @@ settled_coherent (judgement.Answer o v) s c =
 settled_coherent (judgement.Drop cause) s c =
     record { matches = tt; first = tt; places = places_later s.waiting s.next_place c.places; few = few_later s.waiting c.few }
 
+-- ---- what a change leaves
+
+abbrev pub FitsSet : SetOutcome → Standing → Type 0
+FitsSet (Ok o) how = (p : SecureChannelState) × (how ≡ standing.Open p) × (o ≡ after_return true p)
+FitsSet (Err cause) how = Unit {0}
+
+fits_set_awaited : (right : Bool) (p : SecureChannelState) → FitsSet (judge_set_awaited right p) (standing.Open p)
+fits_set_awaited false p = tt
+fits_set_awaited true p = (p, refl, refl)
+
+fits_set_return : (how : Standing) (returned : Authenticator) → FitsSet (judge_set_return how returned) how
+fits_set_return standing.Nothing returned = tt
+fits_set_return (standing.Half client server) returned = tt
+fits_set_return (standing.Open p) returned = fits_set_awaited (is_awaited p.awaited returned.credential) p
+
+fits_set : (granted : Bool) (how : Standing) (returned : Authenticator) → FitsSet (judge_set_status granted how returned) how
+fits_set false how returned = tt
+fits_set true how returned = fits_set_return how returned
+
+abbrev pub SettlesSet : ℕ → SetOutcome → Requester → Standing → ℕ → Type 0
+SettlesSet controller judged s how number =
+    Changes (effect_judged_set controller judged s.caller.computer number) (view_at controller s.caller.computer how (Some (step.Set set_step.Reply)) number s.next_call)
+    (view_of controller (settle_set judged s).state)
+
+settling_set : (controller : ℕ) (judged : SetOutcome) (s : Requester) (how : Standing) (number : ℕ) → FitsSet judged how → SettlesSet controller judged s how number
+settling_set controller (Ok o) s how number h = (
+  ap (λ x. (view_at controller s.caller.computer x (Some (step.Set set_step.Reply)) number s.next_call).stands) h.1 ∙ ap (λ x. Some (channel_of controller s.caller.computer x)) (sym h.2),
+  ap (λ x. (view_at controller s.caller.computer x (Some (step.Set set_step.Reply)) number s.next_call).asking) h.1,
+  ap (λ x. view_at controller s.caller.computer (standing.Open x) None 0 s.next_call) h.2
+      ∙ sym (ap (λ x. without_asking (view_at controller s.caller.computer x (Some (step.Set set_step.Reply)) number s.next_call)) h.1),
+)
+settling_set controller (Err cause) s how number h = refl
+
+settled_set_coherent : (judged : SetOutcome) (s : Requester) → IsCoherent s → IsCoherent (settle_set judged s).state
+settled_set_coherent (Ok o) s c = record { matches = tt; first = tt; places = c.places; few = c.few }
+settled_set_coherent (Err cause) s c = settled_coherent (judgement.Drop cause) s c
+
 -- ---- what a unit says fits the turn: a request goes only for the call that waits, and a reply is judged only for what
 -- was asked
 
@@ -232,19 +284,29 @@ HeardFits hearing.Skip turn = Unit {0}
 HeardFits (hearing.Next q frames) turn = (c : Call) × (turn ≡ Some (step.Bind c)) × (q ≡ question_of c)
 HeardFits (hearing.Reply q r) turn = turn ≡ Some (step.Reply q)
 HeardFits (hearing.Drop cause) turn = Unit {0}
+HeardFits (hearing.Set (set_hearing.Next frames)) turn = (c : SetCall) × (turn ≡ Some (step.Set (set_step.Bind c)))
+HeardFits (hearing.Set (set_hearing.Reply r)) turn = turn ≡ Some (step.Set set_step.Reply)
 
 ack_fits : (accepting : Bool) (st : Step) (receive next : ℕ) → HeardFits (hear_ack accepting st receive next) (Some st)
 ack_fits false st receive next = tt
 ack_fits true (step.Bind c) receive next = (c, refl, refl)
 ack_fits true (step.Reply q) receive next = tt
+ack_fits true (step.Set (set_step.Bind c)) receive next = (c, refl)
+ack_fits true (step.Set set_step.Reply) receive next = tt
 
 reply_fits : (q : Question) (read : Result Reply StubRefused) → HeardFits (hear_reply q read) (Some (step.Reply q))
 reply_fits q (Err why) = tt
 reply_fits q (Ok r) = refl
 
+set_reply_fits : (read : Result SetReply SetRefused) → HeardFits (hear_set_reply read) (Some (step.Set set_step.Reply))
+set_reply_fits (Err why) = tt
+set_reply_fits (Ok r) = refl
+
 stub_fits : (st : Step) (stub : List ℕ) → HeardFits (hear_stub st stub) (Some st)
 stub_fits (step.Bind c) stub = tt
 stub_fits (step.Reply q) stub = reply_fits q (reply_of (opnum_asked q) stub)
+stub_fits (step.Set (set_step.Bind c)) stub = tt
+stub_fits (step.Set set_step.Reply) stub = set_reply_fits (set_reply_of stub)
 
 body_fits : (body : Body) (st : Step) (next : ℕ) → HeardFits (hear_body body st next) (Some st)
 body_fits (BindNak reason) st next = tt
@@ -293,6 +355,26 @@ going controller s turn q c e f m =
     subst (λ x. Goes controller s x q) (sym e) (subst (λ x. Goes controller s (Some (step.Bind c)) x) (sym f)
     (going_at controller s.caller.computer s.standing c (number_in s.turn) s.next_call (subst (λ x. MatchesStep s.standing x) e m)))
 
+-- ---- the same of a turn that sets a secret
+
+abbrev pub GoesSetAt : ℕ → List ℕ → Standing → Option Step → ℕ → ℕ → Type 0
+GoesSetAt controller computer how turn number next =
+    Changes (effect_next controller how computer next) (view_at controller computer how turn number next) (view_at controller computer how (Some (step.Set set_step.Reply)) next (after next))
+
+going_set_at : (controller : ℕ) (computer : List ℕ) (how : Standing) (c : SetCall) (number next : ℕ) → MatchesSet how →
+    GoesSetAt controller computer how (Some (step.Set (set_step.Bind c))) number next
+going_set_at controller computer standing.Nothing c number next m = absurd m
+going_set_at controller computer (standing.Half client server) c number next m = absurd m
+going_set_at controller computer (standing.Open o) c number next m = (refl, refl, refl, refl)
+
+abbrev pub GoesSet : ℕ → Requester → Option Step → Type 0
+GoesSet controller s turn = GoesSetAt controller s.caller.computer s.standing turn (number_in s.turn) s.next_call × MatchesSet s.standing
+
+going_set : (controller : ℕ) (s : Requester) (turn : Option Step) (c : SetCall) → turn ≡ Some (step.Set (set_step.Bind c)) → MatchesStep s.standing turn → GoesSet controller s turn
+going_set controller s turn c e m =
+    let matches : MatchesSet s.standing = subst (λ x. MatchesStep s.standing x) e m in
+    subst (λ x. GoesSet controller s x) (sym e) (going_set_at controller s.caller.computer s.standing c (number_in s.turn) s.next_call matches, matches)
+
 -- ---- a reply that is judged
 
 abbrev pub Replies : ℕ → Requester → Option Step → Judgement → Type 0
@@ -305,12 +387,31 @@ replying controller s turn q r e m =
     subst (λ x. Replies controller s x (judge q r s.standing s.caller.secret)) (sym e)
     (settling controller (judge q r s.standing s.caller.secret) s s.standing (number_in s.turn) q (fits q r s.standing s.caller.secret (subst (λ x. MatchesStep s.standing x) e m)))
 
+abbrev pub RepliesSet : ℕ → Requester → Option Step → SetOutcome → Type 0
+RepliesSet controller s turn judged =
+    Changes (effect_judged_set controller judged s.caller.computer (number_in s.turn)) (view_at controller s.caller.computer s.standing turn (number_in s.turn) s.next_call)
+    (view_of controller (settle_set judged s).state)
+
+replying_set : (controller : ℕ) (s : Requester) (turn : Option Step) (r : SetReply) → turn ≡ Some (step.Set set_step.Reply) → RepliesSet controller s turn (judge_set r s.standing)
+replying_set controller s turn r e =
+    subst (λ x. RepliesSet controller s x (judge_set r s.standing)) (sym e)
+    (settling_set controller (judge_set r s.standing) s s.standing (number_in s.turn) (fits_set (r.status == 0) s.standing r.returned))
+
 -- ---- the whole
 
 going_coherent : (s : Requester) (q : Question) (c : Call) → step_in s.turn ≡ Some (step.Bind c) → MatchesQuestion s.standing q → IsCoherent s → IsCoherent (wait_for s (place_of s.turn) (step.Reply q))
 going_coherent s q c out m is = record {
   matches = m;
   first = first_kept s.turn s.waiting s.next_call q (step.Bind c) out is.first;
+  places = is.places;
+  few = is.few;
+}
+
+going_set_coherent : (s : Requester) (c : SetCall) → step_in s.turn ≡ Some (step.Set (set_step.Bind c)) → MatchesSet s.standing → IsCoherent s →
+    IsCoherent (wait_for s (place_of s.turn) (step.Set set_step.Reply))
+going_set_coherent s c out m is = record {
+  matches = m;
+  first = first_set s.turn s.waiting s.next_call (step.Set (set_step.Bind c)) out is.first;
   places = is.places;
   few = is.few;
 }
@@ -324,13 +425,20 @@ acting controller (hearing.Next q frames) s h c =
 acting controller (hearing.Reply q r) s h c =
     (replying controller s (step_in s.turn) q r h c.matches, settled_coherent (judge q r s.standing s.caller.secret) s c)
 acting controller (hearing.Drop cause) s h c = (refl, settled_coherent (judgement.Drop cause) s c)
+acting controller (hearing.Set (set_hearing.Next frames)) s h c =
+    let goes : GoesSet controller s (step_in s.turn) = going_set controller s (step_in s.turn) h.0 h.1 c.matches in
+    (goes.0, going_set_coherent s h.0 h.1 goes.1 c)
+acting controller (hearing.Set (set_hearing.Reply r)) s h c =
+    (replying_set controller s (step_in s.turn) r h, settled_set_coherent (judge_set r s.standing) s c)
 
 pub steps_have_effects : StepsHaveEffects
 steps_have_effects = record {
   fresh = λ caller. record { matches = tt; first = tt; places = tt; few = omega arith };
   ask = λ controller s info c. asking controller (nat_le waiting_limit (length s.waiting)) s info refl c;
-  start = λ controller s timestamp challenge c. starting controller s s.turn s.waiting s.standing timestamp challenge c;
+  start = λ controller s timestamp challenge c. starting controller s s.turn s.waiting s.standing s.next timestamp challenge c;
   take = λ controller s unit c. acting controller (hear s.turn unit s.next_call) s (heard_fits s.turn unit s.next_call) c;
+  use_secret = λ controller s secret c. (refl, record { matches = c.matches; first = c.first; places = c.places; few = c.few });
+  set_next = λ controller s next c. (refl, record { matches = c.matches; first = c.first; places = c.places; few = c.few });
   places = λ s c. places_apart s.waiting s.next_place c.places c.few;
   lose = λ controller s c. (refl, record { matches = tt; first = tt; places = places_later s.waiting s.next_place c.places; few = few_later s.waiting c.few });
 }

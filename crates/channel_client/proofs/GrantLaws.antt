@@ -27,12 +27,17 @@ use Rattle.logon_stubs.specs.declared.calls.Reply.TheVariants as reply
 use Rattle.logon_stubs.specs.declared.refused.StubRefused.{StubRefused}
 use Rattle.logon_stubs.proofs.GivenLaws.{reply_of-InRange}
 use Rattle.logon_stubs.proofs.WritableLaws.{reply_of-CanWrite}
+use Rattle.secret_change.specs.Calls.{set_reply_of}
+use Rattle.secret_change.specs.declared.calls.SetReply.{SetReply}
+use Rattle.secret_change.specs.declared.refused.SetRefused.{SetRefused}
 use Rattle.channel_client.specs.Grants.{CanWriteHeard, GrantsAreWritable, HasBytes, IfTaken}
-use Rattle.channel_client.specs.Machine.{act, hear, hear_ack, hear_body, hear_by, hear_reply, hear_stub, is_accepting, judge, judge_auth, judge_awaited, judge_challenge, judge_credential, judge_flags, judge_level, judge_logon, judge_return, judge_status, level_asked, offered_flags, opnum_asked, server_credential, settle}
+use Rattle.channel_client.specs.Machine.{SetOutcome, act, act_set, hear, hear_ack, hear_body, hear_by, hear_reply, hear_set_reply, hear_stub, is_accepting, judge, judge_auth, judge_awaited, judge_challenge, judge_credential, judge_flags, judge_level, judge_logon, judge_return, judge_set, judge_status, level_asked, offered_flags, opnum_asked, server_credential, settle, settle_set}
 use Rattle.channel_client.specs.State.{Requester}
 use Rattle.channel_client.specs.declared.answers.Taken.{Taken}
 use Rattle.channel_client.specs.declared.hearing.Hearing.{Hearing}
 use Rattle.channel_client.specs.declared.hearing.Hearing.TheVariants as hearing
+use Rattle.channel_client.specs.declared.hearing.SetHearing.{SetHearing}
+use Rattle.channel_client.specs.declared.hearing.SetHearing.TheVariants as set_hearing
 use Rattle.channel_client.specs.declared.judging.Judgement.{Judgement}
 use Rattle.channel_client.specs.declared.judging.Judgement.TheVariants as judgement
 use Rattle.channel_client.specs.declared.state.Pending.{Pending}
@@ -42,6 +47,7 @@ use Rattle.channel_client.specs.declared.state.Standing.{Standing}
 use Rattle.channel_client.specs.declared.state.Standing.TheVariants as standing
 use Rattle.channel_client.specs.declared.state.Step.{Step}
 use Rattle.channel_client.specs.declared.state.Step.TheVariants as step
+use Rattle.channel_client.specs.declared.state.SetStep.TheVariants as set_step
 
 -- ---- what is heard
 
@@ -49,10 +55,16 @@ ack_writes : (accepting : Bool) (st : Step) (receive next : ℕ) → CanWriteHea
 ack_writes false st receive next = tt
 ack_writes true (step.Bind c) receive next = tt
 ack_writes true (step.Reply q) receive next = tt
+ack_writes true (step.Set (set_step.Bind c)) receive next = tt
+ack_writes true (step.Set set_step.Reply) receive next = tt
 
 reply_writes : (q : Question) (read : Result Reply StubRefused) → ((r : Reply) → read ≡ Ok r → CanWriteReply r × InRangeReply r) → CanWriteHeard (hear_reply q read)
 reply_writes q (Err why) can = tt
 reply_writes q (Ok r) can = can r refl
+
+set_reply_writes : (read : Result SetReply SetRefused) → CanWriteHeard (hear_set_reply read)
+set_reply_writes (Err why) = tt
+set_reply_writes (Ok r) = tt
 
 pub reply_fits : (opnum : ℕ) (stub : List ℕ) (r : Reply) → AreBytes stub → reply_of opnum stub ≡ Ok r → CanWriteReply r × InRangeReply r
 reply_fits opnum stub r bytes read = (reply_of-CanWrite opnum stub r bytes read, reply_of-InRange opnum stub r bytes read)
@@ -61,6 +73,8 @@ stub_writes : (st : Step) (stub : List ℕ) → AreBytes stub → CanWriteHeard 
 stub_writes (step.Bind c) stub bytes = tt
 stub_writes (step.Reply q) stub bytes =
     reply_writes q (reply_of (opnum_asked q) stub) (λ r read. reply_fits (opnum_asked q) stub r bytes read)
+stub_writes (step.Set (set_step.Bind c)) stub bytes = tt
+stub_writes (step.Set set_step.Reply) stub bytes = set_reply_writes (set_reply_of stub)
 
 body_writes : (body : Body) (st : Step) (next : ℕ) → HasBytes body → CanWriteHeard (hear_body body st next)
 body_writes (BindNak reason) st next bytes = tt
@@ -211,11 +225,27 @@ settled_writes (judgement.Opened o) s fits = (tt, tt)
 settled_writes (judgement.Answer o v) s fits = granted_both v fits
 settled_writes (judgement.Drop cause) s fits = (tt, tt)
 
+-- a turn that sets a secret grants nothing
+set_settled_writes : (judged : SetOutcome) (s : Requester) → IfTaken (settle_set judged s).taken CanWriteSamInfo × IfTaken (settle_set judged s).taken InRangeSamInfo
+set_settled_writes (Ok o) s = (tt, tt)
+set_settled_writes (Err cause) s = (tt, tt)
+
+set_acted_writes : (what : SetHearing) (s : Requester) → IfTaken (act_set what s).taken CanWriteSamInfo × IfTaken (act_set what s).taken InRangeSamInfo
+set_acted_writes (set_hearing.Next frames) s = (tt, tt)
+set_acted_writes (set_hearing.Reply r) s = set_settled_writes (judge_set r s.standing) s
+
+pub set_writable : (what : SetHearing) (s : Requester) (given : Taken) → given ≡ (act_set what s).taken → IfTaken given CanWriteSamInfo
+set_writable what s given is = rw is (set_acted_writes what s).0
+
+pub set_range : (what : SetHearing) (s : Requester) (given : Taken) → given ≡ (act_set what s).taken → IfTaken given InRangeSamInfo
+set_range what s given is = rw is (set_acted_writes what s).1
+
 acted_writes : (heard : Hearing) (s : Requester) → CanWriteHeard heard → IfTaken (act heard s).taken CanWriteSamInfo × IfTaken (act heard s).taken InRangeSamInfo
 acted_writes hearing.Skip s fits = (tt, tt)
 acted_writes (hearing.Next q frames) s fits = (tt, tt)
 acted_writes (hearing.Reply q r) s fits = settled_writes (judge q r s.standing s.caller.secret) s (judged_writes q r s.standing s.caller.secret fits)
 acted_writes (hearing.Drop cause) s fits = (tt, tt)
+acted_writes (hearing.Set what) s fits = set_acted_writes what s
 
 -- what a reply comes to that was judged and settled
 settled_both : (q : Question) (r : Reply) (how : Standing) (secret : List ℕ) (j : Judgement) (s : Requester) (given : Taken) → CanWriteHeard (hearing.Reply q r) →

@@ -15,6 +15,9 @@ use Rattle.logon_stubs.specs.Status.{access_denied}
 use Rattle.logon_stubs.specs.declared.refused.StubRefused.{StubRefused}
 use Rattle.logon_stubs.specs.declared.calls.Reply.{Reply}
 use Rattle.logon_stubs.specs.declared.calls.Reply.TheVariants as reply
+use Rattle.secret_change.specs.Calls.{set_reply_of}
+use Rattle.secret_change.specs.declared.calls.SetReply.{SetReply}
+use Rattle.secret_change.specs.declared.refused.SetRefused.{SetRefused}
 use Rattle.channel_client.specs.State.{Requester}
 use Rattle.channel_client.specs.Machine.{is_accepting, level_asked, offered_flags, opnum_asked, server_credential, take_of}
 use Rattle.channel_client.specs.declared.state.Standing.{Standing}
@@ -23,6 +26,7 @@ use Rattle.channel_client.specs.declared.state.Question.{Question}
 use Rattle.channel_client.specs.declared.state.Question.TheVariants as question
 use Rattle.channel_client.specs.declared.state.Step.{Step}
 use Rattle.channel_client.specs.declared.state.Step.TheVariants as step
+use Rattle.channel_client.specs.declared.state.SetStep.TheVariants as set_step
 use Rattle.channel_client.specs.declared.state.Pending.{Pending}
 use Rattle.channel_client.specs.declared.answers.Taken.{Taken}
 use Rattle.channel_client.specs.declared.answers.Taken.TheVariants as taken
@@ -63,18 +67,39 @@ abbrev pub reply_in : Step → Body → Option Reply
 reply_in (step.Reply q) (Response hint context stub) = reply_if_read q (reply_of (opnum_asked q) stub)
 reply_in _ _ = None
 
+abbrev pub set_reply_if_read : Result SetReply SetRefused → Option SetReply
+set_reply_if_read (Err why) = None
+set_reply_if_read (Ok r) = Some r
+
+-- the same of a turn that sets a secret
+abbrev pub set_reply_in : Step → Body → Option SetReply
+set_reply_in (step.Set set_step.Reply) (Response hint context stub) = set_reply_if_read (set_reply_of stub)
+set_reply_in _ _ = None
+
 -- the unit is what the turn waits for: an answer to its bind, or a reply to its request
 abbrev pub is_due : Step → Body → Bool
 is_due (step.Bind c) (BindAck send receive group results) = true
 is_due (step.Bind c) _ = false
 is_due (step.Reply q) body = is_some (reply_in (step.Reply q) body)
+is_due (step.Set (set_step.Bind c)) (BindAck send receive group results) = true
+is_due (step.Set (set_step.Bind c)) _ = false
+is_due (step.Set set_step.Reply) body = is_some (set_reply_in (step.Set set_step.Reply) body)
 
--- the status of an opening call isn't 0, or that of a logon is ACCESS_DENIED
+-- the status of an opening call or of a change isn't 0, or that of a logon is ACCESS_DENIED
 abbrev pub denies : Option Reply → Bool
 denies (Some (reply.Challenge r)) = not (r.status == 0)
 denies (Some (reply.Authenticate r)) = not (r.status == 0)
 denies (Some (reply.Logon r)) = r.status == access_denied
 denies _ = false
+
+abbrev pub denies_set : Option SetReply → Bool
+denies_set None = false
+denies_set (Some r) = not (r.status == 0)
+
+abbrev pub denies_in : Step → Body → Bool
+denies_in (step.Bind c) body = false
+denies_in (step.Reply q) body = denies (reply_in (step.Reply q) body)
+denies_in (step.Set st) body = denies_set (set_reply_in (step.Set st) body)
 
 -- the credential is that of the server
 abbrev pub is_of_server : Standing → List ℕ → List ℕ → Bool
@@ -91,6 +116,15 @@ abbrev pub is_next : Option Reply → Standing → List ℕ → Bool
 is_next (Some (reply.Authenticate r)) s secret = is_of_server s secret r.credential
 is_next (Some (reply.Logon r)) s secret = is_return s r.returned
 is_next _ s secret = true
+
+abbrev pub is_set_next : Option SetReply → Standing → Bool
+is_set_next None s = true
+is_set_next (Some r) s = is_return s (Some r.returned)
+
+abbrev pub is_next_in : Step → Body → Standing → List ℕ → Bool
+is_next_in (step.Bind c) body s secret = true
+is_next_in (step.Reply q) body s secret = is_next (reply_in (step.Reply q) body) s secret
+is_next_in (step.Set st) body s secret = is_set_next (set_reply_in (step.Set st) body) s
 
 -- flags are granted beyond those offered, or without RC4; or a status of 0 comes without validation of the level asked
 abbrev pub is_lacking : Option Reply → Bool
@@ -114,8 +148,8 @@ tests_of s st body =
     (refuses_bind body, drop_cause.Bind)
     ∷ (is_fault body, drop_cause.Fault (status_of_fault body))
     ∷ (not (is_due st body), drop_cause.BadReply)
-    ∷ (denies (reply_in st body), drop_cause.Denied)
-    ∷ (not (is_next (reply_in st body) s.standing s.caller.secret), drop_cause.NotNext)
+    ∷ (denies_in st body, drop_cause.Denied)
+    ∷ (not (is_next_in st body s.standing s.caller.secret), drop_cause.NotNext)
     ∷ (is_lacking (reply_in st body), drop_cause.BadReply)
     ∷ []
 
@@ -132,6 +166,7 @@ cause_in (taken.Next right frames) = None
 cause_in taken.Half = None
 cause_in taken.Opened = None
 cause_in (taken.Answer place verdict) = None
+cause_in taken.Set = None
 
 -- the number that a turn waits for is the unit's
 abbrev pub is_numbered : Option Pending → ℕ → Bool

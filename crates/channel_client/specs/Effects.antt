@@ -1,6 +1,6 @@
 -- What each step of the end that asks does to its channel, seen from outside. Nothing else of the steps has to be known
 -- to reason about the channel, the calls on it and the numbers of its units.
-use Rattle.std.specs.Prelude.{ℕ, ◌≡◌, ◌≢◌, ◌≤◌, List, [], ◌∷◌, length, Option, Some, None}
+use Rattle.std.specs.Prelude.{ℕ, ◌≡◌, ◌≢◌, ◌≤◌, List, [], ◌∷◌, length, Option, Some, None, Ok, Err}
 use Rattle.std.specs.List.{AllByRecursion}
 use Rattle.channel_keys.specs.Credentials.{cred_of}
 use Rattle.authenticators.specs.Channels.{ChannelIdentity, channel_key}
@@ -11,7 +11,7 @@ use Rattle.logon_stubs.specs.declared.info.NetworkInfo.{NetworkInfo}
 use Rattle.logon_stubs.specs.declared.calls.Call.{Call}
 use Rattle.logon_stubs.specs.declared.calls.Call.TheVariants as call
 use Rattle.channel_client.specs.State.{Requester}
-use Rattle.channel_client.specs.Machine.{after, waiting_limit, fresh_requester, ask_of, start_of, hear, judge, take_of, lose_of}
+use Rattle.channel_client.specs.Machine.{SetOutcome, after, waiting_limit, fresh_requester, ask_of, start_of, hear, judge, judge_set, take_of, lose_of, use_secret_of, set_next_of}
 use Rattle.channel_client.specs.declared.caller.Caller.{Caller}
 use Rattle.channel_client.specs.declared.state.Standing.{Standing}
 use Rattle.channel_client.specs.declared.state.Standing.TheVariants as standing
@@ -19,10 +19,14 @@ use Rattle.channel_client.specs.declared.state.Question.{Question}
 use Rattle.channel_client.specs.declared.state.Question.TheVariants as question
 use Rattle.channel_client.specs.declared.state.Step.{Step}
 use Rattle.channel_client.specs.declared.state.Step.TheVariants as step
+use Rattle.channel_client.specs.declared.state.SetStep.{SetStep}
+use Rattle.channel_client.specs.declared.state.SetStep.TheVariants as set_step
 use Rattle.channel_client.specs.declared.state.Pending.{Pending}
 use Rattle.channel_client.specs.declared.state.Waiting.{Waiting}
 use Rattle.channel_client.specs.declared.hearing.Hearing.{Hearing}
 use Rattle.channel_client.specs.declared.hearing.Hearing.TheVariants as hearing
+use Rattle.channel_client.specs.declared.hearing.SetHearing.{SetHearing}
+use Rattle.channel_client.specs.declared.hearing.SetHearing.TheVariants as set_hearing
 use Rattle.channel_client.specs.declared.judging.Judgement.{Judgement}
 use Rattle.channel_client.specs.declared.judging.Judgement.TheVariants as judgement
 
@@ -64,16 +68,22 @@ abbrev pub opening_step : Option Step → Option (List ℕ)
 opening_step None = None
 opening_step (Some (step.Bind c)) = opening_called c
 opening_step (Some (step.Reply q)) = opening_asked q
+opening_step (Some (step.Set st)) = None
 
 abbrev pub opening_in : Standing → Option Step → Option (List ℕ)
 opening_in standing.Nothing st = opening_step st
 opening_in (standing.Half client server) st = Some client
 opening_in (standing.Open o) st = None
 
+abbrev pub asking_set : SetStep → ℕ → Option ℕ
+asking_set (set_step.Bind c) number = None
+asking_set set_step.Reply number = Some number
+
 abbrev pub asking_step : Option Step → ℕ → Option ℕ
 asking_step None number = None
 asking_step (Some (step.Bind c)) number = None
 asking_step (Some (step.Reply q)) number = Some number
+asking_step (Some (step.Set st)) number = asking_set st number
 
 abbrev pub asking_in : Standing → Option Step → ℕ → Option ℕ
 asking_in standing.Nothing st number = None
@@ -118,10 +128,17 @@ MatchesQuestion (standing.Half client server) question.Authenticate = Unit {0}
 MatchesQuestion (standing.Open o) question.Logon = Unit {0}
 MatchesQuestion _ _ = ⊥
 
+-- a secret is set on an open channel alone
+abbrev pub MatchesSet : Standing → Type 0
+MatchesSet standing.Nothing = ⊥
+MatchesSet (standing.Half client server) = ⊥
+MatchesSet (standing.Open o) = Unit {0}
+
 abbrev pub MatchesStep : Standing → Option Step → Type 0
 MatchesStep how None = Unit {0}
 MatchesStep how (Some (step.Bind c)) = MatchesCall how c
 MatchesStep how (Some (step.Reply q)) = MatchesQuestion how q
+MatchesStep how (Some (step.Set st)) = MatchesSet how
 
 -- a logon call is for that logon
 abbrev pub IsCallFor : Call → NetworkInfo → Type 0
@@ -133,6 +150,7 @@ IsCallFor (call.Authenticate value) info = Unit {0}
 abbrev pub IsStepFor : Step → NetworkInfo → Type 0
 IsStepFor (step.Bind c) info = IsCallFor c info
 IsStepFor (step.Reply q) info = Unit {0}
+IsStepFor (step.Set st) info = Unit {0}
 
 -- the turn is for the first logon that waits
 abbrev pub IsForFirst : Option Pending → List Waiting → Type 0
@@ -228,12 +246,23 @@ effect_next controller standing.Nothing computer next = Counts
 effect_next controller (standing.Half client server) computer next = Counts
 effect_next controller (standing.Open o) computer next = Calls (channel_of controller computer o) next
 
+-- of the reply to a change: the channel stays, or is given up
+abbrev pub effect_judged_set : ℕ → SetOutcome → List ℕ → ℕ → Effect
+effect_judged_set controller (Ok o) computer number = Answers (channel_of controller computer o) number
+effect_judged_set controller (Err cause) computer number = Drops
+
+abbrev pub effect_set : ℕ → SetHearing → Requester → Effect
+effect_set controller (set_hearing.Next frames) s = effect_next controller s.standing s.caller.computer s.next_call
+effect_set controller (set_hearing.Reply r) s =
+    effect_judged_set controller (judge_set r s.standing) s.caller.computer (number_in s.turn)
+
 abbrev pub effect_heard : ℕ → Hearing → Requester → Effect
 effect_heard controller hearing.Skip s = Stays
 effect_heard controller (hearing.Next q frames) s = effect_next controller s.standing s.caller.computer s.next_call
 effect_heard controller (hearing.Reply q r) s =
     effect_judged controller (judge q r s.standing s.caller.secret) s.caller.computer (number_in s.turn)
 effect_heard controller (hearing.Drop cause) s = Drops
+effect_heard controller (hearing.Set what) s = effect_set controller what s
 
 abbrev pub effect_of_take : ℕ → Requester → RpcUnit → Effect
 effect_of_take controller s unit = effect_heard controller (hear s.turn unit s.next_call) s
@@ -254,5 +283,9 @@ pub record StepsHaveEffects : Type 0 where
       HasEffect controller (effect_of_start controller s timestamp challenge) s (start_of s timestamp challenge).state
   pub take : (controller : ℕ) (s : Requester) (unit : RpcUnit) → IsCoherent s →
       HasEffect controller (effect_of_take controller s unit) s (take_of s unit).state
+  pub use_secret : (controller : ℕ) (s : Requester) (secret : List ℕ) → IsCoherent s →
+      HasEffect controller Stays s (use_secret_of s secret)
+  pub set_next : (controller : ℕ) (s : Requester) (next : Option (List ℕ)) → IsCoherent s →
+      HasEffect controller Stays s (set_next_of s next)
   pub places : (s : Requester) → IsCoherent s → ArePlacesApart s.waiting
   pub lose : (controller : ℕ) (s : Requester) → IsCoherent s → HasEffect controller Drops s (lose_of s).state

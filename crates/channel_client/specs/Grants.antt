@@ -20,6 +20,7 @@ CanWriteHeard hearing.Skip = Unit {0}
 CanWriteHeard (hearing.Next q frames) = Unit {0}
 CanWriteHeard (hearing.Reply q r) = CanWriteReply r × InRangeReply r
 CanWriteHeard (hearing.Drop cause) = Unit {0}
+CanWriteHeard (hearing.Set what) = Unit {0}
 
 -- the fact holds of what the verdict grants that is taken
 abbrev pub IfTaken : Taken → (SamInfo → Type 0) → Type 0
@@ -29,6 +30,7 @@ IfTaken taken.Half Fact = Unit {0}
 IfTaken taken.Opened Fact = Unit {0}
 IfTaken (taken.Answer place verdict) Fact = IfGranted verdict Fact
 IfTaken (taken.Dropped place cause) Fact = Unit {0}
+IfTaken taken.Set Fact = Unit {0}
 
 -- the stub of a response is bytes
 abbrev pub HasBytes : Body → Type 0

@@ -2,6 +2,7 @@ pub mod Causes
 pub mod Effects
 pub mod Grants
 pub mod Machine
+pub mod NoNext
 pub mod State
 pub mod Turns
 pub mod Whole

@@ -1,6 +1,6 @@
 -- The end that asks on a secure channel, step by step (MS-NRPC 3.1.4.1 to 3.1.4.5, 3.5.4.4, 3.5.4.5; C706 12.6.3 for
--- binds and calls). The queue of logons, the turns and the order of causes are this project's own choice. Places and
--- numbers of calls are counted modulo 2^32.
+-- binds and calls). The queue of logons, the turns, when a secret is changed, and the order of causes are this
+-- project's own choice. Places and numbers of calls are counted modulo 2^32.
 use Rattle.std.specs.Prelude.{ℕ, ◌≡◌, ◌+◌, ◌%◌, ◌^◌, ◌==◌, ◌&&◌, Bool, true, false, List, [], ◌∷◌, ◌++◌, length, nat_le, replicate, Option, Some, None, Result, Ok, Err, bytes_eq}
 use Rattle.std.specs.List.{AllByRecursion}
 use Rattle.channel_keys.specs.Credentials.{cred_of}
@@ -9,6 +9,7 @@ use Rattle.channel_keys.specs.Flags.{rc4_flag, supported_flags}
 use Rattle.channel_keys.specs.SessionKeys.{key_of}
 use Rattle.authenticators.specs.Sequences.{authenticator_of}
 use Rattle.wire_base.specs.declared.authenticator.Authenticator.{Authenticator}
+use Rattle.outside.specs.declared.action.DropCause.{DropCause}
 use Rattle.outside.specs.declared.action.DropCause.TheVariants as drop_cause
 use Rattle.rpc_units.specs.declared.unit.Unit.{Unit as RpcUnit}
 use Rattle.rpc_units.specs.declared.unit.Syntax.{Syntax}
@@ -31,6 +32,12 @@ use Rattle.end_links.specs.Sending.{frames_of, request_of}
 use Rattle.channel_keys.specs.Hidden.{crypt_key}
 use Rattle.authenticators.specs.SecureChannels.{SecureChannelState, key_of_channel, fresh_channel, after_call, is_awaited, after_return}
 use Rattle.logon_stubs.specs.Interface.{netlogon_syntax}
+use Rattle.secret_change.specs.Calls.{CanWriteSet, set_opnum, set_reply_of, written_set_call}
+use Rattle.secret_change.specs.Hiding.{hide_of}
+use Rattle.secret_change.specs.Ranges.{InRangeSetCall}
+use Rattle.secret_change.specs.declared.calls.SetCall.{SetCall}
+use Rattle.secret_change.specs.declared.calls.SetReply.{SetReply}
+use Rattle.secret_change.specs.declared.refused.SetRefused.{SetRefused}
 use Rattle.channel_client.specs.State.{Requester}
 use Rattle.channel_client.specs.declared.caller.Caller.{Caller}
 use Rattle.channel_client.specs.declared.state.Standing.{Standing}
@@ -39,6 +46,7 @@ use Rattle.channel_client.specs.declared.state.Question.{Question}
 use Rattle.channel_client.specs.declared.state.Question.TheVariants as question
 use Rattle.channel_client.specs.declared.state.Step.{Step}
 use Rattle.channel_client.specs.declared.state.Step.TheVariants as step
+use Rattle.channel_client.specs.declared.state.SetStep.TheVariants as set_step
 use Rattle.channel_client.specs.declared.state.Pending.{Pending}
 use Rattle.channel_client.specs.declared.state.Waiting.{Waiting}
 use Rattle.channel_client.specs.declared.answers.Taken.{Taken}
@@ -47,6 +55,8 @@ use Rattle.channel_client.specs.declared.answers.AskRefused.{AskRefused}
 use Rattle.channel_client.specs.declared.answers.AskRefused.TheVariants as refused
 use Rattle.channel_client.specs.declared.hearing.Hearing.{Hearing}
 use Rattle.channel_client.specs.declared.hearing.Hearing.TheVariants as hearing
+use Rattle.channel_client.specs.declared.hearing.SetHearing.{SetHearing}
+use Rattle.channel_client.specs.declared.hearing.SetHearing.TheVariants as set_hearing
 use Rattle.channel_client.specs.declared.judging.Judgement.{Judgement}
 use Rattle.channel_client.specs.declared.judging.Judgement.TheVariants as judgement
 
@@ -77,7 +87,18 @@ fresh_requester caller = record {
   next_place = 0;
   next_call = 1;
   turn = None;
+  next = None;
 }
+
+-- ---- the secrets
+
+-- another secret, of a channel that is none
+abbrev pub use_secret_of : Requester → List ℕ → Requester
+use_secret_of s secret = record s { caller = record s.caller { secret = secret } }
+
+-- the next secret, which the account is to have, or none
+abbrev pub set_next_of : Requester → Option (List ℕ) → Requester
+set_next_of s next = record s { next = next }
 
 -- ---- a logon that is let wait
 
@@ -146,18 +167,37 @@ logon_call caller o timestamp info = call.Logon (record {
   validation = level_asked;
 })
 
+-- NetrServerPasswordSet with the next authenticator, which hides the next secret under the channel's key (MS-NRPC
+-- 3.5.4.4.6)
+abbrev pub change_call : Caller → SecureChannelState → ℕ → List ℕ → SetCall
+change_call caller o timestamp next = record {
+  primary = None;
+  account = caller.account;
+  channel = caller.kind;
+  computer = caller.computer;
+  authenticator = authenticator_of (key_of_channel o) o.seed timestamp;
+  hidden = hide_of (key_of_channel o) next;
+}
+
 -- the call of a turn, and how far the channel is then
 pub record Beginning : Type 0 where
   pub standing : Standing
-  pub call : Call
+  pub step : Step
 
-abbrev pub begin_with : Standing → Caller → NetworkInfo → ℕ → List ℕ → Beginning
-begin_with standing.Nothing caller info timestamp challenge =
-    record { standing = standing.Nothing; call = challenge_call caller challenge }
-begin_with (standing.Half client server) caller info timestamp challenge =
-    record { standing = standing.Half client server; call = auth_call caller client server }
-begin_with (standing.Open o) caller info timestamp challenge =
-    record { standing = standing.Open (after_call o timestamp); call = logon_call caller o timestamp info }
+-- On an open channel: the arguments begin with the next secret. While there is one, it is set before any logon is asked
+-- for.
+abbrev pub begin_open : Option (List ℕ) → SecureChannelState → Caller → NetworkInfo → ℕ → Beginning
+begin_open None o caller info timestamp =
+    record { standing = standing.Open (after_call o timestamp); step = step.Bind (logon_call caller o timestamp info) }
+begin_open (Some next) o caller info timestamp =
+    record { standing = standing.Open (after_call o timestamp); step = step.Set (set_step.Bind (change_call caller o timestamp next)) }
+
+abbrev pub begin_with : Standing → Option (List ℕ) → Caller → NetworkInfo → ℕ → List ℕ → Beginning
+begin_with standing.Nothing next caller info timestamp challenge =
+    record { standing = standing.Nothing; step = step.Bind (challenge_call caller challenge) }
+begin_with (standing.Half client server) next caller info timestamp challenge =
+    record { standing = standing.Half client server; step = step.Bind (auth_call caller client server) }
+begin_with (standing.Open o) next caller info timestamp challenge = begin_open next o caller info timestamp
 
 pub record Starting : Type 0 where
   -- the right, and the frames of the bind
@@ -175,7 +215,7 @@ wait_for s place st = record s {
 abbrev pub with_turn : Requester → ℕ → Beginning → Starting
 with_turn s place b = record {
   answer = Some (tt, written (bind_of netlogon_syntax s.next_call) ∷ []);
-  state = record (wait_for s place (step.Bind b.call)) { standing = b.standing };
+  state = record (wait_for s place b.step) { standing = b.standing };
 }
 
 -- the turn of the first logon that waits, where no turn is out
@@ -183,7 +223,7 @@ abbrev pub start_by : Option Pending → List Waiting → Requester → ℕ → 
 start_by (Some pending) logons s timestamp challenge = record { answer = None; state = s }
 start_by None [] s timestamp challenge = record { answer = None; state = s }
 start_by None (logon ∷ logons) s timestamp challenge =
-    with_turn s logon.place (begin_with s.standing s.caller logon.info timestamp challenge)
+    with_turn s logon.place (begin_with s.standing s.next s.caller logon.info timestamp challenge)
 
 abbrev pub start_of : Requester → ℕ → List ℕ → Starting
 start_of s timestamp challenge = start_by s.turn s.waiting s timestamp challenge
@@ -215,14 +255,23 @@ hear_ack false s receive next = hearing.Drop drop_cause.Bind
 hear_ack true (step.Bind c) receive next =
     hearing.Next (question_of c) (frames_of (request_of next 0 (opnum_of_call c) (written_call c)) (limit_of receive))
 hear_ack true (step.Reply q) receive next = hearing.Drop drop_cause.BadReply
+hear_ack true (step.Set (set_step.Bind c)) receive next =
+    hearing.Set (set_hearing.Next (frames_of (request_of next 0 set_opnum (written_set_call c)) (limit_of receive)))
+hear_ack true (step.Set set_step.Reply) receive next = hearing.Drop drop_cause.BadReply
 
 abbrev pub hear_reply : Question → Result Reply StubRefused → Hearing
 hear_reply q (Err why) = hearing.Drop drop_cause.BadReply
 hear_reply q (Ok r) = hearing.Reply q r
 
+abbrev pub hear_set_reply : Result SetReply SetRefused → Hearing
+hear_set_reply (Err why) = hearing.Drop drop_cause.BadReply
+hear_set_reply (Ok r) = hearing.Set (set_hearing.Reply r)
+
 abbrev pub hear_stub : Step → List ℕ → Hearing
 hear_stub (step.Bind c) stub = hearing.Drop drop_cause.BadReply
 hear_stub (step.Reply q) stub = hear_reply q (reply_of (opnum_asked q) stub)
+hear_stub (step.Set (set_step.Bind c)) stub = hearing.Drop drop_cause.BadReply
+hear_stub (step.Set set_step.Reply) stub = hear_set_reply (set_reply_of stub)
 
 abbrev pub hear_body : Body → Step → ℕ → Hearing
 hear_body (BindNak reason) s next = hearing.Drop drop_cause.Bind
@@ -309,6 +358,28 @@ judge question.Logon (reply.Logon r) s secret =
     judge_logon (r.status == access_denied) s r.returned r.status r.level r.info
 judge _ _ s secret = judgement.Drop drop_cause.BadReply
 
+-- what the reply to NetrServerPasswordSet comes to: the channel, on which the secret is set, or why it isn't
+abbrev pub SetOutcome : Type 0
+SetOutcome = Result SecureChannelState DropCause
+
+-- the argument: whether the return credential is the one that is awaited
+abbrev pub judge_set_awaited : Bool → SecureChannelState → SetOutcome
+judge_set_awaited false o = Err drop_cause.NotNext
+judge_set_awaited true o = Ok (after_return true o)
+
+abbrev pub judge_set_return : Standing → Authenticator → SetOutcome
+judge_set_return standing.Nothing returned = Err drop_cause.NotNext
+judge_set_return (standing.Half client server) returned = Err drop_cause.NotNext
+judge_set_return (standing.Open o) returned = judge_set_awaited (is_awaited o.awaited returned.credential) o
+
+-- the argument: whether the status is 0. Each other one denies the change, whatever credential it comes with
+abbrev pub judge_set_status : Bool → Standing → Authenticator → SetOutcome
+judge_set_status false s returned = Err drop_cause.Denied
+judge_set_status true s returned = judge_set_return s returned
+
+abbrev pub judge_set : SetReply → Standing → SetOutcome
+judge_set r s = judge_set_status (r.status == 0) s r.returned
+
 -- ---- a unit that is taken
 
 pub record Taking : Type 0 where
@@ -341,12 +412,23 @@ settle (judgement.Answer o v) s =
 settle (judgement.Drop cause) s =
     record { taken = taken.Dropped (place_of s.turn) cause; state = remove_first standing.Nothing s }
 
+-- the secret is set, and none is next; the logon that the turn was for waits on
+abbrev pub settle_set : SetOutcome → Requester → Taking
+settle_set (Ok o) s = record { taken = taken.Set; state = record (end_turn (standing.Open o) s) { next = None } }
+settle_set (Err cause) s = settle (judgement.Drop cause) s
+
+abbrev pub act_set : SetHearing → Requester → Taking
+act_set (set_hearing.Next frames) s =
+    record { taken = taken.Next tt frames; state = wait_for s (place_of s.turn) (step.Set set_step.Reply) }
+act_set (set_hearing.Reply r) s = settle_set (judge_set r s.standing) s
+
 abbrev pub act : Hearing → Requester → Taking
 act hearing.Skip s = record { taken = taken.Skip tt; state = s }
 act (hearing.Next q frames) s =
     record { taken = taken.Next tt frames; state = wait_for s (place_of s.turn) (step.Reply q) }
 act (hearing.Reply q r) s = settle (judge q r s.standing s.caller.secret) s
 act (hearing.Drop cause) s = settle (judgement.Drop cause) s
+act (hearing.Set what) s = act_set what s
 
 abbrev pub take_of : Requester → RpcUnit → Taking
 take_of s unit = act (hear s.turn unit s.next_call) s
@@ -362,9 +444,16 @@ lose_of s = record { place = place_of s.turn; state = remove_first standing.Noth
 
 -- ---- what is kept can be written
 
+-- the texts of the call have their sizes, and its numbers their widths
+pub record CanSendSet (c : SetCall) : Type 0 where
+  pub writes : CanWriteSet c
+  pub range : InRangeSetCall c
+
 abbrev pub CanWriteStep : Step → Type 0
 CanWriteStep (step.Bind c) = CanWriteCall c
 CanWriteStep (step.Reply q) = Unit {0}
+CanWriteStep (step.Set (set_step.Bind c)) = CanSendSet c
+CanWriteStep (step.Set set_step.Reply) = Unit {0}
 
 abbrev pub CanWriteTurn : Option Pending → Type 0
 CanWriteTurn None = Unit {0}

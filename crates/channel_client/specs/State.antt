@@ -15,3 +15,5 @@ pub record Requester : Type 0 where
   pub next_call : ℕ
   -- the turn that is out
   pub turn : Option Pending
+  -- the secret that the account is to have, 16 bytes, or none
+  pub next : Option (List ℕ)

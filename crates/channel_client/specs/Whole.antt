@@ -1,7 +1,7 @@
 -- That what the end that asks sends on a secure channel is whole: each bind and each request is the bytes of one whole
 -- unit, in one fragment or more (C706 12.6.2), and has room in one piece of a link (this project's own choice). It
 -- holds where what the end keeps is in its ranges, and each step leaves it so.
-use Rattle.std.specs.Prelude.{ℕ, ◌≤◌, ◌<◌, ◌^◌, List, length, Option, Some, None}
+use Rattle.std.specs.Prelude.{ℕ, ◌≡◌, ◌+◌, ◌≤◌, ◌<◌, ◌^◌, List, length, Option, Some, None}
 use Rattle.std.specs.List.{AllByRecursion}
 use Rattle.wire_base.specs.Units.{AreUnits}
 use Rattle.rpc_units.specs.declared.unit.Unit.{Unit as RpcUnit}
@@ -9,9 +9,10 @@ use Rattle.logon_stubs.specs.declared.calls.Call.{Call}
 use Rattle.logon_stubs.specs.declared.info.NetworkInfo.{NetworkInfo}
 use Rattle.logon_stubs.specs.Ranges.{InRangeCall, InRangeNetworkInfo, IsBlock, call_content, logon_content}
 use Rattle.logon_stubs.specs.Writing.{CanWriteCall, CanWriteNetworkInfo}
+use Rattle.secret_change.specs.declared.calls.SetCall.{SetCall}
 use Rattle.end_links.specs.Sending.{joined_frames}
 use Rattle.end_links.specs.Whole.{IsWholeSend}
-use Rattle.channel_client.specs.Machine.{ask_of, fresh_requester, lose_of, start_of, take_of}
+use Rattle.channel_client.specs.Machine.{CanSendSet, ask_of, fresh_requester, lose_of, set_next_of, start_of, take_of, use_secret_of}
 use Rattle.channel_client.specs.State.{Requester}
 use Rattle.channel_client.specs.declared.answers.Taken.{Taken}
 use Rattle.channel_client.specs.declared.answers.Taken.TheVariants as taken
@@ -19,6 +20,8 @@ use Rattle.channel_client.specs.declared.caller.Caller.{Caller}
 use Rattle.channel_client.specs.declared.state.Pending.{Pending}
 use Rattle.channel_client.specs.declared.state.Step.{Step}
 use Rattle.channel_client.specs.declared.state.Step.TheVariants as step
+use Rattle.channel_client.specs.declared.state.SetStep.{SetStep}
+use Rattle.channel_client.specs.declared.state.SetStep.TheVariants as set_step
 use Rattle.channel_client.specs.declared.state.Waiting.{Waiting}
 
 -- ---- the ranges of what is kept
@@ -46,9 +49,20 @@ pub record HasRoom (c : Call) : Type 0 where
   pub range : InRangeCall c
   pub few : call_content c ≤ 57809
 
+-- likewise a change, which names no server
+pub record HasSetRoom (c : SetCall) : Type 0 where
+  pub sends : CanSendSet c
+  pub primary : c.primary ≡ None
+  pub few : length c.account + length c.computer ≤ 129
+
+abbrev pub InRangeSetStep : SetStep → Type 0
+InRangeSetStep (set_step.Bind c) = HasSetRoom c
+InRangeSetStep set_step.Reply = Unit {0}
+
 abbrev pub InRangeStep : Step → Type 0
 InRangeStep (step.Bind c) = HasRoom c
 InRangeStep (step.Reply q) = Unit {0}
+InRangeStep (step.Set st) = InRangeSetStep st
 
 abbrev pub InRangeTurn : Option Pending → Type 0
 InRangeTurn None = Unit {0}
@@ -76,6 +90,7 @@ IsWholeNext taken.Half = Unit {0}
 IsWholeNext taken.Opened = Unit {0}
 IsWholeNext (taken.Answer place verdict) = Unit {0}
 IsWholeNext (taken.Dropped place cause) = Unit {0}
+IsWholeNext taken.Set = Unit {0}
 
 pub record RequestersSendWhole : Type 0 where
   pub fresh : (caller : Caller) → InRangeCaller caller → InRangeRequester (fresh_requester caller)
@@ -84,3 +99,5 @@ pub record RequestersSendWhole : Type 0 where
       InRangeRequester (start_of s timestamp challenge).state × IsWholeStart (start_of s timestamp challenge).answer
   pub take : (s : Requester) (unit : RpcUnit) → InRangeRequester s → InRangeRequester (take_of s unit).state × IsWholeNext (take_of s unit).taken
   pub lose : (s : Requester) → InRangeRequester s → InRangeRequester (lose_of s).state
+  pub use_secret : (s : Requester) (secret : List ℕ) → InRangeRequester s → InRangeRequester (use_secret_of s secret)
+  pub set_next : (s : Requester) (next : Option (List ℕ)) → InRangeRequester s → InRangeRequester (set_next_of s next)

@@ -23,6 +23,8 @@ pub enum Taken {
     Answer(u32, Verdict),
     /// The logon of that place gets no answer, and the channel is none.
     Dropped(u32, DropCause),
+    /// The account has the next secret. The logon that the turn was for waits on.
+    Set,
 }
 
 /// Why a logon can't wait.

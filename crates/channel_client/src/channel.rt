@@ -1,19 +1,21 @@
 //! The channel.
 
-ghost use Rattle.std.specs.Prelude.{◌≡◌, ◌≤◌, length, IfOk, OnOk, OnErr};
+ghost use Rattle.std.specs.Prelude.{◌≡◌, ◌≤◌, length, IfOk, OnOk, OnErr, None};
 ghost use Rattle.logon_stubs.specs.Ranges.{InRangeSamInfo};
 ghost use Rattle.logon_stubs.specs.Writing.{CanWriteNetworkInfo, CanWriteSamInfo};
 ghost use Rattle.channel_client.specs.Grants.{CanWriteHeard, IfTaken};
-ghost use Rattle.channel_client.specs.Machine.{CanWriteStep, fresh_requester, ask_of, AsksBy, needs_challenge, can_start, start_of, wait_for, hear, settle, act, take_of, lose_of, end_turn, remove_first, place_of};
+ghost use Rattle.channel_client.specs.Machine.{CanWriteStep, fresh_requester, ask_of, AsksBy, needs_challenge, can_start, start_of, wait_for, hear, settle, act, take_of, lose_of, end_turn, remove_first, place_of, use_secret_of, set_next_of, settle_set, act_set};
+ghost use Rattle.channel_client.specs.declared.state.Standing.TheVariants as standing;
 
 use crate::answers::{AskRefused, TakeRefused, Taken};
 use crate::caller::Caller;
-use crate::hearing::{Hearing, hear_body};
-use crate::judging::{Judgement, judge};
+use crate::hearing::{Hearing, SetHearing, hear_body};
+use crate::judging::{Judgement, judge, judge_set};
 use crate::short_frames::ShortFrames;
 use crate::starting::{begin_with, bind_frames};
-use crate::state::{Pending, Standing, Step, Waiting};
+use crate::state::{Pending, SetStep, Standing, Step, Waiting};
 use crate::turn::Turn;
+use authenticators::SecureChannel;
 use logon_stubs::NetworkInfo;
 use outside::DropCause;
 use rpc_units::Unit;
@@ -34,6 +36,7 @@ pub struct Channel {
     next_place: u32,
     next_call: u32,
     turn: Option<Pending>,
+    next: Option<[u8; 16]>,
 }
 
 impl Drop for Channel {
@@ -47,6 +50,7 @@ impl Drop for Channel {
             next_place: _next_place,
             next_call: _next_call,
             turn: _turn,
+            next: _next,
         } = self;
     }
 }
@@ -58,7 +62,7 @@ impl Model for Channel {
 
     ghost Value = { Requester };
 
-    ghost view = { λ c. record { caller = c.caller; standing = c.standing; waiting = c.waiting.items; next_place = c.next_place; next_call = c.next_call; turn = c.turn } };
+    ghost view = { λ c. record { caller = c.caller; standing = c.standing; waiting = c.waiting.items; next_place = c.next_place; next_call = c.next_call; turn = c.turn; next = c.next } };
 
     ghost invariant = { λ c. FitsText c.caller.computer × FitsText c.caller.account × CanWriteWaiting c.waiting.items × CanWriteTurn c.turn };
 }
@@ -94,7 +98,27 @@ impl Channel {
             next_place: 0,
             next_call: 1,
             turn: None,
+            next: None,
         })
+    }
+
+    /// Gives the account another secret, by which the channel is opened. The channel is none, and no turn is out. It
+    /// takes no memory.
+    pub fn use_secret(&mut self, secret: [u8; 16])
+        requires none { self.old.standing ≡ standing.Nothing }
+        requires idle { self.old.turn ≡ None }
+        ensures { self.new ≡ use_secret_of self.old secret }
+    {
+        self.caller.secret = secret;
+    }
+
+    /// The secret that the account is to have, or none. While there is one, a turn on the open channel sets it, before
+    /// any logon is asked for. No turn is out. It takes no memory.
+    pub fn set_next(&mut self, next: Option<[u8; 16]>)
+        requires { self.old.turn ≡ None }
+        ensures { self.new ≡ set_next_of self.old next }
+    {
+        self.next = next;
     }
 
     /// Lets a logon wait behind those that wait, and gives its place, counted from 0 modulo 2^32, which becomes the
@@ -137,8 +161,9 @@ impl Channel {
 
     /// Starts the turn of the first logon that waits: gives the right to it, and the frames of its bind. Its call is
     /// NetrServerReqChallenge with the challenge where the channel is none, NetrServerAuthenticate2 where both
-    /// challenges are known, and where it is open NetrLogonSamLogon of the logon, with the timestamp. Else the
-    /// challenge isn't looked at, nor is the timestamp.
+    /// challenges are known, and where it is open NetrServerPasswordSet of the next secret, where there is one, and
+    /// else NetrLogonSamLogon of the logon, with the timestamp. Otherwise the challenge isn't looked at, nor is the
+    /// timestamp.
     ///
     /// None exactly where nobody waits or a turn is out. `NoMemory` where no memory was found; then nothing changes.
     pub fn start_turn(
@@ -160,15 +185,16 @@ impl Channel {
         };
         let place = first.place;
         let frames = bind_frames(alloc, self.next_call)?;
-        let call = begin_with(
+        let step = begin_with(
             alloc,
             &mut self.standing,
+            self.next,
             &self.caller,
             &first.info,
             timestamp,
             challenge,
         )?;
-        self.wait_for(place, Step::Bind(call));
+        self.wait_for(place, step);
         Ok(Some((Turn::new(), frames)))
     }
 
@@ -215,7 +241,7 @@ impl Channel {
     }
 
     /// Does what a unit comes to.
-    #[tactic(auto, using(crate::proofs::GrantLaws::settled_writable, crate::proofs::GrantLaws::settled_range))]
+    #[tactic(auto, using(crate::proofs::GrantLaws::settled_writable, crate::proofs::GrantLaws::settled_range, crate::proofs::GrantLaws::set_writable, crate::proofs::GrantLaws::set_range))]
     fn act(&mut self, turn: Turn, heard: Hearing) -> Taken
         requires { CanWriteHeard heard }
         ensures answer { result ≡ (act heard self.old).taken }
@@ -236,6 +262,41 @@ impl Channel {
                 self.settle(judgement)
             }
             Hearing::Drop(cause) => self.settle(Judgement::Drop(cause)),
+            Hearing::Set(what) => self.act_set(turn, what),
+        }
+    }
+
+    /// Does what a unit comes to for a turn that sets a secret.
+    fn act_set(&mut self, turn: Turn, what: SetHearing) -> Taken
+        ensures answer { result ≡ (act_set what self.old).taken }
+        ensures state { self.new ≡ (act_set what self.old).state }
+    {
+        match what {
+            SetHearing::Next(frames) => {
+                let place = self.place();
+                self.wait_for(place, Step::Set(SetStep::Reply));
+                Taken::Next(turn, frames)
+            }
+            SetHearing::Reply(reply) => {
+                let standing = mem::replace(&mut self.standing, Standing::Nothing);
+                let judged = judge_set(reply, standing);
+                self.settle_set(judged)
+            }
+        }
+    }
+
+    /// Settles what came of a change. How the channel stands doesn't matter.
+    fn settle_set(&mut self, judged: Result<SecureChannel, DropCause>) -> Taken
+        ensures answer { result ≡ (settle_set judged self.old).taken }
+        ensures state { self.new ≡ (settle_set judged self.old).state }
+    {
+        match judged {
+            Ok(opened) => {
+                self.end_turn(Standing::Open(opened));
+                self.next = None;
+                Taken::Set
+            }
+            Err(cause) => self.settle(Judgement::Drop(cause)),
         }
     }
 

@@ -6,10 +6,11 @@ ghost use Rattle.logon_stubs.specs.Writing.{CanWriteCall, written_call};
 ghost use Rattle.end_links.specs.Binding.{limit_of};
 ghost use Rattle.end_links.specs.Sending.{frames_of, request_of};
 ghost use Rattle.channel_client.specs.Grants.{CanWriteHeard};
-ghost use Rattle.channel_client.specs.Machine.{CanWriteStep, question_of, opnum_asked, is_accepting, hear_ack, hear_stub, hear_body};
+ghost use Rattle.channel_client.specs.Machine.{CanWriteStep, question_of, opnum_asked, is_accepting, hear_ack, hear_stub, hear_body, CanSendSet, hear_set_reply};
+ghost use Rattle.secret_change.specs.Calls.{set_opnum, set_reply_of, written_set_call};
 
 use crate::short_frames::ShortFrames;
-use crate::state::{Question, Step};
+use crate::state::{Question, SetStep, Step};
 use end_links::{call_frames, fragment_limit, request};
 use logon_stubs::{
     AUTHENTICATE_OPNUM, CHALLENGE_OPNUM, Call, LOGON_OPNUM, Reply, StubRefused, read_reply,
@@ -17,6 +18,7 @@ use logon_stubs::{
 };
 use outside::DropCause;
 use rpc_units::{Body, Results};
+use secret_change::{SetCall, SetReply, read_set_reply, write_set};
 use std::alloc::Global;
 use wire_base::{Blob, NoMemory};
 
@@ -31,7 +33,21 @@ pub enum Hearing {
     Reply(Question, Reply),
     /// The turn ends without an answer.
     Drop(DropCause),
+    /// The same of a turn that sets a secret.
+    Set(SetHearing),
 }
+
+/// What a unit comes to for a turn that sets a secret.
+#[derive(Debug, Drop)]
+pub enum SetHearing {
+    /// The request goes out, in these frames.
+    Next(ShortFrames),
+    /// It is the reply.
+    Reply(SetReply),
+}
+
+/// The number of NetrServerPasswordSet (MS-NRPC 3.5.4).
+const SET_OPNUM: u16 = 6;
 
 /// What the body of a unit comes to for a turn that waits for its number. A request would go out with the number
 /// `next`.
@@ -90,9 +106,48 @@ fn hear_ack(
             question_of(call),
             request_frames(alloc, call, receive, next)?,
         )),
-        Step::Reply(_) => Ok(Hearing::Drop(DropCause::BadReply)),
+        Step::Set(SetStep::Bind(call)) => {
+            let frames = set_frames(alloc, call, receive, next)?;
+            Ok(Hearing::Set(SetHearing::Next(frames)))
+        }
+        Step::Reply(_) | Step::Set(SetStep::Reply) => Ok(Hearing::Drop(DropCause::BadReply)),
     }
 }
+
+/// The frames of the request that sets a secret, on context 0, for a peer that receives so many bytes.
+fn set_frames(
+    alloc: Global,
+    call: &SetCall,
+    receive: u16,
+    number: u32,
+) -> Result<ShortFrames, NoMemory>
+    requires { CanSendSet call.now }
+    ensures { IfOk result (λ frames. frames ≡ frames_of
+        (request_of number 0 set_opnum (written_set_call call.now)) (limit_of receive)) }
+{
+    let stub = set_stub(alloc, call)?;
+    let unit = request(number, 0, SET_OPNUM, stub);
+    Ok(ShortFrames::new(call_frames(alloc, &unit, fragment_limit(receive))?))
+}
+
+/// The stub of a call that sets a secret, which is short enough for the hint of a request, and for one send.
+fn set_stub(alloc: Global, call: &SetCall) -> Result<Blob, NoMemory>
+    requires { CanSendSet call.now }
+    ensures exact { IfOk result (λ stub. stub ≡ written_set_call call.now) }
+    ensures short { IfOk result (λ stub. length stub ≤ 459140) }
+{
+    let stub = write_set(alloc, call)?;
+    is_short_stub(call, &stub);
+    Ok(stub)
+}
+
+/// The stub of such a call has at most 459,140 bytes.
+#[tactic(auto, using(crate::proofs::StubLaws::set_stub_short))]
+fn is_short_stub(call: &SetCall, stub: &Blob)
+    requires sends { CanSendSet call.now }
+    requires exact { stub.now ≡ written_set_call call.now }
+    ensures { length stub.now ≤ 459140 }
+{}
 
 /// The frames of the request of a call, on context 0, for a peer that receives so many bytes.
 fn request_frames(
@@ -159,11 +214,22 @@ fn hear_stub(alloc: Global, step: &Step, stub: &[u8]) -> Result<Hearing, NoMemor
     ensures writable { IfOk result CanWriteHeard }
 {
     match step {
-        Step::Bind(_) => Ok(Hearing::Drop(DropCause::BadReply)),
+        Step::Bind(_) | Step::Set(SetStep::Bind(_)) => Ok(Hearing::Drop(DropCause::BadReply)),
+        Step::Set(SetStep::Reply) => Ok(hear_set_reply(stub)),
         Step::Reply(question) => match read_reply(alloc, opnum_asked(*question), stub) {
             Ok(reply) => Ok(Hearing::Reply(*question, reply)),
             Err(StubRefused::Memory) => Err(NoMemory),
             Err(_) => Ok(Hearing::Drop(DropCause::BadReply)),
         },
+    }
+}
+
+/// What the stub of a response comes to for a turn that sets a secret.
+fn hear_set_reply(stub: &[u8]) -> Hearing
+    ensures { result ≡ hear_set_reply (set_reply_of stub.now) }
+{
+    match read_set_reply(stub) {
+        Ok(reply) => Hearing::Set(SetHearing::Reply(reply)),
+        Err(_) => Hearing::Drop(DropCause::BadReply),
     }
 }

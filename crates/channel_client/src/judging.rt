@@ -2,7 +2,7 @@
 
 ghost use Rattle.std.specs.Prelude.{◌≡◌, ◌==◌};
 ghost use Rattle.logon_stubs.specs.Status.{access_denied};
-ghost use Rattle.channel_client.specs.Machine.{judge_challenge, judge_credential, judge_auth, judge_status, judge_return, judge_logon, judge};
+ghost use Rattle.channel_client.specs.Machine.{judge_challenge, judge_credential, judge_auth, judge_status, judge_return, judge_logon, judge, judge_set, judge_set_return};
 
 use crate::state::{Question, Standing};
 use authenticators::SecureChannel;
@@ -12,6 +12,7 @@ use logon_stubs::{
 };
 use ntlm_flags::has_flag;
 use outside::DropCause;
+use secret_change::SetReply;
 use wire_base::Authenticator;
 
 /// What a reply comes to.
@@ -144,4 +145,28 @@ fn judge_status(status: u32, level: u16, info: Option<SamInfo>, opened: SecureCh
         }
         _ => Judgement::Drop(DropCause::BadReply),
     }
+}
+
+/// What the reply to NetrServerPasswordSet comes to, by how far the channel is: the channel, where the secret is set.
+pub(crate) fn judge_set(reply: SetReply, standing: Standing) -> Result<SecureChannel, DropCause>
+    ensures { result ≡ judge_set reply standing }
+{
+    if reply.status != 0 {
+        return Err(DropCause::Denied);
+    }
+    judge_set_return(reply.returned, standing)
+}
+
+/// The same of a status of 0, by the authenticator that is returned.
+fn judge_set_return(returned: Authenticator, standing: Standing) -> Result<SecureChannel, DropCause>
+    ensures { result ≡ judge_set_return standing returned }
+{
+    let Standing::Open(opened) = standing else {
+        return Err(DropCause::NotNext);
+    };
+    let mut opened = opened;
+    if opened.take_return(returned.credential) {
+        return Ok(opened);
+    }
+    Err(DropCause::NotNext)
 }

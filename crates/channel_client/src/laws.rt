@@ -3,6 +3,7 @@
 ghost use Rattle.channel_client.specs.Causes.{CausesInOrder};
 ghost use Rattle.channel_client.specs.Effects.{StepsHaveEffects};
 ghost use Rattle.channel_client.specs.Grants.{GrantsAreWritable};
+ghost use Rattle.channel_client.specs.NoNext.{SetsNothing};
 ghost use Rattle.channel_client.specs.Turns.{OneTurn};
 ghost use Rattle.channel_client.specs.Whole.{RequestersSendWhole};
 
@@ -41,4 +42,11 @@ pub fn requesters_send_whole()
 #[tactic(auto, using(crate::proofs::GrantLaws::grants_are_writable))]
 pub fn grants_can_be_written()
     ensures { GrantsAreWritable }
+{}
+
+/// Without a next secret none is set: a turn begins as one of an end that can't set one, no unit is heard as the answer
+/// to a change, and it stays so.
+#[tactic(auto, using(crate::proofs::NoNextLaws::sets_nothing))]
+pub fn nothing_is_set_without_a_next_secret()
+    ensures { SetsNothing }
 {}

@@ -1,21 +1,24 @@
 //! The start of a turn: its bind, and the call that waits behind it.
 
-ghost use Rattle.std.specs.Prelude.{◌≡◌, ◌∷◌, [], IfOk, OnOk, OnErr};
+ghost use Rattle.std.specs.Prelude.{◌≡◌, ◌<◌, ◌^◌, ◌∷◌, [], IfOk, OnOk, OnErr};
 ghost use Rattle.authenticators.specs.SecureChannels.{after_call};
 ghost use Rattle.rpc_units.specs.Writing.{written};
 ghost use Rattle.logon_stubs.specs.Writing.{CanWriteNetworkInfo, CanWriteCall};
 ghost use Rattle.logon_stubs.specs.Parts.{FitsText};
 ghost use Rattle.end_links.specs.Binding.{bind_of};
 ghost use Rattle.logon_stubs.specs.Interface.{netlogon_syntax};
-ghost use Rattle.channel_client.specs.Machine.{challenge_call, auth_call, logon_call, begin_with};
+ghost use Rattle.wire_base.specs.Units.{AreUnits};
+ghost use Rattle.channel_client.specs.declared.state.Standing.TheVariants as standing;
+ghost use Rattle.channel_client.specs.Machine.{CanSendSet, CanWriteStep, challenge_call, auth_call, change_call, logon_call, begin_open, begin_with};
 
 use crate::caller::Caller;
 use crate::short_frames::ShortFrames;
-use crate::state::Standing;
+use crate::state::{SetStep, Standing, Step};
 use authenticators::SecureChannel;
 use channel_keys::{SUPPORTED_FLAGS, cred, session_key};
 use end_links::{bind, unit_bytes};
 use logon_stubs::{AuthCall, Call, ChallengeCall, LogonCall, NETLOGON, NetworkInfo};
+use secret_change::{SetCall, hide};
 use std::alloc::Global;
 use wire_base::{Authenticator, Frames, NoMemory};
 
@@ -34,27 +37,60 @@ pub(crate) fn bind_frames(alloc: Global, number: u32) -> Result<ShortFrames, NoM
 pub(crate) fn begin_with(
     alloc: Global,
     standing: &mut Standing,
+    next: Option<[u8; 16]>,
     caller: &Caller,
     info: &NetworkInfo,
     timestamp: u32,
     challenge: [u8; 8],
-) -> Result<Call, NoMemory>
+) -> Result<Step, NoMemory>
     requires computer { FitsText caller.now.computer }
     requires account { FitsText caller.now.account }
     requires info { CanWriteNetworkInfo info.now }
-    ensures call { IfOk result (λ call. call
-        ≡ (begin_with standing.old caller.now info.now timestamp challenge).call) }
+    ensures step { IfOk result (λ step. step
+        ≡ (begin_with standing.old next caller.now info.now timestamp challenge).step) }
     ensures standing { OnOk result (standing.new
-        ≡ (begin_with standing.old caller.now info.now timestamp challenge).standing) }
+        ≡ (begin_with standing.old next caller.now info.now timestamp challenge).standing) }
     ensures unchanged { OnErr result (standing.new ≡ standing.old) }
-    ensures writable { IfOk result (λ call. CanWriteCall call) }
+    ensures writable { IfOk result (λ step. CanWriteStep step) }
 {
     if let Standing::Open(channel) = standing {
-        return logon_call(alloc, caller, channel, timestamp, info);
+        return begin_open(alloc, next, channel, caller, info, timestamp);
     }
-    match &*standing {
-        Standing::Half { client, server } => auth_call(alloc, caller, *client, *server),
-        Standing::Nothing | Standing::Open(_) => challenge_call(alloc, caller, challenge),
+    let call = match &*standing {
+        Standing::Half { client, server } => auth_call(alloc, caller, *client, *server)?,
+        Standing::Nothing | Standing::Open(_) => challenge_call(alloc, caller, challenge)?,
+    };
+    Ok(Step::Bind(call))
+}
+
+/// The same on an open channel: while there is a next secret, it is set.
+fn begin_open(
+    alloc: Global,
+    next: Option<[u8; 16]>,
+    channel: &mut SecureChannel,
+    caller: &Caller,
+    info: &NetworkInfo,
+    timestamp: u32,
+) -> Result<Step, NoMemory>
+    requires computer { FitsText caller.now.computer }
+    requires account { FitsText caller.now.account }
+    requires info { CanWriteNetworkInfo info.now }
+    ensures step { IfOk result (λ step. step
+        ≡ (begin_open next channel.old caller.now info.now timestamp).step) }
+    ensures standing { OnOk result (standing.Open channel.new
+        ≡ (begin_open next channel.old caller.now info.now timestamp).standing) }
+    ensures unchanged { OnErr result (channel.new ≡ channel.old) }
+    ensures writable { IfOk result (λ step. CanWriteStep step) }
+{
+    match next {
+        Some(secret) => match change_call(alloc, caller, channel, timestamp, secret) {
+            Ok(call) => Ok(Step::Set(SetStep::Bind(call))),
+            Err(NoMemory) => Err(NoMemory),
+        },
+        None => match logon_call(alloc, caller, channel, timestamp, info) {
+            Ok(call) => Ok(Step::Bind(call)),
+            Err(NoMemory) => Err(NoMemory),
+        },
     }
 }
 
@@ -124,3 +160,70 @@ fn logon_call(
         validation: 3,
     }))
 }
+
+/// NetrServerPasswordSet of that secret, with the channel's next authenticator. Without memory the channel is as it
+/// was.
+#[tactic(auto, using(crate::proofs::StubLaws::change_sends))]
+fn change_call(
+    alloc: Global,
+    caller: &Caller,
+    channel: &mut SecureChannel,
+    timestamp: u32,
+    next: [u8; 16],
+) -> Result<SetCall, NoMemory>
+    requires computer { FitsText caller.now.computer }
+    requires account { FitsText caller.now.account }
+    ensures call { IfOk result (λ call. call
+        ≡ change_call caller.now channel.old timestamp next) }
+    ensures channel { OnOk result (channel.new ≡ after_call channel.old timestamp) }
+    ensures unchanged { OnErr result (channel.new ≡ channel.old) }
+    ensures writable { IfOk result (λ call. CanSendSet call) }
+{
+    // so that it is known that numbers and texts have their widths
+    are_units(caller.account.units());
+    are_units(caller.computer.units());
+    is_short(caller.kind);
+    is_long(timestamp);
+    set_call(alloc, caller, channel, timestamp, next)
+}
+
+/// The call.
+fn set_call(
+    alloc: Global,
+    caller: &Caller,
+    channel: &mut SecureChannel,
+    timestamp: u32,
+    next: [u8; 16],
+) -> Result<SetCall, NoMemory>
+    ensures call { IfOk result (λ call. call
+        ≡ change_call caller.now channel.old timestamp next) }
+    ensures channel { OnOk result (channel.new ≡ after_call channel.old timestamp) }
+    ensures unchanged { OnErr result (channel.new ≡ channel.old) }
+{
+    let account = caller.account.duplicate(alloc)?;
+    let computer = caller.computer.duplicate(alloc)?;
+    let hidden = hide(channel.key(), next);
+    Ok(SetCall {
+        primary: None,
+        account,
+        channel: caller.kind,
+        computer,
+        authenticator: channel.make(timestamp),
+        hidden,
+    })
+}
+
+/// Units of 16 bits are units.
+fn are_units(units: &[u16])
+    ensures { AreUnits units.now }
+{}
+
+/// A number of 16 bits is below 2^16.
+fn is_short(number: u16)
+    ensures { number < 2 ^ 16 }
+{}
+
+/// A number of 32 bits is below 2^32.
+fn is_long(number: u32)
+    ensures { number < 2 ^ 32 }
+{}

@@ -2,6 +2,7 @@
 
 use authenticators::SecureChannel;
 use logon_stubs::{Call, NetworkInfo};
+use secret_change::SetCall;
 
 /// How far the channel is (MS-NRPC 3.1.4.1).
 #[derive(Drop)]
@@ -32,6 +33,17 @@ pub enum Step {
     Bind(Call),
     /// The reply to the request.
     Reply(Question),
+    /// The same of a turn that sets a secret.
+    Set(SetStep),
+}
+
+/// What a turn waits for that sets a secret.
+#[derive(Drop)]
+pub enum SetStep {
+    /// The answer to the bind, behind which this call goes out.
+    Bind(SetCall),
+    /// The reply to the request.
+    Reply,
 }
 
 /// The turn that is out: the number of the bind or request whose answer it waits for, the place of the logon that it is

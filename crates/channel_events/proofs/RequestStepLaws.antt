@@ -1,13 +1,14 @@
 -- Each step of an end that asks is one of the events that keep calls apart.
 -- It serves `requesters_keep_calls_apart`.
-use Rattle.std.proofs.Common.{◌≡◌, ◌⊎◌, ℕ, ◌+◌, ◌≤◌, ◌==◌, Bool, true, false, List, [], ◌∷◌, ◌++◌, inl, inr, Option, Some, None, refl, sym, ap, subst, ◌∙◌, arith}
+use Rattle.std.proofs.Common.{◌≡◌, ◌⊎◌, ℕ, ◌+◌, ◌≤◌, ◌==◌, Bool, true, false, List, [], ◌∷◌, ◌++◌, inl, inr, Option, Some, None, Ok, Err, refl, sym, ap, subst, ◌∙◌, arith}
 use Rattle.std.proofs.lemmas.Bool.Decides.{Decides-eqb}
 use Rattle.authenticators.specs.Channels.{ChannelIdentity}
-use Rattle.channel_client.specs.Effects.{Answers, Begins, Calls, Changes, Counts, Drops, Effect, HasEffect, Moves, Opens, Stays, View, effect_begun, effect_heard, effect_judged, effect_next, effect_start, view_of}
-use Rattle.channel_client.specs.Machine.{ask_of, can_start, hear, judge, lose_of, needs_challenge, start_of, take_of}
+use Rattle.channel_client.specs.Effects.{Answers, Begins, Calls, Changes, Counts, Drops, Effect, HasEffect, Moves, Opens, Stays, View, effect_begun, effect_heard, effect_judged, effect_judged_set, effect_next, effect_start, view_of}
+use Rattle.channel_client.specs.Machine.{SetOutcome, ask_of, can_start, hear, judge, judge_set, lose_of, needs_challenge, set_next_of, start_of, take_of, use_secret_of}
 use Rattle.channel_client.specs.State.{Requester}
 use Rattle.channel_client.specs.declared.hearing.Hearing.{Hearing}
 use Rattle.channel_client.specs.declared.hearing.Hearing.TheVariants as hearing
+use Rattle.channel_client.specs.declared.hearing.SetHearing.TheVariants as set_hearing
 use Rattle.channel_client.specs.declared.judging.Judgement.{Judgement}
 use Rattle.channel_client.specs.declared.judging.Judgement.TheVariants as judgement
 use Rattle.channel_client.specs.declared.state.Pending.{Pending}
@@ -87,6 +88,11 @@ module _ (r : Requests ℕ) (who controller : ℕ) (s t : Requester) (seen : IsS
   judged_seen (judgement.Answer o v) computer number has = calm_seen r who controller 1 (Answers _ number) s t seen tt (omega arith) has
   judged_seen (judgement.Drop cause) computer number has = calm_seen r who controller 1 Drops s t seen tt (omega arith) has
 
+  judged_set_seen : (judged : SetOutcome) (computer : List ℕ) (number : ℕ) → HasEffect controller (effect_judged_set controller judged computer number) s t →
+      AfterTaking (effect_judged_set controller judged computer number) r who controller t
+  judged_set_seen (Ok o) computer number has = calm_seen r who controller 1 (Answers _ number) s t seen tt (omega arith) has
+  judged_set_seen (Err cause) computer number has = calm_seen r who controller 1 Drops s t seen tt (omega arith) has
+
   next_seen : (how : Standing) (computer : List ℕ) (next : ℕ) → HasEffect controller (effect_next controller how computer next) s t →
       AfterTaking (effect_next controller how computer next) r who controller t
   next_seen standing.Nothing computer next has = (calm_seen r who controller 1 Counts s t seen tt (omega arith) has, λ c u. open_seen has c u)
@@ -98,6 +104,8 @@ module _ (r : Requests ℕ) (who controller : ℕ) (s t : Requester) (seen : IsS
   heard_seen (hearing.Next q frames) has = next_seen s.standing s.caller.computer s.next_call has
   heard_seen (hearing.Reply q reply) has = judged_seen (judge q reply s.standing s.caller.secret) s.caller.computer _ has
   heard_seen (hearing.Drop cause) has = calm_seen r who controller 1 Drops s t seen tt (omega arith) has
+  heard_seen (hearing.Set (set_hearing.Next frames)) has = next_seen s.standing s.caller.computer s.next_call has
+  heard_seen (hearing.Set (set_hearing.Reply reply)) has = judged_set_seen (judge_set reply s.standing) s.caller.computer _ has
 
   -- ---- a turn starts
 
@@ -123,6 +131,10 @@ module _ (r : Requests ℕ) (who controller : ℕ) (s t : Requester) (seen : IsS
 pub requesters_keep : RequestersKeepCallsApart
 requesters_keep = record {
   ask = λ r who controller s info seen. calm_seen r who controller 0 Stays s (ask_of s info).state seen tt (omega arith) (steps_have_effects.ask controller s info seen.coherent);
+  use_secret = λ r who controller s secret seen.
+      calm_seen r who controller 0 Stays s (use_secret_of s secret) seen tt (omega arith) (steps_have_effects.use_secret controller s secret seen.coherent);
+  set_next = λ r who controller s next seen.
+      calm_seen r who controller 0 Stays s (set_next_of s next) seen tt (omega arith) (steps_have_effects.set_next controller s next seen.coherent);
   lose = λ r who controller s seen. calm_seen r who controller 0 Drops s (lose_of s).state seen tt (omega arith) (steps_have_effects.lose controller s seen.coherent);
   take = λ r who controller s unit seen.
       heard_seen r who controller s (take_of s unit).state seen (hear s.turn unit s.next_call) (steps_have_effects.take controller s unit seen.coherent);

@@ -5,7 +5,7 @@ use Rattle.rpc_units.specs.declared.unit.Unit.{Unit as RpcUnit}
 use Rattle.logon_stubs.specs.declared.info.NetworkInfo.{NetworkInfo}
 use Rattle.authenticators.specs.Channels.{ChannelIdentity}
 use Rattle.channel_client.specs.Effects.{Effect, Calls, Counts, IsCoherent, View, effect_of_take, view_of}
-use Rattle.channel_client.specs.Machine.{ask_of, can_start, lose_of, needs_challenge, start_of, take_of}
+use Rattle.channel_client.specs.Machine.{ask_of, can_start, lose_of, needs_challenge, set_next_of, start_of, take_of, use_secret_of}
 use Rattle.channel_client.specs.State.{Requester}
 use Rattle.channel_events.specs.Marks.{Calling, Opening}
 use Rattle.channel_events.specs.Requests.{CallsAreApart, IsDrawn, Requests}
@@ -54,6 +54,10 @@ IsFreshIf true challenge drawn = IsDrawn challenge drawn → ⊥
 pub record RequestersKeepCallsApart : Type 0 where
   pub ask : (r : Requests ℕ) (who controller : ℕ) (s : Requester) (info : NetworkInfo) → IsSeen r who controller s →
       IsSeenAfter (with_seen who (view_of controller (ask_of s info).state) 0 r) who controller (ask_of s info).state
+  pub use_secret : (r : Requests ℕ) (who controller : ℕ) (s : Requester) (secret : List ℕ) → IsSeen r who controller s →
+      IsSeenAfter (with_seen who (view_of controller (use_secret_of s secret)) 0 r) who controller (use_secret_of s secret)
+  pub set_next : (r : Requests ℕ) (who controller : ℕ) (s : Requester) (next : Option (List ℕ)) → IsSeen r who controller s →
+      IsSeenAfter (with_seen who (view_of controller (set_next_of s next)) 0 r) who controller (set_next_of s next)
   pub lose : (r : Requests ℕ) (who controller : ℕ) (s : Requester) → IsSeen r who controller s →
       IsSeenAfter (with_seen who (view_of controller (lose_of s).state) 0 r) who controller (lose_of s).state
   pub take : (r : Requests ℕ) (who controller : ℕ) (s : Requester) (unit : RpcUnit) → IsSeen r who controller s →

@@ -31,6 +31,7 @@ end_of taken.Half = Some turn_end.Half
 end_of taken.Opened = Some turn_end.Opened
 end_of (taken.Answer place verdict) = Some (turn_end.Answer place verdict)
 end_of (taken.Dropped place cause) = Some (turn_end.Dropped place cause)
+end_of taken.Set = Some turn_end.Set
 
 -- it is passed over, sends the next request, or ends the turn
 pub record ByTaken (what : Taken) (joiner : Option RpcUnit) (at : TurnWork) (Holds : TurnServed → Type 0) : Type 0 where
@@ -47,6 +48,7 @@ taken_by taken.Half joiner at Holds by = by.ends turn_end.Half refl
 taken_by taken.Opened joiner at Holds by = by.ends turn_end.Opened refl
 taken_by (taken.Answer place verdict) joiner at Holds by = by.ends (turn_end.Answer place verdict) refl
 taken_by (taken.Dropped place cause) joiner at Holds by = by.ends (turn_end.Dropped place cause) refl
+taken_by taken.Set joiner at Holds by = by.ends turn_end.Set refl
 
 -- ---- the units of a stream
 

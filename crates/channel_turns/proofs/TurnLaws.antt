@@ -54,6 +54,7 @@ ended_right taken.Half how is = refl
 ended_right taken.Opened how is = refl
 ended_right (taken.Answer place verdict) how is = refl
 ended_right (taken.Dropped place cause) how is = refl
+ended_right taken.Set how is = refl
 
 stays_out : (cut : Cut) (at : TurnWork) (talk : TurnTalk) → is_out at.channel ≡ true → IsOutWhile (turn_served cut at talk)
 stays_out cut at talk out =
@@ -99,6 +100,7 @@ module _ (units : List (List ℕ)) (why : Option UnitRefused) where
   after_taken taken.Opened joiner at each = refl
   after_taken (taken.Answer place verdict) joiner at each = refl
   after_taken (taken.Dropped place cause) joiner at each = refl
+  after_taken taken.Set joiner at each = refl
 
   after_heard : (what : Heard) (at : TurnWork) → Each →
       (then_served (do_heard what at)).0.channel ≡

@@ -54,6 +54,7 @@ do_taken taken.Half joiner at = end_by close.CallDone turn_end.Half at
 do_taken taken.Opened joiner at = end_by close.CallDone turn_end.Opened at
 do_taken (taken.Answer place verdict) joiner at = end_by close.CallDone (turn_end.Answer place verdict) at
 do_taken (taken.Dropped place cause) joiner at = end_by close.CallDone (turn_end.Dropped place cause) at
+do_taken taken.Set joiner at = end_by close.CallDone turn_end.Set at
 
 abbrev pub take_by : Taking → Option RpcUnit → TurnWork → TurnServed
 take_by taking joiner at = do_taken taking.taken joiner (with_channel taking.state at)

@@ -24,6 +24,8 @@ pub enum TurnEnd {
     Answer(u32, Verdict),
     /// The logon of that place gets no answer.
     Dropped(u32, DropCause),
+    /// The account has the next secret. The logon that the turn was for waits on.
+    Set,
 }
 
 /// A turn that ended: its link, which the end closes for that cause before anything else follows, where it is still

@@ -133,6 +133,7 @@ fn do_taken(
             Ok(end_call(TurnEnd::Answer(place, verdict), joiner, at))
         }
         Taken::Dropped(place, cause) => Ok(end_call(TurnEnd::Dropped(place, cause), joiner, at)),
+        Taken::Set => Ok(end_call(TurnEnd::Set, joiner, at)),
     }
 }
 

@@ -2,7 +2,7 @@
 
 ghost use Rattle.std.specs.Prelude.{◌≡◌, ℕ, ◌++◌, ◌↔◌, List, IfOk, OnOk, IsSome, Some, Ok, Err, Option};
 ghost use Rattle.std.specs.Result.{result_ok};
-ghost use Rattle.secret_change.specs.Secrets.{SecretsState, tried_of, next_of, begin_of, denied_of, opened_of, confirmed_of, line_of, written_secrets, line_with, behind_newline, first_line, secrets_of, reread, HasForm, AreSecrets};
+ghost use Rattle.secret_change.specs.Secrets.{SecretsState, alone, tried_of, next_of, begin_of, denied_of, opened_of, confirmed_of, line_of, written_secrets, line_with, behind_newline, first_line, secrets_of, reread, HasForm, AreSecrets};
 
 use crate::refused::{Busy, NotSecrets};
 use hex::FromHex;
@@ -11,7 +11,7 @@ use std::marker::Model;
 use wire_base::{Blob, NoMemory};
 
 /// A next secret, and whether it is the one that is tried.
-#[derive(Clone, Copy)]
+#[derive(Clone, Copy, Debug)]
 pub(crate) struct Next {
     /// The secret.
     pub(crate) secret: [u8; 16],
@@ -21,7 +21,7 @@ pub(crate) struct Next {
 
 /// The secrets that a machine keeps (this project's own choice). They are the current one and, where a change is under
 /// way, the next one. One of the two is tried when a channel is opened.
-#[derive(Drop)]
+#[derive(Debug, Drop)]
 pub struct Secrets {
     current: [u8; 16],
     next: Option<Next>,
@@ -36,6 +36,26 @@ impl Model for Secrets {
 }
 
 impl Secrets {
+    /// One secret alone, which is tried. It takes no memory.
+    pub fn alone(secret: [u8; 16]) -> Secrets
+        ensures { result ≡ alone secret }
+    {
+        Secrets {
+            current: secret,
+            next: None,
+        }
+    }
+
+    /// Equal secrets. It takes no memory.
+    pub fn copy(&self) -> Secrets
+        ensures { result ≡ self.now }
+    {
+        Secrets {
+            current: self.current,
+            next: self.next,
+        }
+    }
+
     /// The secrets of a text: a line of 32 hex digits for the current one, and maybe another for the next one. The last
     /// newline may be missing. The current one is tried. It takes no memory. `NotSecrets` exactly where the text has
     /// another form.
