@@ -106,8 +106,8 @@ pub record Asking : Type 0 where
   pub answer : Result ℕ AskRefused
   pub state : Requester
 
--- the argument: whether as many wait as may
-abbrev pub ask_by : Bool → Requester → NetworkInfo → Asking
+-- a logon is asked, unless as many wait as may
+abbrev pub ask_by : (is_full : Bool) (requester : Requester) (info : NetworkInfo) → Asking
 ask_by true s info = record { answer = Err refused.QueueFull; state = s }
 ask_by false s info = record {
   answer = Ok s.next_place;
@@ -184,9 +184,8 @@ pub record Beginning : Type 0 where
   pub standing : Standing
   pub step : Step
 
--- On an open channel: the arguments begin with the next secret. While there is one, it is set before any logon is asked
--- for.
-abbrev pub begin_open : Option (List ℕ) → SecureChannelState → Caller → NetworkInfo → ℕ → Beginning
+-- On an open channel. While there is a next secret, it is set before any logon is asked for.
+abbrev pub begin_open : (next : Option (List ℕ)) (channel : SecureChannelState) (caller : Caller) (info : NetworkInfo) (timestamp : ℕ) → Beginning
 begin_open None o caller info timestamp =
     record { standing = standing.Open (after_call o timestamp); step = step.Bind (logon_call caller o timestamp info) }
 begin_open (Some next) o caller info timestamp =
@@ -282,8 +281,8 @@ hear_body (Bind send receive group contexts) s next = hearing.Drop drop_cause.Ba
 hear_body (Request hint context opnum stub) s next = hearing.Drop drop_cause.BadReply
 hear_body Auth3 s next = hearing.Drop drop_cause.BadReply
 
--- the argument: whether the unit has the number that the turn waits for
-abbrev pub hear_by : Bool → Pending → RpcUnit → ℕ → Hearing
+-- a unit of another number than the turn waits for is passed over
+abbrev pub hear_by : (is_awaited : Bool) (turn : Pending) (unit : RpcUnit) (next : ℕ) → Hearing
 hear_by false p unit next = hearing.Skip
 hear_by true p unit next = hear_body unit.body p.step next
 
@@ -293,18 +292,18 @@ hear (Some p) unit next = hear_by (unit.call == p.number) p unit next
 
 -- ---- how a reply is judged: causes 4 to 6
 
--- the argument: whether the status is 0
-abbrev pub judge_challenge : Bool → List ℕ → List ℕ → Judgement
+-- a NetrServerReqChallenge's reply: with the server's challenge half a channel is there
+abbrev pub judge_challenge : (is_status_0 : Bool) (client server : List ℕ) → Judgement
 judge_challenge false client server = judgement.Drop drop_cause.Denied
 judge_challenge true client server = judgement.Half client server
 
--- the argument: whether all flags granted were offered, and RC4 is among them
-abbrev pub judge_flags : Bool → List ℕ → List ℕ → List ℕ → Judgement
+-- the flags granted fit where all of them were offered, and RC4 is among them
+abbrev pub judge_flags : (is_fit : Bool) (secret client server : List ℕ) → Judgement
 judge_flags false secret client server = judgement.Drop drop_cause.BadReply
 judge_flags true secret client server = judgement.Opened (fresh_channel secret client server offered_flags)
 
--- the argument: whether the credential is the server's
-abbrev pub judge_credential : Bool → List ℕ → List ℕ → List ℕ → ℕ → Judgement
+-- the credential that came has to be the server's
+abbrev pub judge_credential : (is_servers : Bool) (secret client server : List ℕ) (flags : ℕ) → Judgement
 judge_credential false secret client server flags = judgement.Drop drop_cause.NotNext
 judge_credential true secret client server flags =
     judge_flags (has_flag offered_flags flags && has_flag flags rc4_flag) secret client server
@@ -313,28 +312,28 @@ judge_credential true secret client server flags =
 abbrev pub server_credential : List ℕ → List ℕ → List ℕ → List ℕ
 server_credential secret client server = cred_of (key_of secret client server offered_flags) server
 
--- the argument: whether the status is 0
-abbrev pub judge_auth : Bool → Standing → List ℕ → List ℕ → ℕ → Judgement
+-- a NetrServerAuthenticate2's reply opens the channel, where half of it is there
+abbrev pub judge_auth : (is_status_0 : Bool) (standing : Standing) (secret credential : List ℕ) (flags : ℕ) → Judgement
 judge_auth false s secret credential flags = judgement.Drop drop_cause.Denied
 judge_auth true standing.Nothing secret credential flags = judgement.Drop drop_cause.NotNext
 judge_auth true (standing.Half client server) secret credential flags =
     judge_credential (bytes_eq credential (server_credential secret client server)) secret client server flags
 judge_auth true (standing.Open o) secret credential flags = judgement.Drop drop_cause.NotNext
 
--- the argument: whether the level is the one asked. The verdict has the plain key
-abbrev pub judge_level : Bool → Option SamInfo → SecureChannelState → Judgement
+-- a Logon of status 0 has to have validation of the level that was asked. The verdict has the plain key.
+abbrev pub judge_level : (is_asked_level : Bool) (info : Option SamInfo) (channel : SecureChannelState) → Judgement
 judge_level false info o = judgement.Drop drop_cause.BadReply
 judge_level true None o = judgement.Drop drop_cause.BadReply
 judge_level true (Some info) o =
     judgement.Answer o (verdict.Granted (record info { key = crypt_key (key_of_channel o) info.key }))
 
--- the argument: whether the status is 0. With another status the validation is passed over
-abbrev pub judge_status : Bool → ℕ → ℕ → Option SamInfo → SecureChannelState → Judgement
+-- with another status than 0 the validation is passed over
+abbrev pub judge_status : (is_status_0 : Bool) (status level : ℕ) (info : Option SamInfo) (channel : SecureChannelState) → Judgement
 judge_status false status level info o = judgement.Answer o (verdict.Status status)
 judge_status true status level info o = judge_level (level == level_asked) info o
 
--- the argument: whether the return credential is the one that is awaited
-abbrev pub judge_awaited : Bool → ℕ → ℕ → Option SamInfo → SecureChannelState → Judgement
+-- a Logon's reply counts where the credential that it returns is the one awaited
+abbrev pub judge_awaited : (is_awaited_one : Bool) (status level : ℕ) (info : Option SamInfo) (channel : SecureChannelState) → Judgement
 judge_awaited false status level info o = judgement.Drop drop_cause.NotNext
 judge_awaited true status level info o = judge_status (status == 0) status level info (after_return true o)
 
@@ -343,8 +342,8 @@ judge_return None status level info o = judgement.Drop drop_cause.NotNext
 judge_return (Some returned) status level info o =
     judge_awaited (is_awaited o.awaited returned.credential) status level info o
 
--- the argument: whether the status is ACCESS_DENIED
-abbrev pub judge_logon : Bool → Standing → Option Authenticator → ℕ → ℕ → Option SamInfo → Judgement
+-- a Logon's reply of status ACCESS_DENIED drops the channel, whatever credential it returns
+abbrev pub judge_logon : (is_denied : Bool) (standing : Standing) (returned : Option Authenticator) (status level : ℕ) (info : Option SamInfo) → Judgement
 judge_logon true s returned status level info = judgement.Drop drop_cause.Denied
 judge_logon false standing.Nothing returned status level info = judgement.Drop drop_cause.NotNext
 judge_logon false (standing.Half client server) returned status level info = judgement.Drop drop_cause.NotNext
@@ -362,8 +361,8 @@ judge _ _ s secret = judgement.Drop drop_cause.BadReply
 abbrev pub SetOutcome : Type 0
 SetOutcome = Result SecureChannelState DropCause
 
--- the argument: whether the return credential is the one that is awaited
-abbrev pub judge_set_awaited : Bool → SecureChannelState → SetOutcome
+-- the change is done where the credential that is returned is the one awaited
+abbrev pub judge_set_awaited : (is_awaited_one : Bool) (channel : SecureChannelState) → SetOutcome
 judge_set_awaited false o = Err drop_cause.NotNext
 judge_set_awaited true o = Ok (after_return true o)
 
@@ -372,8 +371,8 @@ judge_set_return standing.Nothing returned = Err drop_cause.NotNext
 judge_set_return (standing.Half client server) returned = Err drop_cause.NotNext
 judge_set_return (standing.Open o) returned = judge_set_awaited (is_awaited o.awaited returned.credential) o
 
--- the argument: whether the status is 0. Each other one denies the change, whatever credential it comes with
-abbrev pub judge_set_status : Bool → Standing → Authenticator → SetOutcome
+-- each status but 0 denies the change, whatever credential it comes with
+abbrev pub judge_set_status : (is_status_0 : Bool) (standing : Standing) (returned : Authenticator) → SetOutcome
 judge_set_status false s returned = Err drop_cause.Denied
 judge_set_status true s returned = judge_set_return s returned
 
