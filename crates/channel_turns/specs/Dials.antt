@@ -42,8 +42,8 @@ begun starting = (starting.state, starting.answer)
 abbrev pub next_part : NextTurn → List (List ℕ) → Result (Part NextTurn) StepRefused
 next_part next left = Ok (record { value = next; left = left })
 
--- the arguments: whether a turn can start, and whether it draws a challenge
-abbrev pub next_by : Bool → Bool → ℕ → Requester → List (List ℕ) → Result (Part NextTurn) StepRefused
+-- the next turn, where one can start; one that opens a channel draws a challenge
+abbrev pub next_by : (starts draws : Bool) (now : ℕ) (channel : Requester) (left : List (List ℕ)) → Result (Part NextTurn) StepRefused
 next_by false needs now channel left = next_part (channel, None) left
 next_by true false now channel left = next_part (begun (start_of channel (timestamp_of now) (replicate 8 0))) left
 next_by true true now channel [] = Err refused.Spent

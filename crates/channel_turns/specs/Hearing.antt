@@ -19,7 +19,7 @@ heard_by (Err join.Memory) after = heard.Broken close.OutOfPlace
 heard_by (Ok None) after = heard.Waits after
 heard_by (Ok (Some unit)) after = heard.Whole unit after
 
--- the arguments: how the unit is read, and what is open before it
-abbrev pub heard_of : Result RpcUnit UnitRefused → Option RpcUnit → Heard
+-- what a unit comes to, by how it is read and by the fragments before it
+abbrev pub heard_of : (unit : Result RpcUnit UnitRefused) (joiner : Option RpcUnit) → Heard
 heard_of (Err why) joiner = heard.Broken close.BadUnit
 heard_of (Ok unit) joiner = heard_by (answer_of joiner unit) (open_after joiner unit)

@@ -78,8 +78,8 @@ fail_by (dialling.On number said) turning = (turning, None)
 abbrev pub no_dial : Turning → Turned
 no_dial turning = fail_by turning.dialling turning
 
--- a link was closed. The argument: whether it is the link of the turn
-abbrev pub close_if : Bool → Turning → Turned
+-- a link was closed
+abbrev pub close_if : (is_turn_link : Bool) (turning : Turning) → Turned
 close_if false turning = (turning, None)
 close_if true turning = drop_turn drop_cause.LinkClosed turning.channel turning.actions
 
@@ -99,8 +99,8 @@ abbrev pub hear_on : ℕ → LinkState TurnTalk → List ℕ → Requester → L
 hear_on number said piece channel actions =
     after_piece number (serve_turn (record { link = number; channel = channel; actions = actions; ended = None }) said piece)
 
--- the argument: whether it is the link of the turn
-abbrev pub hear_if : Bool → ℕ → LinkState TurnTalk → List ℕ → Turning → Turned
+-- a piece came on a link
+abbrev pub hear_if : (is_turn_link : Bool) (number : ℕ) (said : LinkState TurnTalk) (piece : List ℕ) (turning : Turning) → Turned
 hear_if false number said piece turning = (turning, None)
 hear_if true number said piece turning = hear_on number said piece turning.channel turning.actions
 

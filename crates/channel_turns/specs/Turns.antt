@@ -72,8 +72,8 @@ do_heard (heard.Waits joiner) at = (at, Some (turn_talk joiner))
 do_heard (heard.Whole unit joiner) at = take_by (take_of at.channel unit) joiner at
 do_heard (heard.Broken cause) at = break_turn cause at
 
--- the arguments: how the unit is read, and what is open before it
-abbrev pub turn_unit : Result RpcUnit UnitRefused → Option RpcUnit → TurnWork → TurnServed
+-- a turn hears a unit, by how it is read and by the fragments before it
+abbrev pub turn_unit : (unit : Result RpcUnit UnitRefused) (joiner : Option RpcUnit) → TurnWork → TurnServed
 turn_unit unit joiner at = do_heard (heard_of unit joiner) at
 
 -- ---- the units of a stream, which draw no challenge
