@@ -24,7 +24,7 @@ use Rattle.logon_stubs.specs.declared.calls.Call.TheVariants as call
 use Rattle.logon_stubs.specs.declared.calls.Reply.{Reply}
 use Rattle.logon_stubs.specs.declared.calls.Reply.TheVariants as reply
 use Rattle.logon_stubs.specs.Layout.{item, part, each, WritesLayout}
-use Rattle.ndr_codec.specs.Stub.{size_of_all}
+use Rattle.ndr_codec.specs.Stub.{size_of_all, HasLayout}
 use Rattle.ndr_codec.specs.Parts.{unique, halves, head, units, FitsText, IfThere, text_size, size_if_there, put_unique, put_halves, put_head, units_head, put_units}
 use Rattle.ndr_codec.proofs.TimesLaws.{writes_each, writes_times}
 use Rattle.ndr_codec.proofs.PartLaws.{it, of_part, then, end, where_true, from_place, within, text_law, unique_law, unique_text_law, some_pointer_law, halves_law, reserved_law, units_head_law, bytes_head_law, target_law, some, either, IsStub, stub_of, units_law, bytes_law, IsFitText, both_of_all}
@@ -340,6 +340,13 @@ unfolding written_call
 call_of-written_call value can is =
     let s = call_stub value can is in
     IsCall-call_of (opnum_of_call value) (put_call value nothing).bytes value s.are_bytes s.is
+
+-- a written Logon is of its layout, with nothing behind it
+pub written_logon : (value : LogonCall) → CanWriteLogonCall value → InRangeLogonCall value → HasLayout logon_call 0 value (written_call (call.Logon value))
+unfolding written_call
+written_logon value can is =
+    let w = (logon_call_law value nothing can is).writes in
+    subst (λ (bytes : List ℕ). HasLayout logon_call 0 value bytes) (sym w.appended) w.item
 
 pub AreBytes-written_call : (value : Call) → CanWriteCall value → InRangeCall value → AreBytes (written_call value)
 unfolding written_call

@@ -2,6 +2,7 @@ pub mod Answers
 pub mod Calls
 pub mod Interface
 pub mod Layout
+pub mod LostMiddles
 pub mod Ranges
 pub mod Refusals
 pub mod Status

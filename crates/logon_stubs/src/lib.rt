@@ -5,6 +5,7 @@ mod answers;
 mod calls;
 mod info;
 mod interface;
+mod laws;
 mod reading;
 mod reading_info;
 mod reading_parts;
@@ -21,6 +22,7 @@ pub use calls::{
 };
 pub use info::{ExtraSids, NetworkInfo, SamInfo, Verdict};
 pub use interface::NETLOGON;
+pub use laws::lost_middles_are_refused;
 pub use reading::{read_call, read_reply};
 pub use reading_parts::{read_sixteen, read_unique_authenticator};
 pub use refused::StubRefused;

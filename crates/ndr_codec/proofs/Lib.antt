@@ -1,6 +1,7 @@
 pub mod Agreeing
 pub mod Appending
 pub mod ArrayItems
+pub mod EndLaws
 pub mod GivenLaws
 pub mod PartLaws
 pub mod PlainItems
