@@ -1,13 +1,13 @@
 """Cases of end_loop, over a small end of the program's own and the outside in memory:
 
-    loop.serve EVENTS FAILING FAILING_PUTS DRAWS MOMENT MOST     `serve_at`
-    loop.begin EVENTS FAILING FAILING_PUTS DRAWS MOMENT MOST     `begin_with` a first dial
+    loop.serve EVENTS FAILING FAILING_PUTS DRAWS MOMENT MOST FILE FAILING_WRITES     `serve_at`
+    loop.begin EVENTS FAILING FAILING_PUTS DRAWS MOMENT MOST FILE FAILING_WRITES     `begin_with` a first dial
 
 The answers are worked out here by the rules of the loop (docs/FORMATS.md, "Serving") and of the small end: a link that
-is opened gets the next challenge, and `opened` is put; what comes is to be kept, which the loop passes over, is sent
-back twice and dialled; a link that was dialled gets
-`on`; a dial that failed puts `barred`; the end is over when the link that it dialled last is closed. Calls of the port
-are counted from 0, `listen` among them.
+is opened gets the next challenge, and `opened` is put; what comes is written to FILE, where one is named, before it is
+sent back twice and dialled; a link that was dialled gets `on`; a dial that failed puts `barred`; the end is over when
+the link that it dialled last is closed. Calls of the port are counted from 0, `listen` among them, and so are writes.
+What the file `kept` holds at the end is read last.
 """
 
 from forms import line
@@ -50,9 +50,10 @@ class Port:
 class Run:
     """A run of the small end."""
 
-    def __init__(self, events, failing, failing_puts, draws, waiting):
+    def __init__(self, events, failing, failing_puts, draws, waiting, file, failing_writes):
         self.port, self.draws, self.failing_puts = Port(events, failing), list(draws), failing_puts
         self.puts, self.out, self.queue = 0, b"", []
+        self.file, self.failing_writes, self.writes, self.files = file, failing_writes, 0, {}
         self.waiting, self.link, self.over, self.stopped = waiting, None, False, False
 
     def put(self, text):
@@ -62,6 +63,14 @@ class Run:
         if self.puts - 1 in self.failing_puts:
             raise Halts("SinkFault")
         self.out += text
+
+    def write(self, data):
+        if self.file is None:
+            return
+        self.writes += 1
+        if self.writes - 1 in self.failing_writes:
+            raise Halts("FileFault")
+        self.files[self.file] = data
 
     def actions(self, event):
         kind = event[0]
@@ -90,7 +99,7 @@ class Run:
             if action[0] == "line":
                 self.put(action[1])
             elif action[0] == "keep":
-                continue
+                self.write(action[1])
             elif action[0] == "dial":
                 self.queue.append(self.port.dial())
             elif action[1] not in failed and not self.port.send(action[1], action[2]):
@@ -119,16 +128,17 @@ class Run:
         sent = ",".join(f"{link}:{data or '-'}" for link, data in self.port.sent) or "-"
         link = f"Some({self.link})" if self.link is not None else "None"
         state = f"Small {{ waiting: {self.waiting}, link: {link}, over: {str(self.over).lower()}, stopped: {str(self.stopped).lower()} }}"
-        return ";".join([done, sent, self.out.hex() or "-", state, "told"])
+        kept = self.files.get("kept")
+        return ";".join([done, sent, self.out.hex() or "-", state, "none" if kept is None else kept or "-", "told"])
 
 
 def word(event):
     return ":".join(str(part) or "-" for part in event)
 
 
-def case(operation, events, failing=(), failing_puts=(), draws=CHALLENGES, most=99):
+def case(operation, events, failing=(), failing_puts=(), draws=CHALLENGES, most=99, file=None, failing_writes=()):
     """A line and its answer."""
-    run = Run(events, set(failing), set(failing_puts), draws, 1 if operation == "begin" else 0)
+    run = Run(events, set(failing), set(failing_puts), draws, 1 if operation == "begin" else 0, file, set(failing_writes))
     try:
         if operation == "serve":
             if run.port.fails():
@@ -140,7 +150,7 @@ def case(operation, events, failing=(), failing_puts=(), draws=CHALLENGES, most=
     except Halts as halt:
         done = f"Err({halt})"
     numbers = lambda values: ",".join(str(value) for value in values) or "-"
-    words = [",".join(word(event) for event in events) or "-", numbers(failing), numbers(failing_puts), ",".join(draws) or "-", "5", str(most)]
+    words = [",".join(word(event) for event in events) or "-", numbers(failing), numbers(failing_puts), ",".join(draws) or "-", "5", str(most), file or "-", numbers(failing_writes)]
     return line(f"loop.{operation}", *words), run.seen(done)
 
 
@@ -171,4 +181,26 @@ def cases():
     out.append(case("serve", [OPENED, ("stop",), TALK]))
     out.append(case("serve", [TALK, ("closed", 1000), OPENED, TALK]))
     out.append(case("begin", [("closed", 1000), OPENED]))
+    return out + of_kept()
+
+
+def of_kept():
+    """Each text that comes is in the file before it is sent back, whatever the port does then; a write that fails ends
+    the run before it, and what was written and sent until then stands."""
+    three = [OPENED, TALK, ("bytes", 1, ""), ("bytes", 1, "ff" * 300), ("opened", 2)]
+    out = []
+    for operation in ["serve", "begin"]:
+        for file in ["kept", "other", None]:
+            out.append(case(operation, three, file=file))
+            out.append(case(operation, [], file=file))
+        out += [case(operation, three, file="kept", failing_writes=[number]) for number in range(3)]
+        # without a name no write is made, so that none fails; the file that is read at the end isn't there
+        out.append(case(operation, three, failing_writes=[0, 1, 2]))
+        # the send, the put and the dial behind a write fail
+        out += [case(operation, three, [number], file="kept") for number in range(14)]
+        out += [case(operation, LONG, (), [number], file="kept") for number in range(5)]
+        out += [case(operation, three, file="kept", most=most) for most in range(5)]
+    # the write of a text that the queue's events stand behind
+    out.append(case("serve", LONG, file="kept", failing_writes=[1]))
+    out.append(case("begin", LONG, file="kept", failing_writes=[0]))
     return out

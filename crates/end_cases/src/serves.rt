@@ -10,7 +10,8 @@ use case_words::{
 };
 use end_loop::{Halt, begin_with, serve_at};
 use outside::{
-    Action, Actions, Event, Events, ListChances, ListClock, Moments, ScriptPort, VecSink,
+    Action, Actions, Event, Events, Files, ListChances, ListClock, MapFiles, Moments, ScriptPort,
+    Texts, VecSink,
 };
 use std::alloc::Global;
 use wire_base::Blob;
@@ -39,6 +40,7 @@ struct Memory {
     out: VecSink,
     clock: ListClock,
     chances: ListChances,
+    files: MapFiles,
 }
 
 impl Drop for Memory {
@@ -50,6 +52,7 @@ impl Drop for Memory {
             out: _out,
             clock: _clock,
             chances: _chances,
+            files: _files,
         } = self;
     }
 }
@@ -62,19 +65,33 @@ fn add_sent(alloc: Global, answers: &mut String, memory: &Memory) -> anyhow::Res
     add_answer(answers, &lines)
 }
 
-/// What is seen after a run: how it ended, what was sent, the lines put, the end, and whether port, sink and clock
-/// still tell all.
+/// What the file `kept` holds after a run, `none` where there is none.
+fn text_of_kept(alloc: Global, files: &mut MapFiles) -> anyhow::Result<String> {
+    match files.read(alloc, b"kept") {
+        Ok(content) => text(alloc, content.bytes()),
+        Err(_) => Ok("none".to_string(alloc)?),
+    }
+}
+
+/// Whether port, sink, clock and files still tell all.
+fn tells_all(memory: &Memory) -> bool {
+    memory.port.tells() && memory.out.tells() && memory.clock.tells() && memory.files.tells()
+}
+
+/// What is seen after a run: how it ended, what was sent, the lines put, the end, what was kept, and whether port,
+/// sink, clock and files still tell all.
 fn seen(
     alloc: Global,
     done: Result<(), Halt>,
-    memory: &Memory,
+    memory: &mut Memory,
     end: &Small,
 ) -> anyhow::Result<String> {
     let mut answers = debug_text(alloc, done)?;
     add_sent(alloc, &mut answers, memory)?;
     add_debug(alloc, &mut answers, end)?;
-    let tells = memory.port.tells() && memory.out.tells() && memory.clock.tells();
-    add_answer(&mut answers, told(tells))?;
+    let kept = text_of_kept(alloc, &mut memory.files)?;
+    add_answer(&mut answers, &kept)?;
+    add_answer(&mut answers, told(tells_all(memory)))?;
     Ok(answers)
 }
 
@@ -110,6 +127,11 @@ fn memory_of(alloc: Global, words: &[&str]) -> anyhow::Result<Option<Memory>> {
     let first = number64(word(words, 5))?;
     let chances = chances(alloc, word(words, 4))?;
     let out = sink(alloc, words)?;
+    let files = MapFiles::new(
+        alloc,
+        Texts::new(alloc),
+        number_list(alloc, word(words, 8))?,
+    );
     let Some(port) = port(alloc, words)? else {
         return Ok(None);
     };
@@ -118,11 +140,25 @@ fn memory_of(alloc: Global, words: &[&str]) -> anyhow::Result<Option<Memory>> {
         out,
         clock: ListClock::new(alloc, first, Moments::new(alloc)),
         chances,
+        files,
     }))
 }
 
+/// The name of the file that texts are kept in, where the line names one.
+fn file<'a>(words: &[&'a str]) -> Option<&'a [u8]> {
+    match word(words, 7) {
+        "-" => None,
+        name => Some(name.as_bytes()),
+    }
+}
+
 /// How the small end is served at an address.
-fn serve_over(alloc: Global, memory: &mut Memory, most: u32) -> anyhow::Result<String> {
+fn serve_over(
+    alloc: Global,
+    memory: &mut Memory,
+    most: u32,
+    file: Option<&[u8]>,
+) -> anyhow::Result<String> {
     let mut end = small();
     let done = serve_at(
         alloc,
@@ -133,19 +169,22 @@ fn serve_over(alloc: Global, memory: &mut Memory, most: u32) -> anyhow::Result<S
         most,
         &mut memory.port,
         &mut memory.out,
+        file,
+        &mut memory.files,
         &mut memory.clock,
         &mut memory.chances,
     );
     seen(alloc, done, memory, &end)
 }
 
-/// `loop.serve EVENTS FAILING FAILING_PUTS DRAWS MOMENT MOST`: the small end is served at an address.
+/// `loop.serve EVENTS FAILING FAILING_PUTS DRAWS MOMENT MOST FILE FAILING_WRITES`: the small end is served at an
+/// address, and its texts are kept in that file.
 fn serve(alloc: Global, words: &[&str]) -> anyhow::Result<String> {
     let most = number(word(words, 6))?;
     let Some(mut memory) = memory_of(alloc, words)? else {
         return no_case(alloc);
     };
-    serve_over(alloc, &mut memory, most)
+    serve_over(alloc, &mut memory, most, file(words))
 }
 
 /// A first dial.
@@ -162,6 +201,7 @@ fn begin_over(
     memory: &mut Memory,
     first: &Actions,
     most: u32,
+    file: Option<&[u8]>,
 ) -> anyhow::Result<String> {
     let mut end = small();
     end.waiting = 1;
@@ -172,21 +212,23 @@ fn begin_over(
         most,
         &mut memory.port,
         &mut memory.out,
+        file,
+        &mut memory.files,
         &mut memory.clock,
         &mut memory.chances,
     );
     seen(alloc, done, memory, &end)
 }
 
-/// `loop.begin EVENTS FAILING FAILING_PUTS DRAWS MOMENT MOST`: the small end, where a dial waits, is served from a
-/// first dial on.
+/// `loop.begin EVENTS FAILING FAILING_PUTS DRAWS MOMENT MOST FILE FAILING_WRITES`: the small end, where a dial waits,
+/// is served from a first dial on, and its texts are kept in that file.
 fn begin(alloc: Global, words: &[&str]) -> anyhow::Result<String> {
     let most = number(word(words, 6))?;
     let first = first_dial(alloc)?;
     let Some(mut memory) = memory_of(alloc, words)? else {
         return no_case(alloc);
     };
-    begin_over(alloc, &mut memory, &first, most)
+    begin_over(alloc, &mut memory, &first, most, file(words))
 }
 
 /// The answer to an operation.

@@ -18,7 +18,11 @@ use Rattle.outside.specs.Machine.{Machine}
 use Rattle.outside.specs.declared.action.CloseCause.{CloseCause}
 use Rattle.outside.specs.declared.action.Action.{Action}
 use Rattle.outside.specs.declared.action.Action.TheVariants.{Keep, Send, Dial, Close, Told, Judged}
-use Rattle.end_loop.specs.Acts.{Did, puts, Does, SendsOn, Performs, LoopState, Performed, CutShort, failed_link, made_event, made_events, has_link, most_made, most_made_by, is_made, are_made, next_line}
+use Rattle.end_loop.specs.declared.halt.Halt.{Halt}
+use Rattle.end_loop.specs.declared.halt.Halt.TheVariants.{PortFault, FileFault, SinkFault, NoMemory, Spent}
+use Rattle.end_loop.specs.Writing.{FilesTold, Write, WritesFiles}
+use Rattle.end_loop.proofs.WritingLaws.{Writes-none, Writes-trans, Writes-as}
+use Rattle.end_loop.specs.Acts.{Did, FailsToKeep, FailsToWrite, Loses, writes_for, writes_of, puts, Does, SendsOn, Performs, LoopState, Performed, CutShort, failed_link, made_event, made_events, has_link, most_made, most_made_by, is_made, are_made, next_line}
 
 -- ---- failures at links
 
@@ -68,8 +72,8 @@ Performs-append failed (x ∷ xs) ys hs ks p q =
       Performs-append (failed ++ flat_map failed_link now) xs ys later ks p.4 (subst (λ (l : List ℕ). Performs l ys ks) links q),
     )
 
-pub Performed-trans : (line : Action → List ℕ) (xs ys : List Action) (a b c : LoopState) → Performed line xs a b → Performed line ys b c → Performed line (xs ++ ys) a c
-Performed-trans line xs ys a b c p q = record {
+pub Performed-trans : (line : Action → List ℕ) (file : Option (List ℕ)) (xs ys : List Action) (a b c : LoopState) → Performed line file xs a b → Performed line file ys b c → Performed line file (xs ++ ys) a c
+Performed-trans line file xs ys a b c p q = record {
   happened = p.happened ++ q.happened;
   performs = Performs-append a.failed xs ys p.happened q.happened p.performs (subst (λ (l : List ℕ). Performs l ys q.happened) p.failed q.performs);
   story = Appends-trans a.story b.story c.story p.happened q.happened p.story q.story;
@@ -78,10 +82,11 @@ Performed-trans line xs ys a b c p q = record {
   queue = q.queue ∙ ap (λ (l : List Event). l ++ made_events q.happened) p.queue ∙ append_assoc a.queue (made_events p.happened) (made_events q.happened)
       ∙ ap (λ (l : List Event). a.queue ++ l) (sym (flat_map-append made_event p.happened q.happened));
   taken = subst (λ (l : List ℕ). Appends a.taken c.taken l) (sym (flat_map-append line xs ys)) (Appends-trans a.taken b.taken c.taken (flat_map line xs) (flat_map line ys) p.taken q.taken);
+  files = Writes-as a.files c.files _ _ (sym (flat_map-append (writes_for file) xs ys)) (Writes-trans a.files b.files c.files _ _ p.files q.files);
 }
 
-pub CutShort-after : (line : Action → List ℕ) (xs ys : List Action) (a b c : LoopState) → Performed line xs a b → CutShort line ys b c → CutShort line (xs ++ ys) a c
-CutShort-after line xs ys a b c p q = record {
+pub CutShort-after : (line : Action → List ℕ) (file : Option (List ℕ)) (halt : Halt) (xs ys : List Action) (a b c : LoopState) → Performed line file xs a b → CutShort line file halt ys b c → CutShort line file halt (xs ++ ys) a c
+CutShort-after line file halt xs ys a b c p q = record {
   done = xs ++ q.done;
   rest = q.rest;
   all = append_assoc xs q.done q.rest ∙ ap (λ (l : List Action). xs ++ l) q.all;
@@ -95,6 +100,11 @@ CutShort-after line xs ys a b c p q = record {
   taken = subst (λ (l : List ℕ). Appends a.taken c.taken l)
       (sym (append_assoc (flat_map line xs) (flat_map line q.done) q.part) ∙ ap (λ (l : List ℕ). l ++ q.part) (sym (flat_map-append line xs q.done)))
       (Appends-trans a.taken b.taken c.taken (flat_map line xs) (flat_map line q.done ++ q.part) p.taken q.taken);
+  lost = q.lost;
+  loses = q.loses;
+  files = Writes-as a.files c.files _ _
+      (sym (append_assoc (flat_map (writes_for file) xs) (flat_map (writes_for file) q.done) q.lost) ∙ ap (λ (l : List Write). l ++ q.lost) (sym (flat_map-append (writes_for file) xs q.done)))
+      (Writes-trans a.files b.files c.files _ _ p.files q.files);
 }
 
 next_front : (line : Action → List ℕ) (rest ys : List Action) (part more : List ℕ) → part ++ more ≡ next_line line rest →
@@ -103,9 +113,36 @@ next_front line [] ys [] more e = (next_line line ys, refl)
 next_front line [] ys (x ∷ part) more e = absurd (cc)
 next_front line (r ∷ rest) ys part more e = (more, e)
 
+loses_more : (halt : Halt) (file : Option (List ℕ)) (rest ys : List Action) (lost : List Write) → Loses halt file rest lost → Loses halt file (rest ++ ys) lost
+loses_more FileFault file rest ys lost loses =
+    record { name = loses.name; name_is = loses.name_is; text = loses.text; later = loses.later ++ ys; next = ap (λ (l : List Action). l ++ ys) loses.next; lost_is = loses.lost_is }
+loses_more PortFault file rest ys lost loses = loses
+loses_more SinkFault file rest ys lost loses = loses
+loses_more NoMemory file rest ys lost loses = loses
+loses_more Spent file rest ys lost loses = loses
+
+-- an exit at which no write failed
+abbrev pub IsNoFault : Halt → Type 0
+IsNoFault FileFault = ⊥
+IsNoFault _ = Unit {0}
+
+pub none_lost : (halt : Halt) (file : Option (List ℕ)) (rest : List Action) → IsNoFault halt → Loses halt file rest []
+none_lost FileFault file rest other = absurd other
+none_lost PortFault file rest other = refl
+none_lost SinkFault file rest other = refl
+none_lost NoMemory file rest other = refl
+none_lost Spent file rest other = refl
+
+pub no_fault : (halt : Halt) → (halt ≡ FileFault → ⊥) → IsNoFault halt
+no_fault FileFault other = other refl
+no_fault PortFault other = tt
+no_fault SinkFault other = tt
+no_fault NoMemory other = tt
+no_fault Spent other = tt
+
 -- actions after those that were cut short weren't begun
-pub CutShort-more : (line : Action → List ℕ) (xs ys : List Action) (a b : LoopState) → CutShort line xs a b → CutShort line (xs ++ ys) a b
-CutShort-more line xs ys a b q = let next = next_front line q.rest ys q.part q.more q.front in record {
+pub CutShort-more : (line : Action → List ℕ) (file : Option (List ℕ)) (halt : Halt) (xs ys : List Action) (a b : LoopState) → CutShort line file halt xs a b → CutShort line file halt (xs ++ ys) a b
+CutShort-more line file halt xs ys a b q = let next = next_front line q.rest ys q.part q.more q.front in record {
   done = q.done;
   rest = q.rest ++ ys;
   all = sym (append_assoc q.done q.rest ys) ∙ ap (λ (l : List Action). l ++ ys) q.all;
@@ -117,6 +154,9 @@ CutShort-more line xs ys a b q = let next = next_front line q.rest ys q.part q.m
   more = next.0;
   front = next.1;
   taken = q.taken;
+  lost = q.lost;
+  loses = loses_more halt file q.rest ys q.lost q.loses;
+  files = q.files;
 }
 
 -- ---- what waits afterwards
@@ -170,9 +210,9 @@ all_made queue hs p = both_made queue (made_events hs) p (events_made hs)
 
 -- ---- one action
 
-Performed-one : (line : Action → List ℕ) (x : Action) (a b : LoopState) (hs : List Happening) → Does a.failed x hs → Appends a.story b.story hs → RisesWhere (fails_at_links hs) a.link_faults b.link_faults →
-    b.failed ≡ a.failed ++ flat_map failed_link hs → b.queue ≡ a.queue ++ made_events hs → Appends a.taken b.taken (line x) → Performed line (x ∷ []) a b
-Performed-one line x a b hs does told rises links events taken = record {
+Performed-one : (line : Action → List ℕ) (file : Option (List ℕ)) (x : Action) (a b : LoopState) (hs : List Happening) → Does a.failed x hs → Appends a.story b.story hs → RisesWhere (fails_at_links hs) a.link_faults b.link_faults →
+    b.failed ≡ a.failed ++ flat_map failed_link hs → b.queue ≡ a.queue ++ made_events hs → Appends a.taken b.taken (line x) → WritesFiles a.files b.files (writes_for file x) → Performed line file (x ∷ []) a b
+Performed-one line file x a b hs does told rises links events taken writes = record {
   happened = hs;
   performs = (hs, [], does, sym (append-nil hs), refl);
   story = told;
@@ -180,23 +220,24 @@ Performed-one line x a b hs does told rises links events taken = record {
   failed = links;
   queue = events;
   taken = subst (λ (l : List ℕ). Appends a.taken b.taken l) (sym (append-nil (line x))) taken;
+  files = Writes-as a.files b.files _ _ (sym (append-nil (writes_for file x))) writes;
 }
 
 -- an action at the port, which puts no line
-pub did_ok : {T E : Type 0} (line : Action → List ℕ) (x y : Action) (failed failed2 : List ℕ) (queue queue2 : List Event) (story story2 : Option (List Happening)) (faults faults2 : ℕ) (taken : Option (List ℕ)) (r : Result T E) →
-    x ≡ y → line y ≡ [] → Did y failed failed2 queue queue2 story story2 faults faults2 (is_ok r) →
-    OnOk r (Performed line (x ∷ []) (record { failed = failed; queue = queue; story = story; link_faults = faults; taken = taken }) (record { failed = failed2; queue = queue2; story = story2; link_faults = faults2; taken = taken }))
-did_ok line x y failed failed2 queue queue2 story story2 faults faults2 taken (Ok v) e none did =
-    subst (λ (a : Action). Performed line (a ∷ []) (record { failed = failed; queue = queue; story = story; link_faults = faults; taken = taken }) (record { failed = failed2; queue = queue2; story = story2; link_faults = faults2; taken = taken })) (sym e)
-    (Performed-one line y _ _ did.happened did.does did.told did.faulted (did.links refl) (did.events refl) (subst (λ (l : List ℕ). Appends taken taken l) (sym none) (Appends-nothing taken)))
-did_ok line x y failed failed2 queue queue2 story story2 faults faults2 taken (Err v) e none did = tt
+pub did_ok : {T E : Type 0} (line : Action → List ℕ) (file : Option (List ℕ)) (x y : Action) (failed failed2 : List ℕ) (queue queue2 : List Event) (story story2 : Option (List Happening)) (faults faults2 : ℕ) (taken : Option (List ℕ)) (files : FilesTold) (r : Result T E) →
+    x ≡ y → line y ≡ [] → writes_for file y ≡ [] → Did y failed failed2 queue queue2 story story2 faults faults2 (is_ok r) →
+    OnOk r (Performed line file (x ∷ []) (record { failed = failed; queue = queue; story = story; link_faults = faults; taken = taken; files = files }) (record { failed = failed2; queue = queue2; story = story2; link_faults = faults2; taken = taken; files = files }))
+did_ok line file x y failed failed2 queue queue2 story story2 faults faults2 taken files (Ok v) e none silent did =
+    subst (λ (a : Action). Performed line file (a ∷ []) (record { failed = failed; queue = queue; story = story; link_faults = faults; taken = taken; files = files }) (record { failed = failed2; queue = queue2; story = story2; link_faults = faults2; taken = taken; files = files })) (sym e)
+    (Performed-one line file y _ _ did.happened did.does did.told did.faulted (did.links refl) (did.events refl) (subst (λ (l : List ℕ). Appends taken taken l) (sym none) (Appends-nothing taken)) (Writes-as files files _ _ (sym silent) (Writes-none files)))
+did_ok line file x y failed failed2 queue queue2 story story2 faults faults2 taken files (Err v) e none silent did = tt
 
-pub did_err : {T E : Type 0} (line : Action → List ℕ) (x y : Action) (failed failed2 : List ℕ) (queue queue2 : List Event) (story story2 : Option (List Happening)) (faults faults2 : ℕ) (taken : Option (List ℕ)) (r : Result T E) →
-    x ≡ y → line y ≡ [] → Did y failed failed2 queue queue2 story story2 faults faults2 (is_ok r) →
-    IfErr r (λ _. CutShort line (x ∷ []) (record { failed = failed; queue = queue; story = story; link_faults = faults; taken = taken }) (record { failed = failed2; queue = queue2; story = story2; link_faults = faults2; taken = taken }))
-did_err line x y failed failed2 queue queue2 story story2 faults faults2 taken (Ok v) e none did = tt
-did_err line x y failed failed2 queue queue2 story story2 faults faults2 taken (Err v) e none did =
-    subst (λ (a : Action). CutShort line (a ∷ []) (record { failed = failed; queue = queue; story = story; link_faults = faults; taken = taken }) (record { failed = failed2; queue = queue2; story = story2; link_faults = faults2; taken = taken })) (sym e)
+pub did_err : {T : Type 0} (line : Action → List ℕ) (file : Option (List ℕ)) (x y : Action) (failed failed2 : List ℕ) (queue queue2 : List Event) (story story2 : Option (List Happening)) (faults faults2 : ℕ) (taken : Option (List ℕ)) (files : FilesTold) (r : Result T Halt) →
+    x ≡ y → line y ≡ [] → writes_for file y ≡ [] → IfErr r (λ halt. halt ≡ NoMemory) → Did y failed failed2 queue queue2 story story2 faults faults2 (is_ok r) →
+    IfErr r (λ halt. CutShort line file halt (x ∷ []) (record { failed = failed; queue = queue; story = story; link_faults = faults; taken = taken; files = files }) (record { failed = failed2; queue = queue2; story = story2; link_faults = faults2; taken = taken; files = files }))
+did_err line file x y failed failed2 queue queue2 story story2 faults faults2 taken files (Ok v) e none silent kind did = tt
+did_err line file x y failed failed2 queue queue2 story story2 faults faults2 taken files (Err halt) e none silent kind did =
+    subst (λ (a : Action). CutShort line file halt (a ∷ []) (record { failed = failed; queue = queue; story = story; link_faults = faults; taken = taken; files = files }) (record { failed = failed2; queue = queue2; story = story2; link_faults = faults2; taken = taken; files = files })) (sym e)
     (record {
       done = y ∷ [];
       rest = [];
@@ -209,23 +250,52 @@ did_err line x y failed failed2 queue queue2 story story2 faults faults2 taken (
       more = [];
       front = refl;
       taken = subst (λ (l : List ℕ). Appends taken taken ((l ++ []) ++ [])) (sym none) (Appends-nothing taken);
+      lost = [];
+      loses = subst (λ (h : Halt). Loses h file [] []) (sym kind) refl;
+      files = Writes-as files files _ _ (ap (λ (l : List Write). (l ++ []) ++ []) (sym silent)) (Writes-none files);
     })
 
-pub closed_ok : (line : Action → List ℕ) (x : Action) (link : ℕ) (cause : CloseCause) (failed : List ℕ) (queue : List Event) (story story2 : Option (List Happening)) (faults faults2 : ℕ) (taken : Option (List ℕ)) →
+pub closed_ok : (line : Action → List ℕ) (file : Option (List ℕ)) (x : Action) (link : ℕ) (cause : CloseCause) (failed : List ℕ) (queue : List Event) (story story2 : Option (List Happening)) (faults faults2 : ℕ) (taken : Option (List ℕ)) (files : FilesTold) →
     x ≡ Close link cause → line (Close link cause) ≡ [] → Appends story story2 (happening.Shut link ∷ []) → faults2 ≡ faults →
-    Performed line (x ∷ []) (record { failed = failed; queue = queue; story = story; link_faults = faults; taken = taken }) (record { failed = failed; queue = queue; story = story2; link_faults = faults2; taken = taken })
-closed_ok line x link cause failed queue story story2 faults faults2 taken e none told same =
+    Performed line file (x ∷ []) (record { failed = failed; queue = queue; story = story; link_faults = faults; taken = taken; files = files }) (record { failed = failed; queue = queue; story = story2; link_faults = faults2; taken = taken; files = files })
+closed_ok line file x link cause failed queue story story2 faults faults2 taken files e none told same =
     let rises : RisesWhere (fails_at_links (happening.Shut link ∷ [])) faults faults2 = subst (λ (n : ℕ). RisesWhere false faults n) (sym same) (RisesWhere-none faults) in
     let did : Did (Close link cause) failed failed queue queue story story2 faults faults2 true = record { happened = happening.Shut link ∷ []; does = refl; told = told; faulted = rises; links = λ _. sym (append-nil failed); events = λ _. sym (append-nil queue) } in
-    did_ok {T = ℕ} {E = ℕ} line x (Close link cause) failed failed queue queue story story2 faults faults2 taken (Ok 0) e none did
+    did_ok {T = ℕ} {E = ℕ} line file x (Close link cause) failed failed queue queue story story2 faults faults2 taken files (Ok 0) e none refl did
 
--- a text that is kept is passed over
-pub kept_ok : (line : Action → List ℕ) (x : Action) (bytes : List ℕ) (failed : List ℕ) (queue : List Event) (story : Option (List Happening)) (faults : ℕ) (taken : Option (List ℕ)) →
-    x ≡ Keep bytes → line (Keep bytes) ≡ [] →
-    Performed line (x ∷ []) (record { failed = failed; queue = queue; story = story; link_faults = faults; taken = taken }) (record { failed = failed; queue = queue; story = story; link_faults = faults; taken = taken })
-kept_ok line x bytes failed queue story faults taken e none =
-    let did : Did (Keep bytes) failed failed queue queue story story faults faults true = record { happened = []; does = refl; told = Appends-nothing story; faulted = RisesWhere-none faults; links = λ _. sym (append-nil failed); events = λ _. sym (append-nil queue) } in
-    did_ok {T = ℕ} {E = ℕ} line x (Keep bytes) failed failed queue queue story story faults faults taken (Ok 0) e none did
+-- a text that is kept, by what is written
+pub kept_ok : {T E : Type 0} (line : Action → List ℕ) (file : Option (List ℕ)) (x : Action) (text : List ℕ) (failed : List ℕ) (queue : List Event) (story : Option (List Happening)) (faults : ℕ) (taken : Option (List ℕ)) (files files2 : FilesTold) (r : Result T E) →
+    x ≡ Keep text → line (Keep text) ≡ [] → OnOk r (WritesFiles files files2 (writes_of file text)) →
+    OnOk r (Performed line file (x ∷ []) (record { failed = failed; queue = queue; story = story; link_faults = faults; taken = taken; files = files }) (record { failed = failed; queue = queue; story = story; link_faults = faults; taken = taken; files = files2 }))
+kept_ok line file x text failed queue story faults taken files files2 (Ok v) e none writes =
+    subst (λ (a : Action). Performed line file (a ∷ []) (record { failed = failed; queue = queue; story = story; link_faults = faults; taken = taken; files = files }) (record { failed = failed; queue = queue; story = story; link_faults = faults; taken = taken; files = files2 })) (sym e)
+    (Performed-one line file (Keep text) _ _ [] refl (Appends-nothing story) (RisesWhere-none faults) (sym (append-nil failed)) (sym (append-nil queue))
+    (subst (λ (l : List ℕ). Appends taken taken l) (sym none) (Appends-nothing taken)) writes)
+kept_ok line file x text failed queue story faults taken files files2 (Err v) e none writes = tt
+
+pub kept_err : {T : Type 0} (line : Action → List ℕ) (file : Option (List ℕ)) (x : Action) (text : List ℕ) (failed : List ℕ) (queue : List Event) (story : Option (List Happening)) (faults : ℕ) (taken : Option (List ℕ)) (files files2 : FilesTold) (r : Result T Halt) →
+    x ≡ Keep text → IfErr r (λ halt. halt ≡ FileFault) → OnErr r (FailsToKeep file text files files2) →
+    IfErr r (λ halt. CutShort line file halt (x ∷ []) (record { failed = failed; queue = queue; story = story; link_faults = faults; taken = taken; files = files }) (record { failed = failed; queue = queue; story = story; link_faults = faults; taken = taken; files = files2 }))
+kept_err line file x text failed queue story faults taken files files2 (Ok v) e kind fails = tt
+kept_err line file x text failed queue story faults taken files files2 (Err halt) e kind fails =
+    let loses : FailsToWrite file (x ∷ []) ((fails.name, text, true) ∷ []) =
+    record { name = fails.name; name_is = fails.name_is; text = text; later = []; next = ap (λ (a : Action). a ∷ []) e; lost_is = refl } in
+    record {
+      done = [];
+      rest = x ∷ [];
+      all = refl;
+      happened = [];
+      performs = refl;
+      story = Appends-nothing story;
+      faulted = RisesWhere-none faults;
+      part = [];
+      more = line x;
+      front = refl;
+      taken = Appends-nothing taken;
+      lost = (fails.name, text, true) ∷ [];
+      loses = subst (λ (h : Halt). Loses h file (x ∷ []) ((fails.name, text, true) ∷ [])) (sym kind) loses;
+      files = fails.writes;
+    }
 
 -- whether an action puts a line
 abbrev pub says : Action → Bool
@@ -250,16 +320,24 @@ said_line machine (Close link cause) e = absurd (cc)
 said_line machine (Told link outcome) e = refl
 said_line machine (Judged judged) e = refl
 
-pub said_ok : {T E S : Type 0} (machine : Machine S) (x : Action) (failed : List ℕ) (queue : List Event) (story : Option (List Happening)) (faults : ℕ) (taken taken2 : Option (List ℕ)) (r : Result T E) → says x ≡ true →
-    OnOk r (Appends taken taken2 (machine.line x)) → OnOk r (Performed (puts machine) (x ∷ []) (record { failed = failed; queue = queue; story = story; link_faults = faults; taken = taken }) (record { failed = failed; queue = queue; story = story; link_faults = faults; taken = taken2 }))
-said_ok machine x failed queue story faults taken taken2 (Ok v) e put =
-    Performed-one (puts machine) x _ _ [] (said_does x failed e) (Appends-nothing story) (RisesWhere-none faults) (sym (append-nil failed)) (sym (append-nil queue)) (subst (λ (l : List ℕ). Appends taken taken2 l) (sym (said_line machine x e)) put)
-said_ok machine x failed queue story faults taken taken2 (Err v) e put = tt
+said_silent : (file : Option (List ℕ)) (x : Action) → says x ≡ true → writes_for file x ≡ []
+said_silent file (Keep bytes) e = absurd (cc)
+said_silent file (Send link bytes) e = absurd (cc)
+said_silent file (Dial peer) e = absurd (cc)
+said_silent file (Close link cause) e = absurd (cc)
+said_silent file (Told link outcome) e = refl
+said_silent file (Judged judged) e = refl
 
-pub said_err : {T E S : Type 0} (machine : Machine S) (x : Action) (failed : List ℕ) (queue : List Event) (story : Option (List Happening)) (faults : ℕ) (taken taken2 : Option (List ℕ)) (r : Result T E) → says x ≡ true →
-    OnErr r (AppendsFront taken taken2 (machine.line x)) → IfErr r (λ _. CutShort (puts machine) (x ∷ []) (record { failed = failed; queue = queue; story = story; link_faults = faults; taken = taken }) (record { failed = failed; queue = queue; story = story; link_faults = faults; taken = taken2 }))
-said_err machine x failed queue story faults taken taken2 (Ok v) e put = tt
-said_err machine x failed queue story faults taken taken2 (Err v) e put =
+pub said_ok : {T E S : Type 0} (machine : Machine S) (file : Option (List ℕ)) (x : Action) (failed : List ℕ) (queue : List Event) (story : Option (List Happening)) (faults : ℕ) (taken taken2 : Option (List ℕ)) (files : FilesTold) (r : Result T E) → says x ≡ true →
+    OnOk r (Appends taken taken2 (machine.line x)) → OnOk r (Performed (puts machine) file (x ∷ []) (record { failed = failed; queue = queue; story = story; link_faults = faults; taken = taken; files = files }) (record { failed = failed; queue = queue; story = story; link_faults = faults; taken = taken2; files = files }))
+said_ok machine file x failed queue story faults taken taken2 files (Ok v) e put =
+    Performed-one (puts machine) file x _ _ [] (said_does x failed e) (Appends-nothing story) (RisesWhere-none faults) (sym (append-nil failed)) (sym (append-nil queue)) (subst (λ (l : List ℕ). Appends taken taken2 l) (sym (said_line machine x e)) put)
+    (Writes-as files files _ _ (sym (said_silent file x e)) (Writes-none files))
+said_ok machine file x failed queue story faults taken taken2 files (Err v) e put = tt
+
+said_cut : {S : Type 0} (machine : Machine S) (file : Option (List ℕ)) (halt : Halt) (x : Action) (failed : List ℕ) (queue : List Event) (story : Option (List Happening)) (faults : ℕ) (taken taken2 : Option (List ℕ)) (files : FilesTold) → IsNoFault halt → says x ≡ true →
+    AppendsFront taken taken2 (machine.line x) → CutShort (puts machine) file halt (x ∷ []) (record { failed = failed; queue = queue; story = story; link_faults = faults; taken = taken; files = files }) (record { failed = failed; queue = queue; story = story; link_faults = faults; taken = taken2; files = files })
+said_cut machine file halt x failed queue story faults taken taken2 files other e put =
     let part = AppendsFront-part taken taken2 (puts machine x) (subst (λ (l : List ℕ). AppendsFront taken taken2 l) (sym (said_line machine x e)) put) in
     record {
       done = [];
@@ -273,26 +351,29 @@ said_err machine x failed queue story faults taken taken2 (Err v) e put =
       more = part.more;
       front = part.all;
       taken = part.told;
+      lost = [];
+      loses = none_lost halt file (x ∷ []) other;
+      files = Writes-none files;
     }
+
+pub said_err : {T S : Type 0} (machine : Machine S) (file : Option (List ℕ)) (x : Action) (failed : List ℕ) (queue : List Event) (story : Option (List Happening)) (faults : ℕ) (taken taken2 : Option (List ℕ)) (files : FilesTold) (r : Result T Halt) → says x ≡ true → (r ≡ Err FileFault → ⊥) →
+    OnErr r (AppendsFront taken taken2 (machine.line x)) → IfErr r (λ halt. CutShort (puts machine) file halt (x ∷ []) (record { failed = failed; queue = queue; story = story; link_faults = faults; taken = taken; files = files }) (record { failed = failed; queue = queue; story = story; link_faults = faults; taken = taken2; files = files }))
+said_err machine file x failed queue story faults taken taken2 files (Ok v) e other put = tt
+said_err machine file x failed queue story faults taken taken2 files (Err halt) e other put =
+    said_cut machine file halt x failed queue story faults taken taken2 files (no_fault halt (λ is. other (ap Err is))) e put
 
 -- ---- a loop over actions
 
 front_and : (xs : List Action) (i : ℕ) (x : Action) → i < length xs → x ≡ get_or xs i x → take i xs ++ x ∷ [] ≡ take (i + 1) xs
 front_and xs i x below is = ap (λ (a : Action). take i xs ++ a ∷ []) is ∙ sym (take_more xs i x below)
 
-pub more_performed : (line : Action → List ℕ) (xs : List Action) (i : ℕ) (x : Action) (a b c : LoopState) → i < length xs → x ≡ get_or xs i x →
-    Performed line (take i xs) a b → Performed line (x ∷ []) b c → Performed line (take (i + 1) xs) a c
-more_performed line xs i x a b c below is p q =
-    subst (λ (l : List Action). Performed line l a c) (front_and xs i x below is) (Performed-trans line (take i xs) (x ∷ []) a b c p q)
+pub more_performed : (line : Action → List ℕ) (file : Option (List ℕ)) (xs : List Action) (i : ℕ) (x : Action) (a b c : LoopState) → i < length xs → x ≡ get_or xs i x →
+    Performed line file (take i xs) a b → Performed line file (x ∷ []) b c → Performed line file (take (i + 1) xs) a c
+more_performed line file xs i x a b c below is p q =
+    subst (λ (l : List Action). Performed line file l a c) (front_and xs i x below is) (Performed-trans line file (take i xs) (x ∷ []) a b c p q)
 
-pub cut_performed : (line : Action → List ℕ) (xs : List Action) (i : ℕ) (x : Action) (a b c : LoopState) → i < length xs → x ≡ get_or xs i x →
-    Performed line (take i xs) a b → CutShort line (x ∷ []) b c → CutShort line xs a c
-cut_performed line xs i x a b c below is p q =
-    let cut = CutShort-more line (take i xs ++ x ∷ []) (drop (i + 1) xs) a c (CutShort-after line (take i xs) (x ∷ []) a b c p q) in
-    subst (λ (l : List Action). CutShort line l a c) (ap (λ (l : List Action). l ++ drop (i + 1) xs) (front_and xs i x below is) ∙ take-append-drop (i + 1) xs) cut
-
-pub some_cut : {T E : Type 0} (line : Action → List ℕ) (xs : List Action) (a : LoopState) (failed : List ℕ) (queue : List Event) (story : Option (List Happening)) (faults : ℕ) (taken : Option (List ℕ)) (r : Result T E) →
-    CutShort line xs a (record { failed = failed; queue = queue; story = story; link_faults = faults; taken = taken }) →
-    IfErr r (λ _. (links : List ℕ) × CutShort line xs a (record { failed = links; queue = queue; story = story; link_faults = faults; taken = taken }))
-some_cut line xs a failed queue story faults taken (Ok v) cut = tt
-some_cut line xs a failed queue story faults taken (Err v) cut = (failed, cut)
+pub cut_performed : (line : Action → List ℕ) (file : Option (List ℕ)) (halt : Halt) (xs : List Action) (i : ℕ) (x : Action) (a b c : LoopState) → i < length xs → x ≡ get_or xs i x →
+    Performed line file (take i xs) a b → CutShort line file halt (x ∷ []) b c → CutShort line file halt xs a c
+cut_performed line file halt xs i x a b c below is p q =
+    let cut = CutShort-more line file halt (take i xs ++ x ∷ []) (drop (i + 1) xs) a c (CutShort-after line file halt (take i xs) (x ∷ []) a b c p q) in
+    subst (λ (l : List Action). CutShort line file halt l a c) (ap (λ (l : List Action). l ++ drop (i + 1) xs) (front_and xs i x below is) ∙ take-append-drop (i + 1) xs) cut

@@ -1,12 +1,13 @@
--- Texts that an end asks to keep are passed over.
-use Rattle.std.proofs.Common.{◌≡◌, ℕ, List, [], ◌∷◌, ◌++◌, refl, sym, ap, subst, ◌∙◌, append-nil}
+-- What becomes of the texts that an end asks to keep, for `writes_what_the_end_keeps`.
+use Rattle.std.proofs.Common.{◌≡◌, ℕ, List, [], ◌∷◌, ◌++◌, map, Some, None, refl, sym, ap, subst, ◌∙◌, append-nil}
 use Rattle.std.specs.List.{flat_map}
 use Rattle.outside.specs.declared.event.Happening.{Happening}
 use Rattle.outside.specs.declared.action.Action.{Action}
 use Rattle.outside.specs.declared.action.Action.TheVariants.{Keep, Send, Dial, Close, Told, Judged}
 use Rattle.outside.specs.Machine.{Machine}
-use Rattle.end_loop.specs.Acts.{Performs, failed_link, puts}
-use Rattle.end_loop.specs.Keeping.{PassesOverKeeps, without_keeps}
+use Rattle.end_loop.specs.Acts.{Performs, failed_link, puts, writes_for}
+use Rattle.end_loop.specs.Keeping.{KeepsTexts, texts_of, without_keeps, write_into}
+use Rattle.end_loop.specs.Writing.{Write}
 
 -- the links on which a send failed, where nothing happened
 none_failed : (failed : List ℕ) (now : List Happening) → now ≡ [] → failed ++ flat_map failed_link now ≡ failed
@@ -53,8 +54,28 @@ same_put machine (Close link cause ∷ actions) = same_put machine actions
 same_put machine (Told link outcome ∷ actions) = ap (λ (l : List ℕ). machine.line (Told link outcome) ++ l) (same_put machine actions)
 same_put machine (Judged judged ∷ actions) = ap (λ (l : List ℕ). machine.line (Judged judged) ++ l) (same_put machine actions)
 
-pub passes_over : {S : Type 0} (machine : Machine S) → PassesOverKeeps machine
-passes_over machine = record {
+under_name : (name : List ℕ) (actions : List Action) → flat_map (writes_for (Some name)) actions ≡ map (write_into name) (texts_of actions)
+under_name name [] = refl
+under_name name (Keep text ∷ actions) = ap (λ (l : List Write). write_into name text ∷ l) (under_name name actions)
+under_name name (Send link bytes ∷ actions) = under_name name actions
+under_name name (Dial peer ∷ actions) = under_name name actions
+under_name name (Close link cause ∷ actions) = under_name name actions
+under_name name (Told link outcome ∷ actions) = under_name name actions
+under_name name (Judged judged ∷ actions) = under_name name actions
+
+pub none_written : (actions : List Action) → flat_map (writes_for None) actions ≡ []
+none_written [] = refl
+none_written (Keep text ∷ actions) = none_written actions
+none_written (Send link bytes ∷ actions) = none_written actions
+none_written (Dial peer ∷ actions) = none_written actions
+none_written (Close link cause ∷ actions) = none_written actions
+none_written (Told link outcome ∷ actions) = none_written actions
+none_written (Judged judged ∷ actions) = none_written actions
+
+pub keeps_texts : {S : Type 0} (machine : Machine S) → KeepsTexts machine
+keeps_texts machine = record {
+  named = under_name;
+  unnamed = none_written;
   happens = λ failed actions happened. (without actions failed happened, again actions failed happened);
   lines = same_put machine;
 }

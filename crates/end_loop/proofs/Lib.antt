@@ -9,3 +9,4 @@ pub mod RunLaws
 pub mod SendingLaws
 pub mod ServedLaws
 pub mod UniqueLaws
+pub mod WritingLaws

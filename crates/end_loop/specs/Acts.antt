@@ -1,4 +1,5 @@
--- What happens at the port while actions are performed, and what of it is stepped later (this project's own choice).
+-- What happens at the port while actions are performed, what of it is stepped later, and which files are written (this
+-- project's own choice).
 use Rattle.std.specs.Prelude.{◌≡◌, ℕ, Bool, true, false, ◌==◌, List, [], ◌∷◌, ◌++◌, ◌+◌, Option, Some, None, IsTrue}
 use Rattle.std.specs.List.{flat_map, list_any, list_all}
 use Rattle.outside.specs.Causes.{RisesWhere}
@@ -10,9 +11,10 @@ use Rattle.outside.specs.declared.event.Happening.{Happening}
 use Rattle.outside.specs.declared.event.Happening.TheVariants as happening
 use Rattle.outside.specs.Machine.{Machine}
 use Rattle.end_loop.specs.declared.halt.Halt.{Halt}
-use Rattle.end_loop.specs.declared.halt.Halt.TheVariants.{SinkFault, NoMemory}
+use Rattle.end_loop.specs.declared.halt.Halt.TheVariants.{FileFault, SinkFault, NoMemory}
 use Rattle.outside.specs.declared.action.Action.{Action}
 use Rattle.outside.specs.declared.action.Action.TheVariants.{Keep, Send, Dial, Close, Told, Judged}
+use Rattle.end_loop.specs.Writing.{FilesTold, Write, WritesFiles}
 
 -- whether the link is among these
 abbrev pub has_link : List ℕ → ℕ → Bool
@@ -75,6 +77,16 @@ puts machine (Told link outcome) = machine.line (Told link outcome)
 puts machine (Judged judged) = machine.line (Judged judged)
 puts machine _ = []
 
+-- the writes for a text that is kept: one into the file of that name, where there is a name
+abbrev pub writes_of : Option (List ℕ) → List ℕ → List Write
+writes_of None text = []
+writes_of (Some name) text = (name, text, false) ∷ []
+
+-- the writes for an action
+abbrev pub writes_for : Option (List ℕ) → Action → List Write
+writes_for file (Keep text) = writes_of file text
+writes_for file _ = []
+
 -- how many events an action can make
 abbrev pub most_made : Action → ℕ
 most_made (Send link bytes) = 1
@@ -108,15 +120,16 @@ pub record LoopState : Type 0 where
   -- how often dials and sends failed
   pub link_faults : ℕ
   pub taken : Option (List ℕ)
+  pub files : FilesTold
 
 -- what the loop has, and what they tell, by the meanings of their traits
-abbrev pub loop_of : {P S : Type 0} → (P → Option (List Happening)) → (P → ℕ) → (S → Option (List ℕ)) → P → S →
+abbrev pub loop_of : {P S F : Type 0} → (P → Option (List Happening)) → (P → ℕ) → (S → Option (List ℕ)) → (F → FilesTold) → P → S → F →
     List ℕ → List Event → LoopState
-loop_of story link_faults taken port out failed queue =
-    record { failed = failed; queue = queue; story = story port; link_faults = link_faults port; taken = taken out }
+loop_of story link_faults taken told port out files failed queue =
+    record { failed = failed; queue = queue; story = story port; link_faults = link_faults port; taken = taken out; files = told files }
 
--- These actions were performed, in order, and their lines put.
-pub record Performed (line : Action → List ℕ) (actions : List Action) (before after : LoopState) : Type 0 where
+-- These actions were performed, in order, their lines put, and their texts written into the file of that name.
+pub record Performed (line : Action → List ℕ) (file : Option (List ℕ)) (actions : List Action) (before after : LoopState) : Type 0 where
   pub happened : List Happening
   pub performs : Performs before.failed actions happened
   pub story : Appends before.story after.story happened
@@ -124,14 +137,36 @@ pub record Performed (line : Action → List ℕ) (actions : List Action) (befor
   pub failed : after.failed ≡ before.failed ++ flat_map failed_link happened
   pub queue : after.queue ≡ before.queue ++ made_events happened
   pub taken : Appends before.taken after.taken (flat_map line actions)
+  pub files : WritesFiles before.files after.files (flat_map (writes_for file) actions)
 
 -- the line of the first of these actions, if there is one
 abbrev pub next_line : (Action → List ℕ) → List Action → List ℕ
 next_line line [] = []
 next_line line (action ∷ actions) = line action
 
--- A front of these actions was performed, and their lines put; of the next action's line a front was.
-pub record CutShort (line : Action → List ℕ) (actions : List Action) (before after : LoopState) : Type 0 where
+-- A write failed: of the text of the next action, into the file of that name.
+pub record FailsToWrite (file : Option (List ℕ)) (rest : List Action) (lost : List Write) : Type 0 where
+  pub name : List ℕ
+  pub name_is : file ≡ Some name
+  pub text : List ℕ
+  pub later : List Action
+  pub next : rest ≡ Keep text ∷ later
+  pub lost_is : lost ≡ (name, text, true) ∷ []
+
+-- Where a file is named, the write of that text into it failed.
+pub record FailsToKeep (file : Option (List ℕ)) (text : List ℕ) (before after : FilesTold) : Type 0 where
+  pub name : List ℕ
+  pub name_is : file ≡ Some name
+  pub writes : WritesFiles before after ((name, text, true) ∷ [])
+
+-- the writes that failed, by why the actions were cut short: one at a fault of the files, else none
+abbrev pub Loses : Halt → Option (List ℕ) → List Action → List Write → Type 0
+Loses FileFault file rest lost = FailsToWrite file rest lost
+Loses _ file rest lost = lost ≡ []
+
+-- A front of these actions was performed, their lines put and their texts written; of the next action's line a front
+-- was put, or the write of its text failed.
+pub record CutShort (line : Action → List ℕ) (file : Option (List ℕ)) (halt : Halt) (actions : List Action) (before after : LoopState) : Type 0 where
   pub done : List Action
   pub rest : List Action
   pub all : done ++ rest ≡ actions
@@ -143,9 +178,13 @@ pub record CutShort (line : Action → List ℕ) (actions : List Action) (before
   pub more : List ℕ
   pub front : part ++ more ≡ next_line line rest
   pub taken : Appends before.taken after.taken (flat_map line done ++ part)
+  pub lost : List Write
+  pub loses : Loses halt file rest lost
+  pub files : WritesFiles before.files after.files (flat_map (writes_for file) done ++ lost)
 
 -- an exit that performing actions can come to
 abbrev pub IsOfActs : Halt → Type 0
+IsOfActs FileFault = Unit {0}
 IsOfActs SinkFault = Unit {0}
 IsOfActs NoMemory = Unit {0}
 IsOfActs _ = ⊥

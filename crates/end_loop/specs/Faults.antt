@@ -1,5 +1,5 @@
 -- The count of link faults over a run (this project's own choice).
-use Rattle.std.specs.Prelude.{ℕ, List}
+use Rattle.std.specs.Prelude.{ℕ, List, Option}
 use Rattle.outside.specs.Causes.{RisesWhere}
 use Rattle.outside.specs.Stories.{fails_at_links}
 use Rattle.outside.specs.Telling.{Appends}
@@ -17,7 +17,7 @@ pub record CountsFaults (before after : Sight) : Type 0 where
 
 -- Over a run, to its end or to a halt, the count rose where a dial or a send failed.
 pub record RunsCountFaults {S : Type 0} (machine : Machine S) : Type 0 where
-  pub ends : (start : RunState S) (last : S) (most : ℕ) (before after : Sight) →
-      RanOut machine start last most before after → CountsFaults before after
-  pub halts : (start : RunState S) (most : ℕ) (before after : Sight) (halt : Halt) →
-      Halts machine start most before after halt → CountsFaults before after
+  pub ends : (file : Option (List ℕ)) (start : RunState S) (last : S) (most : ℕ) (before after : Sight) →
+      RanOut machine file start last most before after → CountsFaults before after
+  pub halts : (file : Option (List ℕ)) (start : RunState S) (most : ℕ) (before after : Sight) (halt : Halt) →
+      Halts machine file start most before after halt → CountsFaults before after

@@ -9,3 +9,4 @@ pub mod Seen
 pub mod Sending
 pub mod Serving
 pub mod Unique
+pub mod Writing

@@ -1,5 +1,5 @@
 -- Runs of an end's machine over the answers of a port, a clock and a maker of challenges (this project's own choice).
-use Rattle.std.specs.Prelude.{◌≡◌, ◌≤◌, ◌<◌, ◌⊎◌, ℕ, Bool, true, false, List, [], ◌∷◌, ◌++◌, ◌+◌, length, map, Result, Ok, Err, IsOk}
+use Rattle.std.specs.Prelude.{◌≡◌, ◌≤◌, ◌<◌, ◌⊎◌, ℕ, Bool, true, false, Option, List, [], ◌∷◌, ◌++◌, ◌+◌, length, map, Result, Ok, Err, IsOk}
 use Rattle.std.specs.List.{flat_map}
 use Rattle.outside.specs.declared.event.Event.{Event}
 use Rattle.outside.specs.declared.event.Event.TheVariants as event
@@ -9,10 +9,11 @@ use Rattle.outside.specs.declared.action.Action.{Action}
 use Rattle.outside.specs.declared.action.StepRefused.{StepRefused}
 use Rattle.outside.specs.declared.action.StepRefused.TheVariants as refusals
 use Rattle.end_loop.specs.declared.halt.Halt.{Halt}
-use Rattle.end_loop.specs.declared.halt.Halt.TheVariants.{PortFault, SinkFault, NoMemory, Spent}
+use Rattle.end_loop.specs.declared.halt.Halt.TheVariants.{PortFault, FileFault, SinkFault, NoMemory, Spent}
 use Rattle.outside.specs.Machine.{Machine, Stepped}
-use Rattle.end_loop.specs.Acts.{puts, Performs, made_events, next_line}
+use Rattle.end_loop.specs.Acts.{puts, writes_for, Loses, Performs, made_events, next_line}
 use Rattle.end_loop.specs.Seen.{Sight, Shows}
+use Rattle.end_loop.specs.Writing.{Write}
 
 -- the actions of a step: none where it isn't taken
 abbrev pub taken_actions : Result (List Action) StepRefused → List Action
@@ -97,6 +98,10 @@ step_story step = step.asked ++ step.happened
 abbrev pub step_line : (Action → List ℕ) → Step → List ℕ
 step_line line step = flat_map line step.actions
 
+-- the writes of a step, where texts go into the file of that name
+abbrev pub step_writes : Option (List ℕ) → Step → List Write
+step_writes file step = flat_map (writes_for file) step.actions
+
 -- what happens at the port in a run
 abbrev pub story_of : List Step → List Happening
 story_of steps = flat_map step_story steps
@@ -117,28 +122,33 @@ actions_in steps = flat_map (λ (step : Step). step.actions) steps
 abbrev pub lines_of : (Action → List ℕ) → List Step → List ℕ
 lines_of line steps = flat_map (step_line line) steps
 
+-- the writes of a run
+abbrev pub writes_in : Option (List ℕ) → List Step → List Write
+writes_in file steps = flat_map (step_writes file) steps
+
 -- how many events a run asked for
 abbrev pub asked_by : List Step → ℕ
 asked_by steps = length (flat_map (λ (step : Step). step.asked) steps)
 
 -- The machine ran from the one standing to the other, and that is what the outside saw.
-pub record Ran {S : Type 0} (machine : Machine S) (start last : RunState S) (asked : ℕ) (before after : Sight) : Type 0 where
+pub record Ran {S : Type 0} (machine : Machine S) (file : Option (List ℕ)) (start last : RunState S) (asked : ℕ) (before after : Sight) : Type 0 where
   pub steps : List Step
   pub are : AreSteps machine start steps last
   pub count : asked ≡ asked_by steps
-  pub shows : Shows before after (story_of steps) (moments_of steps) (drawn_of steps) (lines_of (puts machine) steps)
+  pub shows : Shows before after (story_of steps) (moments_of steps) (drawn_of steps) (lines_of (puts machine) steps) (writes_in file steps)
 
--- Why a step wasn't finished: the machine draws more challenges than were left, and they were all drawn; the sink
--- failed, after the step drew all that it draws; or no memory was found.
+-- Why a step wasn't finished: the machine draws more challenges than were left, and they were all drawn; a write or the
+-- sink failed, after the step drew all that it draws; or no memory was found.
 abbrev pub Breaks : {S : Type 0} → Halt → Stepped S → List (List ℕ) → Type 0
 Breaks Spent stepped undrawn = (stepped.answer ≡ Err refusals.Spent) × (undrawn ≡ [])
+Breaks FileFault stepped undrawn = IsOk stepped.answer × (undrawn ≡ [])
 Breaks SinkFault stepped undrawn = IsOk stepped.answer × (undrawn ≡ [])
 Breaks NoMemory stepped undrawn = Unit {0}
 Breaks PortFault stepped undrawn = ⊥
 
 -- A step that was begun and not finished: what it drew is a front of what the machine draws, and the actions performed
--- are a front of the machine's; of the line of the next action a front was put.
-pub record Begins {S : Type 0} (machine : Machine S) (old : RunState S) (step : Step) (part : List ℕ) (halt : Halt) : Type 0 where
+-- are a front of the machine's; of the line of the next action a front was put, or the write of its text failed.
+pub record Begins {S : Type 0} (machine : Machine S) (file : Option (List ℕ)) (old : RunState S) (step : Step) (part : List ℕ) (lost : List Write) (halt : Halt) : Type 0 where
   pub waiting : List Event
   pub chooses : Chooses machine old.state old.queue step waiting
   pub undrawn : List (List ℕ)
@@ -148,25 +158,27 @@ pub record Begins {S : Type 0} (machine : Machine S) (old : RunState S) (step : 
   pub performs : Performs [] step.actions step.happened
   pub more : List ℕ
   pub front : part ++ more ≡ next_line (puts machine) rest
+  pub loses : Loses halt file rest lost
   pub breaks : Breaks halt (machine.step old.state step.event step.moment old.left) undrawn
 
 -- The machine ran, and then began a step that it didn't finish.
-pub record RanInto {S : Type 0} (machine : Machine S) (start : RunState S) (most : ℕ) (before after : Sight) (halt : Halt) : Type 0 where
+pub record RanInto {S : Type 0} (machine : Machine S) (file : Option (List ℕ)) (start : RunState S) (most : ℕ) (before after : Sight) (halt : Halt) : Type 0 where
   pub last : RunState S
   pub asked : ℕ
   pub middle : Sight
-  pub ran : Ran machine start last asked before middle
+  pub ran : Ran machine file start last asked before middle
   pub step : Step
   pub part : List ℕ
-  pub begins : Begins machine last step part halt
+  pub lost : List Write
+  pub begins : Begins machine file last step part lost halt
   pub within : asked + length step.asked ≤ most
-  pub shows : Shows middle after (step_story step) (step.moment ∷ []) step.drawn (step_line (puts machine) step ++ part)
+  pub shows : Shows middle after (step_story step) (step.moment ∷ []) step.drawn (step_line (puts machine) step ++ part) (step_writes file step ++ lost)
 
 -- The machine ran until it would ask for one more event, of those that the command takes.
-pub record RanToAsk {S : Type 0} (machine : Machine S) (start : RunState S) (most : ℕ) (before after : Sight) : Type 0 where
+pub record RanToAsk {S : Type 0} (machine : Machine S) (file : Option (List ℕ)) (start : RunState S) (most : ℕ) (before after : Sight) : Type 0 where
   pub last : RunState S
   pub asked : ℕ
-  pub ran : Ran machine start last asked before after
+  pub ran : Ran machine file start last asked before after
   pub idle : last.queue ≡ []
   pub more : asked < most
   pub open_still : machine.is_over last.state ≡ false
@@ -179,27 +191,28 @@ Closes machine last asked most stop =
     ⊎ ((machine.is_over last.state ≡ false) × (asked < most) × (stop ≡ happening.Given event.Stop (machine.want last.state) ∷ [])))
 
 -- The machine ran to its end, and no event waits.
-pub record RanOut {S : Type 0} (machine : Machine S) (start : RunState S) (last : S) (most : ℕ) (before after : Sight) : Type 0 where
+pub record RanOut {S : Type 0} (machine : Machine S) (file : Option (List ℕ)) (start : RunState S) (last : S) (most : ℕ) (before after : Sight) : Type 0 where
   pub left : List (List ℕ)
   pub asked : ℕ
   pub middle : Sight
-  pub ran : Ran machine start (record { state = last; queue = []; left = left }) asked before middle
+  pub ran : Ran machine file start (record { state = last; queue = []; left = left }) asked before middle
   pub within : asked ≤ most
   pub stop : List Happening
   pub closes : Closes machine (record { state = last; queue = []; left = left }) asked most stop
-  pub shows : Shows middle after stop [] [] []
+  pub shows : Shows middle after stop [] [] [] []
 
 -- How far a run came that halted.
-abbrev pub Halts : {S : Type 0} → Machine S → RunState S → ℕ → Sight → Sight → Halt → Type 0
-Halts machine start most before after PortFault = RanToAsk machine start most before after
-Halts machine start most before after SinkFault = RanInto machine start most before after SinkFault
-Halts machine start most before after NoMemory = RanToAsk machine start most before after ⊎ RanInto machine start most before after NoMemory
-Halts machine start most before after Spent = RanInto machine start most before after Spent
+abbrev pub Halts : {S : Type 0} → Machine S → Option (List ℕ) → RunState S → ℕ → Sight → Sight → Halt → Type 0
+Halts machine file start most before after PortFault = RanToAsk machine file start most before after
+Halts machine file start most before after FileFault = RanInto machine file start most before after FileFault
+Halts machine file start most before after SinkFault = RanInto machine file start most before after SinkFault
+Halts machine file start most before after NoMemory = RanToAsk machine file start most before after ⊎ RanInto machine file start most before after NoMemory
+Halts machine file start most before after Spent = RanInto machine file start most before after Spent
 
 -- ---- one step in the loop's own terms: the event is chosen already
 
 -- The step was made whole.
-pub record Made {S : Type 0} (machine : Machine S) (old new : S) (what : Event) (behind later : List Event) (before after : Sight) : Type 0 where
+pub record Made {S : Type 0} (machine : Machine S) (file : Option (List ℕ)) (old new : S) (what : Event) (behind later : List Event) (before after : Sight) : Type 0 where
   pub moment : ℕ
   pub drawn : List (List ℕ)
   pub actions : List Action
@@ -208,10 +221,10 @@ pub record Made {S : Type 0} (machine : Machine S) (old new : S) (what : Event) 
       ≡ record { answer = Ok actions; state = new; drawn = drawn; left = after.drawing.left }
   pub performs : Performs [] actions happened
   pub queue : later ≡ behind ++ made_events happened
-  pub shows : Shows before after happened (moment ∷ []) drawn (flat_map (puts machine) actions)
+  pub shows : Shows before after happened (moment ∷ []) drawn (flat_map (puts machine) actions) (flat_map (writes_for file) actions)
 
 -- The step was begun and not finished.
-pub record MadePart {S : Type 0} (machine : Machine S) (old : S) (what : Event) (before after : Sight) (halt : Halt) : Type 0 where
+pub record MadePart {S : Type 0} (machine : Machine S) (file : Option (List ℕ)) (old : S) (what : Event) (before after : Sight) (halt : Halt) : Type 0 where
   pub moment : ℕ
   pub drawn : List (List ℕ)
   pub undrawn : List (List ℕ)
@@ -220,19 +233,21 @@ pub record MadePart {S : Type 0} (machine : Machine S) (old : S) (what : Event) 
   pub happened : List Happening
   pub part : List ℕ
   pub more : List ℕ
+  pub lost : List Write
   pub draws : drawn ++ undrawn ≡ (machine.step old what moment before.drawing.left).drawn
   pub all : actions ++ rest ≡ actions_of (machine.step old what moment before.drawing.left)
   pub performs : Performs [] actions happened
   pub front : part ++ more ≡ next_line (puts machine) rest
+  pub loses : Loses halt file rest lost
   pub breaks : Breaks halt (machine.step old what moment before.drawing.left) undrawn
-  pub shows : Shows before after happened (moment ∷ []) drawn (flat_map (puts machine) actions ++ part)
+  pub shows : Shows before after happened (moment ∷ []) drawn (flat_map (puts machine) actions ++ part) (flat_map (writes_for file) actions ++ lost)
 
 -- A fact of the moment before the event was given, at which the outside told all but that.
 abbrev pub SinceAsked : {S : Type 0} → Machine S → S → Event → Sight → (Sight → Type 0) → Type 0
 SinceAsked machine old what before fact =
-    (asked : Sight) → Shows asked before (happening.Given what (machine.want old) ∷ []) [] [] [] → fact asked
+    (asked : Sight) → Shows asked before (happening.Given what (machine.want old) ∷ []) [] [] [] [] → fact asked
 
 -- One answer of `next` and all that it leads to: `Stop`, which changes nothing, or a run that leaves no event waiting.
-abbrev pub Turns : {S : Type 0} → Machine S → S → S → Sight → Sight → Bool → Type 0
-Turns machine old new before after true = (new ≡ old) × Shows before after (happening.Given event.Stop (machine.want old) ∷ []) [] [] []
-Turns machine old new before after false = Ran machine (idle_at old before) (idle_at new after) 1 before after
+abbrev pub Turns : {S : Type 0} → Machine S → Option (List ℕ) → S → S → Sight → Sight → Bool → Type 0
+Turns machine file old new before after true = (new ≡ old) × Shows before after (happening.Given event.Stop (machine.want old) ∷ []) [] [] [] []
+Turns machine file old new before after false = Ran machine file (idle_at old before) (idle_at new after) 1 before after

@@ -1,22 +1,23 @@
 //! Performing actions.
 
-ghost use Rattle.std.specs.Prelude.{◌≡◌, ◌≤◌, ℕ, List, [], ◌∷◌, ◌++◌, OnOk, OnErr, IfErr, Err, is_ok};
+ghost use Rattle.std.specs.Prelude.{◌≡◌, ◌≤◌, ℕ, List, [], ◌∷◌, ◌++◌, OnOk, OnErr, IfErr, Err, is_ok, is_err, option_copied};
 ghost use Rattle.std.specs.Result.{result_ok};
 ghost use Rattle.outside.specs.Causes.{Rose};
 ghost use Rattle.outside.specs.Telling.{Appends, AppendsFront};
-ghost use Rattle.end_loop.specs.Acts.{Did, puts, dial_event, LoopState, loop_of, Performed, CutShort, has_link, IsOfActs};
+ghost use Rattle.end_loop.specs.Acts.{Did, FailsToKeep, puts, dial_event, LoopState, loop_of, Performed, CutShort, has_link, writes_of, IsOfActs};
+ghost use Rattle.end_loop.specs.Writing.{WritesFiles, files_told};
 
 use crate::end::End;
 use crate::halt::Halt;
 use crate::put::put_all;
-use outside::{Action, Event, Failed, Port, Sink};
+use outside::{Action, Event, Failed, Files, Port, Sink};
 use std::alloc::Global;
 use std::collections::VecDeque;
 use wire_base::NoMemory;
 
-/// Performs one action; a text that is to be kept is passed over. `failed` are the links on which a send failed among
-/// the actions of this step.
-pub(crate) fn act<E: End, P: Port, S: Sink>(
+/// Performs one action. `failed` are the links on which a send failed among the actions of this step, `file` is the
+/// name of the file that texts are kept in.
+pub(crate) fn act<E: End, P: Port, S: Sink, F: Files>(
     alloc: Global,
     end: &E,
     action: &Action,
@@ -24,22 +25,32 @@ pub(crate) fn act<E: End, P: Port, S: Sink>(
     queue: &mut VecDeque<Event>,
     port: &mut P,
     out: &mut S,
+    file: Option<&[u8]>,
+    files: &mut F,
 ) -> Result<(), Halt>
-    ensures ok { OnOk result (Performed (puts E.machine) (action.now ∷ [])
-        (loop_of P.story P.link_faults S.taken port.old out.old failed.old.items queue.old.items)
-        (loop_of P.story P.link_faults S.taken port.new out.new failed.new.items queue.new.items)) }
-    ensures err { IfErr result (λ halt. CutShort (puts E.machine) (action.now ∷ [])
-        (loop_of P.story P.link_faults S.taken port.old out.old failed.old.items queue.old.items)
-        (loop_of P.story P.link_faults S.taken port.new out.new failed.new.items queue.new.items)) }
+    ensures ok { OnOk result (Performed (puts E.machine) (option_copied file.entry)
+        (action.now ∷ [])
+        (loop_of P.story P.link_faults S.taken (files_told F.contents F.reads F.writes)
+        port.old out.old files.old failed.old.items queue.old.items)
+        (loop_of P.story P.link_faults S.taken (files_told F.contents F.reads F.writes)
+        port.new out.new files.new failed.new.items queue.new.items)) }
+    ensures err { IfErr result (λ halt. CutShort (puts E.machine) (option_copied file.entry) halt
+        (action.now ∷ [])
+        (loop_of P.story P.link_faults S.taken (files_told F.contents F.reads F.writes)
+        port.old out.old files.old failed.old.items queue.old.items)
+        (loop_of P.story P.link_faults S.taken (files_told F.contents F.reads F.writes)
+        port.new out.new files.new failed.new.items queue.new.items)) }
     ensures kinds { IfErr result IsOfActs }
     ensures cause { result ≡ Err Halt.SinkFault → Rose (S.faults out.old) (S.faults out.new) }
+    ensures file_cause { result ≡ Err Halt.FileFault →
+        Rose (F.faults files.old) (F.faults files.new) }
     ensures sink { S.faults out.old ≤ S.faults out.new }
+    ensures files { F.faults files.old ≤ F.faults files.new }
     ensures port { P.faults port.new ≡ P.faults port.old }
     ensures links { P.link_faults port.old ≤ P.link_faults port.new }
 {
     match action {
-        // No option names a file of secrets, so that none is written.
-        Action::Keep(_) => Ok(()),
+        Action::Keep(text) => keep(file, text.bytes(), files),
         Action::Send(link, bytes) => send_on(*link, bytes.bytes(), failed, queue, port),
         Action::Dial(peer) => dial_peer(peer.bytes(), queue, port),
         Action::Close(link, _) => {
@@ -48,6 +59,41 @@ pub(crate) fn act<E: End, P: Port, S: Sink>(
         }
         Action::Told(_, _) => say(alloc, end, action, out),
         Action::Judged(_) => say(alloc, end, action, out),
+    }
+}
+
+/// Writes the text into the file of that name, where there is a name.
+fn keep<F: Files>(file: Option<&[u8]>, text: &[u8], files: &mut F) -> Result<(), Halt>
+    ensures ok { OnOk result (WritesFiles
+        (files_told F.contents F.reads F.writes files.old)
+        (files_told F.contents F.reads F.writes files.new)
+        (writes_of (option_copied file.entry) text.now)) }
+    ensures err { OnErr result (FailsToKeep (option_copied file.entry) text.now
+        (files_told F.contents F.reads F.writes files.old)
+        (files_told F.contents F.reads F.writes files.new)) }
+    ensures kind { IfErr result (λ halt. halt ≡ Halt.FileFault) }
+    ensures cause { OnErr result (Rose (F.faults files.old) (F.faults files.new)) }
+    ensures files { F.faults files.old ≤ F.faults files.new }
+{
+    match file {
+        Some(name) => write(name, text, files),
+        None => Ok(()),
+    }
+}
+
+/// Writes the text into the file of that name.
+fn write<F: Files>(name: &[u8], text: &[u8], files: &mut F) -> Result<(), Halt>
+    ensures writes { WritesFiles
+        (files_told F.contents F.reads F.writes files.old)
+        (files_told F.contents F.reads F.writes files.new)
+        ((name.now, text.now, is_err result) ∷ []) }
+    ensures kind { IfErr result (λ halt. halt ≡ Halt.FileFault) }
+    ensures cause { OnErr result (Rose (F.faults files.old) (F.faults files.new)) }
+    ensures files { F.faults files.old ≤ F.faults files.new }
+{
+    match files.write(name, text) {
+        Ok(()) => Ok(()),
+        Err(Failed) => Err(Halt::FileFault),
     }
 }
 
@@ -131,6 +177,7 @@ fn say<E: End, S: Sink>(alloc: Global, end: &E, action: &Action, out: &mut S) ->
         (AppendsFront (S.taken out.old) (S.taken out.new) (E.machine.line action.now)) }
     ensures kinds { IfErr result IsOfActs }
     ensures cause { result ≡ Err Halt.SinkFault → Rose (S.faults out.old) (S.faults out.new) }
+    ensures no_file { ¬ (result ≡ Err Halt.FileFault) }
     ensures sink { S.faults out.old ≤ S.faults out.new }
 {
     let line = end.line(alloc, action)?;
@@ -145,29 +192,50 @@ fn is_listed(links: &[u32], link: u32) -> bool
 }
 
 /// Performs the actions in their order.
-pub(crate) fn perform<E: End, P: Port, S: Sink>(
+pub(crate) fn perform<E: End, P: Port, S: Sink, F: Files>(
     alloc: Global,
     end: &E,
     actions: &[Action],
     queue: &mut VecDeque<Event>,
     port: &mut P,
     out: &mut S,
+    file: Option<&[u8]>,
+    files: &mut F,
 ) -> Result<(), Halt>
-    ensures ok { OnOk result ((failed : List ℕ) × Performed (puts E.machine) actions.now
-        (loop_of P.story P.link_faults S.taken port.old out.old [] queue.old.items)
-        (loop_of P.story P.link_faults S.taken port.new out.new failed queue.new.items)) }
-    ensures err { IfErr result (λ halt. (failed : List ℕ) × CutShort (puts E.machine) actions.now
-        (loop_of P.story P.link_faults S.taken port.old out.old [] queue.old.items)
-        (loop_of P.story P.link_faults S.taken port.new out.new failed queue.new.items)) }
+    ensures ok { OnOk result ((failed : List ℕ) ×
+        Performed (puts E.machine) (option_copied file.entry) actions.now
+        (loop_of P.story P.link_faults S.taken (files_told F.contents F.reads F.writes)
+        port.old out.old files.old [] queue.old.items)
+        (loop_of P.story P.link_faults S.taken (files_told F.contents F.reads F.writes)
+        port.new out.new files.new failed queue.new.items)) }
+    ensures err { IfErr result (λ halt. (failed : List ℕ) ×
+        CutShort (puts E.machine) (option_copied file.entry) halt actions.now
+        (loop_of P.story P.link_faults S.taken (files_told F.contents F.reads F.writes)
+        port.old out.old files.old [] queue.old.items)
+        (loop_of P.story P.link_faults S.taken (files_told F.contents F.reads F.writes)
+        port.new out.new files.new failed queue.new.items)) }
     ensures kinds { IfErr result IsOfActs }
     ensures cause { result ≡ Err Halt.SinkFault → Rose (S.faults out.old) (S.faults out.new) }
+    ensures file_cause { result ≡ Err Halt.FileFault →
+        Rose (F.faults files.old) (F.faults files.new) }
     ensures sink { S.faults out.old ≤ S.faults out.new }
+    ensures files { F.faults files.old ≤ F.faults files.new }
     ensures port { P.faults port.new ≡ P.faults port.old }
     ensures links { P.link_faults port.old ≤ P.link_faults port.new }
 {
     let mut failed = Vec::new(alloc);
     for action in actions {
-        act(alloc, end, action, &mut failed, queue, port, out)?;
+        act(
+            alloc,
+            end,
+            action,
+            &mut failed,
+            queue,
+            port,
+            out,
+            file,
+            files,
+        )?;
     }
     Ok(())
 }

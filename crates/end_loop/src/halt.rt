@@ -7,6 +7,8 @@ use wire_base::NoMemory;
 pub enum Halt {
     /// The port failed to listen or to give an event.
     PortFault,
+    /// A text wasn't written to the file that is kept.
+    FileFault,
     /// The sink failed.
     SinkFault,
     /// No memory was found.

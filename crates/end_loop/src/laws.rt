@@ -3,7 +3,7 @@
 ghost use Rattle.end_loop.specs.Asking.{AsksFor};
 ghost use Rattle.end_loop.specs.Doing.{DialsAndCloses};
 ghost use Rattle.end_loop.specs.Faults.{RunsCountFaults};
-ghost use Rattle.end_loop.specs.Keeping.{PassesOverKeeps};
+ghost use Rattle.end_loop.specs.Keeping.{KeepsTexts};
 ghost use Rattle.end_loop.specs.Sending.{SendsFront};
 ghost use Rattle.end_loop.specs.Unique.{IsDetermined};
 
@@ -36,7 +36,8 @@ pub fn counts_its_link_faults<E: End>(_end: &E)
     ensures { RunsCountFaults E.machine }
 {}
 
-/// A text that the end asks to keep is passed over: what happens at the port and what is put are the same without it.
-pub fn passes_over_what_is_kept<E: End>(_end: &E)
-    ensures { PassesOverKeeps E.machine }
+/// The texts that the end asks to keep are the writes, in their order, under the file's name, and there are none where
+/// no name is given. What happens at the port and what is put are the same without them.
+pub fn writes_what_the_end_keeps<E: End>(_end: &E)
+    ensures { KeepsTexts E.machine }
 {}

@@ -22,7 +22,7 @@ pub use end::End;
 pub use halt::Halt;
 pub use laws::{
     asks_for_its_events, counts_its_link_faults, dials_and_closes_as_the_machine_asks,
-    passes_over_what_is_kept, sends_what_the_machine_sends, story_determines_the_run,
+    sends_what_the_machine_sends, story_determines_the_run, writes_what_the_end_keeps,
 };
 pub use put::put_all;
 pub use serving::serve;

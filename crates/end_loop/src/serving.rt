@@ -1,17 +1,18 @@
 //! The loop.
 
-ghost use Rattle.std.specs.Prelude.{◌≡◌, ◌≤◌, [], ◌∷◌, true, false, OnOk, OnErr, IfOk, IfErr, Err};
+ghost use Rattle.std.specs.Prelude.{◌≡◌, ◌≤◌, [], ◌∷◌, true, false, OnOk, OnErr, IfOk, IfErr, Err, option_copied};
 ghost use Rattle.outside.specs.Telling.{Appends};
 ghost use Rattle.outside.specs.declared.event.Happening.{Happening};
 ghost use Rattle.outside.specs.Causes.{Rose};
 ghost use Rattle.end_loop.specs.Acts.{are_made};
 ghost use Rattle.end_loop.specs.Seen.{Between};
+ghost use Rattle.end_loop.specs.Writing.{files_told};
 ghost use Rattle.end_loop.specs.Runs.{Ran, RanInto, RanOut, Halts, Turns, SinceAsked, IsOfAsk, IsOfSteps, is_stop, run_state_at, idle_at};
 
 use crate::end::End;
 use crate::halt::Halt;
 use crate::step::{drain, step_event};
-use outside::{Chances, Clock, Event, Port, PortRefused, Sink};
+use outside::{Chances, Clock, Event, Files, Port, PortRefused, Sink};
 use std::alloc::Global;
 use std::collections::VecDeque;
 
@@ -21,13 +22,15 @@ use std::collections::VecDeque;
 ///
 /// `PortFault` where the port failed to give an event, `SinkFault` where the sink failed, `Spent` where a step draws
 /// more challenges than are left, `NoMemory` where no memory was found. What was done until then is done.
-pub fn serve<E: End, P: Port, S: Sink, C: Clock, Q: Chances>(
+pub fn serve<E: End, P: Port, S: Sink, F: Files, C: Clock, Q: Chances>(
     alloc: Global,
     end: &mut E,
     queue: &mut VecDeque<Event>,
     most: u32,
     port: &mut P,
     out: &mut S,
+    file: Option<&[u8]>,
+    files: &mut F,
     clock: &mut C,
     chances: &mut Q,
 ) -> Result<(), Halt>
@@ -35,24 +38,29 @@ pub fn serve<E: End, P: Port, S: Sink, C: Clock, Q: Chances>(
     requires made { are_made queue.old.items ≡ true }
     ensures ends { OnOk result (Between
         P.story P.link_faults C.moments Q.drawing S.taken
-        port.old clock.old chances.old out.old port.new clock.new chances.new out.new
-        (λ before after. RanOut E.machine (run_state_at end.old queue.old.items before)
-        end.new most before after)) }
+        (files_told F.contents F.reads F.writes) port.old clock.old chances.old out.old files.old
+        port.new clock.new chances.new out.new files.new
+        (λ before after. RanOut E.machine (option_copied file.entry)
+        (run_state_at end.old queue.old.items before) end.new most before after)) }
     ensures halts { IfErr result (λ halt. Between
         P.story P.link_faults C.moments Q.drawing S.taken
-        port.old clock.old chances.old out.old port.new clock.new chances.new out.new
-        (λ before after. Halts E.machine (run_state_at end.old queue.old.items before)
-        most before after halt)) }
+        (files_told F.contents F.reads F.writes) port.old clock.old chances.old out.old files.old
+        port.new clock.new chances.new out.new files.new
+        (λ before after. Halts E.machine (option_copied file.entry)
+        (run_state_at end.old queue.old.items before) most before after halt)) }
     ensures idle { OnOk result (queue.new.items ≡ []) }
     ensures goes_on { OnOk result (E.is_stopped end.new ≡ false) }
     ensures sink_cause { result ≡ Err Halt.SinkFault → Rose (S.faults out.old) (S.faults out.new) }
+    ensures file_cause { result ≡ Err Halt.FileFault →
+        Rose (F.faults files.old) (F.faults files.new) }
     ensures port_cause { result ≡ Err Halt.PortFault →
         Rose (P.faults port.old) (P.faults port.new) }
     ensures sink { S.faults out.old ≤ S.faults out.new }
+    ensures files { F.faults files.old ≤ F.faults files.new }
     ensures port { P.faults port.old ≤ P.faults port.new }
     ensures links { P.link_faults port.old ≤ P.link_faults port.new }
 {
-    match drain(alloc, end, queue, port, out, clock, chances) {
+    match drain(alloc, end, queue, port, out, file, files, clock, chances) {
         Ok(()) => {}
         Err(halt) => return Err(halt),
     }
@@ -61,7 +69,7 @@ pub fn serve<E: End, P: Port, S: Sink, C: Clock, Q: Chances>(
         if end.is_over() {
             return Ok(());
         }
-        let stop = match turn(alloc, end, queue, port, out, clock, chances) {
+        let stop = match turn(alloc, end, queue, port, out, file, files, clock, chances) {
             Ok(stop) => stop,
             Err(halt) => return Err(halt),
         };
@@ -74,12 +82,14 @@ pub fn serve<E: End, P: Port, S: Sink, C: Clock, Q: Chances>(
 }
 
 /// Asks for one event, and steps it with all that its steps make. True where it is `Stop`.
-fn turn<E: End, P: Port, S: Sink, C: Clock, Q: Chances>(
+fn turn<E: End, P: Port, S: Sink, F: Files, C: Clock, Q: Chances>(
     alloc: Global,
     end: &mut E,
     queue: &mut VecDeque<Event>,
     port: &mut P,
     out: &mut S,
+    file: Option<&[u8]>,
+    files: &mut F,
     clock: &mut C,
     chances: &mut Q,
 ) -> Result<bool, Halt>
@@ -88,18 +98,25 @@ fn turn<E: End, P: Port, S: Sink, C: Clock, Q: Chances>(
     requires idle { queue.old.items ≡ [] }
     ensures turns { IfOk result (λ stop. Between
         P.story P.link_faults C.moments Q.drawing S.taken
-        port.old clock.old chances.old out.old port.new clock.new chances.new out.new
-        (λ before after. Turns E.machine end.old end.new before after stop)) }
+        (files_told F.contents F.reads F.writes) port.old clock.old chances.old out.old files.old
+        port.new clock.new chances.new out.new files.new
+        (λ before after. Turns E.machine (option_copied file.entry)
+        end.old end.new before after stop)) }
     ensures halts { IfErr result (λ halt. Between
         P.story P.link_faults C.moments Q.drawing S.taken
-        port.old clock.old chances.old out.old port.new clock.new chances.new out.new
-        (λ before after. Halts E.machine (idle_at end.old before) 1 before after halt)) }
+        (files_told F.contents F.reads F.writes) port.old clock.old chances.old out.old files.old
+        port.new clock.new chances.new out.new files.new
+        (λ before after. Halts E.machine (option_copied file.entry) (idle_at end.old before)
+        1 before after halt)) }
     ensures stopped { OnOk result (E.is_stopped end.new ≡ false) }
     ensures idle { OnOk result (queue.new.items ≡ []) }
     ensures sink_cause { result ≡ Err Halt.SinkFault → Rose (S.faults out.old) (S.faults out.new) }
+    ensures file_cause { result ≡ Err Halt.FileFault →
+        Rose (F.faults files.old) (F.faults files.new) }
     ensures port_cause { result ≡ Err Halt.PortFault →
         Rose (P.faults port.old) (P.faults port.new) }
     ensures sink { S.faults out.old ≤ S.faults out.new }
+    ensures files { F.faults files.old ≤ F.faults files.new }
     ensures port { P.faults port.old ≤ P.faults port.new }
     ensures links { P.link_faults port.old ≤ P.link_faults port.new }
 {
@@ -110,7 +127,9 @@ fn turn<E: End, P: Port, S: Sink, C: Clock, Q: Chances>(
     if is_stop(&event) {
         return Ok(true);
     }
-    answer(alloc, end, &event, queue, port, out, clock, chances)
+    answer(
+        alloc, end, &event, queue, port, out, file, files, clock, chances,
+    )
 }
 
 /// Asks for the next event.
@@ -138,13 +157,15 @@ fn is_stop(event: &Event) -> bool
 }
 
 /// Steps the event that was given, and all that its steps make. False, since it wasn't `Stop`.
-fn answer<E: End, P: Port, S: Sink, C: Clock, Q: Chances>(
+fn answer<E: End, P: Port, S: Sink, F: Files, C: Clock, Q: Chances>(
     alloc: Global,
     end: &mut E,
     event: &Event,
     queue: &mut VecDeque<Event>,
     port: &mut P,
     out: &mut S,
+    file: Option<&[u8]>,
+    files: &mut F,
     clock: &mut C,
     chances: &mut Q,
 ) -> Result<bool, Halt>
@@ -154,28 +175,37 @@ fn answer<E: End, P: Port, S: Sink, C: Clock, Q: Chances>(
     requires idle { queue.old.items ≡ [] }
     ensures ran { OnOk result (Between
         P.story P.link_faults C.moments Q.drawing S.taken
-        port.old clock.old chances.old out.old port.new clock.new chances.new out.new
+        (files_told F.contents F.reads F.writes) port.old clock.old chances.old out.old files.old
+        port.new clock.new chances.new out.new files.new
         (λ before after. SinceAsked E.machine end.old event.now before
-        (λ asked. Ran E.machine (idle_at end.old asked) (idle_at end.new after) 1 asked after))) }
+        (λ asked. Ran E.machine (option_copied file.entry) (idle_at end.old asked)
+        (idle_at end.new after) 1 asked after))) }
     ensures part { IfErr result (λ halt. Between
         P.story P.link_faults C.moments Q.drawing S.taken
-        port.old clock.old chances.old out.old port.new clock.new chances.new out.new
+        (files_told F.contents F.reads F.writes) port.old clock.old chances.old out.old files.old
+        port.new clock.new chances.new out.new files.new
         (λ before after. SinceAsked E.machine end.old event.now before
-        (λ asked. RanInto E.machine (idle_at end.old asked) 1 asked after halt))) }
+        (λ asked. RanInto E.machine (option_copied file.entry) (idle_at end.old asked)
+        1 asked after halt))) }
     ensures stop { IfOk result (λ stop. stop ≡ false) }
     ensures kinds { IfErr result IsOfSteps }
     ensures stopped { OnOk result (E.is_stopped end.new ≡ false) }
     ensures idle { OnOk result (queue.new.items ≡ []) }
     ensures sink_cause { result ≡ Err Halt.SinkFault → Rose (S.faults out.old) (S.faults out.new) }
+    ensures file_cause { result ≡ Err Halt.FileFault →
+        Rose (F.faults files.old) (F.faults files.new) }
     ensures sink { S.faults out.old ≤ S.faults out.new }
+    ensures files { F.faults files.old ≤ F.faults files.new }
     ensures port { P.faults port.new ≡ P.faults port.old }
     ensures links { P.link_faults port.old ≤ P.link_faults port.new }
 {
-    match step_event(alloc, end, event, queue, port, out, clock, chances) {
+    match step_event(
+        alloc, end, event, queue, port, out, file, files, clock, chances,
+    ) {
         Ok(()) => {}
         Err(halt) => return Err(halt),
     }
-    match drain(alloc, end, queue, port, out, clock, chances) {
+    match drain(alloc, end, queue, port, out, file, files, clock, chances) {
         Ok(()) => Ok(false),
         Err(halt) => Err(halt),
     }

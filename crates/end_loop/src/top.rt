@@ -1,21 +1,22 @@
 //! What a command that serves does around the loop.
 
-ghost use Rattle.std.specs.Prelude.{◌≡◌, ◌≤◌, [], false, true, OnOk, IfErr, Err};
+ghost use Rattle.std.specs.Prelude.{◌≡◌, ◌≤◌, [], false, true, OnOk, IfErr, Err, option_copied};
 ghost use Rattle.outside.specs.Causes.{Rose};
 ghost use Rattle.end_loop.specs.Seen.{Between};
+ghost use Rattle.end_loop.specs.Writing.{files_told};
 ghost use Rattle.end_loop.specs.Serving.{Served, ServedUntil};
 
 use crate::end::End;
 use crate::halt::Halt;
 use crate::serving::serve;
-use outside::{Chances, Clock, Port, Sink};
+use outside::{Chances, Clock, Files, Port, Sink};
 use std::alloc::Global;
 use std::collections::VecDeque;
 
 /// Starts the challenges, listens at the address and serves the end (this project's own choice). Refuses as `serve`
 /// does, and with `PortFault` also where the port failed to listen; then the challenges stand as started, no moment was
 /// taken and nothing was put.
-pub fn serve_at<E: End, P: Port, S: Sink, C: Clock, Q: Chances>(
+pub fn serve_at<E: End, P: Port, S: Sink, F: Files, C: Clock, Q: Chances>(
     alloc: Global,
     end: &mut E,
     address: &[u8],
@@ -24,24 +25,31 @@ pub fn serve_at<E: End, P: Port, S: Sink, C: Clock, Q: Chances>(
     most: u32,
     port: &mut P,
     out: &mut S,
+    file: Option<&[u8]>,
+    files: &mut F,
     clock: &mut C,
     chances: &mut Q,
 ) -> Result<(), Halt>
     requires running { E.is_stopped end.old ≡ false }
     ensures ends { OnOk result (Between
         P.story P.link_faults C.moments Q.drawing S.taken
-        port.old clock.old chances.old out.old port.new clock.new chances.new out.new
-        (λ before after. Served E.machine end.old end.new address.now seed boot most
-        before after)) }
+        (files_told F.contents F.reads F.writes) port.old clock.old chances.old out.old files.old
+        port.new clock.new chances.new out.new files.new
+        (λ before after. Served E.machine (option_copied file.entry) end.old end.new address.now
+        seed boot most before after)) }
     ensures halts { IfErr result (λ halt. Between
         P.story P.link_faults C.moments Q.drawing S.taken
-        port.old clock.old chances.old out.old port.new clock.new chances.new out.new
-        (λ before after. ServedUntil E.machine end.old address.now seed boot most
-        before after halt)) }
+        (files_told F.contents F.reads F.writes) port.old clock.old chances.old out.old files.old
+        port.new clock.new chances.new out.new files.new
+        (λ before after. ServedUntil E.machine (option_copied file.entry) end.old address.now
+        seed boot most before after halt)) }
     ensures sink_cause { result ≡ Err Halt.SinkFault → Rose (S.faults out.old) (S.faults out.new) }
+    ensures file_cause { result ≡ Err Halt.FileFault →
+        Rose (F.faults files.old) (F.faults files.new) }
     ensures port_cause { result ≡ Err Halt.PortFault →
         Rose (P.faults port.old) (P.faults port.new) }
     ensures sink { S.faults out.old ≤ S.faults out.new }
+    ensures files { F.faults files.old ≤ F.faults files.new }
     ensures port { P.faults port.old ≤ P.faults port.new }
     ensures links { P.link_faults port.old ≤ P.link_faults port.new }
 {
@@ -51,5 +59,7 @@ pub fn serve_at<E: End, P: Port, S: Sink, C: Clock, Q: Chances>(
         Err(_) => return Err(Halt::PortFault),
     }
     let mut queue = VecDeque::new(alloc);
-    serve(alloc, end, &mut queue, most, port, out, clock, chances)
+    serve(
+        alloc, end, &mut queue, most, port, out, file, files, clock, chances,
+    )
 }
