@@ -138,7 +138,7 @@ pub fn replies_are_read_back()
 {}
 
 /// In every schedule each unit that was made for a secure channel is one whole unit, and what its mark says: no Logon
-/// call and no answer to one, or a request or a reply of the number that is written down.
+/// call and no answer to one, and a request or a reply of the number that is written down.
 #[tactic(auto, using(crate::proofs::Accepting::Heard::MarkWholeLaws::marked_whole))]
 pub fn marked_units_are_whole()
     ensures { OfSchedules (λ plan moves. MarkedUnitsAreWhole (past plan moves)) }

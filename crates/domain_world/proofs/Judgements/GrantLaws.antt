@@ -1,11 +1,10 @@
 -- In every run a controller grants a Logon call exactly where it is to be granted, by the accounts of the plan.
--- It serves `Proved.grants` and `Proved.alone`.
+-- It serves `Proved.grants`, `Proved.alone` and `Proved.statuses`.
 use Rattle.std.proofs.Common.{◌≡◌, ◌↔◌, ℕ, zero, suc, true, List, [], ◌∷◌, ◌++◌, Option, Some, None, Ok, Err, inl, inr, slice_get, slice_set, refl, sym, ap, subst, ◌∙◌}
 use Rattle.std.specs.List.{AllByRecursion}
 use Rattle.wire_base.specs.Maps.{lookup, same_number}
 use Rattle.authenticators.specs.SecureChannels.{SecureChannelState}
 use Rattle.outside.specs.Machine.{step_by, then_part}
-use Rattle.outside.specs.declared.action.Judged.{Judged}
 use Rattle.outside.specs.declared.event.Event.{Event}
 use Rattle.rpc_units.specs.Stream.{cut_stream}
 use Rattle.logon_stubs.specs.declared.calls.LogonCall.{LogonCall}
@@ -36,6 +35,7 @@ use Rattle.world_moves.specs.declared.plan.Plan.{Plan}
 use Rattle.world_moves.specs.declared.state.State.{State}
 use Rattle.world_moves.specs.World.{first_controllers, first_world}
 use Rattle.domain_world.specs.Claims.Grants.{GrantsWhoMayLogOn, IsGrantedRightly, IsToBeGranted, users_of}
+use Rattle.domain_world.specs.Claims.Statuses.{TellsItsStatus}
 use Rattle.domain_world.specs.Past.{Coming, answers_of, at_controller, judged_of, note_controller, numbers_on, past}
 use Rattle.step_notes.proofs.Controllers.GrantVerdictLaws.{IsServedGrant, granted_status, served_grant}
 use Rattle.step_notes.proofs.Controllers.JudgedCallLaws.{if_network, status_done}
@@ -52,18 +52,10 @@ use Rattle.channel_events.proofs.ListLaws.{all_weaker}
 
 -- ---- a call: its status is that of what it comes to
 
--- where the call passed, it was told with that status
-abbrev pub HasStatus : Option Judged → ℕ → Type 0
-HasStatus how status = has_passed how ≡ true → how ≡ Some (judged.Passed status)
-
--- where the call passed, it was told with the status of what it came to on the channel that it is checked on
-abbrev pub HasItsStatus : Judging → Type 0
-HasItsStatus j = (channel : SecureChannelState) → j.checks ≡ Some channel → HasStatus j.how (done_on j channel).status
-
 some_is : {T : Type 0} (one other : T) → Some one ≡ Some other → one ≡ other
 some_is one other is = cc
 
-pub call_status : (w : Where) (line : Line) (c : JudgedCall) (d : Desk) → HasItsStatus (judging_of w line c d (Some (answer_judged c w.name w.moment line d)))
+pub call_status : (w : Where) (line : Line) (c : JudgedCall) (d : Desk) → TellsItsStatus (judging_of w line c d (Some (answer_judged c w.name w.moment line d)))
 call_status w line c d channel stands passed =
     let j : Judging = judging_of w line c d (Some (answer_judged c w.name w.moment line d)) in
     let sent : IsSentAsPassed j line (new_actions (Some (answer_judged c w.name w.moment line d)) d) = passed_sends w line c d passed in
@@ -124,7 +116,7 @@ planned_later plan controller table other name planned differ = record {
 
 -- besides, it was judged by the accounts of the plan
 abbrev pub IsByPlan : Plan → Judging → Type 0
-IsByPlan plan j = IsPlanned plan j.controller j.table j.name × HasItsStatus j
+IsByPlan plan j = IsPlanned plan j.controller j.table j.name × TellsItsStatus j
 
 unit_by_plan : (plan : Plan) (w : Where) (link : ℕ) (table : AccountTable) → IsPlanned plan w.controller table w.name → (unit : ServedUnit Desk Talk) → IsServedFrom w.name w.moment link table unit →
     HoldsIf (IsByPlan plan) (answer_on link w unit).judging
@@ -218,7 +210,7 @@ first_stands plan = record {
 
 -- ---- each is granted rightly
 
-to_be_granted : (j : Judging) (c : LogonCall) → j.asked ≡ Network c → HasItsStatus j → IsJudgedRight j → j.how ≡ Some (judged.Passed 0) → IsToBeGranted j c
+to_be_granted : (j : Judging) (c : LogonCall) → j.asked ≡ Network c → TellsItsStatus j → IsJudgedRight j → j.how ≡ Some (judged.Passed 0) → IsToBeGranted j c
 to_be_granted j c asks told right how =
     let passed : has_passed j.how ≡ true = ap has_passed how in
     let next : IsNextOn j.checks (given_in j.asked) = right.right.passed.0 passed in
@@ -226,7 +218,7 @@ to_be_granted j c asks told right how =
     let served : IsServedGrant j.table j.name j.moment c.info c.validation (verdict_passed j c) = served_grant j.table j.name j.moment c.info c.validation status in
     record { next = next; level = served.level; may = served.may; verifies = served.verifies }
 
-pub is_granted_so : (j : Judging) (c : LogonCall) → j.asked ≡ Network c → HasItsStatus j → IsJudgedRight j → IsToBeGranted j c → j.how ≡ Some (judged.Passed 0)
+pub is_granted_so : (j : Judging) (c : LogonCall) → j.asked ≡ Network c → TellsItsStatus j → IsJudgedRight j → IsToBeGranted j c → j.how ≡ Some (judged.Passed 0)
 is_granted_so j c asks told right meets =
     told meets.next.channel meets.next.stands (right.right.passed.1 meets.next)
     ∙ ap (λ (status : ℕ). Some (judged.Passed status))
@@ -255,9 +247,9 @@ stand_after plan moves =
     run_stays judgings_of (AmongControllers judgings_of (ByPlan plan) (stand_on plan)) (controllers_written judgings_of (ByPlan plan) (stand_on plan)) plan moves (first_stands plan)
 
 -- in every run each call that passed was told with its status
-pub each_status : (plan : Plan) (moves : List Move) → AllByRecursion HasItsStatus (past plan moves).book.judged
+pub each_status : (plan : Plan) (moves : List Move) → AllByRecursion TellsItsStatus (past plan moves).book.judged
 each_status plan moves =
-    all_weaker (IsByPlan plan) HasItsStatus (past plan moves).book.judged (λ j planned. planned.1)
+    all_weaker (IsByPlan plan) TellsItsStatus (past plan moves).book.judged (λ j planned. planned.1)
     (stand_after plan moves).judged
 
 -- in every run a controller grants a Logon call exactly where it is to be granted, by the accounts of the plan

@@ -40,8 +40,9 @@ use Rattle.world_moves.specs.declared.plan.Plan.{Plan}
 use Rattle.world_moves.specs.World.{first_world}
 use Rattle.domain_world.specs.Claims.Grants.{GrantsWhoseHashIsStored, IsLetOnRightly, IsToBeLetOn}
 use Rattle.domain_world.specs.Claims.Sessions.{AreBySince, ControllerRenewed, HasSessions, SessionsFollow, is_since, last_start, renewals, sessions_if, sessions_on, sessions_since, since_if, start_before}
+use Rattle.domain_world.specs.Claims.Statuses.{TellsItsStatus}
 use Rattle.domain_world.specs.Past.{past}
-use Rattle.domain_world.proofs.Judgements.GrantLaws.{HasItsStatus, each_status}
+use Rattle.domain_world.proofs.Judgements.GrantLaws.{each_status}
 use Rattle.domain_world.proofs.Judgements.JudgedLaws.{AreRight, judged_rightly}
 use Rattle.domain_world.proofs.Judgements.SessionRunLaws.{SessionsStand, sessions_stand}
 use Rattle.domain_world.proofs.Judgements.SessionStepLaws.{RunsWith}
@@ -185,7 +186,7 @@ status_done : (j : Judging) (c : InteractiveCall) (channel : SecureChannelState)
     ≡ status_of (admitted (length j.sessions == session_limit) (judge_interactive j.table j.name j.moment c.info c.validation (key_of_channel channel)).verdict)
 status_done j c channel asks = ap (λ (asked : JudgedCall). (done_by asked channel j.name j.table j.moment j.sessions).status) asks
 
-to_be_let_on : (j : Judging) (c : InteractiveCall) → j.asked ≡ Interactive c → HasItsStatus j → IsJudgedRight j → IsFew j.sessions → j.how ≡ Some (judged.Passed 0) → IsToBeLetOn j c
+to_be_let_on : (j : Judging) (c : InteractiveCall) → j.asked ≡ Interactive c → TellsItsStatus j → IsJudgedRight j → IsFew j.sessions → j.how ≡ Some (judged.Passed 0) → IsToBeLetOn j c
 to_be_let_on j c asks told right few how =
     let passed : has_passed j.how ≡ true = ap has_passed how in
     let next : IsNextOn j.checks (given_in j.asked) = right.right.passed.0 passed in
@@ -202,7 +203,7 @@ not_full count most room = elim (cases_Bool (count == most)) [
   | inr other ↦ other
 ]
 
-is_let_on : (j : Judging) (c : InteractiveCall) → j.asked ≡ Interactive c → HasItsStatus j → IsJudgedRight j → IsToBeLetOn j c → j.how ≡ Some (judged.Passed 0)
+is_let_on : (j : Judging) (c : InteractiveCall) → j.asked ≡ Interactive c → TellsItsStatus j → IsJudgedRight j → IsToBeLetOn j c → j.how ≡ Some (judged.Passed 0)
 is_let_on j c asks told right meets =
     let key : List ℕ = key_of_channel meets.next.channel in
     told meets.next.channel meets.next.stands (right.right.passed.1 meets.next)
@@ -220,7 +221,7 @@ if_interactive Fact (Logoff c) so = tt
 if_interactive Fact (NetworkLogoff c) so = tt
 if_interactive Fact (Set c) so = tt
 
-all_let_on : (judgings : List Judging) → AllByRecursion HasItsStatus judgings → AreRight judgings → AreFew judgings → AllByRecursion (λ (j : Judging). IsLetOnRightly j) judgings
+all_let_on : (judgings : List Judging) → AllByRecursion TellsItsStatus judgings → AreRight judgings → AreFew judgings → AllByRecursion (λ (j : Judging). IsLetOnRightly j) judgings
 all_let_on [] told right few = tt
 all_let_on (j ∷ judgings) told right few = (
   if_interactive (λ (c : InteractiveCall). (j.how ≡ Some (judged.Passed 0)) ↔ IsToBeLetOn j c) j.asked

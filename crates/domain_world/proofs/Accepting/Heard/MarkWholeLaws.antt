@@ -1,5 +1,5 @@
 -- In every schedule each unit of the bag that was made for a secure channel is one whole unit, and is what its mark
--- says. It serves `marked_units_are_whole`.
+-- says. It serves `marked_units_are_whole` and `Proved.whole`.
 use Rattle.std.proofs.Common.{◌≡◌, ℕ, ◌-◌, ◌%◌, ◌<◌, ◌≤◌, ◌^◌, Bool, true, false, List, ◌++◌, drop, length, map, inl, inr, Option, Some, None, Ok, slice_get, refl, sym, ap, subst, ◌∙◌, arith, length-append}
 use Rattle.std.specs.Prelude.{replicate}
 use Rattle.std.proofs.lemmas.List.{drop_at, length-replicate}
