@@ -823,9 +823,19 @@ def succeeds(script, number):
     return outcome.startswith(f"Some(In {{ name: {units('CORP' + chr(92) + plan['user'])}, key: [") and outcome.endswith(f"], echoed: {plan['echo']} }})")
 
 
+def has_own_members(script):
+    """The premises of `one_by_one` (docs/CLAIMS.md): all moves are plain, no two members of the controller have one
+    name, and each has the secret of its account, where it has an enabled workstation's."""
+    members = [(member.plan["computer"].upper() + "$", member.plan["secret"]) for member in script.world.members]
+    hashes = {machine["name"].upper(): machine["hash"] for machine in script.world.controllers[0].made["machines"] if machine["kind"] == "workstation" and not machine.get("disabled")}
+    plain = all(move[0] in ("start", "connect", "onward", "tick") for move in script.moves)
+    return plain and len({name for name, _ in members}) == len(members) and all(hashes.get(name, secret) == secret for name, secret in members)
+
+
 def with_outcomes(script, *wanted):
-    """A scenario of which it is known which clients succeed."""
+    """A scenario of which it is known which clients succeed. With the premises of `one_by_one` it is clear."""
     assert [succeeds(script, number) for number in range(len(script.world.clients))] == list(wanted), answer_of(script.world)
+    assert not has_own_members(script) or script.world.marks.is_clear(), answer_of(script.world)
     return script
 
 

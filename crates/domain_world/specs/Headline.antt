@@ -102,7 +102,8 @@ pub record Proved (plan : Plan) (moves : List Move) : Type 0 where
   pub call_marks : IsSchedule plan moves → CallsAreMarked (past plan moves)
   pub reply_marks : IsSchedule plan moves → RepliesAreMarked (past plan moves)
   pub opened_marks : IsSchedule plan moves → OpeningsAreMarked (past plan moves)
-  -- logons that come one at a time succeed where they can, and whatever they come to no credential clashes
+  -- Logons that come one at a time succeed where they can, at members that have their own computers. Whatever they come
+  -- to, no credential clashes at members that have their accounts' secrets, if they have accounts, and their own names.
   pub complete : EachSucceeds (past plan moves) moves
   pub one_by_one : NoneClashes (past plan moves) moves
 

@@ -5,7 +5,8 @@ use Rattle.std.specs.Prelude.{◌⊎◌}
 use Rattle.std.proofs.lemmas.Option.{slice_get_within}
 use Rattle.authenticators.specs.SecureChannels.{SecureChannelState}
 use Rattle.account_table.specs.Changes.{with_count}
-use Rattle.account_table.specs.LookUps.{place_in}
+use Rattle.account_table.specs.AccountTable.{AccountTable}
+use Rattle.account_table.specs.LookUps.{account_in, machine_name, place_in}
 use Rattle.account_table.specs.Ranges.{InRangeAccount}
 use Rattle.account_table.specs.declared.account.Account.{Account}
 use Rattle.account_table.proofs.ChangeLaws.{differs-none}
@@ -14,6 +15,7 @@ use Rattle.channel_client.specs.declared.state.Standing.TheVariants as standing
 use Rattle.logon_steps.specs.Answering.{IsInStep}
 use Rattle.logon_client.specs.Machine.{fresh_client}
 use Rattle.logon_client.specs.declared.plan.ClientPlan.{ClientPlan}
+use Rattle.member_server.specs.declared.plan.MemberPlan.{MemberPlan}
 use Rattle.member_server.specs.Machine.{fresh_member}
 use Rattle.world_moves.specs.declared.plan.Plan.{Plan}
 use Rattle.world_moves.specs.declared.state.State.{State}
@@ -25,7 +27,7 @@ use Rattle.logon_steps.specs.Knowing.{StandsLater}
 use Rattle.logon_steps.proofs.KnowingLaws.{computers_are_known}
 use Rattle.logon_runs.specs.Seen.Others.{OthersStay}
 use Rattle.logon_runs.specs.Phases.{Coming}
-use Rattle.logon_runs.specs.Rests.{AtRest, CanBeGranted, CanCome, ClientRests, ControllerRests, HasBegun, HasCome, LogonsComeToRest, coming_at, three_of}
+use Rattle.logon_runs.specs.Rests.{AtRest, CanBeGranted, CanCome, ClientRests, ControllerRests, HasBegun, HasCome, HasOwnComputer, HasOwnName, LogonsComeToRest, channel_account, coming_at, three_of}
 use Rattle.logon_runs.specs.Runs.{StandsInStep}
 use Rattle.logon_runs.specs.Failing.TurnedAway.{HasEnded, Settled, settled_in}
 use Rattle.logon_runs.specs.Any.AnyPhases.{HasSecret, IsAble, IsOwn, KeepsInStep, MayStand}
@@ -33,7 +35,7 @@ use Rattle.logon_runs.specs.Any.AnyStarts.{AreThree, coming_from}
 use Rattle.logon_runs.proofs.First.FirstWorldLaws.{at_place, got_controller, got_mapped, item_has}
 use Rattle.logon_runs.proofs.Phases.PhaseLaws.{phases_go_on}
 use Rattle.logon_runs.proofs.Any.AnyBeginLaws.{able_so, has_secret, rests_seen}
-use Rattle.logon_runs.proofs.Any.RestAgainLaws.{HasItem, item_at, rests_again}
+use Rattle.logon_runs.proofs.Any.RestAgainLaws.{HasItem, item_at, rests_again, some_same}
 
 -- ---- how a channel stands
 
@@ -84,6 +86,19 @@ first_so plan is forms = record {
   };
 }
 
+-- ---- a member with its own computer has its own name
+
+pub own_name : (plan : Plan) (at : ℕ) (member : MemberPlan) (controller : ℕ) → HasOwnComputer plan at member controller → HasOwnName plan at member controller
+own_name plan at member controller has = record {
+  reaches = has.reaches;
+  secret = λ table is_table account found.
+      let same : has.table ≡ table = some_same has.table table (sym has.is_table ∙ is_table) in
+      let there : channel_account table member.computer ≡ Some has.machine =
+      computers_are_known.machine table member [] [] has.machine (subst (λ (one : AccountTable). account_in one.accounts (machine_name member.computer) ≡ Some has.machine) same has.machine_found) has.kind has.enabled in
+      ap Account.hash (some_same account has.machine (sym found ∙ there)) ∙ has.secret;
+  apart = has.apart;
+}
+
 -- ---- a logon starts
 
 -- a member with its own computer is one of three
@@ -122,7 +137,7 @@ comes_so plan s rest client member controller can account number is forms accoun
         caller = able.caller;
         place_below = able.place_below;
         number_below = able.number_below;
-        stands = stands_by plan coming coming.meeting.how refl can.computer able.stands;
+        stands = stands_by plan coming coming.meeting.how refl (own_name plan member can.member_plan controller can.computer) able.stands;
         knows = secret.knows;
         machine_found = secret.found;
         secret = secret.secret;

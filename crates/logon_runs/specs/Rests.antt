@@ -1,14 +1,16 @@
 -- A world between two logons that come one at a time, and that a logon which is granted leads from one such state to
 -- another (this project's own choice).
 use Rattle.std.specs.List.{AllByRecursion}
-use Rattle.std.specs.Prelude.{ℕ, ◌≡◌, ◌≢◌, ◌*◌, ◌≤◌, ◌<◌, ◌^◌, ◌⊎◌, false, List, [], ◌∷◌, length, Some, slice_get}
+use Rattle.std.specs.Option.{option_and_then}
+use Rattle.std.specs.Prelude.{ℕ, ◌≡◌, ◌≢◌, ◌*◌, ◌≤◌, ◌<◌, ◌^◌, ◌⊎◌, false, List, [], ◌∷◌, length, Option, Some, slice_get}
 use Rattle.wire_base.specs.Maps.{lookup}
 use Rattle.wire_base.specs.Names.{same_name}
+use Rattle.channel_keys.specs.ChannelTypes.{workstation_channel}
 use Rattle.authenticators.specs.SecureChannels.{SecureChannelState}
 use Rattle.logon_stubs.specs.Ranges.{IsBlock}
 use Rattle.account_table.specs.AccountTable.{AccountTable}
 use Rattle.account_table.specs.Changes.{DifferInCounts}
-use Rattle.account_table.specs.LookUps.{account_in, machine_name}
+use Rattle.account_table.specs.LookUps.{account_in, machine_in, machine_name}
 use Rattle.account_table.specs.Ranges.{InRangeAccount}
 use Rattle.account_table.specs.declared.account.Account.{Account}
 use Rattle.account_table.specs.declared.account.Kind.TheVariants.{Workstation}
@@ -57,6 +59,22 @@ pub record HasOwnComputer (plan : Plan) (at : ℕ) (member : MemberPlan) (contro
   pub apart : (other : ℕ) (peer : MemberPlan) → other ≢ at → slice_get plan.members other ≡ Some peer →
       end_of_peer peer.controller (first_ends plan) ≡ Some (Controller controller) → same_name peer.computer member.computer ≡ false
 
+-- the account by which a controller opens a computer's channel, where it has one: an enabled workstation's of that name
+abbrev pub channel_account : AccountTable → List ℕ → Option Account
+channel_account table computer = option_and_then (slice_get table.accounts) (machine_in table.accounts (machine_name computer) workstation_channel computer)
+
+-- its hash, where it is there, is the member's secret
+abbrev pub HasItsSecret : AccountTable → MemberPlan → Type 0
+HasItsSecret table member = (account : Account) → channel_account table member.computer ≡ Some account → account.hash ≡ member.secret
+
+-- So it is of the member of that number at its controller, and no other member of the controller has its name. The
+-- controller may have no account of it.
+pub record HasOwnName (plan : Plan) (at : ℕ) (member : MemberPlan) (controller : ℕ) : Type 0 where
+  pub reaches : end_of_peer member.controller (first_ends plan) ≡ Some (Controller controller)
+  pub secret : (table : AccountTable) → slice_get plan.tables controller ≡ Some table → HasItsSecret table member
+  pub apart : (other : ℕ) (peer : MemberPlan) → other ≢ at → slice_get plan.members other ≡ Some peer →
+      end_of_peer peer.controller (first_ends plan) ≡ Some (Controller controller) → same_name peer.computer member.computer ≡ false
+
 -- ---- what rests
 
 -- the controller keeps its accounts, but for counts of bad passwords, and this of computers
@@ -69,7 +87,7 @@ pub record ControllerRests (plan : Plan) (s : State) (at : ℕ) (planned : Accou
   pub computers : Computers
   pub rests : slice_get s.ends.controllers at ≡ Some (controller_at table name computers [])
 
--- a channel that a member with its own computer keeps is the one that the controller keeps, step by step; no channel is
+-- a channel that a member with its own name keeps is the one that the controller keeps, step by step; no channel is
 -- half open
 pub record IsInStepAt (s : State) (controller : ℕ) (member : MemberPlan) (o : SecureChannelState) : Type 0 where
   pub table : AccountTable
@@ -83,7 +101,7 @@ pub record IsInStepAt (s : State) (controller : ℕ) (member : MemberPlan) (o : 
 abbrev pub StandsWell : Plan → State → ℕ → MemberPlan → Standing → Type 0
 StandsWell plan s at member standing.Nothing = Unit {0}
 StandsWell plan s at member (standing.Half client server) = ⊥
-StandsWell plan s at member (standing.Open o) = (controller : ℕ) → HasOwnComputer plan at member controller → IsInStepAt s controller member o
+StandsWell plan s at member (standing.Open o) = (controller : ℕ) → HasOwnName plan at member controller → IsInStepAt s controller member o
 
 pub record MemberRests (plan : Plan) (s : State) (at : ℕ) (member : MemberPlan) : Type 0 where
   pub how : Standing

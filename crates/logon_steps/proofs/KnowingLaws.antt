@@ -1,5 +1,5 @@
 -- A controller that has an enabled workstation's account of a member's computer.
--- Of `computers_are_known`.
+-- Of `computers_are_known` and `any_phases_go_on`.
 use Rattle.std.proofs.Common.{◌≡◌, ℕ, suc, Bool, true, false, List, [], ◌∷◌, Option, Some, None, refl, sym, ap, ap₂, subst, ◌∙◌, inl, inr, slice_get, if◌then◌else◌}
 use Rattle.std.specs.Prelude.{◌&&◌, ◌||◌, not, option_map}
 use Rattle.std.specs.List.{list_any}
@@ -14,13 +14,15 @@ use Rattle.account_table.specs.Changes.{DifferInCounts, with_count}
 use Rattle.account_table.specs.LookUps.{account_in, is_machine, is_machine_for, is_trust_for, knows_in, lists_controller, machine_in, machine_name, opens, place_in}
 use Rattle.account_table.specs.declared.account.Account.{Account}
 use Rattle.account_table.specs.declared.account.Kind.{Kind}
-use Rattle.account_table.specs.declared.account.Kind.TheVariants.{Workstation}
-use Rattle.account_table.proofs.ChangeLaws.{accounts-stay, places-stay}
+use Rattle.account_table.specs.declared.account.Kind.TheVariants.{User, Workstation, Backup, Trust}
+use Rattle.account_table.proofs.ChangeLaws.{accounts-stay, machines-stay, places-stay}
 use Rattle.logon_stubs.specs.declared.info.NetworkInfo.{NetworkInfo}
 use Rattle.sam_logon.specs.Verdict.{judgement_of, table_after}
 use Rattle.sam_logon.proofs.CountLaws.{judgement-differs}
+use Rattle.domain_controller.specs.Machine.{account_for}
 use Rattle.member_server.specs.declared.plan.MemberPlan.{MemberPlan}
 use Rattle.member_server.specs.Machine.{caller_of}
+use Rattle.logon_steps.specs.Answering.{auth_value}
 use Rattle.logon_steps.specs.Knowing.{ComputersAreKnown, IsKnownLater, StandsLater}
 use Rattle.logon_steps.proofs.AnsweringLaws.{calls_are_answered}
 
@@ -103,6 +105,34 @@ has_machine accounts computer account found kind enabled =
     (ap₂ (λ (d : Bool) (k : Kind). not d && opens k 2 (same_name account.name (machine_name computer)) (lists_controller account computer)) enabled kind
     ∙ same_back (machine_name computer) account.name (passes_found (has_name (machine_name computer)) accounts account found))
 
+-- an account that opens the channel of a workstation is a machine's
+machine_so : (named disabled : Bool) (kind : Kind) (same listed : Bool) → (named && (not disabled && opens kind 2 same listed)) ≡ true → (named && is_machine kind) ≡ true
+machine_so false disabled kind same listed is = is
+machine_so true true kind same listed is = absurd cc
+machine_so true false User same listed is = is
+machine_so true false Workstation same listed is = refl
+machine_so true false Backup same listed is = refl
+machine_so true false Trust same listed is = is
+
+any_passes : {T : Type 0} (test other : T → Bool) → ((item : T) → test item ≡ true → other item ≡ true) → (items : List T) (item : T) →
+    found_at test items (place_of test items) ≡ Some item → list_any other items ≡ true
+any_passes test other so [] item is = absurd cc
+any_passes test other so (one ∷ items) item is =
+    elim (cases_Bool (test one)) [
+      | inl passes ↦ ap (λ (b : Bool). b || list_any other items) (so one passes)
+      | inr fails ↦ or_either (other one) (list_any other items) (any_passes test other so items item (sym (later test one items fails) ∙ is))
+    ]
+
+-- so the computer is known, where an account is found for its channel
+pub known_found : (table : AccountTable) (plan : MemberPlan) (client server : List ℕ) (account : Account) → account_for table (auth_value (caller_of plan) client server) ≡ Some account →
+    knows_in table.accounts plan.computer ≡ true
+unfolding knows_in machine_in
+known_found table plan client server account found =
+    ap (λ (b : Bool). b || list_any (is_trust_for plan.computer) table.accounts)
+    (any_passes (λ (a : Account). has_name (machine_name plan.computer) a && is_machine_for 2 plan.computer a) (λ (a : Account). has_name (machine_name plan.computer) a && is_machine a.kind)
+    (λ a. machine_so (has_name (machine_name plan.computer) a) a.disabled a.kind (same_name a.name (machine_name plan.computer)) (lists_controller a plan.computer))
+    table.accounts account found)
+
 -- ---- the table afterwards
 
 -- an account that is found, but for its count of bad passwords
@@ -121,6 +151,19 @@ counted_at : (place : Option ℕ) (old new : AccountTable) (account : Account) �
 counted_at None old new account differ is = absurd cc
 counted_at (Some place) old new account differ is =
     counted_from (slice_get new.accounts place) account (accounts-stay old new differ place ∙ ap (λ (f : Option Account). option_map (with_count 0) f) is)
+
+counted_back : (place : Option ℕ) (old new : AccountTable) (account : Account) → DifferInCounts old new → option_and_then (slice_get new.accounts) place ≡ Some account →
+    IsCounted (option_and_then (slice_get old.accounts) place) account
+counted_back None old new account differ is = absurd cc
+counted_back (Some place) old new account differ is =
+    counted_from (slice_get old.accounts place) account (sym (accounts-stay old new differ place) ∙ ap (λ (f : Option Account). option_map (with_count 0) f) is)
+
+-- the account that is found for a channel was there before, but for its count
+pub found_before : (old new : AccountTable) (plan : MemberPlan) (client server : List ℕ) (account : Account) → DifferInCounts old new →
+    account_for new (auth_value (caller_of plan) client server) ≡ Some account → IsCounted (account_for old (auth_value (caller_of plan) client server)) account
+found_before old new plan client server account differ found =
+    counted_back (machine_in old.accounts (machine_name plan.computer) 2 plan.computer) old new account differ
+    (ap (λ (p : Option ℕ). option_and_then (slice_get new.accounts) p) (sym (machines-stay old new differ (machine_name plan.computer) 2 plan.computer)) ∙ found)
 
 stands_later : (old new : AccountTable) (name : List ℕ) (account : Account) → DifferInCounts old new → account_in old.accounts name ≡ Some account → StandsLater new name account
 stands_later old new name account differ found =

@@ -41,27 +41,20 @@ use Rattle.logon_runs.proofs.Keys.LetInLaws.{grants_go_on}
 use Rattle.logon_runs.proofs.RestLaws.{logons_come_to_rest}
 use Rattle.logon_runs.proofs.Seen.StayingLaws.{ends_stay, reach_still}
 use Rattle.logon_runs.proofs.Seen.StepOnLaws.{by_step}
-use Rattle.domain_world.specs.Claims.Completeness.{IsQuiet, started_in}
+use Rattle.domain_world.specs.Claims.Completeness.{ComesOneAtATime, IsQuiet, started_in}
 use Rattle.domain_world.specs.Claims.OneByOne.{HasOwnMember, NoneClashes}
 use Rattle.domain_world.specs.Past.{book, note, past}
-use Rattle.domain_world.proofs.Completeness.ApartLaws.{computer_of}
+use Rattle.domain_world.proofs.Completeness.ApartLaws.{own_name_of}
 use Rattle.domain_world.proofs.Completeness.MomentLaws.{start_chances}
 use Rattle.domain_world.proofs.Completeness.PlainLaws.{by_plain, later_starts}
 use Rattle.domain_world.proofs.Completeness.RestingLaws.{Along, Resting, Started, along_next, begins_so, fewer_moves, goes_further, rests_on, rests_then}
 use Rattle.domain_world.proofs.Completeness.SuccessLaws.{first_enough}
-use Rattle.domain_world.proofs.Clear.PhaseClearLaws.{IsClean, IsClearFor, IsPlanned, clean_of, connect_clean, connect_clear, fine_of, idle_clean, link_clean, onward_clear, tick_clean, tick_clear}
-use Rattle.domain_world.proofs.Clear.UnitComesLaws.{start_fine}
+use Rattle.domain_world.proofs.Clear.NoServersLaws.{no_servers}
+use Rattle.domain_world.proofs.Clear.PhaseClearLaws.{IsClean, IsClearFor, IsPlanned, connect_clean, connect_clear, link_clean, onward_clear, rest_clean, start_clean, tick_clean, tick_clear}
 use Rattle.domain_world.proofs.Frames.MemberPlanLaws.{found_but_secret}
 use Rattle.domain_world.proofs.Frames.PlacedLaws.{placed_first}
 use Rattle.world_moves.specs.Choosing.{chosen_place}
 use Rattle.world_moves.specs.declared.moves.Move.TheVariants as move
-
--- ---- a move at which no unit waits
-
-rest_clean : (w : World) (b : Book) (what : Move) → IsStepOn what → waiting w.state.bag ≡ [] → IsClean w.state b → IsClean (act w.state what).state (note w what b)
-rest_clean w b what steps none clean =
-    by_step (λ (one : Move). IsClean (act w.state one).state (note w one b)) (connect_clean w.state w.moves b clean) (idle_clean w.state w.moves b clean none)
-    (λ more. tick_clean w.state w.moves b clean more) what steps
 
 -- ---- how far a logon is
 
@@ -203,7 +196,7 @@ module _ (plan : Plan) (p : Coming) (w : World) (b : Book) (same : HasSameEnds (
 
 -- ---- the moves
 
-module _ (plan : Plan) (is : IsPlan plan) (forms : HasForms plan) (bk : Book) where
+module _ (plan : Plan) (is : IsPlan plan) (forms : HasForms plan) (servers : HasServers plan) (bk : Book) where
   -- a client goes on
   record Going (moves : List Move) (w : World) (b : Book) : Type 0 where
     p : Coming
@@ -271,8 +264,8 @@ module _ (plan : Plan) (is : IsPlan plan) (forms : HasForms plan) (bk : Book) wh
                 };
                 planned = record { is_plan = found_but_secret plan.members member work is_work; reach = λ there. there };
                 own = λ there.
-                    let known = own.computer task member work controller table is_task to_member is_work there is_table in
-                    computer_of plan controller member work known.1 is_work there table is_table known.0;
+                    own_name_of plan controller member work (own task member work controller table is_task to_member is_work there is_table).1 is_work there
+                    (λ one is_one. (own task member work controller one is_task to_member is_work there is_one).0);
               })
               (record {
                 phase = On Dials;
@@ -285,7 +278,6 @@ module _ (plan : Plan) (is : IsPlan plan) (forms : HasForms plan) (bk : Book) wh
 
     begins_nowhere : route_to (Client client) (end_of_peer task.server (first_ends plan)) ≡ None → BeginsAt
     begins_nowhere nobody =
-        let servers : HasServers plan = own.servers in
         let three : AreThree plan client servers.member servers.controller =
         record { task = task; is_task = is_task; member_plan = servers.member_plan; is_member_plan = servers.is_member_plan; table = servers.table; is_table = servers.is_table } in
         record {
@@ -294,14 +286,11 @@ module _ (plan : Plan) (is : IsPlan plan) (forms : HasForms plan) (bk : Book) wh
         }
 
     begins_at : BeginsAt
-    begins_at = by_reach plan client task own.servers BeginsAt begins_there begins_nowhere
+    begins_at = by_reach plan client task servers BeginsAt begins_there begins_nowhere
 
   abbrev ClearFrom : List Move → World → Book → Type 0
   ClearFrom moves w b =
       Along plan moves w → AllByRecursion (HasOwnMember plan) (started_in moves (length plan.clients)) → bk ≡ book moves w b → Stands moves w b → bk.clash ≡ false
-
-  start_clean : (number : ℕ) (w : World) (b : Book) → IsClean w.state b → IsClean (start number w.state).state (note w (move.Start number) b)
-  start_clean number w b clean = clean_of (start number w.state).state (length b.judged) (note w (move.Start number) b) (start_fine w.state number (length b.judged) w.moves b (fine_of w.state b clean))
 
   clear_starts : (number : ℕ) (moves : List Move) (w : World) (b : Book) → ClearFrom moves (happens w (move.Start number)) (note w (move.Start number) b) → ClearFrom (move.Start number ∷ moves) w b
   clear_starts number moves w b then_on along owns is_book stands =
@@ -310,7 +299,7 @@ module _ (plan : Plan) (is : IsPlan plan) (forms : HasForms plan) (bk : Book) wh
       let enough : HasEnough (length moves) (start number w.state).state.chances.left =
       subst (λ (chances : Drawing). HasEnough (length moves) chances.left) (sym (start_chances number w.state)) (fewer_moves (length moves) w.state.chances.left resting.enough) in
       then_on (along_next plan (move.Start number) moves w along) owns.1 is_book
-      (elim (begins_so plan (length moves) w.state number is forms owns.0.servers along.same resting) [
+      (elim (begins_so plan (length moves) w.state number is forms servers along.same resting) [
         | inl none ↦ inl (
           record { rest = subst (λ (s : State). AtRest plan s) (sym none.0) resting.rest; enough = enough },
           clean,
@@ -340,11 +329,32 @@ module _ (plan : Plan) (is : IsPlan plan) (forms : HasForms plan) (bk : Book) wh
 
 -- ---- a run
 
-pub none_clashes : (plan : Plan) (moves : List Move) → NoneClashes (past plan moves) moves
-none_clashes plan moves comes owns =
+first_along : (plan : Plan) (moves : List Move) → ComesOneAtATime (past plan moves) moves → Along plan moves (first_world plan)
+first_along plan moves comes =
+    record { plain = comes.plain; quiet = comes.quiet; same = ends_stay.none (first_world plan).state; below = comes.schedule.forms.now; placed = placed_first plan }
+
+with_servers : (plan : Plan) (moves : List Move) → HasServers plan → NoneClashes (past plan moves) moves
+with_servers plan moves servers comes owns =
     let first : World = first_world plan in
     let is : IsPlan plan = comes.schedule.start in
     let forms : HasForms plan = comes.schedule.forms in
-    clear_from plan is forms (book moves first blank) moves first blank
-    (record { plain = comes.plain; quiet = comes.quiet; same = ends_stay.none first.state; below = forms.now; placed = placed_first plan }) owns refl
+    clear_from plan is forms servers (book moves first blank) moves first blank (first_along plan moves comes) owns refl
     (inl (record { rest = logons_come_to_rest.first plan is forms; enough = first_enough plan (length moves) comes.schedule.few }, record { apart = refl; marked = refl }))
+
+-- by whether there is a controller, and a member
+by_servers : (plan : Plan) (moves : List Move) (tables : List AccountTable) (members : List MemberPlan) → plan.tables ≡ tables → plan.members ≡ members → NoneClashes (past plan moves) moves
+by_servers plan moves [] members no_table is comes owns = no_servers plan moves comes.schedule (first_along plan moves comes) (inl no_table)
+by_servers plan moves (table ∷ tables) [] is no_member comes owns = no_servers plan moves comes.schedule (first_along plan moves comes) (inr no_member)
+by_servers plan moves (table ∷ tables) (member ∷ members) is are comes owns =
+    with_servers plan moves
+    (record {
+      controller = 0;
+      table = table;
+      is_table = ap (λ (all : List AccountTable). slice_get all 0) is;
+      member = 0;
+      member_plan = member;
+      is_member_plan = ap (λ (all : List MemberPlan). slice_get all 0) are;
+    }) comes owns
+
+pub none_clashes : (plan : Plan) (moves : List Move) → NoneClashes (past plan moves) moves
+none_clashes plan moves = by_servers plan moves plan.tables plan.members refl refl

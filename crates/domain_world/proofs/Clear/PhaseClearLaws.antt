@@ -1,23 +1,30 @@
 -- In each phase of a logon, whatever it comes to, where no credential clashed, none does as a unit comes: the unit that
 -- carries a call, and the one that carries its reply, was made for the channel on which the credential passes.
 -- It serves `Proved.one_by_one`.
-use Rattle.std.proofs.Common.{◌≡◌, ◌≢◌, ℕ, ◌+◌, ◌==◌, arith, Bool, true, false, List, [], ◌∷◌, ◌++◌, length, map, Option, Some, None, refl, sym, ap, ap₂, subst, ◌∙◌, slice_get}
-use Rattle.std.proofs.lemmas.Bool.{false_from_ne_true}
+use Rattle.std.proofs.Common.{◌≡◌, ◌≢◌, ℕ, ◌+◌, ◌==◌, arith, Bool, true, false, List, [], ◌∷◌, ◌++◌, length, map, Option, Some, None, inl, inr, refl, sym, ap, ap₂, subst, ◌∙◌, slice_get}
+use Rattle.std.specs.Prelude.{◌⊎◌}
+use Rattle.std.proofs.lemmas.Bool.{cases_Bool, false_from_ne_true}
 use Rattle.std.proofs.lemmas.Bool.Decides.{Decides-eqb}
+use Rattle.wire_base.specs.Maps.{lookup}
+use Rattle.wire_base.specs.Names.{same_name}
 use Rattle.authenticators.specs.Channels.{ChannelIdentity}
 use Rattle.authenticators.specs.SecureChannels.{SecureChannelState, channel_of, key_of_channel}
 use Rattle.rpc_units.specs.Writing.{written}
+use Rattle.outside.specs.declared.action.DropCause.{DropCause}
+use Rattle.outside.specs.declared.action.DropCause.TheVariants as drop_cause
+use Rattle.logon_stubs.specs.declared.calls.AuthCall.{AuthCall}
 use Rattle.logon_stubs.specs.declared.calls.Call.{Call}
 use Rattle.logon_stubs.specs.declared.calls.Reply.{Reply}
 use Rattle.account_table.specs.AccountTable.{AccountTable}
+use Rattle.account_table.specs.declared.account.Account.{Account}
 use Rattle.end_links.specs.Links.{LinkState}
 use Rattle.end_links.specs.Serving.{ServedUnit, ServedPart}
-use Rattle.channel_client.specs.Machine.{after, offered_flags, wait_for, take_of}
+use Rattle.channel_client.specs.Machine.{Taking, after, judge, judge_auth, offered_flags, settle, wait_for, take_of}
 use Rattle.channel_client.specs.State.{Requester}
 use Rattle.channel_events.specs.Marks.{Calling, Opened, Opening, Plain, ReplyTo}
 use Rattle.channel_events.proofs.ListLaws.{got_append}
 use Rattle.domain_controller.specs.Hearing.{bound_talk, served_call}
-use Rattle.domain_controller.specs.Machine.{Desk, by_call, status_of}
+use Rattle.domain_controller.specs.Machine.{Desk, account_for, by_call, status_of}
 use Rattle.logon_client.specs.Answering.{bind_for}
 use Rattle.member_server.specs.Machine.{step_of}
 use Rattle.member_server.specs.Turns.{AtTurn, turn_talk}
@@ -25,7 +32,7 @@ use Rattle.member_server.specs.declared.state.Logons.{Logons}
 use Rattle.member_server.specs.declared.state.Talk.{Talk}
 use Rattle.channel_turns.specs.declared.state.TurnTalk.{TurnTalk}
 use Rattle.step_notes.specs.ChannelNames.{Expects, HasChannel, place_answered, channel_marked}
-use Rattle.step_notes.specs.ControllerNotes.{Answered, has_passed, judged_in, judging_of, new_actions, opening, passing}
+use Rattle.step_notes.specs.ControllerNotes.{Answered, has_passed, identity_by, judged_in, judging_of, new_actions, opened_account, opened_by, opening, passing, plain}
 use Rattle.step_notes.specs.Marking.{answered_marks, clashes}
 use Rattle.step_notes.specs.MemberNotes.{half_channel, taking_note, turn_units, turn_units_by, asked_note, taken_note}
 use Rattle.step_notes.specs.Records.{Book, Judging, Sent}
@@ -37,21 +44,23 @@ use Rattle.world_moves.specs.declared.links.EndId.TheVariants.{Client, Controlle
 use Rattle.world_moves.specs.declared.links.Route.TheVariants.{ToMember}
 use Rattle.world_moves.specs.declared.state.State.{State}
 use Rattle.world_moves.specs.declared.state.WaitingDial.{WaitingDial}
-use Rattle.world_moves.specs.Moving.{act, connect_first, end_of_peer, onward, tick, without_first}
+use Rattle.world_moves.specs.Moving.{act, connect_first, end_of_peer, onward, start, tick, without_first}
+use Rattle.world_moves.specs.World.{World}
 use Rattle.world_moves.specs.Bag.{first_waiting}
-use Rattle.logon_steps.specs.Answering.{IsInStep}
+use Rattle.logon_steps.specs.Answering.{IsInStep, auth_value}
 use Rattle.logon_steps.specs.Answers.{auth3_for}
 use Rattle.logon_steps.specs.ControllerTurns.{reply_bytes, passed_reply, turn_link}
 use Rattle.logon_steps.specs.Meeting.{ack_for, challenged_talk, fresh_talk}
 use Rattle.logon_steps.specs.MemberTurns.{logons_in_turn, member_at, on_turn}
-use Rattle.logon_steps.specs.Turning.{turn_response, IsTurnCall, IsTurnReply, turn_agreed}
+use Rattle.logon_steps.specs.Turning.{turn_at, turn_response, IsTurnCall, IsTurnReply, turn_agreed}
 use Rattle.logon_steps.proofs.AnswersLaws.{answers_are_asked}
 use Rattle.logon_steps.proofs.CallingLaws.{calls_can_go}
 use Rattle.logon_steps.proofs.ControllerTurnLaws.{controllers_step}
 use Rattle.logon_steps.proofs.MeetingLaws.{ack_sends, bind_sends}
-use Rattle.logon_steps.proofs.TurningLaws.{unit_comes}
+use Rattle.logon_steps.proofs.TurningLaws.{turns_go_through, unit_comes}
 use Rattle.logon_runs.specs.Seen.LinkScenes.{its_link, unit_down, unit_up, Meeting}
 use Rattle.logon_runs.specs.Seen.TurnScenes.{IsBetween, Turn, with_accounts, turn_scene, unit_back}
+use Rattle.logon_runs.specs.Seen.Others.{IsStepOn}
 use Rattle.logon_runs.specs.Seen.WaitingUnits.{waiting}
 use Rattle.logon_runs.specs.Phases.{Aim, Coming, First, HasThree, IsAsking, IsOpening, LogonPhase, NotYet, Progress, progress_answered, progress_onward, Second, Third, TurnAt, WasJudged, WasOpened, WasTold, WhoAsked, call_for, own, progress_called, progress_of, scene_of, standing_for, turn_before, turn_on, with_its_controller, Acked, Answers, Binds, BindsBefore, BindsHeld, Calls, Challenged, Dials, DialsBefore, DialsHeld, Echoed, Echoes, Granted, Halved, Named, Proved, IsAnswering}
 use Rattle.logon_runs.specs.Runs.{Asked, goes, info_asked, message_for}
@@ -60,25 +69,29 @@ use Rattle.logon_runs.proofs.Phases.PhaseStartLaws.{left_so}
 use Rattle.logon_runs.proofs.RunLaws.{between_still}
 use Rattle.logon_runs.proofs.Seen.LinkSceneLaws.{found_here, heard_down}
 use Rattle.logon_runs.proofs.Seen.TwoLinkLaws.{turns_have_links}
+use Rattle.logon_runs.proofs.Seen.StepOnLaws.{by_step}
 use Rattle.logon_runs.proofs.Seen.WaitingLaws.{waiting_comes}
 use Rattle.domain_world.specs.Past.{judged_of, note, note_given, note_onward}
 use Rattle.domain_world.proofs.Completeness.HeardOnceLaws.{either_way, turn_line}
 use Rattle.domain_world.proofs.Completeness.UnitNotedLaws.{comes_so}
 use Rattle.domain_world.proofs.Clear.NotedLaws.{Fine, Waits, given_fine, grows, world_at}
 use Rattle.domain_world.proofs.Clear.NotedOnLaws.{waits_marked}
-use Rattle.domain_world.proofs.Clear.UnitComesLaws.{Called, FineAnd, Names, ack_leads, answer_in_turn, bind_leads, call_comes, channel_in_turn, client_comes, connect_fine, desk_in_turn, dial_leads, judged_bag, meeting_leads, quiet_leads, replied_bag, reply_leads, reply_waits, where_in_turn}
-use Rattle.logon_runs.specs.Any.AnyPhases.{progress_in, progress_next, AnyPhase, Away, HasSecret, IsAble, IsOwn, IsReadyBy, IsThere, IsTurningBy, Judged, KeepsInStep, MayAim, MayFit, MayFitAway, MayFitOn, On, Told, any_scene, proof_reply}
+use Rattle.domain_world.proofs.Clear.UnitComesLaws.{Called, FineAnd, Names, ack_leads, answer_in_turn, bind_leads, call_comes, channel_in_turn, client_comes, connect_fine, desk_in_turn, dial_leads, judged_bag, meeting_leads, quiet_leads, replied_bag, reply_leads, reply_waits, where_in_turn, start_fine}
+use Rattle.logon_runs.specs.Any.AnyPhases.{progress_in, progress_next, AnyPhase, Away, IsAble, IsGranted, IsOwn, IsReadyBy, IsThere, IsTurningBy, Judged, KeepsInStep, MayAim, MayFit, MayFitAway, MayFitOn, On, Told, any_scene, proof_reply}
 use Rattle.logon_runs.specs.Keys.LetIn.{let_in_scene, Asks, FitsLetIn, Hears, IsOnLink, LetInPhase}
 use Rattle.logon_runs.specs.Failing.TurnedAway.{AwayPhase, Faulted, Refused, Unheard, away_scene, settled_in}
 use Rattle.domain_controller.specs.declared.state.Talk.{Talk as ControllerTalk}
 use Rattle.logon_stubs.specs.Ranges.{IsBlock}
+use Rattle.world_moves.specs.declared.moves.Move.{Move}
 use Rattle.world_moves.specs.declared.plan.Plan.{Plan}
 use Rattle.channel_client.specs.declared.state.Question.{Question}
 use Rattle.rpc_units.specs.declared.unit.Unit.{Unit as RpcUnit}
 use Rattle.channel_client.specs.declared.state.Standing.{Standing}
 use Rattle.channel_client.specs.declared.state.Step.{Step}
 use Rattle.channel_client.specs.declared.answers.Taken.{Taken}
-use Rattle.logon_runs.specs.Any.ControllerAnswers.{ToldChallenge}
+use Rattle.channel_client.specs.declared.judging.Judgement.{Judgement}
+use Rattle.channel_client.specs.declared.judging.Judgement.TheVariants as judgement
+use Rattle.logon_runs.specs.Any.ControllerAnswers.{ToldChallenge, ToldProof}
 use Rattle.logon_stubs.specs.declared.info.Verdict.{Verdict}
 use Rattle.logon_runs.proofs.Any.ControllerAnswerLaws.{controllers_answer}
 use Rattle.end_links.specs.Sending.{fault_of}
@@ -99,7 +112,6 @@ use Rattle.channel_client.specs.Machine as requester
 use Rattle.logon_client.specs.declared.state.Phase.TheVariants as client_phase
 use Rattle.world_moves.specs.declared.moves.Move.TheVariants as move
 use Rattle.channel_client.specs.declared.state.Standing.TheVariants as standing
-use Rattle.logon_stubs.specs.declared.info.Verdict.TheVariants as verdict
 use Rattle.channel_client.specs.declared.answers.Taken.TheVariants as taken
 
 -- ---- what holds
@@ -129,11 +141,16 @@ half_of p client server = record {
 abbrev pub open_of : Coming → SecureChannelState → ChannelIdentity
 open_of p o = channel_of p.meeting.at_controller p.meeting.caller.computer o
 
--- the unit that waits was made for that channel, where a call or its reply is out
+-- the controller has no account for the call that opens the member's channel
+abbrev pub HasNone : Coming → List ℕ → List ℕ → Type 0
+HasNone p client server = account_for p.table (auth_value p.meeting.caller client server) ≡ None
+
+-- the unit that waits was made for that channel, where a call or its reply is out; a refusal to open one was made for
+-- none
 abbrev pub WaitsFor : Coming → Progress → State → Book → Type 0
 WaitsFor p NotYet s b = Unit {0}
 WaitsFor p (IsOpening client server) s b = Waits s (Some (half_of p client server)) b
-WaitsFor p (WasOpened client server) s b = Waits s (Some (half_of p client server)) b
+WaitsFor p (WasOpened client server) s b = Waits s (Some (half_of p client server)) b ⊎ HasNone p client server
 WaitsFor p (IsAsking o) s b = Waits s (Some (open_of p o)) b
 WaitsFor p (WasJudged a o) s b = Waits s (Some (open_of p o)) b
 WaitsFor p (WasTold a) s b = Unit {0}
@@ -141,6 +158,14 @@ WaitsFor p (WasTold a) s b = Unit {0}
 pub record IsClearFor (p : Coming) (far : Progress) (s : State) (b : Book) : Type 0 where
   pub clean : IsClean s b
   pub waits : WaitsFor p far s b
+
+-- where there is no account no channel is opened
+none_opened : (controller : ℕ) (c : AuthCall) (d : Desk) → account_for d.table c ≡ None → opened_by controller c d ≡ None
+none_opened controller c d none =
+    ap (λ (found : Option Account). identity_by controller c.computer (opened_account found (lookup same_name c.computer d.work.computers.pending) c)) none
+
+found_none : {T : Type 0} {one : T} → Some one ≡ None → ⊥
+found_none is = absurd cc
 
 -- the member's plan is that of the world, but for the secret, and names the controller where it reaches one
 pub record IsPlanned (plan : Plan) (p : Coming) (s : State) : Type 0 where
@@ -213,6 +238,14 @@ module _ (controller : ℕ) (channel : Requester) (unit : RpcUnit) (number : Opt
 
   pub takes_own : IsOwnTaking
   takes_own = taking_own (take_of channel unit).taken refl
+
+-- nor is any where the reply is dropped
+drops_own : (controller : ℕ) (channel : Requester) (number place : ℕ) (q : Question) (r : Reply) (cause : DropCause) (unit : Option ℕ) (sent : List Sent) → IsTurnReply q r →
+    judge q r channel.standing channel.caller.secret ≡ judgement.Drop cause →
+    clashes (taking_note (Some (take_of (turn_at number place (step.Reply q) channel) (turn_response number r))) controller (turn_at number place (step.Reply q) channel)).checked unit sent ≡ false
+drops_own controller channel number place q r cause unit sent is judged =
+    ap (λ (taking : Taking). clashes (taking_note (Some taking) controller (turn_at number place (step.Reply q) channel)).checked unit sent)
+    (turns_go_through.takes.reply channel number place q r is ∙ ap (λ (j : Judgement). settle j (turn_at number place (step.Reply q) channel)) judged)
 
 -- ---- a unit comes
 
@@ -366,22 +399,23 @@ module _ (plan : Plan) (p : Coming) (s : State) (k : ℕ) (b : Book) (able : IsA
               waits = tt;
             }
 
-        second_clear : (client server : List ℕ) → MayAim plan p v (Second client server) → Waits s (Some (half_of p client server)) b →
-            Shows s (scene_of p (Calls a who v (Second client server)) left moment) → After (WasOpened client server)
-        second_clear client server aimed waits shows =
+        -- the channel opens by the account of that secret
+        granted_clear : (client server : List ℕ) (machine : Account) → account_for p.table (auth_value p.meeting.caller client server) ≡ Some machine → MayAim plan p v (Second client server) →
+            Waits s (Some (half_of p client server)) b → Shows s (scene_of p (Calls a who v (Second client server)) left moment) → After (WasOpened client server)
+        granted_clear client server machine found aimed waits shows =
             let t : Turn = t_on (Second client server) in
             let call : Call = call_for p a (Second client server) in
             let r : Reply = reply.Authenticate (record { credential = requester.server_credential p.meeting.caller.secret client server; flags = offered_flags; status = 0 }) in
             let can : IsTurnCall call = calls_can_go.authenticate p.meeting.caller client server able.caller in
-            let own_secret : HasSecret p = able.own_secret (own_so there) in
-            let pending = aimed (own_so there) in
-            let steps = controllers_step.proved p.table p.name v.computers (length v.links) moment v.next p.meeting.caller client server own_secret.machine left is.next_below can
-            (own_secret.found client server) own_secret.secret pending in
+            let secret : machine.hash ≡ p.meeting.caller.secret = able.own_secret (own_so there) client server machine found in
+            let pending = aimed (able.knows client server machine found) in
+            let steps = controllers_step.proved p.table p.name v.computers (length v.links) moment v.next p.meeting.caller client server machine left is.next_below can
+            found secret pending in
             let channel : Requester = channel_in_turn t (after v.next) v.next (step.Reply question.Authenticate) in
             let named : ChannelIdentity = half_channel t.at_controller channel client server in
             let d : Desk = desk_in_turn t v.computers in
             let then_so : Option Desk = work_after (by_call (served_call call) (turn_line t.link v.next) (bound_talk None turn_agreed) t.name moment d left) in
-            let expects : Expects d channel client server = record { account = own_secret.machine; found = own_secret.found client server; secret = own_secret.secret; pair = pending } in
+            let expects : Expects d channel client server = record { account = machine; found = found; secret = secret; pair = pending } in
             let one : (unit : ℕ) → answer_in_turn s t v.next call v.computers k unit left moment ≡ opening (Some named) (where_in_turn s t v.next call v.computers k unit) v.next =
             λ unit. channels_are_named_alike.openings.opens channel client server (where_in_turn s t v.next call v.computers k unit) (turn_line t.link v.next) d then_so expects in
             let called : Called s t v.next call v.computers k count left moment b =
@@ -393,7 +427,31 @@ module _ (plan : Plan) (p : Coming) (s : State) (k : ℕ) (b : Book) (able : IsA
             reply_waits s t v.next call v.computers k count count left moment b (reply_bytes v.next r) (Some named) fine called (Opened named v.next called.came.number)
             (ap (λ (x : Answered). answered_marks (x ∷ [])) (one called.came.number)) refl
             (replied_bag s t (after v.next) v.next (step.Reply question.Authenticate) call v.computers left left moment (reply_bytes v.next r) _ called.came.number (between_on (Second client server) is) steps shows) in
-            record { clean = clean_of (goes s) count now f.fine; waits = f.waits }
+            record { clean = clean_of (goes s) count now f.fine; waits = inl f.waits }
+
+        -- it is refused, where there is none
+        denied_clear : (client server : List ℕ) → HasNone p client server → Shows s (scene_of p (Calls a who v (Second client server)) left moment) → After (WasOpened client server)
+        denied_clear client server none shows =
+            let t : Turn = t_on (Second client server) in
+            let call : Call = call_for p a (Second client server) in
+            let can : IsTurnCall call = calls_can_go.authenticate p.meeting.caller client server able.caller in
+            let told : ToldProof p.table p.name v.computers (length v.links) moment v.next p.meeting.caller client server left =
+            controllers_answer.proof p.table p.name v.computers (length v.links) moment v.next p.meeting.caller client server left is.next_below can in
+            let one : (unit : ℕ) → answer_in_turn s t v.next call v.computers k unit left moment ≡ plain =
+            λ unit. ap (λ (channel : Option ChannelIdentity). opening channel (where_in_turn s t v.next call v.computers k unit) v.next)
+            (none_opened t.at_controller (auth_value p.meeting.caller client server) (desk_in_turn t v.computers) none) in
+            record {
+              clean = clean_of (goes s) count now
+                  (call_comes s t (after v.next) v.next (step.Reply question.Authenticate) call v.computers left left moment count count _ _ (between_on (Second client server) is) is.next_below can
+                  told.steps shows k b fine (λ unit first. ap (λ (x : Answered). clashes x.checked (Some unit) b.sent) (one unit))
+                  (λ unit numbers. omega (arith, ap (λ (x : Answered). length (judged_of (x ∷ []) numbers)) (one unit)))).has.fine;
+              waits = inr none;
+            }
+
+        second_by : (client server : List ℕ) (found : Option Account) → account_for p.table (auth_value p.meeting.caller client server) ≡ found → MayAim plan p v (Second client server) →
+            Waits s (Some (half_of p client server)) b → Shows s (scene_of p (Calls a who v (Second client server)) left moment) → After (WasOpened client server)
+        second_by client server (Some machine) found aimed waits shows = granted_clear client server machine found aimed waits shows
+        second_by client server None none aimed waits shows = denied_clear client server none shows
 
         third_clear : (o c : SecureChannelState) (timestamp : ℕ) → MayAim plan p v (Third o c timestamp) → Waits s (Some (open_of p o)) b →
             Shows s (scene_of p (Calls a who v (Third o c timestamp)) left moment) → After (WasJudged a o)
@@ -432,20 +490,53 @@ module _ (plan : Plan) (p : Coming) (s : State) (k : ℕ) (b : Book) (able : IsA
         calls_clear : (aim : Aim) → IsReadyBy plan p s → MayAim plan p v aim → WaitsFor p (progress_called aim) s b → Shows s (scene_of p (Calls a who v aim) left moment) →
             After (progress_answered a aim)
         calls_clear (First client) ready aimed waits shows = first_clear client ready.draws aimed shows
-        calls_clear (Second client server) ready aimed waits shows = second_clear client server aimed waits shows
+        calls_clear (Second client server) ready aimed waits shows =
+            second_by client server (account_for p.table (auth_value p.meeting.caller client server)) refl aimed waits shows
         calls_clear (Third o c timestamp) ready aimed waits shows = third_clear o c timestamp aimed waits shows
 
-        -- the member takes a reply, whichever it is
+        -- the member takes a reply, whichever it is, where its taking it is no clash
+        taken_clean : (aim : Aim) (accounts : AccountTable) (q : Question) (r : Reply) → IsTurnReply q r →
+            ((unit : ℕ) → first_waiting s.bag ≡ Some unit →
+            clashes (taking_note (Some (take_of (channel_in_turn (t_on aim) (after v.next) v.next (step.Reply q)) (turn_response v.next r))) p.meeting.at_controller
+            (channel_in_turn (t_on aim) (after v.next) v.next (step.Reply q))).checked (Some unit) b.sent ≡ false) →
+            Shows s (turn_scene (with_accounts accounts (t_on aim)) (after v.next) v.next (step.Reply q) v.computers (turn_link (length v.links))
+            (unit_back (with_accounts accounts (t_on aim)) (reply_bytes v.next r) ∷ []) left moment) → IsClean (goes s) now
+        taken_clean aim accounts q r goes_so own shows =
+            let t : Turn = with_accounts accounts (t_on aim) in
+            clean_of (goes s) count now
+            (reply_leads s t (after v.next) v.next q r v.computers left moment count (between_still (t_on aim) accounts (between_on aim is)) is.next_below goes_so (names_of t refl refl refl there) shows k b fine
+            own)
+
+        -- so it is where it was made for the channel
         replied_clean : (aim : Aim) (accounts : AccountTable) (q : Question) (r : Reply) → IsTurnReply q r →
             ((unit : ℕ) → first_waiting s.bag ≡ Some unit →
             IsMadeFor p.meeting.at_controller (channel_in_turn (t_on aim) (after v.next) v.next (step.Reply q)) (standing_for aim) (Some unit) b.sent) →
             Shows s (turn_scene (with_accounts accounts (t_on aim)) (after v.next) v.next (step.Reply q) v.computers (turn_link (length v.links))
             (unit_back (with_accounts accounts (t_on aim)) (reply_bytes v.next r) ∷ []) left moment) → IsClean (goes s) now
         replied_clean aim accounts q r goes_so made shows =
-            let t : Turn = with_accounts accounts (t_on aim) in
-            clean_of (goes s) count now
-            (reply_leads s t (after v.next) v.next q r v.computers left moment count (between_still (t_on aim) accounts (between_on aim is)) is.next_below goes_so (names_of t refl refl refl there) shows k b fine
-            (λ unit first. takes_own t.at_controller (channel_in_turn t (after v.next) v.next (step.Reply q)) (turn_response v.next r) (Some unit) b.sent (made unit first)))
+            taken_clean aim accounts q r goes_so
+            (λ unit first.
+            takes_own p.meeting.at_controller (channel_in_turn (t_on aim) (after v.next) v.next (step.Reply q)) (turn_response v.next r) (Some unit) b.sent (made unit first)) shows
+
+        -- the reply to the second call: of a status that isn't 0 it is dropped, else there is an account
+        told_clean : (client server credential : List ℕ) (status : ℕ) → IsTurnReply question.Authenticate (proof_reply credential status) → (status ≡ 0 → IsGranted plan p v client server) →
+            WaitsFor p (WasOpened client server) s b → Shows s (any_scene p (Told a who v client server credential status) left moment) → IsClean (goes s) now
+        told_clean client server credential status goes_so granted waits shows =
+            elim (cases_Bool (status == 0)) [
+              | inr refused ↦
+                  taken_clean (Second client server) p.table question.Authenticate (proof_reply credential status) goes_so
+                  (λ unit first.
+                  drops_own p.meeting.at_controller (channel_in_turn (t_on (Second client server)) (after v.next) v.next (step.Reply question.Authenticate)) v.next (t_on (Second client server)).place
+                  question.Authenticate (proof_reply credential status) drop_cause.Denied (Some unit) b.sent goes_so
+                  (ap (λ (z : Bool). judge_auth z (standing.Half client server) p.meeting.caller.secret credential offered_flags) refused)) shows
+              | inl zeroed ↦
+                  let has : IsGranted plan p v client server = granted ((Decides-eqb status 0).0 zeroed) in
+                  replied_clean (Second client server) p.table question.Authenticate (proof_reply credential status) goes_so
+                  (λ unit first. elim waits [
+                    | inl made ↦ waits_marked s _ b unit made first
+                    | inr none ↦ absurd (found_none (sym has.found ∙ none))
+                  ]) shows
+            ]
 
   -- ---- in each phase of a turn, and before it
 
@@ -491,7 +582,7 @@ module _ (plan : Plan) (p : Coming) (s : State) (k : ℕ) (b : Book) (able : IsA
   pub onward_clear : (phase : AnyPhase p) → IsReadyBy plan p s → MayFit plan p phase → WaitsFor p (progress_in phase) s b → Shows s (any_scene p phase left moment) → After (progress_next phase)
   onward_clear (On phase) ready fits waits shows = on_clear phase ready fits waits shows
   onward_clear (Told a who v client server credential status) ready fits waits shows = record {
-    clean = replied_clean a who v fits.0 fits.3 (Second client server) p.table question.Authenticate (proof_reply credential status) fits.1 (λ unit first. waits_marked s _ b unit waits first) shows;
+    clean = told_clean a who v fits.0 fits.3 client server credential status fits.1 fits.2 waits shows;
     waits = tt;
   }
   onward_clear (Judged a who v o c timestamp accounts answer) ready fits waits shows = record {
@@ -515,7 +606,10 @@ kept_so s after b more then_b same grown channel waits = record {
 waits_kept : (p : Coming) (far : Progress) (s after : State) (b : Book) (more : List Sent) (then_b : Book) → after.bag ≡ s.bag → then_b.sent ≡ b.sent ++ more → WaitsFor p far s b → WaitsFor p far after then_b
 waits_kept p NotYet s after b more then_b same grown waits = tt
 waits_kept p (IsOpening client server) s after b more then_b same grown waits = kept_so s after b more then_b same grown _ waits
-waits_kept p (WasOpened client server) s after b more then_b same grown waits = kept_so s after b more then_b same grown _ waits
+waits_kept p (WasOpened client server) s after b more then_b same grown waits = elim waits [
+  | inl made ↦ inl (kept_so s after b more then_b same grown _ made)
+  | inr none ↦ inr none
+]
 waits_kept p (IsAsking o) s after b more then_b same grown waits = kept_so s after b more then_b same grown _ waits
 waits_kept p (WasJudged a o) s after b more then_b same grown waits = kept_so s after b more then_b same grown _ waits
 waits_kept p (WasTold a) s after b more then_b same grown waits = tt
@@ -592,3 +686,13 @@ link_clean g left s k b at clean = by_phase at.phase at.fits at.shows where
       (client_comes s (unit_down g bytes) [] g.at_client (length b.judged)
       (comes_so s _ (unit_down g bytes) [] (Client g.at_client) shows
       (heard_down g (client_phase.Asked terms question) (talk_in None on) bytes [] left at.moment (record { some = fits.0.some; short = omega (arith, fits.0.short) }))) k b (fine_of s b clean))
+
+-- ---- a move at which no unit waits, and a start
+
+pub rest_clean : (w : World) (b : Book) (what : Move) → IsStepOn what → waiting w.state.bag ≡ [] → IsClean w.state b → IsClean (act w.state what).state (note w what b)
+rest_clean w b what steps none clean =
+    by_step (λ (one : Move). IsClean (act w.state one).state (note w one b)) (connect_clean w.state w.moves b clean) (idle_clean w.state w.moves b clean none)
+    (λ more. tick_clean w.state w.moves b clean more) what steps
+
+pub start_clean : (number : ℕ) (w : World) (b : Book) → IsClean w.state b → IsClean (start number w.state).state (note w (move.Start number) b)
+start_clean number w b clean = clean_of (start number w.state).state (length b.judged) (note w (move.Start number) b) (start_fine w.state number (length b.judged) w.moves b (fine_of w.state b clean))

@@ -8,6 +8,7 @@ use Rattle.std.proofs.lemmas.Bool.Decides.{nat_tests}
 use Rattle.std.proofs.lemmas.List.Elements.{recursion_from_All}
 use Rattle.wire_base.specs.Names.{SameName, same_name}
 use Rattle.account_table.specs.AccountTable.{AccountTable}
+use Rattle.account_table.specs.declared.account.Account.{Account}
 use Rattle.wire_base.proofs.NameLaws.{same_name-Decides}
 use Rattle.logon_client.specs.declared.plan.AuthKind.{AuthKind}
 use Rattle.logon_client.specs.declared.plan.AuthKind.TheVariants.{V1, V1Ess, V2}
@@ -23,8 +24,9 @@ use Rattle.world_moves.specs.Links.{is_end}
 use Rattle.world_moves.specs.Moving.{end_of_peer}
 use Rattle.world_moves.specs.World.{first_ends}
 use Rattle.logon_steps.specs.Granting.{info_told, response_told}
+use Rattle.logon_steps.proofs.KnowingLaws.{computers_are_known}
 use Rattle.logon_runs.specs.AnyLogons.{HasServers}
-use Rattle.logon_runs.specs.Rests.{CanBeGranted, HasOwnComputer}
+use Rattle.logon_runs.specs.Rests.{CanBeGranted, HasItsSecret, HasOwnComputer, HasOwnName, channel_account}
 use Rattle.domain_world.specs.Claims.OneByOne.{AreApart, HasOwnMember}
 use Rattle.domain_world.specs.Claims.Completeness.{CanSucceed, HasComputer, info_planned, members_of, response_planned}
 
@@ -122,6 +124,16 @@ module _ (plan : Plan) (controller member : ℕ) (work : MemberPlan) (apart : Al
     apart = apart_at;
   }
 
+  -- where the account by which its channel is opened has its secret, if it is there
+  abbrev pub own_name_of : ((table : AccountTable) → slice_get plan.tables controller ≡ Some table → HasItsSecret table work) → HasOwnName plan member work controller
+  own_name_of secret = record { reaches = is_controller; secret = secret; apart = apart_at }
+
+-- a member with its own computer: the account by which its channel is opened is the computer's
+pub computer_secret : (table : AccountTable) (work : MemberPlan) → HasComputer table work → HasItsSecret table work
+computer_secret table work has account found =
+    let there : channel_account table work.computer ≡ Some has.account = computers_are_known.machine table work [] [] has.account has.found has.kind has.enabled in
+    ap Account.hash (some_is account has.account (sym found ∙ there)) ∙ has.secret
+
 module _ (plan : Plan) (moves : List Move) (client : ℕ) (can : CanSucceed plan moves client) where
   abbrev pub own_computer : HasOwnComputer plan can.member can.member_plan can.controller
   own_computer = computer_of plan can.controller can.member can.member_plan can.apart can.is_member_plan can.is_controller can.table can.is_table can.computer
@@ -160,20 +172,17 @@ controller_same : (one other : ℕ) → Some (Controller one) ≡ Some (Controll
 controller_same one other is = cc
 
 pub own_member : (plan : Plan) (moves : List Move) (client : ℕ) → CanSucceed plan moves client → HasOwnMember plan client
-own_member plan moves client can = record {
-  servers = has_servers plan moves client can;
-  computer = λ task member work controller table is_task to_member is_work to_controller is_table.
-      let of_task : can.task ≡ task = some_is can.task task (sym can.is_task ∙ is_task) in
-      let of_member : can.member ≡ member =
-      member_same can.member member (sym can.is_member ∙ ap (λ (one : ClientPlan). end_of_peer one.server (first_ends plan)) of_task ∙ to_member) in
-      let of_work : can.member_plan ≡ work = some_is can.member_plan work (sym can.is_member_plan ∙ ap (λ (at : ℕ). slice_get plan.members at) of_member ∙ is_work) in
-      let of_controller : can.controller ≡ controller =
-      controller_same can.controller controller (sym can.is_controller ∙ ap (λ (one : MemberPlan). end_of_peer one.controller (first_ends plan)) of_work ∙ to_controller) in
-      let of_table : can.table ≡ table = some_is can.table table (sym can.is_table ∙ ap (λ (at : ℕ). slice_get plan.tables at) of_controller ∙ is_table) in (
-        subst (λ (one : MemberPlan). HasComputer table one) of_work (subst (λ (one : AccountTable). HasComputer one can.member_plan) of_table can.computer),
-        subst (AreApart plan) of_controller can.apart,
-      );
-}
+own_member plan moves client can task member work controller table is_task to_member is_work to_controller is_table =
+    let of_task : can.task ≡ task = some_is can.task task (sym can.is_task ∙ is_task) in
+    let of_member : can.member ≡ member =
+    member_same can.member member (sym can.is_member ∙ ap (λ (one : ClientPlan). end_of_peer one.server (first_ends plan)) of_task ∙ to_member) in
+    let of_work : can.member_plan ≡ work = some_is can.member_plan work (sym can.is_member_plan ∙ ap (λ (at : ℕ). slice_get plan.members at) of_member ∙ is_work) in
+    let of_controller : can.controller ≡ controller =
+    controller_same can.controller controller (sym can.is_controller ∙ ap (λ (one : MemberPlan). end_of_peer one.controller (first_ends plan)) of_work ∙ to_controller) in
+    let of_table : can.table ≡ table = some_is can.table table (sym can.is_table ∙ ap (λ (at : ℕ). slice_get plan.tables at) of_controller ∙ is_table) in (
+      computer_secret table work (subst (λ (one : MemberPlan). HasComputer table one) of_work (subst (λ (one : AccountTable). HasComputer one can.member_plan) of_table can.computer)),
+      subst (AreApart plan) of_controller can.apart,
+    )
 
 -- ---- what is asked of the user
 

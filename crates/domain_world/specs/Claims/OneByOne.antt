@@ -10,8 +10,8 @@ use Rattle.world_moves.specs.declared.moves.Move.{Move}
 use Rattle.world_moves.specs.declared.plan.Plan.{Plan}
 use Rattle.world_moves.specs.Moving.{end_of_peer}
 use Rattle.world_moves.specs.World.{first_ends}
-use Rattle.logon_runs.specs.AnyLogons.{HasServers}
-use Rattle.domain_world.specs.Claims.Completeness.{ComesOneAtATime, HasComputer, members_of, started_in}
+use Rattle.logon_runs.specs.Rests.{HasItsSecret}
+use Rattle.domain_world.specs.Claims.Completeness.{ComesOneAtATime, members_of, started_in}
 use Rattle.domain_world.specs.Past.{Past}
 
 -- no two members of a controller have one computer name
@@ -19,13 +19,14 @@ abbrev pub AreApart : Plan → ℕ → Type 0
 AreApart plan controller =
     AllPairs (λ (one other : MemberPlan). SameName one.computer other.computer → ⊥) (members_of (first_ends plan) controller plan.members)
 
--- the member that a client reaches has its own computer at the controller that it reaches
-pub record HasOwnMember (plan : Plan) (client : ℕ) : Type 0 where
-  pub servers : HasServers plan
-  pub computer : (task : ClientPlan) (member : ℕ) (work : MemberPlan) (controller : ℕ) (table : AccountTable) → slice_get plan.clients client ≡ Some task →
-      end_of_peer task.server (first_ends plan) ≡ Some (Member member) → slice_get plan.members member ≡ Some work →
-      end_of_peer work.controller (first_ends plan) ≡ Some (Controller controller) → slice_get plan.tables controller ≡ Some table →
-      HasComputer table work × AreApart plan controller
+-- Where the controller of the member that a client reaches has an account by which it opens the member's channel, that
+-- account has the member's secret; and no two members of that controller have one name.
+abbrev pub HasOwnMember : Plan → ℕ → Type 0
+HasOwnMember plan client =
+    (task : ClientPlan) (member : ℕ) (work : MemberPlan) (controller : ℕ) (table : AccountTable) → slice_get plan.clients client ≡ Some task →
+    end_of_peer task.server (first_ends plan) ≡ Some (Member member) → slice_get plan.members member ≡ Some work →
+    end_of_peer work.controller (first_ends plan) ≡ Some (Controller controller) → slice_get plan.tables controller ≡ Some table →
+    HasItsSecret table work × AreApart plan controller
 
 -- so it is of each client that is started
 abbrev pub HaveOwnMembers : Past → List Move → Type 0

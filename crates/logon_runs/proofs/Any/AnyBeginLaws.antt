@@ -10,8 +10,10 @@ use Rattle.account_table.specs.declared.account.Account.{Account}
 use Rattle.channel_client.specs.declared.state.Standing.{Standing}
 use Rattle.channel_client.specs.declared.state.Standing.TheVariants as standing
 use Rattle.controller_calls.specs.declared.state.Computers.{Computers}
+use Rattle.domain_controller.specs.Machine.{account_for}
 use Rattle.logon_client.specs.Plans.{CanLogOn}
 use Rattle.logon_client.specs.declared.plan.ClientPlan.{ClientPlan}
+use Rattle.member_server.specs.Machine.{caller_of}
 use Rattle.member_server.specs.declared.plan.MemberPlan.{MemberPlan}
 use Rattle.world_moves.specs.declared.plan.Plan.{Plan}
 use Rattle.world_moves.specs.declared.state.State.{State}
@@ -19,14 +21,15 @@ use Rattle.world_moves.specs.Choosing.{chosen_place}
 use Rattle.world_moves.specs.Forms.{HasForms, IsClientPlan, IsMemberPlan}
 use Rattle.world_moves.specs.Moving.{start}
 use Rattle.world_moves.specs.World.{IsPlan}
+use Rattle.logon_steps.specs.Answering.{auth_value}
 use Rattle.logon_steps.specs.Knowing.{StandsLater}
 use Rattle.logon_steps.proofs.CallingLaws.{calls_can_go}
-use Rattle.logon_steps.proofs.KnowingLaws.{computers_are_known}
+use Rattle.logon_steps.proofs.KnowingLaws.{IsCounted, computers_are_known, found_before, known_found}
 use Rattle.logon_runs.specs.Seen.LinkScenes.{rest_scene}
 use Rattle.logon_runs.specs.Phases.{Coming, Dials, scene_of, with_its_controller}
-use Rattle.logon_runs.specs.Rests.{AtRest, ControllerRests, HasOwnComputer, IsInStepAt, MemberRests, StandsWell}
+use Rattle.logon_runs.specs.Rests.{AtRest, ControllerRests, HasOwnComputer, HasOwnName, IsInStepAt, MemberRests, StandsWell}
 use Rattle.logon_runs.specs.Scenes.{Shows}
-use Rattle.logon_runs.specs.Any.AnyPhases.{HasSecret, IsAble, MayStand, On}
+use Rattle.logon_runs.specs.Any.AnyPhases.{FitsSecret, HasSecret, IsAble, MayStand, On}
 use Rattle.logon_runs.specs.Any.AnyStarts.{AnyLogonsStart, AreThree, HasStarted, coming_from}
 use Rattle.logon_runs.proofs.First.FirstWorldLaws.{are_units, item_has}
 use Rattle.logon_runs.proofs.Seen.StartLaws.{starts_are_seen}
@@ -42,7 +45,7 @@ module _ (plan : Plan) (s : State) (rest : AtRest plan s) (client member control
   abbrev coming : Coming
   coming = coming_from plan s rest client member controller three account machine
 
-  -- the channel of a member with its own computer is in step
+  -- the channel of a member with its own name is in step
   may_stand : (how : Standing) → StandsWell plan s member work how → MayStand plan coming desk.computers how
   may_stand standing.Nothing well = tt
   may_stand (standing.Half one other) well = absurd well
@@ -70,6 +73,12 @@ module _ (plan : Plan) (s : State) (rest : AtRest plan s) (client member control
         secret = is_own.secret;
       }
 
+  -- the account that it has for its channel is the plan's, but for its count
+  fits_secret : HasOwnName plan member work controller → FitsSecret coming
+  fits_secret is_own one other now found =
+      let before : IsCounted (account_for three.table (auth_value (caller_of work) one other)) now = found_before three.table desk.table work one other now desk.differs found in
+      is_own.secret three.table three.is_table (with_count before.count now) before.is
+
   pub able_so : IsPlan plan → HasForms plan → IsAble plan coming
   able_so is forms =
       let mr : MemberRests plan s member work = rest.members member work three.is_member_plan in
@@ -85,7 +94,8 @@ module _ (plan : Plan) (s : State) (rest : AtRest plan s) (client member control
         ranged = desk.ranged;
         named = item_has IsName plan.controllers controller desk.name forms.controllers desk.is_name;
         stands = may_stand mr.how mr.stands;
-        own_secret = has_secret;
+        knows = λ one other now found. known_found desk.table work one other now found;
+        own_secret = fits_secret;
       }
 
   -- nothing is open and nothing waits, and the three ends rest

@@ -1,5 +1,5 @@
 -- A logon of any client, from rest to rest.
--- Of `logons_rest`.
+-- Of `logons_rest`, and `claims_hold_of_runs` of domain_world.
 use Rattle.std.proofs.Common.{◌≡◌, ℕ, suc, ◌+◌, ◌-◌, ◌<◌, ◌≤◌, Bool, true, false, refl, ap, subst, List, [], ◌∷◌, length, Option, None, Some, arith, inl, inr, slice_get, if◌then◌else◌}
 use Rattle.std.specs.Prelude.{map, nat_lt}
 use Rattle.std.proofs.lemmas.Bool.{ltb-false, ltb-true}
@@ -49,20 +49,20 @@ within_ends (number ∷ []) ends =
     (nat_lt number (length ends.controllers + length ends.members + length ends.clients)) number (length ends.controllers) (length ends.members) (length ends.clients) refl refl refl
 within_ends (number ∷ other ∷ more) ends = tt
 
-member_within : (peer : List ℕ) (ends : EndStates) (at : ℕ) → end_of_peer peer ends ≡ Some (Member at) → at < length ends.members
+pub member_within : (peer : List ℕ) (ends : EndStates) (at : ℕ) → end_of_peer peer ends ≡ Some (Member at) → at < length ends.members
 unfolding IsWithin
 member_within peer ends at is = subst (IsWithin (length ends.controllers) (length ends.members) (length ends.clients)) is (within_ends peer ends)
 
-controller_within : (peer : List ℕ) (ends : EndStates) (at : ℕ) → end_of_peer peer ends ≡ Some (Controller at) → at < length ends.controllers
+pub controller_within : (peer : List ℕ) (ends : EndStates) (at : ℕ) → end_of_peer peer ends ≡ Some (Controller at) → at < length ends.controllers
 unfolding IsWithin
 controller_within peer ends at is = subst (IsWithin (length ends.controllers) (length ends.members) (length ends.clients)) is (within_ends peer ends)
 
-many_controllers : (tables : List AccountTable) (names : List (List ℕ)) → length (first_controllers tables names) ≤ length tables
+pub many_controllers : (tables : List AccountTable) (names : List (List ℕ)) → length (first_controllers tables names) ≤ length tables
 many_controllers [] names = omega arith
 many_controllers (table ∷ tables) [] = omega arith
 many_controllers (table ∷ tables) (name ∷ names) = omega (arith, many_controllers tables names)
 
-many_members : (members : List MemberPlan) → length (map fresh_member members) ≡ length members
+pub many_members : (members : List MemberPlan) → length (map fresh_member members) ≡ length members
 many_members [] = refl
 many_members (member ∷ members) = ap suc (many_members members)
 

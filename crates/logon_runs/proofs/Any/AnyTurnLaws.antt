@@ -20,6 +20,8 @@ use Rattle.logon_stubs.specs.declared.info.NetworkInfo.{NetworkInfo}
 use Rattle.logon_stubs.specs.declared.info.Verdict.TheVariants as verdict
 use Rattle.account_table.specs.AccountTable.{AccountTable}
 use Rattle.account_table.specs.Changes.{DifferInCounts}
+use Rattle.account_table.specs.LookUps.{knows_in}
+use Rattle.account_table.specs.declared.account.Account.{Account}
 use Rattle.account_table.proofs.ChangeLaws.{differs-none}
 use Rattle.channel_client.specs.declared.judging.Judgement.{Judgement as ChannelJudgement}
 use Rattle.channel_client.specs.declared.judging.Judgement.TheVariants as judgement
@@ -29,7 +31,7 @@ use Rattle.channel_client.specs.declared.state.Standing.{Standing}
 use Rattle.channel_client.specs.declared.state.Standing.TheVariants as standing
 use Rattle.channel_client.specs.declared.state.Step.TheVariants as step
 use Rattle.channel_client.specs.Machine.{after, auth_call, challenge_call, judge, judge_auth, judge_credential, logon_call, offered_flags, server_credential}
-use Rattle.domain_controller.specs.Machine.{channel_for}
+use Rattle.domain_controller.specs.Machine.{account_for, channel_for}
 use Rattle.domain_controller.specs.State.{State as ControllerState}
 use Rattle.domain_controller.specs.Whole.{InRangeTable}
 use Rattle.controller_calls.specs.declared.state.Computers.{Computers}
@@ -54,8 +56,8 @@ use Rattle.logon_runs.specs.Runs.{Asked, info_asked, message_for}
 use Rattle.logon_runs.specs.Scenes.{Shows}
 use Rattle.logon_runs.specs.Failing.TurnedAway.{AwayPhase, Faulted, Refused, Settled, Unheard, away_scene, settled_in}
 use Rattle.logon_runs.specs.Seen.TurnScenes.{IsBetween, Turn, dial_scene, turn_scene, unit_back, with_accounts}
-use Rattle.logon_runs.specs.Any.AnyPhases.{Away, HasSecret, IsAble, IsJudgedBy, IsLeft, GoesTo, IsLetIn, IsOwn, IsReadyBy, IsThere, IsTurningBy, Judged, KeepsInStep, MayAim, MayFitAway, MayStand, On, Told, any_scene, proof_reply}
-use Rattle.logon_runs.specs.Any.ControllerAnswers.{ToldChallenge, ToldLogon, ToldProof}
+use Rattle.logon_runs.specs.Any.AnyPhases.{Away, IsAble, IsGranted, IsJudgedBy, IsLeft, GoesTo, IsLetIn, IsOwn, IsReadyBy, IsThere, IsTurningBy, Judged, KeepsInStep, MayAim, MayFitAway, MayStand, On, Told, any_scene, proof_reply}
+use Rattle.logon_runs.specs.Any.ControllerAnswers.{FindsAccount, ToldChallenge, ToldLogon, ToldProof}
 use Rattle.logon_runs.specs.Any.GrantRests.{judged_scene}
 use Rattle.logon_runs.proofs.Seen.AskSceneLaws.{logons_are_seen}
 use Rattle.logon_runs.proofs.Failing.FailingLaws.{failings_are_seen}
@@ -124,30 +126,31 @@ module _ (plan : Plan) (p : Coming) (s : State) where
     others = λ other apart. kept other (apart there) ∙ is.others other apart;
   }
 
-  -- where the computer is the member's own, the challenges wait at the controller
+  -- where the controller knows the computer, the challenges wait there
   first_kept : (v : TurnAt) (now : ℕ) (client server : List ℕ) (left : List (List ℕ)) (told : ToldChallenge p.table p.name v.computers (length v.links) now v.next p.meeting.caller client server left) →
-      v.next < 2 ^ 32 → IsTurnCall (challenge_call p.meeting.caller client) → HasSecret p → lookup same_name p.meeting.caller.computer told.later.pending ≡ Some (pair_of client server)
-  first_kept v now client server left told below can known =
+      v.next < 2 ^ 32 → IsTurnCall (challenge_call p.meeting.caller client) → knows_in p.table.accounts p.meeting.caller.computer ≡ true → lookup same_name p.meeting.caller.computer told.later.pending ≡ Some (pair_of client server)
+  first_kept v now client server left told below can knows =
       let name : List ℕ = p.meeting.caller.computer in
       subst (λ (k : Computers). lookup same_name name k.pending ≡ Some (pair_of client server))
-      (same_computers _ _ _ (controllers_step.challenged p.table p.name v.computers (length v.links) now v.next p.meeting.caller client server left below can known.knows) told.steps)
+      (same_computers _ _ _ (controllers_step.challenged p.table p.name v.computers (length v.links) now v.next p.meeting.caller client server left below can knows) told.steps)
       (lookup-put_same same_name name (pair_of client server) v.computers.pending (same_computer name))
 
   -- the channel stands, in step
   second_kept : (v : TurnAt) (now : ℕ) (client server : List ℕ) (left : List (List ℕ)) (told : ToldProof p.table p.name v.computers (length v.links) now v.next p.meeting.caller client server left) →
-      v.next < 2 ^ 32 → IsTurnCall (auth_call p.meeting.caller client server) → HasSecret p → lookup same_name p.meeting.caller.computer v.computers.pending ≡ Some (pair_of client server) →
+      v.next < 2 ^ 32 → IsTurnCall (auth_call p.meeting.caller client server) → (machine : Account) → account_for p.table (auth_value p.meeting.caller client server) ≡ Some machine →
+      machine.hash ≡ p.meeting.caller.secret → lookup same_name p.meeting.caller.computer v.computers.pending ≡ Some (pair_of client server) →
       KeepsInStep p told.later (fresh_channel p.meeting.caller.secret client server offered_flags)
-  second_kept v now client server left told below can known waits =
+  second_kept v now client server left told below can machine found secret waits =
       let name : List ℕ = p.meeting.caller.computer in
-      let c : SecureChannelState = channel_for known.machine (pair_of client server) (auth_value p.meeting.caller client server) in
+      let c : SecureChannelState = channel_for machine (pair_of client server) (auth_value p.meeting.caller client server) in
       record {
         channel = c;
         keeps = subst (λ (k : Computers). lookup same_name name k.channels ≡ Some c)
             (same_computers _ _ _
-            (controllers_step.proved p.table p.name v.computers (length v.links) now v.next p.meeting.caller client server known.machine left below can (known.found client server) known.secret waits)
+            (controllers_step.proved p.table p.name v.computers (length v.links) now v.next p.meeting.caller client server machine left below can found secret waits)
             told.steps)
             (lookup-put_same same_name name c v.computers.channels (same_computer name));
-        in_step = calls_are_answered.in_step p.meeting.caller client server known.machine known.secret;
+        in_step = calls_are_answered.in_step p.meeting.caller client server machine secret;
       }
 
   -- it has moved, at both ends
@@ -177,7 +180,7 @@ module _ (plan : Plan) (p : Coming) (s : State) where
         leads_less plan p s _ (On (Halved a who (record v { computers = told.later }) client three.one)) (three.one ∷ []) more moment (omega arith) three.are (
           turning_with a v told.later turning (λ other apart. ap (λ (channels : List (List ℕ × SecureChannelState)). lookup same_name other channels) told.kept) there,
           three.first,
-          λ is_own. first_kept v moment client three.one more told turning.next_below can (able.own_secret is_own),
+          λ knows. first_kept v moment client three.one more told turning.next_below can knows,
           there,
         )
         (turns_are_seen.answers s (turn_on p a who.later (who.sent ∷ []) v (First client)) (after v.next) v.next (step.Reply (question.Challenge client)) (call_for p a (First client))
@@ -194,7 +197,15 @@ module _ (plan : Plan) (p : Coming) (s : State) where
         leads plan p s _ (Told a who (record v { computers = told.later }) client server told.credential told.status) left moment shows.left (
           turning_with a v told.later turning told.others there,
           told.is,
-          λ is_own. second_kept v moment client server left told turning.next_below can (able.own_secret is_own) (aimed is_own),
+          λ zero.
+              let has : FindsAccount p.table p.meeting.caller client server = told.finds zero in
+              record {
+                machine = has.machine;
+                found = has.found;
+                in_step = λ is_own.
+                    second_kept v moment client server left told turning.next_below can has.machine has.found (able.own_secret is_own client server has.machine has.found)
+                    (aimed (able.knows client server has.machine has.found));
+              },
           there,
         )
         (turns_are_seen.answers s (turn_on p a who.later (who.sent ∷ []) v (Second client server)) (after v.next) v.next (step.Reply question.Authenticate) (call_for p a (Second client server))
@@ -318,9 +329,8 @@ module _ (plan : Plan) (p : Coming) (s : State) where
       turning.next_below refl refl (calls_can_go.proved p.meeting.caller.secret client server) shows))
 
   pub any_told : (a : Asked) (who : WhoAsked p a) (v : TurnAt) (client server credential : List ℕ) (status : ℕ) (left : List (List ℕ)) (moment : ℕ) → IsAble plan p → IsTurningBy plan p a v →
-      IsTurnReply question.Authenticate (proof_reply credential status) → (IsOwn plan p → KeepsInStep p v.computers (fresh_channel p.meeting.caller.secret client server offered_flags)) →
-      Shows s (any_scene p (Told a who v client server credential status) left moment) → GoesTo plan p NotYet s (onward s).state
-  any_told a who v client server credential status left moment able turning goes stands shows =
+      IsTurnReply question.Authenticate (proof_reply credential status) → (status ≡ 0 → IsGranted plan p v client server) → Shows s (any_scene p (Told a who v client server credential status) left moment) → GoesTo plan p NotYet s (onward s).state
+  any_told a who v client server credential status left moment able turning goes granted shows =
       let secret : List ℕ = p.meeting.caller.secret in
       let half : Standing = standing.Half client server in
       let awaited : List ℕ = server_credential secret client server in
@@ -332,7 +342,7 @@ module _ (plan : Plan) (p : Coming) (s : State) where
             elim (cases_Bool (bytes_eq credential awaited)) [
               | inr other ↦ drop drop_cause.NotNext
                   (ap (λ (z : Bool). judge_auth z half secret credential offered_flags) zeroed ∙ ap (λ (z : Bool). judge_credential z secret client server offered_flags) other)
-              | inl right ↦ opened_on a who v client server left moment turning stands
+              | inl right ↦ opened_on a who v client server left moment turning (granted ((Decides-eqb status 0).0 zeroed)).in_step
                   (subst (λ (given : List ℕ). Shows s (any_scene p (Told a who v client server given 0) left moment)) ((bytes_eq-Decides credential awaited).0 right)
                   (subst (λ (n : ℕ). Shows s (any_scene p (Told a who v client server credential n) left moment)) ((Decides-eqb status 0).0 zeroed) shows))
             ]

@@ -17,7 +17,7 @@ use Rattle.outside.specs.Machine.{Stepped, whole_step}
 use Rattle.outside.specs.declared.action.Action.{Action}
 use Rattle.rpc_units.specs.Calls.{bytes_of_call}
 use Rattle.logon_stubs.specs.Ranges.{InRangeReply, InRangeSamInfo, HasShortTexts, IsBlock}
-use Rattle.logon_stubs.specs.Status.{access_denied}
+use Rattle.logon_stubs.specs.Status.{access_denied, no_trust_sam_account}
 use Rattle.logon_stubs.specs.Writing.{CanWriteReply}
 use Rattle.logon_stubs.specs.declared.calls.LogonCall.{LogonCall}
 use Rattle.logon_stubs.specs.declared.calls.Reply.{Reply}
@@ -60,7 +60,7 @@ use Rattle.logon_steps.specs.ControllerTurns.{controller_at, passed_reply, turn_
 use Rattle.logon_steps.specs.Turning.{IsTurnCall, IsTurnReply, turn_agreed, turn_request}
 use Rattle.logon_steps.proofs.ControllerTurnLaws.{asked_steps, running, stepped}
 use Rattle.logon_steps.proofs.KnowingLaws.{computers_are_known}
-use Rattle.logon_runs.specs.Any.ControllerAnswers.{ControllersAnswer, TellsShort, ToldChallenge, ToldLogon, ToldProof}
+use Rattle.logon_runs.specs.Any.ControllerAnswers.{ControllersAnswer, FindsAccount, TellsShort, ToldChallenge, ToldLogon, ToldProof}
 use Rattle.logon_runs.specs.Any.GrantRests.{HasShortName}
 use Rattle.logon_runs.proofs.Any.JudgingLaws.{IsLogonJudged, IsNamedIn, info_in, logon_judged}
 use Rattle.logon_runs.proofs.Failing.TurnedAwayLaws.{IsRefusalOf, verdict_refuses}
@@ -115,41 +115,46 @@ module _ (table : AccountTable) (name : List ℕ) (computers : Computers) (link 
       step_of (controller_at table name computers (turn_link link)) (event.Bytes link (bytes_of_call (turn_request number (auth_call caller client server)) 5840)) now left
       ≡ answered table name computers link left (goes_on (desk table work) talk_at left)
 
-  denied : (status : ℕ) → status < 2 ^ 32 →
+  abbrev Finds : Type 0
+  Finds = FindsAccount table caller client server
+
+  denied : (status : ℕ) → status < 2 ^ 32 → (status ≡ 0 → Finds) →
       IsProof (send_reply proof_work (line_at link number) (reply.Authenticate (record { credential = replicate 8 0; flags = offered_flags; status = status }))) →
       ToldProof table name computers link now number caller client server left
-  denied status small is = record {
+  denied status small finds is = record {
     later = proof_work.computers;
     others = λ other apart. refl;
     credential = replicate 8 0;
     status = status;
     is = proof_goes (replicate 8 0) status zeros_block small;
+    finds = finds;
     steps = is;
   }
 
-  opened_told : (right : Bool) (channel : SecureChannelState) → IsProof (open_channel right channel (line_at link number) (auth_value caller client server) proof_work) →
+  opened_told : (right : Bool) (channel : SecureChannelState) → Finds → IsProof (open_channel right channel (line_at link number) (auth_value caller client server) proof_work) →
       ToldProof table name computers link now number caller client server left
-  opened_told false channel is = denied access_denied (omega arith) is
-  opened_told true channel is = record {
+  opened_told false channel finds is = denied access_denied (omega arith) (λ zero. finds) is
+  opened_told true channel finds is = record {
     later = record proof_work.computers { channels = put same_name caller.computer channel computers.channels };
     others = λ other apart. put_others same_name caller.computer other channel computers.channels IsSameness-same_name apart;
     credential = cred_of (key_of_channel channel) channel.server;
     status = 0;
     is = proof_goes (cred_of (key_of_channel channel) channel.server) 0 (cred_block _ _) (omega arith);
+    finds = λ zero. finds;
     steps = is;
   }
 
-  pair_told : (pair : Option ChallengePair) (account : Account) → IsProof (judge_pair pair account (line_at link number) (auth_value caller client server) proof_work) →
+  pair_told : (pair : Option ChallengePair) (account : Account) → Finds → IsProof (judge_pair pair account (line_at link number) (auth_value caller client server) proof_work) →
       ToldProof table name computers link now number caller client server left
-  pair_told None account is = denied access_denied (omega arith) is
-  pair_told (Some pair) account is =
+  pair_told None account finds is = denied access_denied (omega arith) (λ zero. finds) is
+  pair_told (Some pair) account finds is =
       let channel : SecureChannelState = channel_for account pair (auth_value caller client server) in
-      opened_told (bytes_eq (auth_value caller client server).credential (cred_of (key_of_channel channel) channel.client)) channel is
+      opened_told (bytes_eq (auth_value caller client server).credential (cred_of (key_of_channel channel) channel.client)) channel finds is
 
-  account_told : (found : Option Account) (pair : Option ChallengePair) → IsProof (judge_account found pair (line_at link number) (auth_value caller client server) proof_work) →
+  account_told : (found : Option Account) (pair : Option ChallengePair) → account_for table (auth_value caller client server) ≡ found → IsProof (judge_account found pair (line_at link number) (auth_value caller client server) proof_work) →
       ToldProof table name computers link now number caller client server left
-  account_told None pair is = denied _ (omega arith) is
-  account_told (Some account) pair is = pair_told pair account is
+  account_told None pair none is = denied no_trust_sam_account (omega arith) (λ zero. absurd (omega (arith, zero))) is
+  account_told (Some account) pair found is = pair_told pair account (record { machine = account; found = found }) is
 
 -- ---- NetrLogonSamLogon
 
@@ -301,7 +306,7 @@ controllers_answer = record {
   challenge = λ table name computers link now number caller client server left below is.
       challenge_told table name computers link now number caller client server left below is;
   proof = λ table name computers link now number caller client server left below is.
-      account_told table name computers link now number caller client server left (account_for table (auth_value caller client server)) (lookup same_name caller.computer computers.pending)
+      account_told table name computers link now number caller client server left (account_for table (auth_value caller client server)) (lookup same_name caller.computer computers.pending) refl
       (asked_steps table name computers link now number (auth_call caller client server) left below is);
   logon = λ table name computers link now number timestamp caller o info left below is ranged is_name moment.
       let c : LogonCall = call_asked table name computers link now number timestamp caller o info left ranged is_name moment in

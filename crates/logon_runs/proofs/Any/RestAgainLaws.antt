@@ -26,7 +26,7 @@ use Rattle.world_moves.specs.World.{first_ends}
 use Rattle.logon_steps.specs.ClientSteps.{client_ended}
 use Rattle.logon_steps.specs.ControllerTurns.{controller_at}
 use Rattle.logon_runs.specs.Seen.Others.{OthersStay}
-use Rattle.logon_runs.specs.Rests.{AtRest, ClientRests, ControllerRests, HasOwnComputer, IsInStepAt, MemberRests, StandsWell, three_of}
+use Rattle.logon_runs.specs.Rests.{AtRest, ClientRests, ControllerRests, HasOwnName, IsInStepAt, MemberRests, StandsWell, three_of}
 use Rattle.logon_runs.specs.Any.AnyPhases.{IsDone, KeepsInStep, MayStand}
 use Rattle.logon_runs.specs.Any.AnyStarts.{AreThree, IsReachedOrNot, coming_from}
 use Rattle.logon_runs.proofs.First.FirstTraceLaws.{after_below}
@@ -128,12 +128,12 @@ module _ (plan : Plan) (s : State) (rest : AtRest plan s) (client member control
   nobody_reached : (at : ℕ) → end_of_peer three.member_plan.controller (first_ends plan) ≡ Some (Controller at) → route_to (Member member) (end_of_peer three.member_plan.controller (first_ends plan)) ≡ None → ⊥
   nobody_reached at there nobody = some_not (sym (ap (λ (end : Option EndId). route_to (Member member) end) there) ∙ nobody)
 
-  member_open : (at : ℕ) (o : SecureChannelState) → HasOwnComputer plan member three.member_plan at → IsReachedOrNot plan member three.member_plan controller →
-      (HasOwnComputer plan member three.member_plan controller → KeepsInStep (coming_from plan s rest client member controller three account machine) over.settled.computers o) →
+  member_open : (at : ℕ) (o : SecureChannelState) → HasOwnName plan member three.member_plan at → IsReachedOrNot plan member three.member_plan controller →
+      (HasOwnName plan member three.member_plan controller → KeepsInStep (coming_from plan s rest client member controller three account machine) over.settled.computers o) →
       IsInStepAt after at three.member_plan o
   member_open at o is_own (inl there) keeps =
       let same : at ≡ controller = controller_same at controller (sym is_own.reaches ∙ there) in
-      member_in_step at o same (keeps (subst (λ (n : ℕ). HasOwnComputer plan member three.member_plan n) same is_own))
+      member_in_step at o same (keeps (subst (λ (n : ℕ). HasOwnName plan member three.member_plan n) same is_own))
   member_open at o is_own (inr nobody) keeps = absurd (nobody_reached at is_own.reaches nobody)
 
   member_well : (how : Standing) → MayStand plan (coming_from plan s rest client member controller three account machine) over.settled.computers how → StandsWell plan after member three.member_plan how
@@ -153,7 +153,7 @@ module _ (plan : Plan) (s : State) (rest : AtRest plan s) (client member control
   }
 
   -- another member's channel
-  still_in_step : (at : ℕ) (peer : MemberPlan) (o : SecureChannelState) → at ≢ member → (k : ℕ) → HasOwnComputer plan at peer k → IsInStepAt s k peer o → (k ≡ controller) ⊎ (k ≢ controller) →
+  still_in_step : (at : ℕ) (peer : MemberPlan) (o : SecureChannelState) → at ≢ member → (k : ℕ) → HasOwnName plan at peer k → IsInStepAt s k peer o → (k ≡ controller) ⊎ (k ≢ controller) →
       IsInStepAt after k peer o
   still_in_step at peer o apart k is_own old (inl same) =
       let cr : ControllerRests plan s controller three.table = rest.controllers controller three.table three.is_table in

@@ -42,7 +42,7 @@ use Rattle.logon_steps.specs.Turning.{IsTurnReply}
 use Rattle.logon_runs.specs.Seen.LinkScenes.{rest_scene}
 use Rattle.logon_runs.specs.Seen.Others.{IsStepOn}
 use Rattle.logon_runs.specs.Phases.{Acked, Aim, Answers, Binds, BindsBefore, BindsHeld, Calls, Challenged, Coming, Dials, DialsBefore, DialsHeld, DrawsFew, Echoed, Echoes, First, Granted, Halved, HasJoined, HasThree, IsAnswering, LogonPhase, Named, NotYet, Progress, Proved, Second, Third, TurnAt, WasJudged, WasOpened, WhoAsked, progress_of, progress_onward, scene_of, turn_on}
-use Rattle.logon_runs.specs.Rests.{HasOwnComputer}
+use Rattle.logon_runs.specs.Rests.{HasOwnName}
 use Rattle.logon_runs.specs.Runs.{Asked}
 use Rattle.logon_runs.specs.Scenes.{Scene, Shows}
 use Rattle.logon_runs.specs.Failing.TurnedAway.{AwayPhase, Faulted, Refused, Settled, Unheard, away_scene, settled_in}
@@ -52,6 +52,11 @@ use Rattle.logon_runs.specs.Any.ControllerAnswers.{TellsShort}
 use Rattle.logon_runs.specs.Any.GrantRests.{judged_scene}
 
 -- ---- what is known of the member
+
+-- the account by which the controller opens the member's channel, where it has one, has its secret
+abbrev pub FitsSecret : Coming → Type 0
+FitsSecret p =
+    (client server : List ℕ) (machine : Account) → account_for p.table (auth_value p.meeting.caller client server) ≡ Some machine → machine.hash ≡ p.meeting.caller.secret
 
 -- the controller knows the computer, and has its secret
 pub record HasSecret (p : Coming) : Type 0 where
@@ -66,14 +71,14 @@ pub record KeepsInStep (p : Coming) (computers : Computers) (o : SecureChannelSt
   pub keeps : lookup same_name p.meeting.caller.computer computers.channels ≡ Some channel
   pub in_step : IsInStep o channel
 
--- by the plan: it has its own computer, and its dial reaches the controller
+-- by the plan: it has its own name and its secret, and its dial reaches the controller
 abbrev pub IsOwn : Plan → Coming → Type 0
-IsOwn plan p = HasOwnComputer plan p.meeting.at_member p.meeting.plan p.meeting.at_controller
+IsOwn plan p = HasOwnName plan p.meeting.at_member p.meeting.plan p.meeting.at_controller
 
 abbrev pub IsThere : Plan → Coming → Type 0
 IsThere plan p = end_of_peer p.meeting.plan.controller (first_ends plan) ≡ Some (Controller p.meeting.at_controller)
 
--- no channel is half open; one that is open is kept in step, where the computer is the member's own
+-- no channel is half open; one that is open is kept in step, where the name is the member's own
 abbrev pub MayStand : Plan → Coming → Computers → Standing → Type 0
 MayStand plan p computers standing.Nothing = Unit {0}
 MayStand plan p computers (standing.Half client server) = ⊥
@@ -95,7 +100,9 @@ pub record IsAble (plan : Plan) (p : Coming) : Type 0 where
   pub ranged : InRangeTable p.table
   pub named : IsName p.name
   pub stands : MayStand plan p p.computers p.meeting.how
-  pub own_secret : IsOwn plan p → HasSecret p
+  pub knows : (client server : List ℕ) (machine : Account) → account_for p.table (auth_value p.meeting.caller client server) ≡ Some machine →
+      knows_in p.table.accounts p.meeting.caller.computer ≡ true
+  pub own_secret : IsOwn plan p → FitsSecret p
 
 -- the client's dial reaches its member, and the member's a controller or nobody
 pub record IsHeard (plan : Plan) (p : Coming) (s : State) : Type 0 where
@@ -152,11 +159,19 @@ pub record IsTurningBy (plan : Plan) (p : Coming) (a : Asked) (v : TurnAt) : Typ
   pub next_below : v.next < 2 ^ 32
   pub others : KeepsApart plan p v.computers
 
--- the call can be made; the controller keeps what it needs of the computer, where that is the member's own
+-- the call can be made; the controller keeps what it needs of the computer, where it knows it, or its name is the
+-- member's own
 abbrev pub MayAim : Plan → Coming → TurnAt → Aim → Type 0
 MayAim plan p v (First client) = IsBlock 8 client
-MayAim plan p v (Second client server) = IsOwn plan p → lookup same_name p.meeting.caller.computer v.computers.pending ≡ Some (pair_of client server)
+MayAim plan p v (Second client server) = knows_in p.table.accounts p.meeting.caller.computer ≡ true → lookup same_name p.meeting.caller.computer v.computers.pending ≡ Some (pair_of client server)
 MayAim plan p v (Third o c timestamp) = (timestamp < 2 ^ 32) × (IsOwn plan p → KeepsInStep p v.computers o)
+
+-- The call that opens the channel was granted: by an account that the controller has for it, and by which the channel
+-- is in step, where the name is the member's own.
+pub record IsGranted (plan : Plan) (p : Coming) (v : TurnAt) (client server : List ℕ) : Type 0 where
+  pub machine : Account
+  pub found : account_for p.table (auth_value p.meeting.caller client server) ≡ Some machine
+  pub in_step : IsOwn plan p → KeepsInStep p v.computers (fresh_channel p.meeting.caller.secret client server offered_flags)
 
 -- what is left when it is over
 pub record IsLeft (plan : Plan) (p : Coming) (e : Settled) : Type 0 where
@@ -205,8 +220,7 @@ abbrev pub MayFit : (plan : Plan) (p : Coming) → AnyPhase p → Type 0
 MayFit plan p (On phase) = MayFitOn plan p phase
 MayFit plan p (Told a who v client server credential status) =
     IsTurningBy plan p a v × IsTurnReply question.Authenticate (proof_reply credential status)
-    × (IsOwn plan p → KeepsInStep p v.computers (fresh_channel p.meeting.caller.secret client server offered_flags))
-    × IsThere plan p
+    × (status ≡ 0 → IsGranted plan p v client server) × IsThere plan p
 MayFit plan p (Judged a who v o c timestamp accounts answer) = IsJudgedBy plan p a v o timestamp accounts answer
 MayFit plan p (Away phase) = MayFitAway plan p phase
 

@@ -1,6 +1,6 @@
 -- What a controller answers to the calls of a member's turn, whatever it keeps of that computer. Each is answered by
 -- one reply, and what is kept of other computers stays (MS-NRPC 3.5.4.4.1, 3.5.4.4.3, 3.5.4.5.3).
-use Rattle.std.specs.Prelude.{ℕ, ◌≡◌, ◌<◌, ◌^◌, false, List, [], ◌∷◌}
+use Rattle.std.specs.Prelude.{ℕ, ◌≡◌, ◌<◌, ◌^◌, false, List, [], ◌∷◌, Some}
 use Rattle.wire_base.specs.Maps.{lookup}
 use Rattle.wire_base.specs.Names.{IsName, same_name}
 use Rattle.authenticators.specs.SecureChannels.{SecureChannelState}
@@ -16,14 +16,17 @@ use Rattle.logon_stubs.specs.declared.info.SamInfo.{SamInfo}
 use Rattle.logon_stubs.specs.declared.info.Verdict.TheVariants as verdict
 use Rattle.account_table.specs.AccountTable.{AccountTable}
 use Rattle.account_table.specs.Changes.{DifferInCounts}
+use Rattle.account_table.specs.declared.account.Account.{Account}
 use Rattle.channel_client.specs.declared.caller.Caller.{Caller}
 use Rattle.channel_client.specs.declared.judging.Judgement.TheVariants as judgement
 use Rattle.channel_client.specs.declared.state.Question.TheVariants as question
 use Rattle.channel_client.specs.declared.state.Standing.TheVariants as standing
 use Rattle.channel_client.specs.Machine.{auth_call, challenge_call, judge, logon_call, offered_flags}
+use Rattle.domain_controller.specs.Machine.{account_for}
 use Rattle.domain_controller.specs.Step.{step_of}
 use Rattle.domain_controller.specs.Whole.{InRangeTable}
 use Rattle.controller_calls.specs.declared.state.Computers.{Computers}
+use Rattle.logon_steps.specs.Answering.{auth_value}
 use Rattle.logon_steps.specs.ControllerTurns.{controller_at, reply_bytes, turn_link}
 use Rattle.logon_steps.specs.Turning.{IsTurnCall, IsTurnReply, turn_request}
 use Rattle.logon_runs.specs.Any.GrantRests.{HasShortName}
@@ -41,13 +44,19 @@ pub record ToldChallenge (table : AccountTable) (name : List ℕ) (computers : C
       ≡ whole_step (server ∷ left) left (action.Send link (reply_bytes number (reply.Challenge (record { challenge = server; status = 0 }))) ∷ [])
       (controller_at table name later (turn_link link))
 
--- a channel may stand then, or the proof is refused with some status
+-- an account was found for the call that opens a channel
+pub record FindsAccount (table : AccountTable) (caller : Caller) (client server : List ℕ) : Type 0 where
+  pub machine : Account
+  pub found : account_for table (auth_value caller client server) ≡ Some machine
+
+-- a channel may stand then, by an account, or the proof is refused with some status
 pub record ToldProof (table : AccountTable) (name : List ℕ) (computers : Computers) (link now number : ℕ) (caller : Caller) (client server : List ℕ) (left : List (List ℕ)) : Type 0 where
   pub later : Computers
   pub others : KeepsBut caller.computer later computers
   pub credential : List ℕ
   pub status : ℕ
   pub is : IsTurnReply question.Authenticate (reply.Authenticate (record { credential = credential; flags = offered_flags; status = status }))
+  pub finds : status ≡ 0 → FindsAccount table caller client server
   pub steps : step_of (controller_at table name computers (turn_link link)) (event.Bytes link (bytes_of_call (turn_request number (auth_call caller client server)) 5840)) now left
       ≡ whole_step left left (action.Send link (reply_bytes number (reply.Authenticate (record { credential = credential; flags = offered_flags; status = status }))) ∷ [])
       (controller_at table name later (turn_link link))
