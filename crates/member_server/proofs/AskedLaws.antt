@@ -12,6 +12,7 @@ use Rattle.logon_stubs.specs.declared.info.NetworkInfo.{NetworkInfo}
 use Rattle.channel_client.specs.declared.answers.AskRefused.TheVariants as ask_refused
 use Rattle.channel_client.specs.declared.hearing.Hearing.{Hearing}
 use Rattle.channel_client.specs.declared.hearing.Hearing.TheVariants as hearing
+use Rattle.channel_client.specs.declared.hearing.SetHearing.TheVariants as set_hearing
 use Rattle.channel_client.specs.declared.judging.Judgement.{Judgement}
 use Rattle.channel_client.specs.declared.judging.Judgement.TheVariants as judgement
 use Rattle.channel_client.specs.declared.state.Pending.{Pending}
@@ -19,7 +20,7 @@ use Rattle.channel_client.specs.declared.state.Standing.{Standing}
 use Rattle.channel_client.specs.declared.state.Standing.TheVariants as standing
 use Rattle.channel_client.specs.declared.state.Waiting.{Waiting}
 use Rattle.channel_client.specs.Effects.{ArePlacesApart, IsCoherent, IsForFirst}
-use Rattle.channel_client.specs.Machine.{act, ask_by, ask_of, hear, judge, later_logons, lose_of, place_of, remove_first, settle, start_by, waiting_limit}
+use Rattle.channel_client.specs.Machine.{SetOutcome, act, ask_by, ask_of, hear, judge, judge_set, later_logons, lose_of, place_of, remove_first, settle, settle_set, start_by, waiting_limit}
 use Rattle.channel_client.specs.State.{Requester}
 use Rattle.channel_client.proofs.EffectLaws.{steps_have_effects}
 use Rattle.channel_client.proofs.TurnLaws.{one_turn}
@@ -29,6 +30,7 @@ use Rattle.member_server.specs.declared.state.Running.{Running}
 use Rattle.member_server.specs.Laws.{AreAsked, AsksWhatWaits, HoldRequests, InOrderUnlessStopped, IsInOrder}
 use Rattle.member_server.specs.Machine.{actions_in, caller_of, event_part, halted_state, state_in, step_on}
 use Rattle.member_server.specs.Messages.{with_channel, with_logon}
+use Rattle.member_server.specs.Secrets.{SecretsState, give_secrets}
 use Rattle.member_server.specs.Turns.{DialWork}
 use Rattle.member_server.proofs.StepRules.{AfterTaken, LinkRules, StepRules, TurnRules, drop_logon}
 use Rattle.member_server.proofs.EventSteps.{DialWorkPart, step_fine}
@@ -148,16 +150,24 @@ settled (judgement.Answer o v) l a order coherent =
 settled (judgement.Drop cause) l a order coherent =
     let end = ended standing.Nothing (place_of l.channel.turn) l refl order coherent in record { silent = end; told = λ logon kept. end }
 
+settled_set : (judged : SetOutcome) (l : Logons) (a : List Action) → IsInOrder true l → IsCoherent (settle_set judged l.channel).state →
+    AfterTaken (InOrder true) (InOrder false) (settle_set judged l.channel).taken (with_channel l (settle_set judged l.channel).state) a
+settled_set (Ok o) l a order coherent = record { coherent = coherent; asked = order.asked; out = refl }
+settled_set (Err cause) l a order coherent = settled (judgement.Drop cause) l a order coherent
+
 acted : (h : Hearing) (l : Logons) (a : List Action) → IsInOrder true l → IsCoherent (act h l.channel).state →
     AfterTaken (InOrder true) (InOrder false) (act h l.channel).taken (with_channel l (act h l.channel).state) a
 acted hearing.Skip l a order coherent = record { coherent = coherent; asked = order.asked; out = order.out }
 acted (hearing.Next q frames) l a order coherent = record { coherent = coherent; asked = order.asked; out = refl }
 acted (hearing.Reply q r) l a order coherent = settled (judge q r l.channel.standing l.channel.caller.secret) l a order coherent
 acted (hearing.Drop cause) l a order coherent = settled (judgement.Drop cause) l a order coherent
+acted (hearing.Set (set_hearing.Next frames)) l a order coherent = record { coherent = coherent; asked = order.asked; out = refl }
+acted (hearing.Set (set_hearing.Reply r)) l a order coherent = settled_set (judge_set r l.channel.standing) l a order coherent
 
 order_turn : TurnRules (λ units. InOrder true) (InOrder false)
 order_turn = record {
   tells = λ units l a what nobody order. order;
+  keeps = λ units l a how order. record { coherent = order.coherent; asked = order.asked; out = order.out };
   takes = λ unit units l a order.
       acted (hear l.channel.turn unit l.channel.next_call) l a order (steps_have_effects.take 0 l.channel unit order.coherent).1;
   loses = λ units l a cause order.
@@ -172,16 +182,22 @@ start_waits (Some p) logons s timestamp challenge = refl
 start_waits None [] s timestamp challenge = refl
 start_waits None (logon ∷ logons) s timestamp challenge = refl
 
+-- a channel that is given its secrets
+given_coherent : (secrets : SecretsState) (c : Requester) → IsCoherent c → IsCoherent (give_secrets true secrets c)
+given_coherent secrets c coherent = record { matches = coherent.matches; first = coherent.first; places = coherent.places; few = coherent.few }
+
 order_step : StepRules (λ units. InOrder true) InOrder
 order_step = record {
   link = order_link;
   turn = order_turn;
   returns = λ units l a order. order;
-  starts = λ dialled l a timestamp challenge can order. record {
-    coherent = (steps_have_effects.start 0 l.channel timestamp challenge order.coherent).1;
-    asked = order.asked ∙ sym (ap places_of (start_waits l.channel.turn l.channel.waiting l.channel timestamp challenge));
-    out = (one_turn.started l.channel timestamp challenge can).1;
-  };
+  starts = λ dialled l a timestamp challenge can order.
+      let given : Requester = give_secrets true l.plan.secrets l.channel in
+      record {
+        coherent = (steps_have_effects.start 0 given timestamp challenge (given_coherent l.plan.secrets l.channel order.coherent)).1;
+        asked = order.asked ∙ sym (ap places_of (start_waits l.channel.turn l.channel.waiting given timestamp challenge));
+        out = (one_turn.started given timestamp challenge can).1;
+      };
 }
 
 -- ---- a step

@@ -25,7 +25,8 @@ use Rattle.member_server.specs.Machine.{after_units, by_event, event_part, work_
 use Rattle.member_server.specs.Outcomes.{at_link, without_link}
 use Rattle.member_server.specs.Units.{link_server}
 use Rattle.member_server.specs.declared.state.AtLink.{AtLink}
-use Rattle.member_server.specs.Turns.{DialWork, timestamp_of}
+use Rattle.member_server.specs.Secrets.{SecretsState, changes_text, secrets_after, written_secrets}
+use Rattle.member_server.specs.Turns.{DialWork, keep_if, timestamp_of}
 use Rattle.channel_turns.specs.declared.state.Dialling.{Dialling}
 use Rattle.channel_turns.specs.declared.state.Dialling.TheVariants as dialling
 use Rattle.member_server.specs.declared.state.Logons.{Logons}
@@ -43,7 +44,7 @@ dials_more [] what = omega arith
 dials_more (first ∷ a) what = omega (arith, dials_more a what)
 
 plain_none : (what : Action) → IsPlainAction what → dial_of what ≡ 0
-plain_none (action.Keep bytes) plain = refl
+plain_none (action.Keep bytes) plain = absurd plain
 plain_none (action.Send link bytes) plain = refl
 plain_none (action.Dial peer) plain = absurd plain
 plain_none (action.Close link cause) plain = refl
@@ -52,6 +53,11 @@ plain_none (action.Judged how) plain = refl
 
 still_none : (a : List Action) (what : Action) → IsPlainAction what → dials_in a ≡ 0 → dials_in (a ++ what ∷ []) ≡ 0
 still_none a what plain none = omega (arith, dials_more a what, plain_none what plain, none)
+
+-- a text is kept, or none
+text_none : (changes : Bool) (secrets : SecretsState) (a : List Action) → dials_in a ≡ 0 → dials_in (keep_if changes secrets a) ≡ 0
+text_none false secrets a none = none
+text_none true secrets a none = omega (arith, dials_more a (action.Keep (written_secrets secrets)), none)
 
 told_none : (a : List Action) (link : ℕ) (outcome : Outcome) → dials_in a ≡ 0 → dials_in (a ++ action.Told link outcome ∷ []) ≡ 0
 told_none a link outcome none = omega (arith, dials_more a (action.Told link outcome), none)
@@ -92,10 +98,12 @@ module _ (old : Requester) where
   after_taken taken.Opened l a so = so
   after_taken (taken.Answer place verdict) l a so = record { silent = so; told = λ logon kept. (so.0, told_none a logon.link _ so.1) }
   after_taken (taken.Dropped place cause) l a so = record { silent = so; told = λ logon kept. (so.0, told_none a logon.link _ so.1) }
+  after_taken taken.Set l a so = so
 
   unstarted_turn : TurnRules (λ units. Unstarted) Unstarted
   unstarted_turn = record {
     tells = λ units l a what plain so. (so.0, still_none a what plain so.1);
+    keeps = λ units l a how so. (so.0, text_none (changes_text how l.plan.secrets) (secrets_after how l.plan.secrets) a so.1);
     takes = λ unit units l a so.
         let taking = take_of l.channel unit in
         after_taken taking.taken (record l { channel = taking.state }) a (comes_then old l.channel (Takes unit) tt so.0, so.1);

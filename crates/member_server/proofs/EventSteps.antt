@@ -39,7 +39,7 @@ use Rattle.member_server.specs.Binds.{bound_by, challenge_ack}
 use Rattle.member_server.specs.Laws.{HoldRequests, HoldsAfter, HoldsRequests, heard_in, is_dialled}
 use Rattle.member_server.specs.Machine.{after_units, by_event, event_part, fresh_link, work_of}
 use Rattle.member_server.specs.Outcomes.{tell_at, after_link, at_link, end_logon, keep_link, phase_after, tell_outcome, reach_waiting, without_link, without_logon}
-use Rattle.member_server.specs.Turns.{end_turn, AtTurn, DialWork, ending_of, lose_turn, timestamp_of, with_requester}
+use Rattle.member_server.specs.Turns.{end_turn, AtTurn, DialWork, ending_of, keep_ended, lose_turn, timestamp_of, with_requester}
 use Rattle.member_server.specs.Units.{is_fresh, link_server, serve_held, unit_by}
 use Rattle.member_server.specs.Work.{Served}
 use Rattle.member_server.proofs.LinkView.{UnitView, Serves, Naks, Spends, Challenges, Closes, unit_view}
@@ -151,7 +151,10 @@ module _ (P : Type 0) (T : List RpcUnit → Holds) (K : Holds) (link_rules : Lin
   lose_fine : (cause : DropCause) (w : Work) → T [] w.logons w.actions → (P → HoldRequests w.links) → WorkFine P K (lose_turn cause w)
   lose_fine cause w good all =
       let losing = lose_of w.logons.channel in
-      end_fine P K link_rules losing.place (ending.NoController cause) (with_requester w losing.state) (rules.loses [] w.logons w.actions cause good) all
+      let how : TurnEnd = turn_end.Dropped losing.place cause in
+      let kept : Work = keep_ended how w in
+      end_fine P K link_rules losing.place (ending.NoController cause) (keep_ended how (with_requester w losing.state))
+      (rules.loses [] kept.logons kept.actions cause (rules.keeps [] w.logons w.actions how good)) all
 
   -- the turn ends with the unit that was taken
   taken_fine : (what : Taken) (how : TurnEnd) (units : List RpcUnit) (w : Work) → end_of what ≡ Some how → AfterTaken (T units) K what w.logons w.actions →
@@ -168,6 +171,8 @@ module _ (P : Type 0) (T : List RpcUnit → Holds) (K : Holds) (link_rules : Lin
   taken_fine (taken.Dropped place cause) how units w is good all =
       let same : turn_end.Dropped place cause ≡ how = (let x = is in cc) in
       subst (λ h. WorkFine P K (end_turn h w)) same (end_fine P K link_rules place (ending.NoController cause) w good all)
+  taken_fine taken.Set how units w is good all =
+      let same : turn_end.Set ≡ how = (let x = is in cc) in subst (λ h. WorkFine P K (end_turn h w)) same (record { good = good; holds = all })
 
   -- what came of a unit that was taken
   took : (what : Taken) (unit : RpcUnit) (units : List RpcUnit) (at : AtTurn) → (take_of at.work.logons.channel unit).taken ≡ what → T (unit ∷ units) at.work.logons at.work.actions →
@@ -185,8 +190,10 @@ module _ (P : Type 0) (T : List RpcUnit → Holds) (K : Holds) (link_rules : Lin
     };
     ends = λ how unit units at is fine.
         let closes : Action = action.Close at.link close.CallDone in
-        taken_fine (take_of at.work.logons.channel unit).taken how units (tell_at (taken_at at unit).work closes) is
-        (rules.takes unit units at.work.logons (at.work.actions ++ closes ∷ []) (rules.tells (unit ∷ units) at.work.logons at.work.actions closes tt fine.good)) fine.holds;
+        let kept : Work = keep_ended how at.work in
+        taken_fine (take_of at.work.logons.channel unit).taken how units (tell_at (keep_ended how (taken_at at unit).work) closes) is
+        (rules.takes unit units kept.logons (kept.actions ++ closes ∷ [])
+        (rules.tells (unit ∷ units) kept.logons kept.actions closes tt (rules.keeps (unit ∷ units) at.work.logons at.work.actions how fine.good))) fine.holds;
     breaks = λ cause at fine.
         let closes : Action = action.Close at.link cause in
         lose_fine drop_cause.BadReply (tell_at at.work closes) (rules.tells [] at.work.logons at.work.actions closes tt fine.good) fine.holds;

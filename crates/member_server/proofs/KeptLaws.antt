@@ -1,5 +1,5 @@
 -- That what is held are requests, and that In is told of what was granted.
-use Rattle.std.proofs.Common.{◌≡◌, ℕ, Bool, List, [], ◌∷◌, ◌++◌, append_assoc, map, Option, Result, Ok, Err, refl, sym, ap, subst, ◌∙◌}
+use Rattle.std.proofs.Common.{◌≡◌, ℕ, Bool, true, false, List, [], ◌∷◌, ◌++◌, append_assoc, map, Option, Result, Ok, Err, refl, sym, ap, subst, ◌∙◌}
 use Rattle.std.specs.List.{AllByRecursion}
 use Rattle.outside.specs.declared.action.Action.{Action}
 use Rattle.outside.specs.declared.action.Action.TheVariants as action
@@ -25,7 +25,8 @@ use Rattle.member_server.specs.Laws.{HoldRequests, HoldUnlessStopped, IsTold, Ke
 use Rattle.member_server.specs.Machine.{actions_in, event_part, halted_state, state_in, step_on}
 use Rattle.member_server.specs.Messages.{with_channel}
 use Rattle.member_server.specs.Outcomes.{outcome_of}
-use Rattle.member_server.specs.Turns.{DialWork, ending_of}
+use Rattle.member_server.specs.Secrets.{SecretsState, changes_text, secrets_after, written_secrets}
+use Rattle.member_server.specs.Turns.{DialWork, ending_of, keep_if}
 use Rattle.member_server.proofs.StepRules.{AfterTaken, Ends, Holds, IsPlainAction, LinkRules, StepRules, TurnRules}
 use Rattle.member_server.proofs.EventSteps.{DialWorkPart, step_fine}
 
@@ -69,6 +70,11 @@ module _ (running : Running) (what : Event) where
   action_told (action.Close link cause) nobody = tt
   action_told (action.Told link o) nobody = outcome_told link o nobody
   action_told (action.Judged judged) nobody = tt
+
+  -- a text is kept, or none
+  text_told : (changes : Bool) (secrets : SecretsState) (l : Logons) (a : List Action) → AreTold running what l a → AreTold running what l (keep_if changes secrets a)
+  text_told false secrets l a told = told
+  text_told true secrets l a told = one_told running what a (action.Keep (written_secrets secrets)) told tt
 
   told_link : LinkRules (AreTold running what)
   told_link = record {
@@ -121,11 +127,19 @@ module _ (running : Running) (what : Event) where
   taken_told (taken.Answer place v) unit units l a is so_far = verdict_told v place unit units l a is so_far
   taken_told (taken.Dropped place cause) unit units l a is so_far =
       record { silent = so_far.told; told = λ logon kept. one_told running what a _ so_far.told tt }
+  taken_told taken.Set unit units l a is so_far = so_far.told
 
   told_turn : TurnRules (SoFar running what) (AreTold running what)
   told_turn = record {
     tells = λ units l a more nobody so_far. record {
       told = one_told running what a more so_far.told (action_told more nobody);
+      earlier = so_far.earlier;
+      hears = so_far.hears;
+      takes = so_far.takes;
+      asked = so_far.asked;
+    };
+    keeps = λ units l a how so_far. record {
+      told = text_told (changes_text how l.plan.secrets) (secrets_after how l.plan.secrets) l a so_far.told;
       earlier = so_far.earlier;
       hears = so_far.hears;
       takes = so_far.takes;

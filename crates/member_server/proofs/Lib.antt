@@ -1,9 +1,11 @@
 pub mod AskedLaws
 pub mod BindLaws
 pub mod ByteParts
+pub mod ChangeLaws
 pub mod ChannelStepLaws
 pub mod DialLaws
 pub mod EventSteps
+pub mod KeepingLaws
 pub mod KeptLaws
 pub mod LinkLaws
 pub mod LinkView
@@ -15,6 +17,7 @@ pub mod OutcomeLaws
 pub mod OutcomeView
 pub mod PendingLaws
 pub mod QuietLaws
+pub mod SecretLaws
 pub mod SharingLaws
 pub mod StepFrame
 pub mod StepLaws

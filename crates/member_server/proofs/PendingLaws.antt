@@ -24,6 +24,7 @@ use Rattle.member_server.specs.declared.outcomes.Ending.TheVariants as ending
 use Rattle.member_server.specs.declared.state.AtLink.{AtLink}
 use Rattle.member_server.specs.declared.state.Bound.{Bound}
 use Rattle.channel_turns.specs.declared.state.Dialling.TheVariants as dialling
+use Rattle.channel_turns.specs.declared.state.TurnEnd.TheVariants as turn_end
 use Rattle.member_server.specs.declared.state.Logon.{Logon}
 use Rattle.member_server.specs.declared.state.Logons.{Logons}
 use Rattle.member_server.specs.declared.state.Phase.{Phase}
@@ -33,12 +34,12 @@ use Rattle.member_server.specs.declared.state.Work.{Work}
 use Rattle.member_server.specs.Machine.{event_part}
 use Rattle.member_server.specs.Outcomes.{after_link, at_link, end_logon, keep_link, tell_outcome, reach_waiting, without_link, without_logon}
 use Rattle.member_server.specs.Pending.{channel_weight, held_in, held_on, pending_of, start_weight, total, work_weight, Within, Settles}
-use Rattle.member_server.specs.Turns.{DialWork, lose_turn, timestamp_of, with_requester}
+use Rattle.member_server.specs.Turns.{DialWork, keep_ended, lose_turn, timestamp_of, with_requester}
 use Rattle.member_server.specs.Units.{bound_unit, serve_held, then_held}
 use Rattle.member_server.specs.Work.{Served, send_unit, shut}
 use Rattle.member_server.proofs.LinkView.{BoundView, Closes, Faults, bound_view}
 use Rattle.member_server.proofs.OutcomeView.{EndView, Unknown, Tells, Reaches, end_view}
-use Rattle.member_server.proofs.StepFrame.{KeepsEvent, KeepsNext, PartHolds, WorkFact, part_keeps}
+use Rattle.member_server.proofs.StepFrame.{KeepsEvent, KeepsNext, PartHolds, WorkFact, given_channel, part_keeps}
 
 made_told : (actions : List Action) (a : Action) → most_made_by (actions ++ a ∷ []) ≡ most_made_by actions + most_made a
 made_told [] a = omega arith
@@ -163,8 +164,9 @@ rest_weight (w ∷ v ∷ ws) = omega arith
 
 loses_within : (cause : DropCause) (w : Work) → total (lose_turn cause w, dialling.Nothing) ≤ most_made_by w.actions + work_weight w
 loses_within cause w =
-    let after : Work = with_requester w (lose_of w.logons.channel).state in
-    let keeps = dropped_keeps cause (lose_of w.logons.channel).place after in
+    let place : ℕ = (lose_of w.logons.channel).place in
+    let after : Work = keep_ended (turn_end.Dropped place cause) (with_requester w (lose_of w.logons.channel).state) in
+    let keeps = dropped_keeps cause place after in
     let channel : channel_weight (lose_turn cause w).logons.channel ≡ channel_weight after.logons.channel = ap (λ (c : Requester). channel_weight c) keeps.1 in
     omega (arith, keeps.0, channel, rest_weight w.logons.channel.waiting)
 
@@ -208,7 +210,7 @@ module _ (most : ℕ) (what : Event) (made : is_made what ≡ true) where
           arith,
           few,
           can_weight c true can,
-          dialled_weight c.turn c.waiting c (timestamp_of now) challenge can,
+          dialled_weight c.turn c.waiting (given_channel w) (timestamp_of now) challenge can,
           made_told w.actions (action.Dial w.logons.plan.controller),
         );
   }

@@ -25,11 +25,12 @@ use Rattle.member_server.specs.declared.state.Phase.{Phase}
 use Rattle.member_server.specs.declared.state.Phase.TheVariants as phase
 use Rattle.member_server.specs.declared.state.Running.{Running}
 use Rattle.member_server.specs.declared.state.Talk.{Talk}
+use Rattle.channel_turns.specs.declared.state.TurnEnd.TheVariants as turn_end
 use Rattle.member_server.specs.declared.state.Work.{Work}
 use Rattle.member_server.specs.Laws.{AreQuiet, AreRequests, ClosesNothing, HoldRequests, HoldsRequests, IsQuiet, IsRequestUnit}
 use Rattle.member_server.specs.Machine.{actions_in, event_part, halted_state, state_in, step_on}
 use Rattle.member_server.specs.Outcomes.{after_link, at_link, end_logon, keep_link, tell_outcome, without_link, without_logon}
-use Rattle.member_server.specs.Turns.{DialWork, lose_turn, with_requester}
+use Rattle.member_server.specs.Turns.{DialWork, keep_ended, lose_turn, with_requester}
 use Rattle.member_server.specs.Units.{bound_unit, serve_held}
 use Rattle.member_server.specs.Work.{Served}
 use Rattle.member_server.proofs.LinkView.{BoundView, Closes, Faults, bound_view, held_among}
@@ -101,7 +102,7 @@ end_quiet cause place w after (Reaches logon link bound held kept waits is) all 
 lost_quiet : (cause : DropCause) (w : Work) → HoldRequests w.links → AreQuiet w.actions → AreQuiet (lose_turn cause w).actions
 lost_quiet cause w all quiet =
     let losing = lose_of w.logons.channel in
-    let after : Work = with_requester w losing.state in
+    let after : Work = keep_ended (turn_end.Dropped losing.place cause) (with_requester w losing.state) in
     end_quiet cause losing.place after (end_logon losing.place (ending.NoController cause) after) (end_view losing.place (ending.NoController cause) after) all quiet
 
 -- ---- a step

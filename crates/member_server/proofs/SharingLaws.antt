@@ -32,7 +32,7 @@ use Rattle.outside.specs.declared.action.Action.TheVariants as action
 use Rattle.end_links.specs.Sending.{joined_frames}
 use Rattle.member_server.specs.Machine.{after_turn, at_turn, bytes_by, bytes_on, bytes_on_link, drawless_part}
 use Rattle.member_server.specs.Sharing.{SharesTurns, turned_part}
-use Rattle.member_server.specs.Turns.{AtTurn, DialWork, TurnServed, after_turn_served, after_turned, next_turn, turn_server, turn_talk, turn_work, turning_of, with_requester, with_work}
+use Rattle.member_server.specs.Turns.{AtTurn, DialWork, TurnServed, after_turn_served, after_turned, next_turn, ready_channel, turn_server, turn_talk, turn_work, turning_of, with_requester, with_work}
 
 -- ---- the units of a stream
 
@@ -107,25 +107,30 @@ then_again : {T U V : Type 0} (part : Result (Part T) StepRefused) (next : T →
 then_again (Err why) next last = refl
 then_again (Ok part) next last = refl
 
+-- the member whose channel was given its secrets
+abbrev pub ready : Work → Work
+ready work = with_requester work (ready_channel work)
+
 next_shared : (now : ℕ) (work : Work) (how : Dialling) (left : List (List ℕ)) →
-    next_turn now (work, how) left ≡ then_part (next_dial now work.logons.plan.controller (turning_of work how) left) (turned_part work)
+    next_turn now (work, how) left ≡ then_part (next_dial now work.logons.plan.controller (turning_of (ready work) how) left) (turned_part work)
 next_shared now work how left =
     let c = work.logons.channel in
-    then_again (next_by (can_start c.turn c.waiting) (needs_challenge c.standing) now c left) (turning.dial_part work.logons.plan.controller (turning_of work how)) (turned_part work)
+    then_again (next_by (can_start c.turn c.waiting) (needs_challenge c.standing) now (ready_channel work) left)
+    (turning.dial_part work.logons.plan.controller (turning_of (ready work) how)) (turned_part work)
 
 pub next_done : (now : ℕ) (work : Work) (how : Dialling) (turning : Turning) (dial_work : DialWork) (before after : List (List ℕ)) →
-    next_dial now work.logons.plan.controller (turning_of work how) before ≡ Ok (record { value = turning; left = after }) →
+    next_dial now work.logons.plan.controller (turning_of (ready work) how) before ≡ Ok (record { value = turning; left = after }) →
     dial_work ≡ after_turned (turning, None) work → next_turn now (work, how) before ≡ Ok (record { value = dial_work; left = after })
 next_done now work how turning dial_work before after is done =
     next_shared now work how before ∙ ap (λ p. then_part p (turned_part work)) is
     ∙ ap (λ (d : DialWork). Ok (record { value = d; left = after })) (sym done)
 
 pub next_refused : (why : StepRefused) (now : ℕ) (work : Work) (how : Dialling) (before after : List (List ℕ)) →
-    AnswersBy (Err why) (next_dial now work.logons.plan.controller (turning_of work how) before) after →
+    AnswersBy (Err why) (next_dial now work.logons.plan.controller (turning_of (ready work) how) before) after →
     AnswersBy (Err why) (next_turn now (work, how) before) after
 next_refused why now work how before after answer =
     subst (λ p. AnswersBy (Err why) p after) (sym (next_shared now work how before))
-    (AnswersBy-refused why (next_dial now work.logons.plan.controller (turning_of work how) before) (turned_part work) after
+    (AnswersBy-refused why (next_dial now work.logons.plan.controller (turning_of (ready work) how) before) (turned_part work) after
     (λ turning left. IsRest-refl left) answer)
 
 pub shares_turns : SharesTurns

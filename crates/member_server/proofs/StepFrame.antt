@@ -48,7 +48,8 @@ use Rattle.member_server.specs.Machine.{actions_in, after_turn, after_units, at_
 use Rattle.member_server.specs.Outcomes.{at_link, end_logon, tell_at, with_link, without_link}
 use Rattle.member_server.specs.State.{State}
 use Rattle.member_server.specs.Units.{link_server}
-use Rattle.member_server.specs.Turns.{AtTurn, DialWork, TurnServed, after_turn_served, break_turn, dial_for, do_taken, end_turn, ending_of, lose_turn, next_turn, timestamp_of, turn_by, turn_by_join, turn_server, turn_talk, turn_unit, turn_work, with_requester, with_work}
+use Rattle.member_server.specs.Secrets.{SecretsState, give_secrets, written_secrets}
+use Rattle.member_server.specs.Turns.{AtTurn, DialWork, TurnServed, after_turn_served, break_turn, dial_for, do_taken, end_turn, ending_of, keep_ended, keep_if, lose_turn, next_turn, ready_channel, timestamp_of, turn_by, turn_by_join, turn_server, turn_talk, turn_unit, turn_work, with_requester, with_work}
 
 -- ---- a turn that ends
 
@@ -58,6 +59,7 @@ logon_of turn_end.Half = None
 logon_of turn_end.Opened = None
 logon_of (turn_end.Answer place verdict) = Some (place, ending_of verdict)
 logon_of (turn_end.Dropped place cause) = Some (place, ending.NoController cause)
+logon_of turn_end.Set = None
 
 pub turn_ended : (how : TurnEnd) (w : Work) (Holds : Work → Type 0) → (logon_of how ≡ None → Holds w) →
     ((place : ℕ) (ends : Ending) → logon_of how ≡ Some (place, ends) → Holds (end_logon place ends w)) → Holds (end_turn how w)
@@ -65,6 +67,13 @@ turn_ended turn_end.Half w Holds none some = none refl
 turn_ended turn_end.Opened w Holds none some = none refl
 turn_ended (turn_end.Answer place verdict) w Holds none some = some place (ending_of verdict) refl
 turn_ended (turn_end.Dropped place cause) w Holds none some = some place (ending.NoController cause) refl
+turn_ended turn_end.Set w Holds none some = none refl
+
+-- the actions then, by whether the text of the secrets is another
+pub text_kept : (changes : Bool) (secrets : SecretsState) (actions : List Action) (Holds : List Action → Type 0) → (changes ≡ false → Holds actions) →
+    (changes ≡ true → Holds (actions ++ action.Keep (written_secrets secrets) ∷ [])) → Holds (keep_if changes secrets actions)
+text_kept false secrets actions Holds none some = none refl
+text_kept true secrets actions Holds none some = some refl
 
 -- ---- the units on the link of the turn
 
@@ -79,7 +88,7 @@ pub record KeepsTurn (Out : List RpcUnit → AtTurn → Type 0) (Over : Work →
   pub sends : (right : Unit {0}) (frames : List (List ℕ)) (unit : RpcUnit) (units : List RpcUnit) (at : AtTurn) → (take_of at.work.logons.channel unit).taken ≡ taken.Next right frames →
       Out (unit ∷ units) at → Out units (with_work at (tell_at (taken_at at unit).work (action.Send at.link (joined_frames frames))))
   pub ends : (how : TurnEnd) (unit : RpcUnit) (units : List RpcUnit) (at : AtTurn) → end_of (take_of at.work.logons.channel unit).taken ≡ Some how →
-      Out (unit ∷ units) at → Over (end_turn how (tell_at (taken_at at unit).work (action.Close at.link close.CallDone)))
+      Out (unit ∷ units) at → Over (end_turn how (tell_at (keep_ended how (taken_at at unit).work) (action.Close at.link close.CallDone)))
   -- a unit is refused
   pub breaks : (cause : CloseCause) (at : AtTurn) → Out [] at →
       Over (end_turn (turn_end.Dropped (lose_of at.work.logons.channel).place drop_cause.BadReply)
@@ -310,16 +319,26 @@ IsDrawnNext true challenge before after = before ≡ challenge ∷ after
 abbrev pub can_dial : Work → Bool
 can_dial w = can_start w.logons.channel.turn w.logons.channel.waiting
 
+-- the channel of a turn that starts, with the secrets that it is given
+abbrev pub given_channel : Work → Requester
+given_channel w = give_secrets true w.logons.plan.secrets w.logons.channel
+
+pub is_given : (w : Work) → can_dial w ≡ true → ready_channel w ≡ given_channel w
+is_given w can = ap (λ (starts : Bool). give_secrets starts w.logons.plan.secrets w.logons.channel) can
+
+pub is_left : (w : Work) → can_dial w ≡ false → ready_channel w ≡ w.logons.channel
+is_left w can = ap (λ (starts : Bool). give_secrets starts w.logons.plan.secrets w.logons.channel) can
+
 -- the member whose turn started, and whose controller is dialled
 abbrev pub dialling_at : Work → ℕ → List ℕ → Work
 dialling_at w timestamp challenge =
-    tell_at (with_requester w (start_of w.logons.channel timestamp challenge).state) (action.Dial w.logons.plan.controller)
+    tell_at (with_requester w (start_of (given_channel w) timestamp challenge).state) (action.Dial w.logons.plan.controller)
 
 pub record KeepsNext (now : ℕ) (Before After : WorkFact) : Type 0 where
   pub still : (how : Dialling) (w : Work) (left : List (List ℕ)) → can_dial w ≡ false → Before how w left → After how w left
   pub starts : (turn : Unit {0}) (frames : List (List ℕ)) (challenge : List ℕ) (how : Dialling) (w : Work) (before after : List (List ℕ)) → can_dial w ≡ true →
       IsDrawnNext (needs_challenge w.logons.channel.standing) challenge before after →
-      (start_of w.logons.channel (timestamp_of now) challenge).answer ≡ Some (turn, frames) → Before how w before →
+      (start_of (given_channel w) (timestamp_of now) challenge).answer ≡ Some (turn, frames) → Before how w before →
       After (dialling.Waits turn frames) (dialling_at w (timestamp_of now) challenge) after
 
 next_is : (needs : Bool) (now : ℕ) (c : Requester) (challenge : List ℕ) (before after : List (List ℕ)) → IsDrawnNext needs challenge before after →
@@ -329,37 +348,37 @@ next_is true now c challenge before after drawn = (challenge, drawn, refl)
 
 -- the channel then, by whether a turn can start
 pub none_next : (now : ℕ) (w : Work) (left : List (List ℕ)) → can_dial w ≡ false →
-    IsNextTurn (can_dial w) (needs_challenge w.logons.channel.standing) now w.logons.channel left w.logons.channel left
+    IsNextTurn (can_dial w) (needs_challenge w.logons.channel.standing) now (ready_channel w) left w.logons.channel left
 none_next now w left can =
     let c : Requester = w.logons.channel in
-    subst (λ (b : Bool). IsNextTurn b (needs_challenge c.standing) now c left c left) (sym can) (refl, refl)
+    subst (λ (b : Bool). IsNextTurn b (needs_challenge c.standing) now (give_secrets b w.logons.plan.secrets c) left c left) (sym can) (refl, refl)
 
 pub some_next : (now : ℕ) (w : Work) (challenge : List ℕ) (before after : List (List ℕ)) → can_dial w ≡ true →
     IsDrawnNext (needs_challenge w.logons.channel.standing) challenge before after →
-    IsNextTurn (can_dial w) (needs_challenge w.logons.channel.standing) now w.logons.channel before (start_of w.logons.channel (timestamp_of now) challenge).state after
+    IsNextTurn (can_dial w) (needs_challenge w.logons.channel.standing) now (ready_channel w) before (start_of (given_channel w) (timestamp_of now) challenge).state after
 some_next now w challenge before after can drawn =
     let c : Requester = w.logons.channel in
-    subst (λ (b : Bool). IsNextTurn b (needs_challenge c.standing) now c before (start_of c (timestamp_of now) challenge).state after) (sym can)
-    (next_is (needs_challenge c.standing) now c challenge before after drawn)
+    subst (λ (b : Bool). IsNextTurn b (needs_challenge c.standing) now (give_secrets b w.logons.plan.secrets c) before (start_of (given_channel w) (timestamp_of now) challenge).state after)
+    (sym can) (next_is (needs_challenge c.standing) now (given_channel w) challenge before after drawn)
 
 module _ (now : ℕ) (Before After : WorkFact) (keeps : KeepsNext now Before After) where
   dial_keeps : (start : Option (Unit {0} × List (List ℕ))) (challenge : List ℕ) (how : Dialling) (w : Work) (before after : List (List ℕ)) →
-      (start_of w.logons.channel (timestamp_of now) challenge).answer ≡ start → can_dial w ≡ true → IsDrawnNext (needs_challenge w.logons.channel.standing) challenge before after →
-      Before how w before → PartHolds After (Ok (record { value = dial_for start (with_requester w (start_of w.logons.channel (timestamp_of now) challenge).state) how; left = after }))
+      (start_of (given_channel w) (timestamp_of now) challenge).answer ≡ start → can_dial w ≡ true → IsDrawnNext (needs_challenge w.logons.channel.standing) challenge before after →
+      Before how w before → PartHolds After (Ok (record { value = dial_for start (with_requester w (start_of (given_channel w) (timestamp_of now) challenge).state) how; left = after }))
   dial_keeps None challenge how w before after is can drawn holds =
-      let some = sym (ap (λ (s : Option (Unit {0} × List (List ℕ))). is_some s) is) ∙ one_turn.start w.logons.channel (timestamp_of now) challenge ∙ can in
+      let some = sym (ap (λ (s : Option (Unit {0} × List (List ℕ))). is_some s) is) ∙ one_turn.start (given_channel w) (timestamp_of now) challenge ∙ can in
       absurd (let x = some in cc)
   dial_keeps (Some start) challenge how w before after is can drawn holds = keeps.starts start.0 start.1 challenge how w before after can drawn is holds
 
   turn_if : (starts needs : Bool) (how : Dialling) (w : Work) (left : List (List ℕ)) → can_dial w ≡ starts → needs_challenge w.logons.channel.standing ≡ needs → Before how w left →
-      PartHolds After (turn_by starts needs now w how left)
+      PartHolds After (turn_by starts needs now (with_requester w (give_secrets starts w.logons.plan.secrets w.logons.channel)) how left)
   turn_if false needs how w left can need holds = keeps.still how w left can holds
   turn_if true false how w left can need holds =
-      dial_keeps (start_of w.logons.channel (timestamp_of now) (replicate 8 0)).answer (replicate 8 0) how w left left refl can
+      dial_keeps (start_of (given_channel w) (timestamp_of now) (replicate 8 0)).answer (replicate 8 0) how w left left refl can
       (subst (λ (n : Bool). IsDrawnNext n (replicate 8 0) left left) (sym need) (refl, refl)) holds
   turn_if true true how w [] can need holds = tt
   turn_if true true how w (challenge ∷ left) can need holds =
-      dial_keeps (start_of w.logons.channel (timestamp_of now) challenge).answer challenge how w (challenge ∷ left) left refl can
+      dial_keeps (start_of (given_channel w) (timestamp_of now) challenge).answer challenge how w (challenge ∷ left) left refl can
       (subst (λ (n : Bool). IsDrawnNext n challenge (challenge ∷ left) left) (sym need) refl) holds
 
   pub next_keeps : (how : Dialling) (w : Work) (left : List (List ℕ)) → Before how w left → PartHolds After (next_turn now (w, how) left)

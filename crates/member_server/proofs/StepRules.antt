@@ -12,20 +12,23 @@ use Rattle.channel_client.specs.declared.answers.AskRefused.TheVariants as ask_r
 use Rattle.channel_client.specs.declared.answers.Taken.{Taken}
 use Rattle.channel_client.specs.declared.answers.Taken.TheVariants as taken
 use Rattle.channel_client.specs.Machine.{ask_of, can_start, lose_of, start_of, take_of}
+use Rattle.channel_turns.specs.declared.state.TurnEnd.{TurnEnd}
 use Rattle.member_server.specs.declared.outcomes.Ending.{Ending}
 use Rattle.member_server.specs.declared.outcomes.Ending.TheVariants as ending
 use Rattle.member_server.specs.declared.state.Logon.{Logon}
 use Rattle.member_server.specs.declared.state.Logons.{Logons}
 use Rattle.member_server.specs.Messages.{with_channel, with_logon}
 use Rattle.member_server.specs.Outcomes.{outcome_of}
-use Rattle.member_server.specs.Turns.{ending_of}
+use Rattle.member_server.specs.Secrets.{changes_text, give_secrets, secrets_after}
+use Rattle.member_server.specs.Turns.{ending_of, keep_if, with_secrets}
 
 -- what is said of them
 abbrev pub Holds : Type 1
 Holds = Logons → List Action → Type 0
 
--- the action lets nobody in, and dials nobody
+-- the action lets nobody in, dials nobody, and keeps no text
 abbrev pub IsPlainAction : Action → Type 0
+IsPlainAction (action.Keep text) = ⊥
 IsPlainAction (action.Told link (outcome.In domain user key)) = ⊥
 IsPlainAction (action.Dial peer) = ⊥
 IsPlainAction _ = Unit {0}
@@ -58,16 +61,20 @@ AfterTaken T K taken.Half l a = K l a
 AfterTaken T K taken.Opened l a = K l a
 AfterTaken T K (taken.Answer place verdict) l a = Ends K place (ending_of verdict) l a
 AfterTaken T K (taken.Dropped place cause) l a = Ends K place (ending.NoController cause) l a
+AfterTaken T K taken.Set l a = K l a
 
--- the argument of T: the whole units that are still to come on the link of the turn
-pub record TurnRules (T : List RpcUnit → Holds) (K : Holds) : Type 0 where
+-- a fact of a turn, which may speak of the whole units that are still to come on its link
+pub record TurnRules (T : (units : List RpcUnit) → Holds) (K : Holds) : Type 0 where
   pub tells : (units : List RpcUnit) (l : Logons) (a : List Action) (what : Action) → IsPlainAction what → T units l a → T units l (a ++ what ∷ [])
+  -- the secrets as an end of the turn makes them, and their text, where it is another
+  pub keeps : (units : List RpcUnit) (l : Logons) (a : List Action) (how : TurnEnd) → T units l a →
+      T units (with_secrets (secrets_after how l.plan.secrets) l) (keep_if (changes_text how l.plan.secrets) (secrets_after how l.plan.secrets) a)
   pub takes : (unit : RpcUnit) (units : List RpcUnit) (l : Logons) (a : List Action) → T (unit ∷ units) l a →
       AfterTaken (T units) K (take_of l.channel unit).taken (with_channel l (take_of l.channel unit).state) a
   pub loses : (units : List RpcUnit) (l : Logons) (a : List Action) (cause : DropCause) → T units l a →
       Ends K (lose_of l.channel).place (ending.NoController cause) (with_channel l (lose_of l.channel).state) a
 
--- ---- a step; the argument of G: whether a turn is dialled
+-- ---- a step
 
 -- what an event does, before the next turn starts
 pub record EventRules (T : List RpcUnit → Holds) (G : Bool → Holds) : Type 0 where
@@ -79,9 +86,9 @@ pub record StepRules (T : List RpcUnit → Holds) (G : Bool → Holds) : Type 0 
   pub link : (dialled : Bool) → LinkRules (G dialled)
   pub turn : TurnRules T (G false)
   pub returns : (units : List RpcUnit) (l : Logons) (a : List Action) → T units l a → G true l a
-  -- a turn starts, and its controller is dialled
+  -- a turn starts on the channel that was given its secrets, and its controller is dialled
   pub starts : (dialled : Bool) (l : Logons) (a : List Action) (timestamp : ℕ) (challenge : List ℕ) → can_start l.channel.turn l.channel.waiting ≡ true → G dialled l a →
-      G true (with_channel l (start_of l.channel timestamp challenge).state) (a ++ action.Dial l.plan.controller ∷ [])
+      G true (with_channel l (start_of (give_secrets true l.plan.secrets l.channel) timestamp challenge).state) (a ++ action.Dial l.plan.controller ∷ [])
 
 pub events_of : (T : List RpcUnit → Holds) (G : Bool → Holds) → StepRules T G → EventRules T G
 events_of T G rules = record { link = rules.link; turn = rules.turn; returns = rules.returns }

@@ -5,7 +5,7 @@ use Rattle.outside.specs.Machine.{left_by}
 use Rattle.outside.proofs.DrawLaws.{DrawsSome-none, DrawsSome-one, IsRest-refl, IsRest-later, IsRest-nothing}
 use Rattle.channel_turns.specs.declared.state.Dialling.{Dialling}
 use Rattle.member_server.specs.declared.state.Work.{Work}
-use Rattle.member_server.specs.Turns.{DialWork, turn_by, next_turn}
+use Rattle.member_server.specs.Turns.{DialWork, next_turn, ready_channel, turn_by, with_requester}
 
 pub ruleset drawing = (DrawsSome-none, DrawsSome-one, IsRest-refl, IsRest-later, IsRest-nothing)
 
@@ -17,4 +17,5 @@ turn_rest true true now work how (challenge ∷ left) = IsRest-later challenge l
 
 -- the next turn leaves a rest
 pub next_turn_rest : (now : ℕ) (dial_work : DialWork) (left : List (List ℕ)) → IsRest (left_by (next_turn now dial_work left)) left
-next_turn_rest now dial_work left = turn_rest _ _ now dial_work.0 dial_work.1 left
+next_turn_rest now dial_work left =
+    turn_rest _ _ now (with_requester dial_work.0 (ready_channel dial_work.0)) dial_work.1 left

@@ -29,7 +29,7 @@ use Rattle.end_links.specs.Serving.{ServedPart, served_by}
 use Rattle.end_links.proofs.KeepLaws.{served_among}
 use Rattle.end_links.proofs.WholeLaws.{cut_bytes}
 use Rattle.end_loop.specs.Runs.{actions_of}
-use Rattle.channel_client.specs.Machine.{lose_of, needs_challenge, take_of}
+use Rattle.channel_client.specs.Machine.{lose_of, needs_challenge, take_of, use_secret_of}
 use Rattle.channel_client.specs.State.{Requester}
 use Rattle.channel_client.specs.Whole.{InRangeCaller, InRangeRequester, IsWholeNext, IsWholeStart}
 use Rattle.channel_client.proofs.WholeLaws.{requesters_send_whole}
@@ -47,11 +47,14 @@ use Rattle.member_server.specs.declared.state.Talk.{Talk}
 use Rattle.member_server.specs.declared.state.Work.{Work}
 use Rattle.member_server.specs.Machine.{account_of, actions_in, after_units, caller_of, event_part, fresh_link, halted_state, serve_alone, state_in, step_on}
 use Rattle.member_server.specs.Outcomes.{after_link, at_link, end_logon, keep_link, phase_after, tell_at, tell_outcome, without_link, without_logon}
-use Rattle.member_server.specs.Turns.{AtTurn, DialWork, lose_turn, timestamp_of, with_requester}
+use Rattle.channel_turns.specs.declared.state.TurnEnd.{TurnEnd}
+use Rattle.channel_turns.specs.declared.state.TurnEnd.TheVariants as turn_end
+use Rattle.member_server.specs.Secrets.{SecretsState, changes_text, give_secrets, next_of, secret_for, secrets_after, tried_of, written_secrets}
+use Rattle.member_server.specs.Turns.{AtTurn, DialWork, keep_ended, lose_turn, timestamp_of, with_requester}
 use Rattle.member_server.specs.Units.{link_server, serve_held}
 use Rattle.member_server.specs.Whole.{dialled_link, BringsBytes, AcceptedUnlessStopped, AreChallenges, InRangeBound, InRangeDialling, InRangeEvent, InRangeLink, InRangeLinks, InRangePhase, InRangeRunning, InRangeUnlessStopped, IsAccepted, IsAcceptedAfter, IsSentOn, IsTurnLink, MembersSendWhole, link_of_turn, opened_link}
 use Rattle.member_server.specs.Work.{Served}
-use Rattle.member_server.proofs.StepFrame.{IsDrawnNext, KeepsEvent, KeepsNext, KeepsTurn, PartHolds, WorkFact, bound_said, dialled_keeps, each_taken, part_keeps, taken_at, turn_ended}
+use Rattle.member_server.proofs.StepFrame.{IsDrawnNext, KeepsEvent, KeepsNext, KeepsTurn, PartHolds, WorkFact, bound_said, dialled_keeps, each_taken, given_channel, part_keeps, taken_at, text_kept, turn_ended}
 use Rattle.member_server.proofs.OutcomeView.{EndView, Unknown, Tells, Reaches, end_view}
 use Rattle.member_server.proofs.WholeUnits.{AtFits, LinkPartFits, SaidFits, held_fits, told_fits, units_stay}
 use Rattle.authenticators.proofs.BlockLaws.{zeros_block}
@@ -221,11 +224,24 @@ module _ (First Second Third : ℕ → Type 0) (early : (number : ℕ) → First
   requester_fits : (c : Requester) (w : Work) → WorkFits First Second w → InRangeRequester c → WorkFits First Second (with_requester w c)
   requester_fits c w fits range = record { channel = range; links = fits.links; sends = fits.sends }
 
+  -- the secrets as the turn's end makes them, and their text
+  kept_fits_so : (how : TurnEnd) (w : Work) → WorkFits First Second w → WorkFits First Second (keep_ended how w)
+  kept_fits_so how w fits =
+      let secrets : SecretsState = secrets_after how w.logons.plan.secrets in
+      record {
+        channel = fits.channel;
+        links = fits.links;
+        sends = text_kept (changes_text how w.logons.plan.secrets) secrets w.actions (AllByRecursion (IsSentOn First Second)) (λ same. fits.sends)
+            (λ another. told_fits First Second w.actions (action.Keep (written_secrets secrets)) fits.sends tt);
+      }
+
   lose_fits : (cause : DropCause) (w : Work) → WorkFits First Second w → WorkFits First Second (lose_turn cause w)
   lose_fits cause w fits =
       let losing = lose_of w.logons.channel in
-      end_fits losing.place (ending.NoController cause) (with_requester w losing.state)
-      (requester_fits losing.state w fits (requesters_send_whole.lose w.logons.channel fits.channel))
+      let how : TurnEnd = turn_end.Dropped losing.place cause in
+      let lost : Work = with_requester w losing.state in
+      end_fits losing.place (ending.NoController cause) (keep_ended how lost)
+      (kept_fits_so how lost (requester_fits losing.state w fits (requesters_send_whole.lose w.logons.channel fits.channel)))
 
   taken_fits : (at : AtTurn) (unit : RpcUnit) → WorkFits First Second at.work → WorkFits First Second (taken_at at unit).work
   taken_fits at unit fits =
@@ -240,8 +256,9 @@ module _ (First Second Third : ℕ → Type 0) (early : (number : ℕ) → First
           (inr (fits.own, subst IsWholeNext is (requesters_send_whole.take at.work.logons.channel unit fits.work.channel).1));
     };
     ends = λ how unit units at is fits.
-        let closed : Work = tell_at (taken_at at unit).work (action.Close at.link close.CallDone) in
-        let closes : WorkFits First Second closed = tell_work (action.Close at.link close.CallDone) (taken_at at unit).work (taken_fits at unit fits.work) tt in
+        let kept : Work = keep_ended how (taken_at at unit).work in
+        let closed : Work = tell_at kept (action.Close at.link close.CallDone) in
+        let closes : WorkFits First Second closed = tell_work (action.Close at.link close.CallDone) kept (kept_fits_so how (taken_at at unit).work (taken_fits at unit fits.work)) tt in
         turn_ended how closed (WorkFits First Second) (λ none. closes) (λ place ends some. end_fits place ends closed closes);
     breaks = λ cause at fits. lose_fits drop_cause.BadReply (tell_at at.work (action.Close at.link cause)) (tell_work (action.Close at.link cause) at.work fits.work tt);
   }
@@ -322,12 +339,17 @@ module _ (First Second Third : ℕ → Type 0) (early : (number : ℕ) → First
   moment_fits : (now : ℕ) → timestamp_of now < 2 ^ 32
   moment_fits now = mod-lt _ (omega arith)
 
+  given_fits : (secrets : SecretsState) (c : Requester) → InRangeRequester c → InRangeRequester (give_secrets true secrets c)
+  given_fits secrets c range =
+      let secret : List ℕ = secret_for (needs_challenge c.standing) (tried_of secrets) c.caller.secret in
+      requesters_send_whole.set_next (use_secret_of c secret) (next_of secrets) (requesters_send_whole.use_secret c secret range)
+
   next_fits : (now : ℕ) → KeepsNext now Fits Fits
   next_fits now = record {
     still = λ how w left can fits. fits;
     starts = λ turn frames challenge how w before after can drawn answer fits.
         let drawn_so = drawn_fits (needs_challenge w.logons.channel.standing) challenge before after drawn fits.1 in
-        let starts = requesters_send_whole.start w.logons.channel (timestamp_of now) challenge fits.0.channel (moment_fits now) drawn_so.0 in (
+        let starts = requesters_send_whole.start (given_channel w) (timestamp_of now) challenge (given_fits w.logons.plan.secrets w.logons.channel fits.0.channel) (moment_fits now) drawn_so.0 in (
           record {
             channel = starts.0;
             links = fits.0.links;

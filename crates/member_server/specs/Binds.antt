@@ -47,8 +47,8 @@ abbrev pub offer_by : Result Negotiate MessageRefused → Trailer → Option Off
 offer_by (Err why) trailer = None
 offer_by (Ok message) trailer = offer_if (is_enough trailer.level message.flags) trailer message.flags
 
--- the argument: whether the provider is NTLM and the level is one that is served
-abbrev pub offer_at : Bool → Trailer → Option Offer
+-- what a bind's trailer offers, where its provider is NTLM and its level is one that is served
+abbrev pub offer_at : (is_served : Bool) (trailer : Trailer) → Option Offer
 offer_at false trailer = None
 offer_at true trailer = offer_by (negotiate_of trailer.value) trailer
 
@@ -108,8 +108,8 @@ answer_of_bind offer call receive contexts challenge joiner at =
     stay (send_unit at (challenge_ack offer at.logons.plan call receive contexts challenge))
     (record { joiner = joiner; phase = phase.Challenged (bound_by offer receive contexts) challenge offer.flags })
 
--- a challenge is drawn where it is answered; the argument: whether the answer fits
-abbrev pub answer_bind : Bool → Offer → ℕ → ℕ → List (ℕ × Syntax × List Syntax) → Option RpcUnit → AtLink → List (List ℕ) → ServedPart
+-- a challenge is drawn where the bind is answered, which it is where the answer fits a unit
+abbrev pub answer_bind : (fits : Bool) (offer : Offer) (call receive : ℕ) (contexts : List (ℕ × Syntax × List Syntax)) (joiner : Option RpcUnit) (at : AtLink) (left : List (List ℕ)) → ServedPart
 answer_bind false offer call receive contexts joiner at left = drawless (refusal_of_bind call joiner at) left
 answer_bind true offer call receive contexts joiner at [] = Err refused.Spent
 answer_bind true offer call receive contexts joiner at (challenge ∷ left) =

@@ -13,7 +13,7 @@ use Rattle.channel_client.specs.Machine.{can_start, needs_challenge, start_of, t
 use Rattle.channel_client.specs.State.{Requester}
 use Rattle.member_server.specs.Laws.{Asks, Doing, Loses, Starts, Takes, heard_in, state_after}
 use Rattle.member_server.specs.Machine.{by_event, event_part, work_of}
-use Rattle.member_server.specs.Turns.{DialWork, timestamp_of}
+use Rattle.member_server.specs.Turns.{DialWork, ready_channel, timestamp_of}
 use Rattle.channel_turns.specs.declared.state.Dialling.TheVariants as dialling
 use Rattle.member_server.specs.declared.state.Running.{Running}
 use Rattle.channel_turns.specs.declared.state.TurnTalk.{TurnTalk}
@@ -30,15 +30,14 @@ pub record ComesCalmly (old new : Requester) : Type 0 where
   pub calm : AllByRecursion IsCalm doings
   pub is : new ≡ state_after doings old
 
--- the next turn, where one can start, with the next challenge that is left where it needs one. The arguments: whether
--- it can, and whether it needs one
-abbrev pub IsNextTurn : Bool → Bool → ℕ → Requester → List (List ℕ) → Requester → List (List ℕ) → Type 0
+-- the next turn, where one can start, with the next challenge that is left where it needs one
+abbrev pub IsNextTurn : (starts needs : Bool) (now : ℕ) (mid : Requester) (before : List (List ℕ)) (new : Requester) (after : List (List ℕ)) → Type 0
 IsNextTurn false needs now mid before new after = (new ≡ mid) × (after ≡ before)
 IsNextTurn true false now mid before new after = (new ≡ (start_of mid (timestamp_of now) (replicate 8 0)).state) × (after ≡ before)
 IsNextTurn true true now mid before new after =
     (challenge : List ℕ) × (before ≡ challenge ∷ after) × (new ≡ (start_of mid (timestamp_of now) challenge).state)
 
--- what the event comes to, whose channel is such, and then the next turn
+-- what the event comes to, whose channel is such, and then the next turn of the channel that was given its secrets
 pub record ChannelSteps
     (first : Result (Part DialWork) StepRefused) (Mid : Requester → Type 0) (now : ℕ) (new : Requester) (after : List (List ℕ)) : Type 0 where
   pub part : Part DialWork
@@ -46,7 +45,7 @@ pub record ChannelSteps
   pub mid : Mid part.value.0.logons.channel
   pub next : IsNextTurn
       (can_start part.value.0.logons.channel.turn part.value.0.logons.channel.waiting)
-      (needs_challenge part.value.0.logons.channel.standing) now part.value.0.logons.channel part.left new after
+      (needs_challenge part.value.0.logons.channel.standing) now (ready_channel part.value.0) part.left new after
 
 abbrev pub StepsIfTaken : Result (Part DialWork) StepRefused → (Requester → Type 0) → ℕ → Result (Part DialWork) StepRefused → Type 0
 StepsIfTaken first Mid now (Err why) = Unit {0}

@@ -13,7 +13,7 @@ use Rattle.channel_client.specs.State.{Requester}
 use Rattle.member_server.specs.ChannelSteps.{IsNextTurn}
 use Rattle.member_server.specs.Laws.{Asks, Doing, IsInOrder, Loses, Starts, Takes, state_after}
 use Rattle.member_server.specs.Machine.{by_event, event_part, work_of}
-use Rattle.member_server.specs.Turns.{DialWork}
+use Rattle.member_server.specs.Turns.{DialWork, ready_channel}
 use Rattle.channel_turns.specs.declared.state.Dialling.{Dialling}
 use Rattle.channel_turns.specs.declared.state.Dialling.TheVariants as dialling
 use Rattle.member_server.specs.declared.state.Running.{Running}
@@ -49,8 +49,8 @@ pub record ComesUnstarted (old new : Requester) : Type 0 where
   pub none : AllByRecursion IsNoStart doings
   pub is : new ≡ state_after doings old
 
--- what is dialled where a turn starts, or none. The argument: whether one starts
-abbrev pub IsDialledBy : Bool → Dialling → DialWork → Type 0
+-- what is dialled where a turn starts, or none
+abbrev pub IsDialledBy : (starts : Bool) (how : Dialling) (dial_work : DialWork) → Type 0
 IsDialledBy false how dial_work = (dials_in dial_work.0.actions ≡ 0) × (dial_work.1 ≡ how)
 IsDialledBy true how dial_work = (dials_in dial_work.0.actions ≡ 1) × IsWaiting dial_work.1
 
@@ -61,7 +61,7 @@ pub record TurnSteps (old : Requester) (first : Result (Part DialWork) StepRefus
   pub comes : ComesUnstarted old part.value.0.logons.channel
   pub next : IsNextTurn
       (can_start part.value.0.logons.channel.turn part.value.0.logons.channel.waiting)
-      (needs_challenge part.value.0.logons.channel.standing) now part.value.0.logons.channel part.left after.value.0.logons.channel after.left
+      (needs_challenge part.value.0.logons.channel.standing) now (ready_channel part.value.0) part.left after.value.0.logons.channel after.left
   pub dials : IsDialledBy (can_start part.value.0.logons.channel.turn part.value.0.logons.channel.waiting) part.value.1 after.value
 
 abbrev pub TurnStepsIfTaken : Requester → Result (Part DialWork) StepRefused → ℕ → Result (Part DialWork) StepRefused → Type 0

@@ -199,8 +199,8 @@ abbrev pub whole_units : List (List ℕ) → Option RpcUnit → List RpcUnit
 whole_units [] joiner = []
 whole_units (bytes ∷ units) joiner = whole_by (unit_of bytes) joiner (λ after. whole_units units after)
 
--- the argument: whether it is the link of the turn
-abbrev pub heard_if : Bool → LinkState TurnTalk → List ℕ → List RpcUnit
+-- the whole units that a piece brings on the link of the turn
+abbrev pub heard_if : (is_turn_link : Bool) (said : LinkState TurnTalk) (piece : List ℕ) → List RpcUnit
 heard_if false said piece = []
 heard_if true said piece = whole_units (cut_stream (said.rest ++ piece)).units said.talk.joiner
 
@@ -251,7 +251,7 @@ is_dialled dialling.Nothing = false
 is_dialled (dialling.Waits turn frames) = true
 is_dialled (dialling.On number said) = true
 
--- the arguments: whether the dial of a turn waits or its link is open, and what logons need
+-- What logons need is in order. `dialled` is whether the dial of a turn waits or its link is open.
 pub record IsInOrder (dialled : Bool) (logons : Logons) : Type 0 where
   pub coherent : IsCoherent logons.channel
   pub asked : AreAsked logons

@@ -3,6 +3,7 @@ pub mod ChannelSteps
 pub mod Dials
 pub mod Held
 pub mod Holding
+pub mod Keeping
 pub mod Laws
 pub mod Lines
 pub mod Machine
@@ -12,6 +13,7 @@ pub mod Outcomes
 pub mod Pending
 pub mod Requests
 pub mod Rests
+pub mod Secrets
 pub mod Sharing
 pub mod State
 pub mod Turns

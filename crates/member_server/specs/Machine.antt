@@ -1,5 +1,6 @@
--- One step of a member: an event, and then the next turn (this project's own choice).
-use Rattle.std.specs.Prelude.{ℕ, ◌==◌, Bool, true, false, nat_le, List, [], ◌∷◌, ◌++◌, length, Option, Some, None, is_none, Result, Ok, Err}
+-- One step of a member: an event, and then the next turn; and how a change of its secret begins (this project's own
+-- choice).
+use Rattle.std.specs.Prelude.{ℕ, ◌≡◌, ◌==◌, Bool, true, false, nat_le, List, [], ◌∷◌, ◌++◌, length, Option, Some, None, is_none, Result, Ok, Err}
 use Rattle.outside.specs.declared.action.Action.{Action}
 use Rattle.outside.specs.declared.action.Action.TheVariants as action
 use Rattle.outside.specs.declared.action.CloseCause.TheVariants as close
@@ -20,6 +21,10 @@ use Rattle.channel_turns.specs.declared.state.TurnTalk.{TurnTalk}
 use Rattle.channel_turns.specs.Turning as turning
 use Rattle.channel_turns.specs.Turning.{is_on, is_waiting, link_answers, no_dial}
 use Rattle.channel_turns.specs.Turns as turns
+use Rattle.secret_change.specs.Secrets.{Beginning, begin_of}
+use Rattle.secret_change.specs.declared.refused.Busy.{Busy}
+use Rattle.member_server.specs.declared.change.ChangeRefused.{ChangeRefused}
+use Rattle.member_server.specs.declared.change.ChangeRefused.TheVariants as change_refused
 use Rattle.member_server.specs.declared.plan.MemberPlan.{MemberPlan}
 use Rattle.member_server.specs.declared.state.AtLink.{AtLink}
 use Rattle.member_server.specs.declared.state.Phase.TheVariants as phase
@@ -28,8 +33,9 @@ use Rattle.member_server.specs.declared.state.Talk.{Talk}
 use Rattle.member_server.specs.declared.state.Work.{Work}
 use Rattle.member_server.specs.Lines.{line_of}
 use Rattle.member_server.specs.Outcomes.{tell_at, without_link, with_link, at_link, after_served}
+use Rattle.member_server.specs.Secrets.{SecretsState, next_of, tried_of, written_secrets}
 use Rattle.member_server.specs.State.{State}
-use Rattle.member_server.specs.Turns.{AtTurn, DialWork, after_turned, dial_work_part, lose_turn, next_turn, turn_server, turning_of}
+use Rattle.member_server.specs.Turns.{AtTurn, DialWork, after_turned, dial_work_part, lose_turn, next_turn, turn_server, turning_of, with_secrets}
 use Rattle.member_server.specs.Units.{link_server}
 
 -- ---- at first
@@ -41,7 +47,7 @@ account_of computer = computer ++ 0x24 ∷ []
 -- a workstation's channel, 2 (MS-NRPC 2.2.1.3.13)
 abbrev pub caller_of : MemberPlan → Caller
 caller_of plan =
-    record { secret = plan.secret; computer = plan.computer; account = account_of plan.computer; kind = 2 }
+    record { secret = tried_of plan.secrets; computer = plan.computer; account = account_of plan.computer; kind = 2 }
 
 abbrev pub fresh_member : MemberPlan → State
 fresh_member plan = record {
@@ -54,8 +60,8 @@ fresh_member plan = record {
 
 -- ---- links that close
 
--- the argument: whether it is the link of the turn
-abbrev pub close_turn : Bool → ℕ → Dialling → Work → DialWork
+-- a link was closed; the turn is lost where it is its link
+abbrev pub close_turn : (is_turn_link : Bool) (link : ℕ) (how : Dialling) (work : Work) → DialWork
 close_turn false link how work = (without_link link work, how)
 close_turn true link how work = (lose_turn drop_cause.LinkClosed work, dialling.Nothing)
 
@@ -67,8 +73,8 @@ close_link how link work = close_turn (is_on link how) link how work
 abbrev pub fresh_link : LinkState Talk
 fresh_link = record { rest = []; talk = record { joiner = None; phase = phase.Fresh } }
 
--- the argument: whether there are as many as may be
-abbrev pub open_by : Bool → ℕ → Work → Work
+-- a link was opened; it is closed where as many are open as may be
+abbrev pub open_by : (is_full : Bool) (link : ℕ) (work : Work) → Work
 open_by true link work = tell_at work (action.Close link close.TooManyLinks)
 open_by false link work = with_link link fresh_link work
 
@@ -78,8 +84,8 @@ open_after_close dial_work link = (open_by (nat_le 256 (length dial_work.0.links
 
 -- ---- dials
 
--- the bind goes out; an older link of that number is closed first. The argument: whether a dial waits
-abbrev pub answer_if : Bool → Dialling → ℕ → Work → DialWork
+-- a dial was answered: the bind goes out; an older link of that number is closed first
+abbrev pub answer_if : (is_waiting : Bool) (how : Dialling) (link : ℕ) (work : Work) → DialWork
 answer_if false how link work = (work, how)
 answer_if true how link work =
     after_turned (link_answers link (turning_of (without_link link work) how), None) (without_link link work)
@@ -125,8 +131,8 @@ abbrev pub serve_dialled : Cut → ℕ → TurnTalk → Work → List (List ℕ)
 serve_dialled cut number talk work left =
     after_turn (served_cut turn_server cut (at_turn number work) talk left) cut.rest number
 
--- the argument: whether it is the link of the turn
-abbrev pub bytes_by : Bool → LinkState TurnTalk → ℕ → List ℕ → Dialling → Work → List (List ℕ) → Result (Part DialWork) StepRefused
+-- a piece came on the link of the turn or on another one
+abbrev pub bytes_by : (is_turn_link : Bool) (said : LinkState TurnTalk) (number : ℕ) (piece : List ℕ) (how : Dialling) (work : Work) (left : List (List ℕ)) → Result (Part DialWork) StepRefused
 bytes_by true said number piece how work left = serve_dialled (cut_stream (said.rest ++ piece)) number said.talk work left
 bytes_by false said number piece how work left =
     bytes_on_link (lookup same_number number work.links) number piece how work left
@@ -175,6 +181,50 @@ step_on (Some running) s what now left = step_by actions_in state_in halted_stat
 
 abbrev pub step_of : State → Event → ℕ → List (List ℕ) → Stepped State
 step_of s what now left = step_on s.running s what now left
+
+-- ---- a change of the secret
+
+-- what a change comes to: the actions or the refusal, and the member afterwards
+pub record Changing : Type 0 where
+  pub answer : Result (List Action) ChangeRefused
+  pub state : State
+
+abbrev pub running_with : SecretsState → Running → Running
+running_with secrets running = record running { logons = with_secrets secrets running.logons }
+
+-- where one begins, the text is kept; nothing else is done
+abbrev pub change_begun : Result Unit Busy → SecretsState → Running → State → Changing
+change_begun (Ok begun) secrets running s = record {
+  answer = Ok (action.Keep (written_secrets secrets) ∷ []);
+  state = record { running = Some (running_with secrets running) };
+}
+change_begun (Err busy) secrets running s = record { answer = Err (change_refused.Busy busy.next); state = s }
+
+abbrev pub change_by : Beginning → Running → State → Changing
+change_by beginning running s = change_begun beginning.answer beginning.secrets running s
+
+abbrev pub change_on : Option Running → State → List ℕ → Changing
+change_on None s new = record { answer = Err change_refused.Stopped; state = s }
+change_on (Some running) s new = change_by (begin_of running.logons.plan.secrets new) running s
+
+abbrev pub change_of : State → List ℕ → Changing
+change_of s new = change_on s.running s new
+
+-- How a call that begins a change answers: without memory the member is stopped.
+abbrev pub ChangesBy : Result (List Action) ChangeRefused → Changing → State → Type 0
+ChangesBy (Ok actions) changing now = (changing.answer ≡ Ok actions) × (now ≡ changing.state)
+ChangesBy (Err change_refused.Memory) changing now = now ≡ halted_state
+ChangesBy (Err change_refused.Stopped) changing now = (changing.answer ≡ Err change_refused.Stopped) × (now ≡ changing.state)
+ChangesBy (Err (change_refused.Busy next)) changing now =
+    (changing.answer ≡ Err (change_refused.Busy next)) × (now ≡ changing.state)
+
+-- the next secret that a member keeps
+abbrev pub next_kept_by : Option Running → Option (List ℕ)
+next_kept_by None = None
+next_kept_by (Some running) = next_of running.logons.plan.secrets
+
+abbrev pub next_kept : State → Option (List ℕ)
+next_kept s = next_kept_by s.running
 
 -- ---- the machine
 

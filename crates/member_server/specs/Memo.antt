@@ -9,8 +9,8 @@ use Rattle.member_server.specs.declared.memo.Answer.TheVariants as answer
 
 -- ---- the operations: WhoAmI 0, Echo 1
 
--- the argument: whether the name fits a string; one that a controller gives does
-abbrev pub who_answer : Bool → List ℕ → Answer
+-- the answer to WhoAmI, where the name fits a string; one that a controller gives does
+abbrev pub who_answer : (fits : Bool) (name : List ℕ) → Answer
 who_answer false name = answer.Fault rpc_x_bad_stub_data
 who_answer true name = answer.Stub (written_who_reply name)
 
@@ -18,14 +18,14 @@ abbrev pub echo_answer : Result (List ℕ) MemoRefused → Answer
 echo_answer (Err why) = answer.Fault rpc_x_bad_stub_data
 echo_answer (Ok bytes) = answer.Stub (written_echo_reply bytes)
 
--- the arguments: whether the operation is WhoAmI, and whether it is Echo
-abbrev pub memo_answer : Bool → Bool → List ℕ → List ℕ → Answer
+-- the answer to a request of the memo interface
+abbrev pub memo_answer : (is_who is_echo : Bool) (name stub : List ℕ) → Answer
 memo_answer true echo name stub = who_answer (nat_le (length name) 32767) name
 memo_answer false true name stub = echo_answer (echo_request_of stub)
 memo_answer false false name stub = answer.Fault nca_op_rng_error
 
--- the argument: whether the context was accepted
-abbrev pub call_answer : Bool → ℕ → List ℕ → List ℕ → Answer
+-- the answer to a request in a context of the bind
+abbrev pub call_answer : (is_accepted : Bool) (opnum : ℕ) (name stub : List ℕ) → Answer
 call_answer false opnum name stub = answer.Fault nca_proto_error
 call_answer true opnum name stub = memo_answer (opnum == 0) (opnum == 1) name stub
 

@@ -73,8 +73,8 @@ wait_for asking logon bound joiner at = wait_by asking.answer (with_channel at.l
 
 -- ---- the message
 
--- the argument: whether the message is fit
-abbrev pub ask_by : Bool → Authenticate → ℕ → List ℕ → Bound → Option RpcUnit → AtLink → Served
+-- the controller is asked about an AUTHENTICATE that is fit
+abbrev pub ask_by : (is_fit : Bool) (message : Authenticate) (agreed : ℕ) (challenge : List ℕ) (bound : Bound) (joiner : Option RpcUnit) (at : AtLink) → Served
 ask_by false message agreed challenge bound joiner at = shut close.BadAuthentication at
 ask_by true message agreed challenge bound joiner at =
     wait_for (ask_of at.logons.channel (info_of message agreed challenge))
@@ -85,8 +85,8 @@ take_message (Err why) bound challenge flags joiner at = shut close.BadAuthentic
 take_message (Ok message) bound challenge flags joiner at =
     ask_by (is_fit bound.level (agreed_flags flags message.flags) message) message (agreed_flags flags message.flags) challenge bound joiner at
 
--- the argument: whether the provider is NTLM
-abbrev pub take_trailer : Bool → Trailer → Bound → List ℕ → ℕ → Option RpcUnit → AtLink → Served
+-- an AUTHENTICATE is taken from a trailer of NTLM's
+abbrev pub take_trailer : (is_ntlm : Bool) (trailer : Trailer) (bound : Bound) (challenge : List ℕ) (flags : ℕ) (joiner : Option RpcUnit) (at : AtLink) → Served
 take_trailer false trailer bound challenge flags joiner at = shut close.OutOfPlace at
 take_trailer true trailer bound challenge flags joiner at =
     take_message (authenticate_of trailer.value) bound challenge flags joiner at

@@ -70,8 +70,8 @@ abbrev pub key_in : SamInfo → Logon → List ℕ
 key_in info logon =
     key_or (exchange_in info logon) (exported_key_of (exchange_in info logon) logon.agreed logon.message.key)
 
--- the argument: whether extended session security is agreed
-abbrev pub session_by : Bool → List ℕ → ℕ → Option SessionState
+-- the session that signs and seals, where extended session security is agreed
+abbrev pub session_by : (is_extended : Bool) (key : List ℕ) (agreed : ℕ) → Option SessionState
 session_by false key agreed = None
 session_by true key agreed = Some (session_of key agreed Server)
 

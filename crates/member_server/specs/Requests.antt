@@ -49,8 +49,8 @@ secure_reply None call context stub on joiner at = shut close.BadAuthentication 
 secure_reply (Some session) call context stub on joiner at =
     send_secured (secure_call session on.bound.level on.bound.context (response_of call context stub) on.bound.binding.limit) on joiner at
 
--- the argument: whether the level is the one without signatures
-abbrev pub send_reply : Bool → ℕ → ℕ → List ℕ → LoggedOn → Option RpcUnit → AtLink → Served
+-- a reply is sent plain at the level without signatures, else under the session
+abbrev pub send_reply : (is_plain : Bool) (call context : ℕ) (stub : List ℕ) (on : LoggedOn) (joiner : Option RpcUnit) (at : AtLink) → Served
 send_reply true call context stub on joiner at =
     stay (send at (bytes_of_call (response_of call context stub) on.bound.binding.limit)) (talk_in joiner on)
 send_reply false call context stub on joiner at = secure_reply on.session call context stub on joiner at
@@ -90,8 +90,8 @@ abbrev pub is_due : ℕ → Option Trailer → Bool
 is_due level None = false
 is_due level (Some trailer) = (trailer.level == level) && (length trailer.value == 16)
 
--- why a unit isn't a request with the trailer that is due, where it isn't; the argument: whether the trailer is
-abbrev pub cause_by : Body → Bool → Option CloseCause
+-- why a unit isn't a request with the trailer that is due, where it isn't
+abbrev pub cause_by : (body : Body) (has_due_trailer : Bool) → Option CloseCause
 cause_by (Request hint context opnum stub) false = Some close.BadAuthentication
 cause_by (Request hint context opnum stub) true = None
 cause_by _ due = Some close.OutOfPlace
@@ -112,8 +112,8 @@ abbrev pub signed_unit : Option CloseCause → List ℕ → LoggedOn → Option 
 signed_unit (Some cause) bytes on joiner at = shut cause at
 signed_unit None bytes on joiner at = open_request on.session bytes on joiner at
 
--- the argument: whether the level is the one without signatures, at which a trailer is passed over
-abbrev pub unit_in : Bool → List ℕ → LoggedOn → Option RpcUnit → AtLink → Served
+-- a unit of who is logged on; at the level without signatures a trailer is passed over
+abbrev pub unit_in : (is_plain : Bool) (bytes : List ℕ) (on : LoggedOn) (joiner : Option RpcUnit) (at : AtLink) → Served
 unit_in true bytes on joiner at = join_unit (unit_of bytes) on joiner at
 unit_in false bytes on joiner at = signed_unit (signed_cause (unit_of bytes) on.bound.level) bytes on joiner at
 
@@ -130,8 +130,8 @@ unit_out (Ok unit) bound status joiner at = body_out unit.body unit.call bound s
 
 -- ---- the logon is asked: requests are held
 
--- the argument: whether they fit
-abbrev pub hold_by : Bool → List ℕ → Bound → ℕ → List (List ℕ) → Option RpcUnit → AtLink → Served
+-- a request is held, where it fits beside those that are held
+abbrev pub hold_by : (fits : Bool) (bytes : List ℕ) (bound : Bound) (place : ℕ) (held : List (List ℕ)) (joiner : Option RpcUnit) (at : AtLink) → Served
 hold_by false bytes bound place held joiner at = shut close.TooMuchHeld at
 hold_by true bytes bound place held joiner at =
     stay at (record { joiner = joiner; phase = phase.Asked bound place (held ++ bytes ∷ []) })

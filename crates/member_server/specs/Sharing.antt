@@ -12,7 +12,7 @@ use Rattle.channel_turns.specs.Turning.{is_on, link_hears, next_dial}
 use Rattle.channel_turns.specs.Turns.{turn_served}
 use Rattle.member_server.specs.declared.state.Work.{Work}
 use Rattle.member_server.specs.Machine.{bytes_on, drawless_part}
-use Rattle.member_server.specs.Turns.{AtTurn, DialWork, after_turn_served, after_turned, next_turn, turn_server, turn_work, turning_of}
+use Rattle.member_server.specs.Turns.{AtTurn, DialWork, after_turn_served, after_turned, next_turn, ready_channel, turn_server, turn_work, turning_of, with_requester}
 
 abbrev pub turned_part : Work → Turning → List (List ℕ) → Result (Part DialWork) StepRefused
 turned_part work turning left = drawless_part (after_turned (turning, None) work) left
@@ -25,7 +25,7 @@ pub record SharesTurns : Type 0 where
   -- bytes on the link of the turn
   pub bytes : (how : Dialling) (number : ℕ) (piece : List ℕ) (work : Work) (left : List (List ℕ)) → is_on number how ≡ true →
       bytes_on how number piece work left ≡ drawless_part (after_turned (link_hears number piece (turning_of work how)) work) left
-  -- the next turn, whose controller is dialled
+  -- the next turn of the channel that was given its secrets, whose controller is dialled
   pub next : (now : ℕ) (work : Work) (how : Dialling) (left : List (List ℕ)) →
       next_turn now (work, how) left
-      ≡ then_part (next_dial now work.logons.plan.controller (turning_of work how) left) (turned_part work)
+      ≡ then_part (next_dial now work.logons.plan.controller (turning_of (with_requester work (ready_channel work)) how) left) (turned_part work)

@@ -1,7 +1,7 @@
 -- The turn that is out, and its link (MS-NRPC 3.1.4, 3.5.4; how turns follow one another is this project's own choice).
--- What comes of it for the channel is as at every end that asks. The member closes the link of a turn that ended, and
--- ends the logon that the turn was for.
-use Rattle.std.specs.Prelude.{ℕ, Bool, List, Option, Some, None, Result, Ok}
+-- What comes of it for the channel is as at every end that asks. Where a turn ended, the member keeps a new text of its
+-- secrets, closes the link, and ends the logon that the turn was for.
+use Rattle.std.specs.Prelude.{ℕ, Bool, true, false, List, [], ◌∷◌, ◌++◌, Option, Some, None, Result, Ok}
 use Rattle.outside.specs.declared.action.Action.{Action}
 use Rattle.outside.specs.declared.action.Action.TheVariants as action
 use Rattle.outside.specs.declared.action.CloseCause.{CloseCause}
@@ -34,8 +34,10 @@ pub use Rattle.channel_turns.specs.Turns.{turn_talk}
 use Rattle.channel_turns.specs.Turns as turns
 use Rattle.member_server.specs.declared.outcomes.Ending.{Ending}
 use Rattle.member_server.specs.declared.outcomes.Ending.TheVariants as ending
+use Rattle.member_server.specs.declared.state.Logons.{Logons}
 use Rattle.member_server.specs.declared.state.Work.{Work}
 use Rattle.member_server.specs.Outcomes.{tell_at, end_logon}
+use Rattle.member_server.specs.Secrets.{SecretsState, changes_text, give_secrets, secrets_after, written_secrets}
 
 -- ---- what follows of a turn that ended
 
@@ -49,15 +51,35 @@ end_turn turn_end.Half work = work
 end_turn turn_end.Opened work = work
 end_turn (turn_end.Answer place verdict) work = end_logon place (ending_of verdict) work
 end_turn (turn_end.Dropped place cause) work = end_logon place (ending.NoController cause) work
+end_turn turn_end.Set work = work
 
--- its link is closed first, where it is open
+-- ---- the secrets after it
+
+abbrev pub with_secrets : SecretsState → Logons → Logons
+with_secrets secrets logons = record logons { plan = record logons.plan { secrets = secrets } }
+
+-- the secrets' text is kept where it is another than before
+abbrev pub keep_if : (is_changed : Bool) (secrets : SecretsState) (actions : List Action) → List Action
+keep_if false secrets actions = actions
+keep_if true secrets actions = actions ++ action.Keep (written_secrets secrets) ∷ []
+
+abbrev pub keep_ended : TurnEnd → Work → Work
+keep_ended how work = record work {
+  logons = with_secrets (secrets_after how work.logons.plan.secrets) work.logons;
+  actions = keep_if (changes_text how work.logons.plan.secrets) (secrets_after how work.logons.plan.secrets) work.actions;
+}
+
+-- ---- all that follows of it
+
+-- its link is closed, where it is open
 abbrev pub close_ended : Option (ℕ × CloseCause) → Work → Work
 close_ended None work = work
 close_ended (Some closes) work = tell_at work (action.Close closes.0 closes.1)
 
+-- a new text of the secrets stands first, and before the logon's outcome the link is closed
 abbrev pub after_ended : Option TurnEnded → Work → Work
 after_ended None work = work
-after_ended (Some ended) work = end_turn ended.how (close_ended ended.closes work)
+after_ended (Some ended) work = end_turn ended.how (close_ended ended.closes (keep_ended ended.how work))
 
 -- ---- the turn of a member at work, and the member after it
 
@@ -151,11 +173,16 @@ dial_by starting work how = dial_for starting.answer (with_requester work starti
 abbrev pub dial_part : Work → Dialling → NextTurn → List (List ℕ) → Result (Part DialWork) StepRefused
 dial_part work how next left = Ok (record { value = dial_for next.1 (with_requester work next.0) how; left = left })
 
--- the arguments: whether a turn can start, and whether it draws a challenge
-abbrev pub turn_by : Bool → Bool → ℕ → Work → Dialling → List (List ℕ) → Result (Part DialWork) StepRefused
+-- the next turn starts, where one can; one that opens a channel draws a challenge
+abbrev pub turn_by : (starts draws : Bool) (now : ℕ) (work : Work) (how : Dialling) (left : List (List ℕ)) → Result (Part DialWork) StepRefused
 turn_by starts needs now work how left = then_part (next_by starts needs now work.logons.channel left) (dial_part work how)
+
+-- the channel with the secrets that it is given before a turn, where one can start
+abbrev pub ready_channel : Work → Requester
+ready_channel work =
+    give_secrets (can_start work.logons.channel.turn work.logons.channel.waiting) work.logons.plan.secrets work.logons.channel
 
 abbrev pub next_turn : ℕ → DialWork → List (List ℕ) → Result (Part DialWork) StepRefused
 next_turn now dial_work left =
     turn_by (can_start dial_work.0.logons.channel.turn dial_work.0.logons.channel.waiting) (needs_challenge dial_work.0.logons.channel.standing)
-    now dial_work.0 dial_work.1 left
+    now (with_requester dial_work.0 (ready_channel dial_work.0)) dial_work.1 left

@@ -53,8 +53,8 @@ is_fresh (phase.Asked bound place held) = false
 is_fresh (phase.In on) = false
 is_fresh (phase.Out bound status) = false
 
--- the argument: whether nothing is bound yet
-abbrev pub unit_by : Bool → Phase → List ℕ → Option RpcUnit → AtLink → List (List ℕ) → ServedPart
+-- a unit came on an accepted link
+abbrev pub unit_by : (is_fresh : Bool) (phase : Phase) (bytes : List ℕ) (joiner : Option RpcUnit) (at : AtLink) (left : List (List ℕ)) → ServedPart
 unit_by true how bytes joiner at left = first_unit (unit_of bytes) joiner at left
 unit_by false how bytes joiner at left = drawless (bound_unit how bytes joiner at) left
 

@@ -1,9 +1,11 @@
 //! Laws of the member's machine, over its definitions. Each function does nothing, and its clause is the law.
 
 ghost use Rattle.member_server.specs.Laws.{AsksWhatWaits, ClosesNothing, KeepsRequests, LeavesOtherLinks, LetsInTheGranted, ReachesItsLink, ServesOneMessage};
+ghost use Rattle.member_server.specs.Keeping.{KeepsWhatIsHeld};
 ghost use Rattle.member_server.specs.Pending.{Settles};
 ghost use Rattle.member_server.specs.ChannelSteps.{ChannelStepsKnown};
 ghost use Rattle.member_server.specs.Dials.{TurnsAreDialled};
+ghost use Rattle.member_server.specs.Secrets.{TellsTextsApart};
 ghost use Rattle.member_server.specs.Sharing.{SharesTurns};
 ghost use Rattle.member_server.specs.Whole.{MembersSendWhole};
 
@@ -90,4 +92,17 @@ pub fn turns_are_dialled()
 #[tactic(auto, using(crate::proofs::SharingLaws::shares_turns))]
 pub fn turns_are_shared()
     ensures { SharesTurns }
+{}
+
+/// What the member keeps last is the text of the secrets that it holds: where that text stood in the file of its
+/// secrets, it stands there after each step, and after each change that begins.
+#[tactic(auto, using(crate::proofs::KeepingLaws::keeps_what_is_held))]
+pub fn what_is_kept_is_held()
+    ensures { KeepsWhatIsHeld }
+{}
+
+/// The text of the secrets is kept after a turn exactly where it is another then.
+#[tactic(auto, using(crate::proofs::SecretLaws::tells_texts_apart))]
+pub fn texts_that_change_are_kept()
+    ensures { TellsTextsApart }
 {}

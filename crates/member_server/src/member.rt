@@ -1,17 +1,18 @@
 //! The member.
 
-ghost use Rattle.std.specs.Prelude.{◌≡◌, ◌≤◌, ◌<◌, ◌+◌, ◌++◌, ◌↔◌, None, Some, Err, false, length, nat_le, option_copied, IfOk, OnOk, OnErr, IsTrue};
+ghost use Rattle.std.specs.Prelude.{ℕ, List as list, ◌≡◌, ◌≤◌, ◌<◌, ◌+◌, ◌++◌, ◌↔◌, None, Some, Err, false, length, nat_le, option_copied, IfOk, OnOk, OnErr, IsTrue};
 ghost use Rattle.end_loop.specs.Acts.{is_made, most_made_by};
 ghost use Rattle.wire_base.specs.Maps.{lookup, same_number};
 ghost use Rattle.end_links.specs.Bounds.{AreShortSends, units_at, units_in_piece};
 ghost use Rattle.outside.specs.Drawing.{DrawsSome};
 ghost use Rattle.outside.specs.Machine.{AnswersBy, StepsBy};
 ghost use Rattle.channel_client.specs.Machine.{fresh_requester};
-ghost use Rattle.member_server.specs.Machine.{account_of, caller_of, fresh_member, close_link, open_by, open_after_close, answer_dial, bytes_on_link, serve_alone, bytes_on, by_event, put_open, halted_state, is_stopped, event_part, step_of, want_of};
+ghost use Rattle.member_server.specs.Machine.{account_of, caller_of, fresh_member, close_link, open_by, open_after_close, answer_dial, bytes_on_link, serve_alone, bytes_on, by_event, put_open, halted_state, is_stopped, event_part, step_of, want_of, ChangesBy, change_of, next_kept};
 ghost use Rattle.member_server.specs.Outcomes.{without_link};
 ghost use Rattle.member_server.specs.Pending.{pending_in};
 ghost use Rattle.rpc_units.specs.Stream.{cut_stream};
 
+use crate::change::{ChangeRefused, change_running};
 use crate::outcomes::tell_at;
 use crate::plan::MemberPlan;
 use crate::state::{AtLink, Logons, Phase, Running, Talk, Work};
@@ -111,6 +112,28 @@ impl Member {
         Ok(actions.into_actions())
     }
 
+    /// Begins a change of the secret: from now on the new one is the next one, which a turn on the open channel sets.
+    /// The one action keeps the text of both. A turn that is out doesn't set the new one yet; the turn after it does.
+    ///
+    /// `Busy` exactly where a change is under way, which then stays, and `Stopped` exactly where the member was stopped
+    /// before; after either of them all is as it was. `Memory` where no memory was found; then the member is stopped
+    /// and keeps nothing.
+    #[tactic(auto, using(crate::proofs::ChangeLaws::changing_member))]
+    pub fn change(&mut self, alloc: Global, new: [u8; 16]) -> Result<Actions, ChangeRefused>
+        // The action and the state are those of the definition.
+        ensures answer { ChangesBy result (change_of self.old new) self.new }
+        ensures stopped { (result ≡ Err ChangeRefused.Stopped) ↔ IsTrue (is_stopped self.old) }
+        ensures busy { (next : list ℕ) → (result ≡ Err (ChangeRefused.Busy next))
+            ↔ (next_kept self.old ≡ Some next) }
+    {
+        let Some(running) = self.running.take() else {
+            return Err(ChangeRefused::Stopped);
+        };
+        let (running, answer) = change_running(alloc, new, running);
+        self.running = running;
+        answer
+    }
+
     /// The link that the member waits for: that of the turn. It takes no memory.
     pub fn wants(&self) -> Option<u32>
         ensures { result ≡ want_of self.now }
@@ -134,7 +157,13 @@ pub(crate) fn fresh_channel(alloc: Global, plan: &MemberPlan) -> Result<Channel,
     ensures { IfOk result (λ channel. channel ≡ fresh_requester (caller_of plan.now)) }
 {
     let account = account_of(alloc, &plan.computer)?;
-    Channel::new(alloc, plan.secret, plan.computer.copy(alloc)?, account, 2)
+    Channel::new(
+        alloc,
+        plan.secrets.tried(),
+        plan.computer.copy(alloc)?,
+        account,
+        2,
+    )
 }
 
 /// The name of the machine account.

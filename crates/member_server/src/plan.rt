@@ -2,16 +2,17 @@
 
 ghost use Rattle.std.specs.Prelude.{◌≡◌, IfOk};
 
+use secret_change::Secrets;
 use std::alloc::Global;
 use wire_base::{Blob, Name, NoMemory};
 
-/// A member server of a domain: the name of its computer, its domain, the secret of its machine account, which is that
-/// account's NT hash (MS-NRPC 3.1.1), and the address of the controller that judges its logons.
+/// A member server of a domain: the name of its computer, its domain, the secrets of its machine account, of which one
+/// is that account's NT hash (MS-NRPC 3.1.1), and the address of the controller that judges its logons.
 #[derive(Debug, Drop)]
 pub struct MemberPlan {
     pub computer: Name,
     pub domain: Name,
-    pub secret: [u8; 16],
+    pub secrets: Secrets,
     pub controller: Blob,
 }
 
@@ -23,7 +24,7 @@ impl MemberPlan {
         Ok(MemberPlan {
             computer: self.computer.copy(alloc)?,
             domain: self.domain.copy(alloc)?,
-            secret: self.secret,
+            secrets: self.secrets.copy(),
             controller: Blob::copy(alloc, self.controller.bytes())?,
         })
     }

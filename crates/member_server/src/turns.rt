@@ -3,21 +3,25 @@
 ghost use Rattle.std.specs.Prelude.{◌≡◌, ◌≤◌, ◌+◌, None, length, IfOk};
 ghost use Rattle.outside.specs.Drawing.{DrawsSome};
 ghost use Rattle.outside.specs.Machine.{AnswersBy};
+ghost use Rattle.channel_client.specs.Machine.{can_start};
 ghost use Rattle.channel_turns.specs.Turning.{link_answers, link_closes, link_hears};
 ghost use Rattle.member_server.specs.Machine.{fail_dial};
 ghost use Rattle.member_server.specs.Outcomes.{end_logon};
-ghost use Rattle.member_server.specs.Turns.{after_ended, after_turned, close_ended, end_turn, ending_of, next_turn, turning_of};
+ghost use Rattle.member_server.specs.Secrets.{changes_text, confirmed_of, give_secrets, is_denied, secrets_after};
+ghost use Rattle.member_server.specs.Turns.{after_ended, after_turned, close_ended, end_turn, ending_of, keep_ended, next_turn, turning_of};
 
 use crate::outcomes::{Ending, end_logon, tell_at};
 use crate::plan::MemberPlan;
 use crate::state::{Logon, Logons, Talk, Work};
+use channel_client::Channel;
 use channel_turns::{
     Dialling, TurnEnd, TurnEnded, Turning, link_answers, link_closes, link_hears, next_dial,
     no_dial,
 };
 use end_links::Links;
 use logon_stubs::Verdict;
-use outside::{Action, Chances, CloseCause, StepRefused};
+use outside::{Action, Chances, CloseCause, DropCause, StepRefused};
+use secret_change::Secrets;
 use std::alloc::Global;
 use wire_base::{List, NoMemory};
 
@@ -45,12 +49,79 @@ fn end_turn(alloc: Global, how: TurnEnd, work: Work) -> Result<Work, NoMemory>
     ensures { IfOk result (λ ended. ended ≡ end_turn how work) }
 {
     match how {
-        TurnEnd::Half | TurnEnd::Opened => Ok(work),
+        TurnEnd::Half | TurnEnd::Opened | TurnEnd::Set => Ok(work),
         TurnEnd::Answer(place, verdict) => end_by(alloc, place, ending_of(verdict), work),
         TurnEnd::Dropped(place, cause) => {
             end_by(alloc, place, Ending::NoController(cause), work)
         }
     }
+}
+
+/// Whether the controller denied the channel, or the call on it.
+fn is_denied(cause: DropCause) -> bool
+    ensures { result ≡ is_denied cause }
+{
+    match cause {
+        DropCause::Denied => true,
+        DropCause::QueueFull
+        | DropCause::DialFailed
+        | DropCause::LinkClosed
+        | DropCause::Bind
+        | DropCause::Fault(_)
+        | DropCause::NotNext
+        | DropCause::BadReply
+        | DropCause::BadSeal => false,
+    }
+}
+
+/// What a turn that ended so makes of the secrets. It takes no memory.
+fn change_secrets(how: &TurnEnd, secrets: &mut Secrets)
+    ensures { secrets.new ≡ secrets_after how.now secrets.old }
+{
+    match how {
+        TurnEnd::Half | TurnEnd::Answer(_, _) => {}
+        TurnEnd::Opened => secrets.opened(),
+        TurnEnd::Dropped(_, cause) => {
+            if is_denied(*cause) {
+                secrets.denied();
+            }
+        }
+        TurnEnd::Set => confirm(secrets),
+    }
+}
+
+/// The account has the next secret, where one is kept. It takes no memory.
+#[tactic(auto, using(crate::proofs::SecretLaws::stays_unconfirmed))]
+fn confirm(secrets: &mut Secrets)
+    ensures { secrets.new ≡ confirmed_of secrets.old }
+{
+    if secrets.next().is_some() {
+        secrets.confirmed();
+    }
+}
+
+/// The secrets are changed as a turn that ended so makes it. True exactly where their text is another then. It takes no
+/// memory.
+#[tactic(auto, using(crate::proofs::SecretLaws::replacing))]
+fn replace_secrets(how: &TurnEnd, secrets: &mut Secrets) -> bool
+    ensures answer { result ≡ changes_text how.now secrets.old }
+    ensures secrets { secrets.new ≡ secrets_after how.now secrets.old }
+{
+    let changing = secrets.next().is_some();
+    change_secrets(how, secrets);
+    changing && secrets.next().is_none()
+}
+
+/// The secrets after a turn that ended so; where their text is another, it is to be kept.
+fn keep_ended(alloc: Global, how: &TurnEnd, work: Work) -> Result<Work, NoMemory>
+    ensures { IfOk result (λ kept. kept ≡ keep_ended how.now work) }
+{
+    let mut work = work;
+    if !replace_secrets(how, &mut work.logons.plan.secrets) {
+        return Ok(work);
+    }
+    let text = work.logons.plan.secrets.text(alloc)?;
+    tell_at(work, Action::Keep(text))
 }
 
 /// The link of the turn is closed, where it is still open.
@@ -63,12 +134,15 @@ fn close_ended(closes: Option<(u32, CloseCause)>, work: Work) -> Result<Work, No
     }
 }
 
-/// Where a turn ended, its link is closed, and then comes what follows.
+/// Where a turn ended, a new text of the secrets is kept, its link is closed, and then comes what follows.
 fn after_ended(alloc: Global, ended: Option<TurnEnded>, work: Work) -> Result<Work, NoMemory>
     ensures { IfOk result (λ after. after ≡ after_ended ended work) }
 {
     match ended {
-        Some(TurnEnded { closes, how }) => end_turn(alloc, how, close_ended(closes, work)?),
+        Some(TurnEnded { closes, how }) => {
+            let work = keep_ended(alloc, &how, work)?;
+            end_turn(alloc, how, close_ended(closes, work)?)
+        }
         None => Ok(work),
     }
 }
@@ -215,8 +289,44 @@ pub(crate) fn hear_turn<Q: Chances>(
 
 // ---- the next turn
 
-/// The next turn starts, where one can: the controller is dialled. A challenge is drawn where the channel needs one:
-/// one at most, whatever the result.
+/// Where a turn can start, the channel is given the next secret, or none, and while it is none the secret that is
+/// tried. It takes no memory.
+#[tactic(auto, using(crate::proofs::SecretLaws::giving))]
+fn give_secrets(secrets: &Secrets, channel: &mut Channel)
+    ensures { channel.new
+        ≡ give_secrets (can_start channel.old.turn channel.old.waiting) secrets.now channel.old }
+{
+    if !channel.can_start() {
+        return;
+    }
+    if channel.needs_challenge() {
+        channel.use_secret(secrets.tried());
+    }
+    channel.set_next(secrets.next());
+}
+
+/// The turn, whose channel is given the secrets. It takes no memory.
+fn make_ready(secrets: &Secrets, turning: Turning) -> Turning
+    ensures { result ≡ record turning {
+      channel = give_secrets
+          (can_start turning.channel.turn turning.channel.waiting) secrets.now turning.channel;
+    } }
+{
+    let Turning {
+        mut channel,
+        dialling,
+        actions,
+    } = turning;
+    give_secrets(secrets, &mut channel);
+    Turning {
+        channel,
+        dialling,
+        actions,
+    }
+}
+
+/// The next turn starts, where one can: the channel is given the secrets, and the controller is dialled. A challenge is
+/// drawn where the channel needs one: one at most, whatever the result.
 #[tactic(auto, using(crate::proofs::SharingLaws::next_refused))]
 pub(crate) fn next_turn<Q: Chances>(
     alloc: Global,
@@ -231,6 +341,7 @@ pub(crate) fn next_turn<Q: Chances>(
     ensures few { length (Q.drawing chances.old).left ≤ length (Q.drawing chances.new).left + 1 }
 {
     let (turning, beside) = apart(work, how);
+    let turning = make_ready(&beside.plan.secrets, turning);
     match next_dial(alloc, now, &beside.plan.controller, turning, chances) {
         Ok(turning) => Ok(together(turning, beside)),
         Err(why) => Err(why),
