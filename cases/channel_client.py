@@ -5,8 +5,9 @@ other. COMPUTER is an ASCII text in hex, ACCOUNT one of 16-bit units, KIND a num
 `ask/DOMAIN/USER/WORKSTATION/CHALLENGE/NT/LM` (texts of 16-bit units): the place of the logon, or the refusal;
 `fill/COUNT`: so many logons without names and responses, and the answer to the last; `can`: whether a turn can start,
 and whether it draws a challenge; `start/TIMESTAMP/CHALLENGE`: the bytes of each frame, or `none`; `take/BYTES`: what
-the unit of these bytes comes to; `lose`: the place. A step that wants a right that isn't out is answered with `no
-turn`.
+the unit of these bytes comes to; `lose`: the place; `secret/SECRET`: another secret of a channel that is none;
+`following/SECRET`: the next secret, `none` for none. A step that wants a right that isn't out is answered with `no
+turn`. A secret is given only where a turn can start, else the step is no case.
 
 The frames and the answers are worked out here by the text of docs/FORMATS.md ("The shared channel") and MS-NRPC 3.1.4,
 with replies written by Samba and impacket among those that are taken.
@@ -22,9 +23,13 @@ from ndr_codec import Refused
 from rpc_units import ACK, AUTH3, BIND, FAULT, LIMIT, NAK, NDR, NETLOGON, NONE, REQUEST, RESPONSE, whole
 from rpc_units import read as read_unit
 from rpc_units import write as write_unit
+from set_stubs import hidden_by
+from set_stubs import read_reply as read_set_reply
+from set_stubs import write_call as write_set
+from set_stubs import write_reply as write_set_reply
 from wire import changed, le, steps, truth
 
-OFFERED, RC4_FLAG, ACCESS_DENIED, ZEROS = 0x41FF, 4, 0xC0000022, bytes(8)
+OFFERED, RC4_FLAG, ACCESS_DENIED, ZEROS, SET = 0x41FF, 4, 0xC0000022, bytes(8), 6
 
 
 # ---- keys
@@ -104,6 +109,8 @@ class Requester:
         self.secret, self.computer, self.account, self.kind = secret, computer.encode(), (computer + "$").encode("utf-16-le"), kind
         self.waiting, self.place, self.call, self.turn = [], place, call, None
         self.client = self.server = self.seed = self.awaited = None
+        # the secret that the account is to have
+        self.next = None
         self.words, self.answers = [secret, self.computer, self.account, kind], []
 
     def add(self, word, answer):
@@ -142,6 +149,21 @@ class Requester:
         self.add("can", f"{truth(self.waiting and self.turn is None)} {truth(self.client is None)}")
         return self
 
+    # secrets
+
+    def give(self, word, may, run):
+        may = may and self.waiting and self.turn is None
+        if may:
+            run()
+        self.add(word, "-" if may else "no such case")
+        return self
+
+    def use_secret(self, secret):
+        return self.give(f"secret/{secret.hex()}", self.client is None, lambda: setattr(self, "secret", secret))
+
+    def set_next(self, secret):
+        return self.give(f"following/{secret.hex() if secret else 'none'}", True, lambda: setattr(self, "next", secret))
+
     # turns
 
     def number(self):
@@ -158,6 +180,9 @@ class Requester:
         made = credential(self.key(), plus(self.seed, timestamp)), timestamp
         self.seed = plus(self.seed, timestamp + 1)
         self.awaited = credential(self.key(), self.seed)
+        if self.next is not None:
+            return SET, {"primary": None, "account": self.account, "channel": self.kind, "computer": computer, "authenticator": made,
+                         "hidden": hidden_by(self.key(), self.next)}
         return LOGON, {"server": None, "computer": computer, "authenticator": made, "returned": (ZEROS, 0), "info": info, "validation": 3}
 
     def start(self, timestamp=1_700_000_000, challenge="1011121314151617"):
@@ -187,7 +212,7 @@ class Requester:
 
     def request(self, receive):
         turn = self.turn
-        stub = write("call", turn["opnum"], turn["fields"]).stub
+        stub = write_set(**turn["fields"]) if turn["opnum"] == SET else write("call", turn["opnum"], turn["fields"]).stub
         turn.update(bound=True, number=self.number())
         unit = whole(REQUEST, call=turn["number"], hint=len(stub), context=0, opnum=turn["opnum"], stub=stub)
         return "next " + ",".join(frame.hex() for frame in frames_of(unit, max(1432, min(LIMIT, receive))))
@@ -209,6 +234,9 @@ class Requester:
             return "opened"
         if reply["returned"] is None or reply["returned"][0] != self.awaited:
             raise Dropped("NotNext")
+        if turn["opnum"] == SET:
+            self.awaited, self.turn, self.next = None, None, None
+            return "set"
         if reply["status"] == 0 and (reply["level"] != 3 or reply["info"] is None):
             raise Dropped("BadReply")
         self.awaited, self.turn, self.waiting = None, None, self.waiting[1:]
@@ -229,7 +257,7 @@ class Requester:
         if unit["kind"] == ACK:
             return self.request(unit["receive"])
         try:
-            reply = read("reply", self.turn["opnum"], unit["stub"])[0]
+            reply = read_set_reply(unit["stub"]) if self.turn["opnum"] == SET else read("reply", self.turn["opnum"], unit["stub"])[0]
         except (Refused, BadArm):
             raise Dropped("BadReply") from None
         return self.judge(reply)
@@ -254,7 +282,7 @@ class Requester:
 
     def reply(self, stub, **fields):
         if isinstance(stub, dict):
-            stub = write("reply", self.turn["opnum"], stub).stub
+            stub = write_set_reply(**stub) if self.turn["opnum"] == SET else write("reply", self.turn["opnum"], stub).stub
         return self.take(response_of(self.turn["number"], stub, **fields))
 
     def half(self, server="2021222324252627"):
@@ -267,6 +295,10 @@ class Requester:
     def opened(self):
         self.half().start().ack()
         return self.reply(self.right())
+
+    def confirmed(self, **fields):
+        """The reply to a change, with the return credential that is awaited."""
+        return {"returned": (self.awaited, 0), "status": 0} | fields
 
     def verdict(self, **fields):
         """The reply to Logon with the return credential that is awaited, which refuses it."""
@@ -445,6 +477,79 @@ def cause_cases():
     return out
 
 
+NEW, NEWER = b"\x61" * 16, bytes(range(0x70, 0x80))
+
+
+def changing(secret=NEW):
+    """An open channel whose next turn sets the secret, and two logons that wait."""
+    return Requester().ask().ask().opened().set_next(secret).start()
+
+
+def logged(end):
+    """The first logon that waits is asked, and refused."""
+    end.start().ack()
+    return end.reply(end.verdict())
+
+
+def change_cases():
+    out = []
+    # before the next logon, on the key that the channel has; then both logons
+    end = changing().ack()
+    end.reply(end.confirmed()).can()
+    out.append(logged(logged(end)).can().case())
+    # one that is known before the channel is open is set behind its opening
+    end = Requester().ask().set_next(NEWER).opened().start(7).ack()
+    out.append(logged(end.reply(end.confirmed(returned=(end.awaited, 9)))).case())
+    # another before the first is set, none any more, and the one that the account has
+    out.append(changing(NEW).lose().can().set_next(NEWER).opened().start().ack().case())
+    out.append(Requester().ask().opened().set_next(NEW).set_next(None).start().ack().case())
+    end = changing(b"\x41" * 16).ack()
+    out.append(logged(end.reply(end.confirmed())).case())
+    # two, one behind the other
+    end = changing(NEW).ack()
+    end.reply(end.confirmed()).set_next(NEWER).start().ack()
+    out.append(logged(end.reply(end.confirmed())).case())
+    # a secret is given while no turn is out, and another to open the channel by while it is none
+    end = Requester().ask().ask().use_secret(NEWER).half().use_secret(NEW).start().use_secret(NEW).set_next(NEW).ack()
+    out.append(end.reply(end.right()).use_secret(NEW).set_next(NEW).start().ack().lose().use_secret(NEW).opened().start().ack().case())
+    # the reply is lost: the channel is none, and opened by the new secret the change is asked again
+    end = changing().ack().lose().can().use_secret(NEW).opened().start().ack()
+    out.append(end.reply(end.confirmed()).can().start().case())
+    # each cause: the status whatever it comes with, the credential, and the layout
+    for status in (1, ACCESS_DENIED, 0xC000018B):
+        for returned in ("awaited", (ZEROS, 0)):
+            end = changing().ack()
+            fields = {} if returned == "awaited" else {"returned": returned}
+            out.append(end.reply(end.confirmed(status=status, **fields)).can().ask().case())
+    for bit in (1, 1 << 7, 1 << 63):
+        end = changing().ack()
+        given = (int.from_bytes(end.awaited, "little") ^ bit).to_bytes(8, "little")
+        out.append(end.reply(end.confirmed(returned=(given, 0))).can().case())
+    for stub in (b"", bytes(4), bytes(15)):
+        out.append(changing().ack().reply(stub).case())
+    end = changing().ack()
+    out.append(end.reply(write_set_reply(**end.confirmed()) + b"more").case())
+    for step in (changing, lambda: changing().ack()):
+        end = step()
+        out.append(end.take(whole(NAK, call=end.turn["number"], reason=0)).can().case())
+        end = step()
+        out.append(end.take(fault_of(end.turn["number"], 5)).can().case())
+        end = step()
+        out.append(end.take(fault_of(99, 5)).take(ack_of(99, 4280, [])).take(response_of(0, bytes(16))).can().case())
+        for unit in other_units(step().turn["number"]):
+            out.append(step().take(unit).case())
+    end = changing()
+    out.append(end.reply(end.confirmed()).case())
+    out.append(changing().ack().ack().case())
+    end = changing().ack()
+    out.append(end.reply(write("reply", LOGON, end.verdict()).stub).case())
+    # in fragments, of a name that is as long as may be
+    end = Requester(computer="A" * 64).ask().opened().set_next(NEW).start()
+    end.ack(0)
+    out.append(end.reply(end.confirmed()).case())
+    return out
+
+
 def foreign_cases():
     """Replies as Samba and impacket wrote them, as they stand and with the credential that is awaited put in."""
     out = []
@@ -477,4 +582,4 @@ def foreign_cases():
 
 def cases():
     """Each line and its answer."""
-    return queue_cases() + published_cases() + path_cases() + cause_cases() + foreign_cases()
+    return queue_cases() + published_cases() + path_cases() + cause_cases() + change_cases() + foreign_cases()

@@ -6,12 +6,12 @@ unit, or `broken` and the cause. Behind that the link is broken.
 the challenges that may be drawn (16 hex digits each, joined by commas, or `-`), and the steps one after the other.
 Events: `next/PEER` (the next turn, for which that peer is dialled), `dialled/LINK`, `failed`, `closed/LINK`,
 `bytes/LINK/BYTES`; each is answered with its actions in order, joined by commas, `-` where there are none, and then
-how the turn ended, where it did: `half`, `opened`, `answer PLACE VERDICT` or `dropped PLACE CAUSE`, behind `closes
-LINK CAUSE` where its link is still to be closed; or with the refusal, behind which no step is a case. The calls that
-those rest on are answered likewise: `bind/LINK`, `serve/BYTES`, `lose`; and `start` with the bytes of the bind, or
-`none`. `ask/..` is as in `turns.run`, `at/MOMENT` sets the moment, which is 0 before, and `tell/LINK` is answered
-with the link that is waited for, whether that is the link of the turn, whether a dial waits, and the bytes that are
-held. The last answer is the number of challenges that are left.
+how the turn ended, where it did: `half`, `opened`, `set`, `answer PLACE VERDICT` or `dropped PLACE CAUSE`, behind
+`closes LINK CAUSE` where its link is still to be closed; or with the refusal, behind which no step is a case. The calls
+that those rest on are answered likewise: `bind/LINK`, `serve/BYTES`, `lose`; and `start` with the bytes of the bind, or
+`none`. `ask/..`, `secret/..` and `following/..` are as in `turns.run`, `at/MOMENT` sets the moment, which is 0 before,
+and `tell/LINK` is answered with the link that is waited for, whether that is the link of the turn, whether a dial
+waits, and the bytes that are held. The last answer is the number of challenges that are left.
 
 The actions are those of the member's turn (`member_server.py`), by the rules of docs/FORMATS.md ("The member", "The
 shared channel"), MS-NRPC 3.1.4 and C706 12.6.
@@ -25,6 +25,7 @@ from member_server import Asking, Member, Shut, Spent
 from rpc_units import ACK, FAULT, NAK, NDR, REQUEST, RESPONSE, Joiner, Refused, shown, whole
 from rpc_units import read as read_unit
 from rpc_units import write as write_unit
+from set_stubs import write_reply as write_set
 from wire import changed, le, steps, truth
 
 NOW = 133_000_000_000_000_000
@@ -54,6 +55,12 @@ class Turning(Member):
     def case(self):
         return line("turning.run", *self.words), steps(self.answers + [str(len(self.draws))])
 
+    def give_secrets(self):
+        """The secrets are given by steps."""
+
+    def replace(self, ended):
+        """No secrets are kept."""
+
     def end_turn(self, cause):
         self.closes, self.turn_link = f"closes {self.turn_link} {cause}", None
         self.how = self.channel.said
@@ -82,6 +89,21 @@ class Turning(Member):
         self.words.append(self.channel.words[-1])
         self.answers.append(self.channel.answers[-1])
         return self
+
+    def give(self, word, give):
+        self.words.append(word)
+        if self.stopped:
+            self.answers.append(GONE)
+        else:
+            give()
+            self.answers.append(self.channel.answers[-1])
+        return self
+
+    def use_secret(self, secret):
+        return self.give(f"secret/{secret.hex()}", lambda: self.channel.use_secret(secret))
+
+    def set_next(self, secret):
+        return self.give(f"following/{secret.hex()}", lambda: self.channel.set_next(secret))
 
     def told(self, link):
         self.words.append(f"tell/{link}")
@@ -159,7 +181,8 @@ def ack(end, receive=4280, **fields):
 
 def reply(end, fields):
     turn = end.channel.turn
-    return write_unit(channel_client.response_of(turn["number"], write("reply", turn["opnum"], fields).stub))
+    stub = write_set(**fields) if turn["opnum"] == channel_client.SET else write("reply", turn["opnum"], fields).stub
+    return write_unit(channel_client.response_of(turn["number"], stub))
 
 
 def good(end, **verdict):
@@ -169,6 +192,8 @@ def good(end, **verdict):
         return reply(end, {"challenge": bytes.fromhex("2021222324252627"), "status": 0})
     if turn["opnum"] == channel_client.AUTHENTICATE:
         return reply(end, channel.right())
+    if turn["opnum"] == channel_client.SET:
+        return reply(end, channel.confirmed())
     return reply(end, channel.verdict(**verdict))
 
 
@@ -223,6 +248,32 @@ def logon_cases():
         turn(end, 3)
         turn(end, 3)
         out.append(end.next().dialled(4).bytes(ack(end, 1432), 4).case())
+    return out
+
+
+def change_cases():
+    """A change of the secret: confirmed, denied, and with a reply that is lost."""
+    out = []
+    for make in ENDS:
+        end = opened(make).set_next(channel_client.NEW)
+        turn(end, 9)
+        turn(end, 9)
+        out.append(end.next().told(9).case())
+        # each byte of the reply by itself
+        end = opened(make).set_next(channel_client.NEW).next().dialled(9)
+        end.bytes(ack(end), 9)
+        for byte in good(end):
+            end.bytes(bytes([byte]), 9)
+        out.append(end.told(9).next().case())
+        # denied: the next turn opens the channel by another secret, and asks the change again
+        end = opened(make).set_next(channel_client.NEW).next().dialled(9)
+        end.bytes(ack(end), 9)
+        end.bytes(reply(end, end.channel.confirmed(status=channel_client.ACCESS_DENIED)), 9).use_secret(channel_client.NEW)
+        for link in (10, 11, 12):
+            turn(end, link)
+        out.append(end.next().case())
+    end = opened(Turning).set_next(channel_client.NEW).next().dialled(9)
+    out.append(end.bytes(ack(end), 9).closed(9).next().dialled(10).case())
     return out
 
 
@@ -341,4 +392,4 @@ def hear_cases():
 
 def cases():
     """Each line and its answer."""
-    return hear_cases() + logon_cases() + cause_cases() + event_cases() + call_cases()
+    return hear_cases() + logon_cases() + change_cases() + cause_cases() + event_cases() + call_cases()

@@ -93,7 +93,11 @@ class MemberEnd:
         self.renew()
 
     def renew(self):
+        """It begins anew, with the secrets that it kept last."""
+        old = getattr(self, "end", None)
         self.end = world_marks.Member(draws=[], **self.plan)
+        if old:
+            self.end.current, self.end.following = old.current, old.following
 
     def actions(self):
         found = []
@@ -167,6 +171,9 @@ class World:
                 self.dials.append((end, rest[0]))
             elif kind == "close":
                 self.close(end, rest[0])
+            elif kind == "keep":
+                # a member's secrets stand in it
+                assert end in self.members and rest[0] == end.end.kept()
             elif kind == "told":
                 self.counts[{"In": "accepted", "Out": "refused", "NoController": "no_controller"}[rest[0]]] += 1
             elif rest[0] in ("Passed", "Barred"):
@@ -300,6 +307,16 @@ class World:
             self.forget(end)
             end.renew()
 
+    def change(self, number, secret):
+        """A member is told to take a secret, which it keeps beside its own. It stays as it is where it has two."""
+        member = self.chosen(number, self.members)
+        if member and member.end.following is None:
+            self.hears(member, "change", secret.hex())
+
+    def kept(self, number):
+        """The secrets that a member keeps."""
+        return self.members[number].end.kept().decode().split()
+
     def tick(self, more):
         if self.now <= LAST_MOMENT:
             self.now = min(self.now + more, LAST_MOMENT)
@@ -373,6 +390,11 @@ def drill(eve="34"):
 def is_logon(unit):
     """Whether a unit is a member's NetrLogonSamLogon: a request of opnum 2 (MS-NRPC 3.5.4.5.3)."""
     return unit["kind"] == "to controller" and not unit["back"] and unit["bytes"][2] == 0 and unit["bytes"][22:24] == b"\x02\0"
+
+
+def is_set(unit):
+    """Whether a unit is a member's NetrServerPasswordSet: a request of opnum 6 (MS-NRPC 3.5.4.4.6)."""
+    return unit["kind"] == "to controller" and not unit["back"] and unit["bytes"][2] == 0 and unit["bytes"][22:24] == b"\6\0"
 
 
 class Script:
@@ -499,6 +521,34 @@ def crossed():
             script.make("deliver", place, same.index(link) ^ (kind == "to controller"))
 
     return script.run(step)
+
+
+def change_comes_through():
+    """FILE1 takes a new secret. The controller sets it, but the reply is lost, and the link is shut; then the member is
+    made anew from both secrets. Ann gets no answer, and none while the member tries the old secret. Then the member
+    tries the new one, which the controller has: ann is in, and the member keeps that secret alone."""
+    script = Script(one_logon())
+    script.make("change", 0, b"\x61" * 16)
+    script.make("start", 0)
+    while not script.world.oldest() or not is_set(script.world.oldest()):
+        script.make("connect" if script.world.dials else "onward")
+    link = script.world.oldest()["link"]
+    script.make("onward")
+    script.make("lose")
+    script.make("shut", [place for place, each in enumerate(script.world.links) if any(each["open"].values())].index(link))
+    script.run(onward)
+    script.make("restart", 1)
+    for is_in in (False, True):
+        assert script.world.kept(0) == ["41" * 16, "61" * 16]
+        script.make("start", 0)
+        with_outcomes(script.run(onward), is_in)
+    assert script.world.kept(0) == ["61" * 16]
+    return script
+
+
+def check_changes():
+    """A change comes through, as it is worked out by hand."""
+    counted(change_comes_through, {"accepted": 1, "no_controller": 2, "passed": 2, "barred": 0})
 
 
 def check_clearness():
@@ -890,6 +940,7 @@ def one_at_a_time():
 def cases():
     """Each line and its answer."""
     check_clearness()
+    check_changes()
     scripts = [counted(scenario, wanted) for scenario, wanted in WANTED] + logon_scripts()
     scripts += [twice_delivered(), misdelivered(), controller_restarts()]
     scripts += one_at_a_time() + broken_scripts() + address_scripts() + strangers() + strangers_set() + ticks() + idle_scripts()

@@ -1,11 +1,11 @@
 """Cases of member_server.
 
-`member.run COMPUTER DOMAIN SECRET CONTROLLER CHALLENGES STEP ..`: a member of this plan (names in ASCII), the
-challenges that may be drawn (16 hex digits each, joined by commas, or `-`), and its events one after the other:
-`opened/LINK`, `bytes/LINK/BYTES`, `closed/LINK`, `dialled/LINK`, `failed`, `stop`;
-`at/MOMENT` sets the moment, which is 0 before; `wants` is answered with the link of the turn. An event is answered with
-its actions in order, joined by commas, `-` where there are none, or with the refusal; a moment with `-`. The last
-answer is the number of challenges that are left.
+`member.run COMPUTER DOMAIN SECRETS CONTROLLER CHALLENGES STEP ..`: a member of this plan (names in ASCII; one secret or
+two, joined by a comma, the current one first), the challenges that may be drawn (16 hex digits each, joined by commas,
+or `-`), and its events one after the other: `opened/LINK`, `bytes/LINK/BYTES`, `closed/LINK`, `dialled/LINK`, `failed`,
+`stop`; `change/SECRET` begins a change to that secret; `at/MOMENT` sets the moment, which is 0 before; `wants` is
+answered with the link of the turn. An event and a change are answered with the actions in order, joined by commas, `-`
+where there are none, or with the refusal; a moment with `-`. The last answer is the number of challenges that are left.
 
 The actions are worked out here by the rules of docs/FORMATS.md ("The member", "The shared channel"), MS-NLMP 3.2.5, 3.3
 and 3.4, MS-NRPC 3.1.4 and the layouts of C706 12.6, beside a controller and clients that answer by the same rules, and
@@ -67,15 +67,17 @@ class Asking(channel_client.Requester):
 class Member:
     """The member by its rules, and the line that is written of its steps."""
 
-    def __init__(self, computer="FILE1", domain="CORP", secret="41" * 16, draws=DRAWS, controller=b"there"):
+    def __init__(self, computer="FILE1", domain="CORP", secret="41" * 16, draws=DRAWS, controller=b"there", following=None):
         self.computer, self.domain, self.controller = computer, domain, controller
         self.channel = Asking(bytes.fromhex(secret), computer)
+        # the current secret and the one that is to follow it, and which of the two is tried
+        self.current, self.following, self.tries_following = bytes.fromhex(secret), bytes.fromhex(following) if following else None, False
         self.draws, self.now, self.stopped = [bytes.fromhex(each) for each in draws], 0, False
         self.links, self.gone = {}, []
         # the turn that is out: the bind that waits for its link, or the link
         self.bind, self.turn_link, self.turn_rest, self.turn_joiner = None, None, b"", None
         self.actions = []
-        self.words = [computer.encode(), domain.encode(), secret, controller, ",".join(draws) or "-"]
+        self.words = [computer.encode(), domain.encode(), ",".join(filter(None, (secret, following))), controller, ",".join(draws) or "-"]
         self.answers = []
 
     def case(self):
@@ -92,11 +94,46 @@ class Member:
     def fault(self, link, unit, status):
         self.send(link, write_unit(whole(FAULT, call=unit["call"], hint=0, context=unit["context"], status=status)))
 
+    # the secrets
+
+    def kept(self):
+        """The text that is kept: a line for each secret."""
+        return "".join(secret.hex() + "\n" for secret in (self.current, self.following) if secret is not None).encode()
+
+    def replace(self, ended):
+        """What the end of a turn makes of the secrets: their text is kept where it is another."""
+        before = self.kept()
+        if ended == "Denied" and self.following is not None:
+            self.tries_following = not self.tries_following
+        if ended == "set" or ended == "opened" and self.tries_following:
+            self.current, self.following, self.tries_following = self.following, None, False
+        if self.kept() != before:
+            self.actions.append(("keep", self.kept()))
+
+    def change(self, secret):
+        self.words.append(f"change/{secret}")
+        self.actions = []
+        if self.stopped:
+            self.answers.append("Err(Stopped)")
+        elif self.following is not None:
+            self.answers.append(f"Err({struct('Busy', next=array(self.following.hex()))})")
+        else:
+            self.following = bytes.fromhex(secret)
+            self.actions.append(("keep", self.kept()))
+            self.answers.append(self.shown(self.actions[0]))
+        return self
+
+    def give_secrets(self):
+        if self.channel.client is None:
+            self.channel.secret = self.following if self.tries_following else self.current
+        self.channel.next = self.following
+
     # the turn
 
     def start_turn(self):
         if not self.channel.waiting or self.channel.turn is not None:
             return
+        self.give_secrets()
         challenge = self.draw() if self.channel.client is None else bytes(8)
         timestamp = (self.now // 10_000_000 - 11_644_473_600) % 2**32
         self.channel.start(timestamp, challenge.hex())
@@ -130,12 +167,14 @@ class Member:
             answer = self.channel.hear(unit)
         except Dropped as cause:
             self.channel.drop()
+            self.replace(str(cause))
             self.end_turn("CallDone")
             return self.tell(place, ("none", str(cause)))
         if answer.startswith("next "):
             return self.send(self.turn_link, b"".join(bytes.fromhex(frame) for frame in answer[5:].split(",")))
         if answer == "skip":
             return
+        self.replace(answer)
         self.end_turn("CallDone")
         if answer.startswith("answer"):
             status = answer.split(" ", 2)[2]
@@ -632,6 +671,139 @@ def order_cases():
     return out
 
 
+# ---- a change of the secret
+
+OLD, NEW, NEWER = "41" * 16, "61" * 16, "62" * 16
+
+
+def kept_by(*secrets):
+    """How these secrets are kept."""
+    return "keep " + "".join(secret + "\n" for secret in secrets).encode().hex()
+
+
+def told_of(member, link=1):
+    """The outcomes that were told of a link, without what they carry."""
+    told = [action for answer in member.answers for action in answer.split(",") if action.startswith(f"told {link} ")]
+    return [action.split(" ")[2] for action in told]
+
+
+def change_begins_cases():
+    """A change that begins, and none: while one is under way, and after `Spent`."""
+    out = []
+    member = begun().change(NEW)
+    assert member.answers[-1] == kept_by(OLD, NEW)
+    # one is under way: also to the secret that is kept, also to the current one, and also of a member made of two
+    for other in (NEWER, NEW, OLD):
+        member.change(other)
+        assert member.answers[-1].startswith("Err(Busy { next: [97, ")
+    out.append(member.case())
+    out.append(begun(following=NEWER).change(NEW).change(NEWER).case())
+    # to the secret that is there: it is kept twice
+    member = begun().change(OLD)
+    assert member.answers[-1] == kept_by(OLD, OLD)
+    out.append(member.change(NEW).case())
+    # one that found no challenge is stopped
+    member = begun(draws=())
+    client = client_of(1).sent()
+    out.append(member.opened().bytes(client).change(NEW).change(NEW).wants().case())
+    member = begun(draws=(), following=NEW)
+    out.append(member.opened().bytes(client).change(NEWER).case())
+    return out
+
+
+def change_cases():
+    """A change beside a controller, at each place where a call of it, or its reply, is lost."""
+    out = []
+    # at rest: it rides in front of the next logon; then there is one secret, and another change may begin
+    for secret in (NEW, OLD):
+        member, controller = begun().change(secret), controller_of().at(NOW)
+        let_in(member, controller)
+        assert told_of(member) == ["In"] and any(answer.startswith(kept_by(secret) + ",close ") for answer in member.answers)
+        let_in(member.change(NEWER), controller, 2)
+        assert any(answer.startswith(kept_by(NEWER) + ",close ") for answer in member.answers)
+        out += [member.case(), controller.case()]
+    # while a turn is out, of each kind: the turn behind it sets the secret, or the one behind the next opening
+    for before in range(4):
+        member, controller = begun(), controller_of().at(NOW)
+        for link in (1, 2):
+            authenticate(member, link)
+        for link in range(1000, 1000 + before):
+            turn(member, controller, link)
+        member.change(NEW)
+        turn(member, controller, 2000)
+        turns(member, controller, 2001)
+        # the turn of the last logon was out: the change waits for the next one
+        assert (member.following is None) == (before < 3)
+        let_in(member, controller, 3)
+        assert [told_of(member, link) for link in (1, 2, 3)] == [["In"]] * 3 and any(kept_by(NEW) + ",close " in answer for answer in member.answers)
+        out.append(member.case())
+    return out
+
+
+def lost_at(member, controller, link, goes, comes):
+    """The turn that is dialled, whose link is lost: behind what it sent, or behind what came back."""
+    member.dialled(link)
+    controller.opened(link).bytes(member.sent(link), link)
+    member.bytes(answer_of_controller(controller, link), link)
+    if goes:
+        controller.bytes(member.sent(link), link)
+    if comes:
+        member.bytes(answer_of_controller(controller, link), link)
+    member.closed(link)
+    controller.closed(link)
+
+
+def loss_of_change_cases():
+    """The call of a change, or its reply, is lost; the member is made anew at each place behind that, or not. In the
+    end both have the new secret, and one alone."""
+    out = []
+    for passes in (False, True):
+        # how many logons come before the member is made anew of the text that it kept
+        for logons in range(4):
+            member, controller = begun(draws=DRAWS[:4]).change(NEW), controller_of(challenges=[f"{at:02x}" * 8 for at in range(0x80, 0xa0)]).at(NOW)
+            authenticate(member)
+            for link in (1000, 1001):
+                turn(member, controller, link)
+            lost_at(member, controller, 1002, passes, False)
+            assert told_of(member) == ["NoController(LinkClosed)"]
+            outcomes, lines = [], []
+            for link in range(2, 5):
+                if link == logons + 2:
+                    lines.append(member.case())
+                    member = begun(secret=member.current.hex(), following=member.following.hex() if member.following else None, draws=DRAWS[4:])
+                else:
+                    member.draws += [bytes([0x30 + link, at] * 4) for at in range(4)]
+                    member.words[4] = ",".join([member.words[4]] + [draw.hex() for draw in member.draws[-4:]])
+                let_in(member, controller, link)
+                outcomes += told_of(member, link)
+            # where the call passed the current one is denied, and then the new one opens the channel; a member that is
+            # made anew in between tries the current one again
+            first = ["NoController(Denied)"] if passes else ["In"]
+            assert outcomes == first + (first if logons == 1 else ["In"]) + ["In"]
+            assert member.kept() == (NEW + "\n").encode() and controller.secrets() == f"FILE1$ {NEW}\n".encode().hex()
+            out += lines + [member.case(), controller.case()]
+    return out
+
+
+def denied_change_cases():
+    """A controller that was begun anew knows no channel: the change is denied, then the new secret, and then the
+    current one opens."""
+    member, controller = begun(draws=DRAWS + [f"{at:02x}" * 8 for at in range(0x30, 0x40)]), controller_of().at(NOW)
+    let_in(member, controller)
+    controller = controller_of().at(NOW)
+    member.change(NEW)
+    for link in range(2, 6):
+        let_in(member, controller, link)
+    assert sum((told_of(member, link) for link in range(2, 6)), []) == ["NoController(Denied)"] * 2 + ["In"] * 2
+    assert member.kept() == (NEW + "\n").encode()
+    # an account whose secret is another: each of the two is denied in turn
+    strange, other = begun(following=NEW), controller_of(machines=(FILE1 | {"hash": NEWER},)).at(NOW)
+    for link in range(1, 4):
+        let_in(strange, other, link)
+    assert strange.following and sum((told_of(strange, link) for link in range(1, 4)), []) == ["NoController(Denied)"] * 3
+    return [member.case(), controller.case(), strange.case(), other.case()]
+
+
 def still_cases():
     """Events that change nothing: `Stop`, an empty piece, and events on links that aren't open; in front of a logon,
     within it and behind it."""
@@ -915,6 +1087,6 @@ def out_cases():
 def cases():
     """Each line and its answer."""
     return (
-        logon_cases() + turn_cases() + order_cases() + still_cases() + front_cases() + moment_cases() + loss_cases() + bind_cases() + message_cases()
+        logon_cases() + turn_cases() + order_cases() + change_begins_cases() + change_cases() + loss_of_change_cases() + denied_change_cases() + still_cases() + front_cases() + moment_cases() + loss_cases() + bind_cases() + message_cases()
         + foreign_cases() + request_cases() + held_cases() + out_cases()
     )

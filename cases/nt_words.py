@@ -2,8 +2,8 @@
 
 `jobs.job ROLE WORD..` (what the words ask for, or why they aren't of the form; `-` is an empty word, and `COUNT*TEXT`
 so many times the text), `jobs.files ROLE FAILING FILES WORD..` (what the files of the words' job come to, over files in
-memory of `NAME=BYTES` between commas, of which the calls FAILING fail: a controller's domain and seed, a secret and a
-seed, or the exit, its status and its line; and that all that was kept is still told).
+memory of `NAME=BYTES` between commas, of which the calls FAILING fail: a controller's domain, seed and changed secrets,
+a secret and a seed, or the exit, its status and its line; and that all that was kept is still told).
 
 The commands, their options and the forms of files are this project's own choice (docs/FORMATS.md, "Commands, exits and
 what is printed").
@@ -44,7 +44,7 @@ DRILL = {"number": "7", "moves": "100000"}
 MOST = 4294967295
 
 COMMANDS = {
-    "Controller": (CONTROLLER, "serve", SERVE, ["listen", "name", "table", "seed", "boot", "events"]),
+    "Controller": (CONTROLLER, "serve", SERVE, ["listen", "name", "table", "seed", "boot", "events", "secrets"]),
     "Member": (
         MEMBER,
         "serve",
@@ -62,11 +62,11 @@ COMMANDS = {
 
 ADDRESSES = ["listen", "controller", "server"]
 NAMES = ["name", "computer", "domain", "user", "workstation"]
-FILES = ["table", "seed", "secret", "hash"]
+FILES = ["table", "seed", "secret", "hash", "secrets"]
 NUMBERS = ["boot", "events", "number"]
 MOSTS = {"echo": 4096, "moves": 100000}
 TEXTS = ADDRESSES + NAMES + FILES
-DEFAULTS = {"events": MOST, "echo": 0, "level": "privacy", "auth": "v2"}
+DEFAULTS = {"events": MOST, "echo": 0, "level": "privacy", "auth": "v2", "secrets": None}
 LEVELS = {"connect": 2, "integrity": 5, "privacy": 6}
 AUTHS = {"v1": "V1", "v1ess": "V1Ess", "v2": "V2"}
 
@@ -84,6 +84,8 @@ def expanded(value):
 
 def field(option, value):
     """A field of a job as `{:?}` prints it."""
+    if option == "secrets":
+        return "None" if value is None else 'Some("' + expanded(value) + '")'
     if option == "level":
         return str(LEVELS[value])
     if option == "auth":
@@ -205,6 +207,9 @@ def of_lines():
     out = [
         asks(CONTROLLER, with_equals, job("Controller", SERVE)),
         asks(CONTROLLER, usual + ["--"], job("Controller", SERVE)),
+        asks(CONTROLLER, usual[:1] + ["--secrets", "c"] + usual[1:], job("Controller", {**SERVE, "secrets": "c"})),
+        asks(CONTROLLER, usual[:5] + ["--secrets=c"] + usual[5:] + ["--events", "3"], job("Controller", {**SERVE, "secrets": "c", "events": "3"})),
+        asks(CONTROLLER, usual + ["--secrets", "c"], job("Controller", {**SERVE, "secrets": "c"})),
     ]
     for words in [
         [],
@@ -225,6 +230,9 @@ def of_lines():
         usual + ["--event", "1"],
         usual + ["--eventss", "1"],
         usual + ["--secret", "k"],
+        usual + ["--secrets"],
+        usual + ["--secrets", "c", "--secrets", "c"],
+        usual + ["--secrets=c", "--secrets", "d"],
         usual + ["-e", "1"],
         usual[:-1],
         ["serve"] + usual,
@@ -235,6 +243,8 @@ def of_lines():
         out.append(asks(CONTROLLER, words, bad(0)))
     for role, words in [
         (MEMBER, words_of("serve", SERVE)),
+        (MEMBER, words_of("serve", {**SERVE_MEMBER, "secrets": "c"})),
+        (LOGON, words_of("logon", {**ASK, "secrets": "c"})),
         (CONTROLLER, words_of("serve", SERVE_MEMBER)),
         (MEMBER, words_of("logon", ASK)),
         (LOGON, words_of("serve", SERVE)),
@@ -288,7 +298,7 @@ def comes(command, answer, failing="", **contents):
 def of_controller_files():
     """The table, and then the seed."""
     table = TABLE.hex()
-    good = f"{name('CORP')};{array(SEED)}"
+    good = f"{name('CORP')};{array(SEED)};{EMPTY}"
     fault, bad_seed = ending("FileFault"), ending("BadInput", 4)
     refused = lambda cause: f"BadTable({cause});4;\"bad table\""
     missing = refused("Missing(Key { list: Top, entry: 0, word: Domain })")
@@ -319,6 +329,75 @@ def of_controller_files():
         comes("Controller", bad_seed, t=table, s=MOST_BYTES + "+20"),
         comes("Controller", refused("BadToml"), t=MOST_BYTES, s=SEED),
     ]
+
+
+def of_changed_secrets():
+    """The changed secrets of a controller, read last: the form of the file, and what is changed by it."""
+    table = document([ANN], [FILE1, {**FILE1, "name": "FILE2$"}])
+    first, second = "0f" * 16, "A0" * 16
+    fault, bad = ending("FileFault"), ending("BadInput", 7)
+
+    def case(answer, secrets=None, failing="", held=table.hex(), seed=SEED):
+        contents = {"t": held, "s": seed, **({} if secrets is None else {"c": secrets})}
+        words = words_of("serve", {**SERVE, "secrets": "c"})
+        return (line("jobs.files", CONTROLLER, failing, files_of(**contents), *words), answer + ";told")
+
+    def changed(text, *lines):
+        """These lines, in the table's order, are those of the changed accounts."""
+        kept = "".join(each + "\\n" for each in lines)
+        return case(f'{name("CORP")};{array(SEED)};"{kept}"', ascii_hex(text))
+
+    one, other = f"FILE1$ {first}", f"FILE2$ {second.lower()}"
+    out = [
+        changed(""),
+        changed(one + "\n", one),
+        changed(one, one),
+        # digits and names in either case; the names are written as the table has them, in its order
+        changed(f"FILE2$ {second}\nFILE1$ {first}\n", one, other),
+        changed(f"file2$ {second}\nFile1$ {first.upper()}", one, other),
+        changed(f"file2$ {second}\n", other),
+        # the file isn't there, and each read of the three fails
+        case(fault),
+        case(fault, ascii_hex(one), failing="2"),
+        case(fault, ascii_hex(one), failing="1"),
+        case(fault, ascii_hex(one), failing="0"),
+        case(f'{name("CORP")};{array(SEED)};"{one}\\n"', ascii_hex(one), failing="3"),
+        # the seed is judged before the secrets are read, and the table before the seed
+        case(ending("BadInput", 4), ascii_hex("x"), failing="2", seed="00"),
+        case('BadTable(BadToml);4;"bad table"', ascii_hex("x"), failing="1", held="ff"),
+        # too long, and as long as a file may be
+        case(bad, MOST_BYTES + "+20"),
+        case(bad, MOST_BYTES),
+    ]
+    for text in [
+        "\n",
+        one + "\n\n",
+        "\n" + one,
+        one + "\r\n",
+        one + " ",
+        " " + one,
+        one + "0",
+        one[:-1],
+        one[:-1] + "g",
+        f"FILE1$  {first}",
+        f"FILE1$\t{first}",
+        f"FILE1${first}",
+        first,
+        f" {first}",
+        # an unknown name, a machine's name without its sign, a user's name
+        f"FILE3$ {first}",
+        f"FILE1 {first}",
+        f"ann {first}",
+        f"ann {first}\n{one}\n",
+        # the same account twice
+        one + "\n" + one + "\n",
+        one + f"\nfile1$ {second}\n",
+        # a good line before one that isn't
+        one + "\nx\n",
+    ]:
+        out.append(case(bad, ascii_hex(text)))
+    out.append(case(bad, "ff20" + ascii_hex(first)))
+    return out
 
 
 def of_secret_files():
@@ -380,6 +459,7 @@ def of_no_files():
     for role, words, number in [
         (CONTROLLER, ["serve"], 0),
         (CONTROLLER, words_of("serve", {**SERVE, "seed": ""}), 4),
+        (CONTROLLER, words_of("serve", {**SERVE, "secrets": ""}), 7),
         (LOGON, words_of("logon", {**ASK, "echo": "4097"}), 8),
     ]:
         out.append((line("jobs.files", role, "0", "", *words), ending("BadWords", number) + ";told"))
@@ -403,4 +483,4 @@ def of_runs():
 
 def cases():
     """Each line and its answer."""
-    return of_runs() + of_values() + of_levels() + of_lines() + of_controller_files() + of_secret_files() + of_no_files()
+    return of_runs() + of_values() + of_levels() + of_lines() + of_controller_files() + of_changed_secrets() + of_secret_files() + of_no_files()

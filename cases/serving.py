@@ -2,8 +2,9 @@
 
 `serves.run EVENTS FAILING FAILING_READS FAILING_PUTS DRAWS FILES ROLE WORD..`: the exit, its status and its line; what
 was put as text; what was sent,
-`LINK:BYTES`; and that all that the outside in memory kept is still told. Calls of the port are counted from 0, `listen`
-among them, and those of files and sink each from 0.
+`LINK:BYTES`; and that all that the outside in memory kept is still told. `serves.keep` with the same words: that, and
+what the file `c` of changed secrets holds then, `none` where there is none. Calls of the port are counted from 0,
+`listen` among them, and those of files, reads and writes, and sink each from 0.
 
 The bind is one of C706 12.6.4.3 for Netlogon's interface (MS-NRPC 3.5), and its answer and the fault are units of C706
 12.6.4.4 and 12.6.4.7, written here byte by byte. What is sent and put for calls is worked out by the controller of
@@ -16,10 +17,11 @@ import re
 
 from documents import ANN, FILE1, document
 import member_server
-from domain_controller import DRAWS, Controller
+from channel_client import credential
+from domain_controller import ACCESS_DENIED, DRAWS, SUPPORTED, Controller, key_of, replies, upper, utf16
 from forms import line
 from logon_client import Client
-from logon_stubs import LOGON as LOGON_CALL
+from logon_stubs import AUTHENTICATE, LOGON as LOGON_CALL
 from member_server import Member, answer_of_controller, authenticate, controller_of, turns
 
 from nt_top import MEMBER, ending, text
@@ -143,6 +145,69 @@ def stopped(end, put):
     return played(end, ending("SinkFault"), lines[put], str(put))
 
 
+def keeps(end, held="", exit_text=DONE, done=None, failing="", puts="", named=True):
+    """A case of a served controller with a file of changed secrets, of which the calls FAILING fail: table, seed and
+    secrets are read first. What the file holds then is the text of the last `keep` of the actions done, else HELD."""
+    events = ",".join([word.replace("/", ":") for word in end.words[3:]] + ["stop"])
+    actions = [action for answer in end.answers for action in answer.split(",")][:done]
+    sent = ",".join(action[5:].replace(" ", ":") for action in actions if action.startswith("send ")) or "-"
+    put = "".join(line_put(action) for action in actions)
+    kept = ([held.encode().hex()] + ([action[5:] for action in actions if action.startswith("keep ")] if named else []))[-1]
+    words = words_of("serve", {**SERVE, "name": end.words[1].decode(), **({"secrets": "c"} if named else {})})
+    table = end.words[0].hex() if isinstance(end.words[0], bytes) else end.words[0]
+    files = files_of(t=table, s=SEED, c=held.encode().hex())
+    return (
+        line("serves.keep", events, "", failing, puts, end.words[2], files, CONTROLLER, *words),
+        ";".join([exit_text, text(put), sent, "told", kept or "-"]),
+    )
+
+
+def of_kept_secrets():
+    """The text of a Set is in the file before its reply goes out; a write that fails ends the service before the reply,
+    and the file stands as it was. Without the option no file is written."""
+    fault = ending("FileFault")
+    twice = lambda: Controller(challenges=DRAWS).bound().channel_open().sets().sets("62" * 16, timestamp=1)
+    actions = [action for answer in twice().answers for action in answer.split(",")]
+    writes = [place for place, action in enumerate(actions) if action.startswith("keep ")]
+    assert len(writes) == 2, actions
+    sinks = [place for place, action in enumerate(actions) if line_put(action)]
+    denied = Controller(challenges=DRAWS).bound().sets().channel_open().sets(timestamp=1, account=b"")
+    out = [
+        keeps(twice()),
+        keeps(twice(), named=False),
+        keeps(Controller(challenges=DRAWS).bound().channel_open().logs_on()),
+        keeps(denied),
+        # calls 0 to 2 are the reads
+        keeps(twice(), exit_text=fault, done=writes[0], failing="3"),
+        keeps(twice(), exit_text=fault, done=writes[1], failing="4"),
+    ]
+    # the sink fails behind the write, which stands
+    out += [keeps(twice(), exit_text=ending("SinkFault"), done=place, puts=str(number)) for number, place in enumerate(sinks)]
+    # the file beats the table's hash: a channel opens by the secret of the file, and a text that is kept later has both
+    later = Controller(challenges=DRAWS).bound()
+    later.hashes["FILE1$"] = bytes.fromhex("61" * 16)
+    later.channel_open()
+    assert later.answers[-1].endswith("00000000"), later.answers[-1]
+    out.append(keeps(later.sets("62" * 16, timestamp=1), f"FILE1$ {'61' * 16}\n"))
+    both = Controller(challenges=DRAWS).bound()
+    both.hashes["FILE2$"] = bytes.fromhex("63" * 16)
+    out.append(keeps(both.channel_open().sets(), f"file2$ {'63' * 16}"))
+    # by the table's hash none opens any more
+    old = Controller(challenges=DRAWS).bound()
+    old.hashes["FILE1$"] = bytes.fromhex("61" * 16)
+    pair = old.asks().pending[upper(utf16("FILE1"))]
+    stale = {"client": pair[0], "server": pair[1], "secret": bytes.fromhex(FILE1["hash"]), "flags": SUPPORTED}
+    old.authenticates(credential=credential(key_of(stale), pair[0]))
+    assert replies(old, AUTHENTICATE, 1)[0]["status"] == ACCESS_DENIED
+    out.append(keeps(old, f"FILE1$ {'61' * 16}\n"))
+    # a file that can't be read, or isn't of its form: the port doesn't listen
+    unopened = Controller(challenges=DRAWS)
+    out.append(keeps(unopened, exit_text=fault, failing="2"))
+    out.append(keeps(unopened, "x", exit_text=ending("BadInput", 7)))
+    out.append(keeps(unopened, "ann " + "61" * 16 + "\n", exit_text=ending("BadInput", 7)))
+    return out
+
+
 def of_challenges():
     """A challenge is drawn for each first call of a channel and for nothing else, and the step that finds none left
     ends the service."""
@@ -161,7 +226,7 @@ def of_challenges():
 
 def of_lines():
     """A line is put for each call on a channel that is judged, before its reply is sent; where the sink fails nothing
-    later is done. A secret that is set is written to no file."""
+    later is done. Without a file of changed secrets one that is set is written nowhere."""
     none = lambda: Controller(challenges=DRAWS).bound().logs_on()
     logons = lambda: Controller(challenges=DRAWS).bound().channel_open().logs_on().logs_on("nobody", timestamp=1).logs_on(timestamp=5, info={"nt": b"\x11" * 24})
     barred = Controller(challenges=DRAWS).bound().channel_open()
@@ -438,4 +503,4 @@ def of_members():
 
 def cases():
     """The cases of commands that serve."""
-    return of_the_port() + of_counts() + of_the_files() + of_challenges() + of_lines() + of_members()
+    return of_the_port() + of_counts() + of_the_files() + of_challenges() + of_lines() + of_kept_secrets() + of_members()

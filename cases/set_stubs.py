@@ -54,6 +54,12 @@ def read_call(stub):
     return fields_of(Reader(stub))
 
 
+def read_reply(stub):
+    """The fields of a reply."""
+    reader = Reader(stub)
+    return {"returned": presented(reader), "status": reader.long()}
+
+
 def write_call(primary, account, channel, computer, authenticator, hidden):
     """The one written form of a request."""
     writer = Writer()

@@ -9,7 +9,7 @@ and keep of each event what each unit came to.
 
 import domain_controller
 import member_server
-from channel_client import AUTHENTICATE, LOGON, OFFERED
+from channel_client import AUTHENTICATE, LOGON, OFFERED, SET
 
 PLAIN = ("Plain",)
 # What a unit comes to that sends an answer or a request, without any credential that passed.
@@ -77,12 +77,12 @@ class Asking(member_server.Asking):
         answer = super().hear(unit)
         if answer.startswith("next ") and turn["opnum"] == AUTHENTICATE:
             self.notes.append({"mark": ("Opening", self.channel(), turn["number"]), "checked": None})
-        elif answer.startswith("next ") and turn["opnum"] == LOGON:
+        elif answer.startswith("next ") and turn["opnum"] in (LOGON, SET):
             timestamp = turn["fields"]["authenticator"][1]
             self.notes.append({"mark": ("Calling", self.channel(), turn["number"], timestamp), "checked": None})
         elif answer.startswith("next "):
             self.notes.append(SENDS)
-        elif answer == "opened" or answer.startswith("answer "):
+        elif answer in ("opened", "set") or answer.startswith("answer "):
             self.notes.append({"mark": None, "checked": self.channel()})
         return answer
 

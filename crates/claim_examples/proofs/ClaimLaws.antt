@@ -26,7 +26,7 @@ use Rattle.domain_world.proofs.HeadlineLaws.{all_proved}
 use Rattle.claim_examples.specs.ClaimExamples.{OfAll, OfClashes, OfCredentials, OfReplays, OfTakenAnswers, OfWraps, elsewhere, judged_as, judged_once, last_timestamp, message, next_call, on_channel, passed_in, second_timestamp, seed_after_one, small_account, small_challenge, small_channel, small_name, small_seed, taken_in, third_timestamp, told_as, whole_book, whole_call, whole_run}
 use Rattle.claim_examples.specs.TellApart.{ClaimsTellApart}
 use Rattle.step_notes.proofs.Controllers.JudgedStepLaws.{next_unbarred, right_passed}
-use Rattle.claim_examples.proofs.CompletenessLaws.{of_completeness, of_success}
+use Rattle.claim_examples.proofs.CompletenessLaws.{of_completeness, of_own_members, of_success}
 use Rattle.claim_examples.proofs.LetInExampleLaws.{found_small}
 use Rattle.claim_examples.proofs.LogonLaws.{granted_small, of_accepting_all, of_accepting_only, of_challenges, of_keys, of_short_responses, only_draw}
 use Rattle.claim_examples.proofs.SequenceLaws.{of_sequences, one_apart, one_stamp, shares_by}
@@ -348,6 +348,7 @@ claims_tell_apart = record {
   credentials = of_credentials;
   together = of_all;
   success = of_success;
+  own_members = of_own_members;
   completeness = of_completeness;
   at_first = at_first;
 }

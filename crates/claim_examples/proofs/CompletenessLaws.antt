@@ -1,6 +1,6 @@
 -- Logons one at a time, of which some come to something else than success.
 -- It serves `claims_tell_apart`, `grants_tell_apart`, `replies_tell_apart`, `success_tells_apart`.
-use Rattle.std.proofs.Common.{◌≡◌, ◌≢◌, ℕ, List, [], ◌∷◌, length, Some, None, refl, sym, ap, ◌∙◌, subst, arith, ◌<◌, Bool, true, false, inl, inr, slice_get}
+use Rattle.std.proofs.Common.{◌≡◌, ◌≢◌, ℕ, zero, suc, List, [], ◌∷◌, length, Some, None, refl, sym, ap, ◌∙◌, subst, arith, ◌<◌, Bool, true, false, inl, inr, slice_get}
 use Rattle.std.specs.Prelude.{◌^◌, codes, ◌≤◌, AllPairs, replicate}
 use Rattle.std.specs.List.{AllByRecursion}
 use Rattle.std.proofs.lemmas.List.Elements.{All-from_recursion, All-nil, All-replicate}
@@ -9,7 +9,7 @@ use Rattle.logon_client.specs.declared.plan.ClientPlan.{ClientPlan}
 use Rattle.logon_client.specs.Plans.{CanLogOn}
 use Rattle.wire_base.specs.Names as names
 use Rattle.account_table.specs.AccountTable.{AccountTable}
-use Rattle.account_table.specs.LookUps.{account_in, machine_name, place_in}
+use Rattle.account_table.specs.LookUps.{account_in, machine_in, machine_name, place_in}
 use Rattle.account_table.specs.declared.account.Account.{Account}
 use Rattle.account_table.specs.declared.account.Kind.TheVariants.{User, Workstation}
 use Rattle.member_server.specs.declared.plan.MemberPlan.{MemberPlan}
@@ -22,11 +22,15 @@ use Rattle.world_moves.specs.declared.state.State.{State}
 use Rattle.world_moves.specs.Ends.{EndStates}
 use Rattle.world_moves.specs.Forms.{HasMoveForm, IsAccount, IsBlock, IsByte, IsClientPlan, IsIdentifier, IsMemberPlan, IsSchedule, IsTable, IsTrust}
 use Rattle.world_moves.specs.Moving.{end_of_peer}
+use Rattle.channel_events.proofs.ListLaws.{some_is}
+use Rattle.logon_runs.specs.Rests.{HasItsSecret}
 use Rattle.world_moves.specs.World.{IsMove, first_ends, first_world, happens}
 use Rattle.domain_world.specs.Claims.Completeness.{CanSucceed, ComesOneAtATime, HasComputer, MayLogOnIn, OwnKeysArrive, Succeeds, info_planned, members_of}
+use Rattle.domain_world.specs.Claims.OneByOne.{AreApart, HasOwnMember}
 use Rattle.domain_world.specs.Past.{past}
+use Rattle.logon_runs.specs.Rests.{AreAlone}
 use Rattle.claim_examples.specs.ClaimExamples.{small_account, small_hash, small_table}
-use Rattle.claim_examples.specs.CompletenessExamples.{OfCompleteness, OfSuccess, able_client, able_member, able_plan, able_table, alike_plan, ann_accounts, ann_plan, ann_starts, lost_client, lost_moves, lost_plan, machine_account, machine_secret, plan_by, policy_plan, policy_table}
+use Rattle.claim_examples.specs.CompletenessExamples.{OfCompleteness, OfOwnMembers, OfSuccess, able_client, able_member, able_plan, able_table, alike_plan, ann_accounts, ann_plan, ann_starts, lost_client, lost_moves, lost_plan, machine_account, machine_secret, plan_by, policy_plan, policy_table}
 use Rattle.claim_examples.proofs.SequenceLaws.{one_apart}
 
 -- ---- a client that can succeed
@@ -300,9 +304,15 @@ lost_schedule = record {
   move_forms = All-from_recursion HasMoveForm lost_moves (omega arith, (tt, tt));
 }
 
+-- a plan without members
+pub none_alone : AreAlone []
+none_alone zero member is = absurd cc
+none_alone (suc at) member is = absurd cc
+
 lost_comes : ComesOneAtATime (past lost_plan lost_moves) lost_moves
 lost_comes = record {
   schedule = lost_schedule;
+  alone = none_alone;
   plain = (tt, (tt, tt));
   once = one_apart (λ (one other : ℕ). one ≢ other) 0;
   quiet = (record { dials = refl; units = refl }, (tt, record { dials = refl; units = refl }));
@@ -329,4 +339,61 @@ of_completeness = record {
       let done : Succeeds run moves client can =
       (subst (λ (clients : List ℕ). AllByRecursion (λ (c : ℕ). (able : CanSucceed run.plan moves c) → OwnKeysArrive run moves c able → Succeeds run moves c able) clients) started (claim come)).0 can arrive in
       absurd (let is = sym none ∙ done.is_in in cc);
+}
+
+-- ---- the premise on members
+
+member_is : (one other : ℕ) → Some (Member one) ≡ Some (Member other) → one ≡ other
+member_is one other is = cc
+
+controller_is : (one other : ℕ) → Some (Controller one) ≡ Some (Controller other) → one ≡ other
+controller_is one other is = cc
+
+-- the account by which the channel of FILE1 is opened has that secret, where there is one
+own_so : (accounts : List Account) (secret hash : List ℕ) → HasItsSecret (able_table accounts) (able_member secret) → HasOwnMember (able_plan accounts secret hash) 0
+own_so accounts secret hash has task member work controller table is_task to_member is_work to_controller is_table =
+    let plan : Plan = able_plan accounts secret hash in
+    let of_task : able_client hash ≡ task = some_is (able_client hash) task is_task in
+    let of_member : 0 ≡ member = member_is 0 member
+    (ap (λ (one : ClientPlan). end_of_peer one.server (first_ends plan)) of_task ∙ to_member) in
+    let of_work : able_member secret ≡ work = some_is (able_member secret) work (ap (λ (at : ℕ). slice_get plan.members at) of_member ∙ is_work) in
+    let of_controller : 0 ≡ controller = controller_is 0 controller
+    (ap (λ (one : MemberPlan). end_of_peer one.controller (first_ends plan)) of_work ∙ to_controller) in
+    let of_table : able_table accounts ≡ table = some_is (able_table accounts) table (ap (λ (at : ℕ). slice_get plan.tables at) of_controller ∙ is_table) in (
+      subst (λ (one : MemberPlan). HasItsSecret table one) of_work (subst (λ (one : AccountTable). HasItsSecret one (able_member secret)) of_table has),
+      subst (AreApart plan) of_controller (one_apart (λ (one other : MemberPlan). SameName one.computer other.computer → ⊥) (able_member secret)),
+    )
+
+known_secret : HasItsSecret (able_table ann_accounts) (able_member machine_secret)
+unfolding machine_in same_name names.upper_of
+known_secret account found = let same : machine_account ≡ account = some_is machine_account account found in ap Account.hash (sym same)
+
+unknown_secret : (secret : List ℕ) → HasItsSecret (able_table (small_account ∷ [])) (able_member secret)
+unfolding machine_in same_name names.upper_of
+unknown_secret secret account found = absurd (let never : None ≡ Some account = found in cc)
+
+disabled_secret : (secret : List ℕ) → HasItsSecret (able_table (small_account ∷ record machine_account { disabled = true } ∷ [])) (able_member secret)
+unfolding machine_in same_name names.upper_of
+disabled_secret secret account found = absurd (let never : None ≡ Some account = found in cc)
+
+kind_secret : (secret : List ℕ) → HasItsSecret (able_table (small_account ∷ record machine_account { kind = User } ∷ [])) (able_member secret)
+unfolding machine_in same_name names.upper_of
+kind_secret secret account found = absurd (let never : None ≡ Some account = found in cc)
+
+other_secret : HasItsSecret (able_table ann_accounts) (able_member (replicate 16 4)) → ⊥
+unfolding machine_in same_name names.upper_of
+other_secret has = absurd (let never : machine_secret ≡ replicate 16 4 = has machine_account refl in cc)
+
+pub of_own_members : OfOwnMembers
+of_own_members = record {
+  meets = own_so ann_accounts machine_secret (replicate 16 8) known_secret;
+  unknown = λ secret. own_so (small_account ∷ []) secret small_hash (unknown_secret secret);
+  disabled = λ secret. own_so (small_account ∷ record machine_account { disabled = true } ∷ []) secret small_hash (disabled_secret secret);
+  kind = λ secret. own_so (small_account ∷ record machine_account { kind = User } ∷ []) secret small_hash (kind_secret secret);
+  nobody = λ task member work controller table is_task to_member is_work to_controller is_table.
+      let of_task : lost_client ≡ task = some_is lost_client task is_task in
+      absurd (let never : None ≡ Some (Member member) = ap (λ (one : ClientPlan). end_of_peer one.server (first_ends lost_plan)) of_task ∙ to_member in cc);
+  fails_secret = λ own. other_secret (own (able_client small_hash) 0 (able_member (replicate 16 4)) 0 (able_table ann_accounts) refl refl refl refl refl).0;
+  fails_alike = λ own.
+      not_apart (first_ends alike_plan) 0 refl (own (able_client small_hash) 0 (able_member machine_secret) 0 (able_table ann_accounts) refl refl refl refl refl).1;
 }

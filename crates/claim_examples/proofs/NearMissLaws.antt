@@ -44,7 +44,7 @@ use Rattle.step_notes.specs.CallLogons.{IfCalling}
 use Rattle.step_notes.specs.MemberNotes.{turn_note}
 use Rattle.step_notes.specs.Served.{work_after}
 use Rattle.step_notes.proofs.Members.CallLogonLaws.{calls_carry}
-use Rattle.domain_world.specs.Claims.AskedFor.{AsksForItsMessage, IsForItsMessage, IsOfMessage, MembersAskForKept}
+use Rattle.domain_world.specs.Claims.AskedFor.{AsksForItsMessage, IsForItsMessage, IsOfMessage, MembersAskForKept, AsksBy}
 use Rattle.channel_events.specs.Marks.{OneOf, Calling, Mark, Opened, Opening, Plain, ReplyTo}
 use Rattle.channel_events.proofs.ListLaws.{got_nothing, no_some, some_is}
 use Rattle.step_notes.specs.Records.{InUnit, Judging, MessageMade, MessageTaken, Outside, Sent, blank}
@@ -414,12 +414,12 @@ of_marks = record {
 -- ---- what members ask
 
 -- a Logon call that goes out asks what some message does
-some_message : (member : ℕ) (messages : List MessageTaken) (controller : ℕ) (unit : ServedUnit AtTurn TurnTalk) (mark : Mark) (channel : ChannelIdentity) (call timestamp : ℕ) →
-    messages ≡ [] → mark ≡ Calling channel call timestamp →
-    IfCalling (IsForItsMessage member messages controller unit.work (work_after unit.part) (turn_note controller unit).called) mark → ⊥
-some_message member messages controller unit mark channel call timestamp none is asks =
-    let here : IsForItsMessage member messages controller unit.work (work_after unit.part) (turn_note controller unit).called channel call timestamp =
-    subst (λ (m : Mark). IfCalling (IsForItsMessage member messages controller unit.work (work_after unit.part) (turn_note controller unit).called) m) is asks in
+some_message : (member : ℕ) (messages : List MessageTaken) (controller : ℕ) (unit : ServedUnit AtTurn TurnTalk) (called : Option ℕ) (mark : Mark) (channel : ChannelIdentity) (call timestamp place : ℕ) →
+    messages ≡ [] → mark ≡ Calling channel call timestamp → called ≡ Some place → AsksBy called member messages controller unit.work (work_after unit.part) mark → ⊥
+some_message member messages controller unit called mark channel call timestamp place none is of asks =
+    let here : IsForItsMessage member messages controller unit.work (work_after unit.part) (Some place) channel call timestamp =
+    subst (λ (m : Mark). IfCalling (IsForItsMessage member messages controller unit.work (work_after unit.part) (Some place)) m) is
+    (subst (λ (c : Option ℕ). AsksBy c member messages controller unit.work (work_after unit.part) mark) of asks) in
     subst (λ (all : List MessageTaken). OneOf (IsOfMessage member here.carries.asks.place here.carries.asks.logon) all) none here.message
 
 nothing_waits : MembersAskForKept (keeping ((0, small_logon 3) ∷ [])) → ⊥
@@ -429,8 +429,8 @@ of_asking : OfAsking
 of_asking = record {
   meets = (calls_carry.fresh small_member, tt);
   fails = nothing_waits;
-  fails_messages = λ run member m controller number piece now left unit more channel call timestamp at none goes is claim.
-      some_message member run.book.messages controller unit (turn_note controller unit).mark channel call timestamp none is
+  fails_messages = λ run member m controller number piece now left unit more channel call timestamp place at none goes is of claim.
+      some_message member run.book.messages controller unit (turn_note controller unit).called (turn_note controller unit).mark channel call timestamp place none is of
       (let all : AllByRecursion (AsksForItsMessage member run.book.messages controller) (unit ∷ more) =
       subst (λ (units : List (ServedUnit AtTurn TurnTalk)). AllByRecursion (AsksForItsMessage member run.book.messages controller) units) goes
       (claim member m at controller number piece now left) in

@@ -11,13 +11,13 @@ use Rattle.authenticators.specs.SecureChannels.{SecureChannelState, key_of_chann
 use Rattle.authenticators.specs.Sequences.{authenticator_of}
 use Rattle.outside.specs.declared.action.Judged.{Judged}
 use Rattle.outside.specs.declared.action.Judged.TheVariants as judged
-use Rattle.logon_stubs.specs.Status.{insufficient_resources, no_such_logon_session, wrong_password}
+use Rattle.logon_stubs.specs.Status.{insufficient_resources, no_such_logon_session, no_trust_sam_account, wrong_password}
 use Rattle.logon_stubs.specs.declared.info.Verdict.{Verdict}
 use Rattle.logon_stubs.specs.declared.info.Verdict.TheVariants.{Granted, Status}
 use Rattle.interactive_logon.specs.declared.calls.InteractiveInfo.{InteractiveInfo}
 use Rattle.interactive_logon.specs.declared.sessions.Session.{Session}
 use Rattle.interactive_logon.specs.Sessions.{added_to, session_limit, session_of}
-use Rattle.account_table.specs.LookUps.{place_in}
+use Rattle.account_table.specs.LookUps.{machine_in, place_in}
 use Rattle.sam_logon.specs.MayLogOn.{HashIsStored}
 use Rattle.sam_logon.specs.Verdict.{interactive_judgement_of, interactive_verdict_of, is_granted}
 use Rattle.sam_logon.proofs.VerdictLaws.{interactive_verdict_of-Decides}
@@ -36,7 +36,8 @@ use Rattle.domain_world.specs.Claims.Statuses.{TellsItsStatus}
 use Rattle.domain_world.specs.Claims.Sessions.{AreBySince, ControllerRenewed, HasSessions, SessionsFollow, last_start, sessions_behind, sessions_since}
 use Rattle.channel_events.proofs.ListLaws.{got_nothing, some_is}
 use Rattle.claim_examples.specs.ClaimExamples.{judged_as, message, small_channel, small_hash, small_table}
-use Rattle.claim_examples.specs.SessionExamples.{OfHashGrants, OfSessions, OfStatuses, ann_call, ann_session, barred_by, controller_with, hash_call, hash_info, hash_logon, logoff_call, other_hash, renewed_by, run_with, running_with, too_many}
+use Rattle.claim_examples.specs.CompletenessExamples.{able_table, ann_accounts}
+use Rattle.claim_examples.specs.SessionExamples.{OfHashGrants, OfSessions, OfStatuses, ann_call, ann_session, barred_by, controller_with, hash_call, hash_info, hash_logon, logoff_call, other_hash, renewed_by, run_with, running_with, set_call, too_many}
 use Rattle.claim_examples.proofs.ClaimLaws.{no_channel}
 use Rattle.claim_examples.proofs.GrantExampleLaws.{may_small}
 
@@ -175,20 +176,31 @@ open_status = refl
 none_status : (done_on (logoff_call []) (small_channel [])).status ≡ no_such_logon_session
 none_status = refl
 
--- a logoff with that status, told with it
-tells_so : (status : ℕ) (sessions : List Session) → (done_on (logoff_call sessions) (small_channel [])).status ≡ status → TellsItsStatus (judged_as (judged.Passed status) (logoff_call sessions))
-tells_so status sessions is channel stands passed =
-    ap (λ (n : ℕ). Some (judged.Passed n))
-    (sym is ∙ ap (λ (c : SecureChannelState). (done_on (logoff_call sessions) c).status) (some_is (small_channel []) channel stands))
+set_status : (done_on (set_call (able_table ann_accounts)) (small_channel [])).status ≡ 0
+unfolding machine_in same_name names.upper_of
+set_status = refl
 
-status_of_two : (told status : ℕ) (sessions : List Session) → (done_on (logoff_call sessions) (small_channel [])).status ≡ status → TellsItsStatus (judged_as (judged.Passed told) (logoff_call sessions)) → told ≡ status
-status_of_two told status sessions is tells = same_status told (done_on (logoff_call sessions) (small_channel [])).status (tells (small_channel []) refl refl) ∙ is
+set_none_status : (done_on (set_call small_table) (small_channel [])).status ≡ no_trust_sam_account
+unfolding machine_in same_name names.upper_of
+set_none_status = refl
+
+-- a call on FILE1's channel with that status, told with it
+tells_so : (status : ℕ) (j : Judging) → j.checks ≡ Some (small_channel []) → (done_on j (small_channel [])).status ≡ status → TellsItsStatus (judged_as (judged.Passed status) j)
+tells_so status j checks is channel stands passed =
+    ap (λ (n : ℕ). Some (judged.Passed n)) (sym is ∙ ap (λ (c : SecureChannelState). (done_on j c).status) (some_is (small_channel []) channel (sym checks ∙ stands)))
+
+status_of_two : (told status : ℕ) (j : Judging) → j.checks ≡ Some (small_channel []) → (done_on j (small_channel [])).status ≡ status → TellsItsStatus (judged_as (judged.Passed told) j) → told ≡ status
+status_of_two told status j checks is tells = same_status told (done_on j (small_channel [])).status (tells (small_channel []) checks refl) ∙ is
 
 pub of_statuses : OfStatuses
 of_statuses = record {
-  meets = (tells_so 0 ann_session open_status, tt);
-  none = (tells_so no_such_logon_session [] none_status, tt);
+  meets = (tells_so 0 (logoff_call ann_session) refl open_status, tt);
+  none = (tells_so no_such_logon_session (logoff_call []) refl none_status, tt);
   barred = ((λ channel stands passed. absurd (let never : false ≡ true = passed in cc)), tt);
-  fails_open = λ claim. not_zero no_such_logon_session refl (status_of_two no_such_logon_session 0 ann_session open_status claim.0);
-  fails_none = λ claim. not_zero no_such_logon_session refl (sym (status_of_two 0 no_such_logon_session [] none_status claim.0));
+  fails_open = λ claim. not_zero no_such_logon_session refl (status_of_two no_such_logon_session 0 (logoff_call ann_session) refl open_status claim.0);
+  fails_none = λ claim. not_zero no_such_logon_session refl (sym (status_of_two 0 no_such_logon_session (logoff_call []) refl none_status claim.0));
+  set = (tells_so 0 (set_call (able_table ann_accounts)) refl set_status, tt);
+  set_none = (tells_so no_trust_sam_account (set_call small_table) refl set_none_status, tt);
+  fails_set = λ claim. not_zero no_trust_sam_account refl (status_of_two no_trust_sam_account 0 (set_call (able_table ann_accounts)) refl set_status claim.0);
+  fails_set_none = λ claim. not_zero no_trust_sam_account refl (sym (status_of_two 0 no_trust_sam_account (set_call small_table) refl set_none_status claim.0));
 }

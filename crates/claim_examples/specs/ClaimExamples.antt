@@ -35,6 +35,7 @@ use Rattle.domain_controller.specs.declared.state.Running.{Running as Controller
 use Rattle.member_server.specs.Machine.{caller_of}
 use Rattle.member_server.specs.State.{State as MemberState}
 use Rattle.member_server.specs.declared.plan.MemberPlan.{MemberPlan}
+use Rattle.secret_change.specs.Secrets.{alone}
 use Rattle.member_server.specs.Turns.{AtTurn}
 use Rattle.channel_turns.specs.declared.state.Dialling.TheVariants as dialling
 use Rattle.member_server.specs.declared.state.Running.{Running as MemberRunning}
@@ -93,7 +94,7 @@ small_table = record {
 }
 
 abbrev pub small_member : MemberPlan
-small_member = record { computer = codes "FILE1"; domain = codes "CORP"; secret = []; controller = 0 ∷ [] }
+small_member = record { computer = codes "FILE1"; domain = codes "CORP"; secrets = alone []; controller = 0 ∷ [] }
 
 abbrev pub small_plan : Plan
 small_plan = record {

@@ -8,6 +8,7 @@ use Rattle.logon_client.specs.declared.outcome.ClientOutcome.TheVariants as clie
 use Rattle.logon_client.specs.declared.outcome.NoAnswerCause.TheVariants as no_answer
 use Rattle.logon_client.specs.declared.plan.ClientPlan.{ClientPlan}
 use Rattle.member_server.specs.declared.plan.MemberPlan.{MemberPlan}
+use Rattle.secret_change.specs.Secrets.{alone}
 use Rattle.step_notes.specs.Records.{OutcomeTold, blank}
 use Rattle.world_moves.specs.declared.links.Route.TheVariants.{ToMember}
 use Rattle.world_moves.specs.declared.moves.Move.{Move}
@@ -15,6 +16,7 @@ use Rattle.world_moves.specs.declared.moves.Move.TheVariants as move
 use Rattle.world_moves.specs.declared.plan.Plan.{Plan}
 use Rattle.world_moves.specs.World.{World, first_world, outcome_of}
 use Rattle.domain_world.specs.Claims.Completeness.{CanSucceed, ComesOneAtATime, EachSucceeds, OwnKeysArrive, Succeeds, name_of, started_in}
+use Rattle.domain_world.specs.Claims.OneByOne.{HasOwnMember}
 use Rattle.domain_world.specs.Past.{Past, past}
 use Rattle.claim_examples.specs.ClaimExamples.{client_plan, small_account, small_hash, small_member, small_table, told_of_link}
 
@@ -26,7 +28,7 @@ abbrev pub machine_account : Account
 machine_account = record small_account { name = codes "FILE1$"; hash = machine_secret; kind = Workstation }
 
 abbrev pub able_member : List ℕ → MemberPlan
-able_member secret = record small_member { secret = secret }
+able_member secret = record small_member { secrets = alone secret }
 
 abbrev pub able_client : List ℕ → ClientPlan
 able_client hash = record client_plan { user = codes "ann"; hash = hash; echo = 16 }
@@ -126,6 +128,23 @@ lost_plan = record {
   now = 0;
   seed = replicate 32 0;
 }
+
+-- ann's plan by these accounts, of which she has her own, and with that secret of FILE1
+abbrev pub plan_beside : List Account → List ℕ → Plan
+plan_beside others secret = able_plan (small_account ∷ others) secret small_hash
+
+-- The premise on members of logons that come one at a time: the secret of FILE1 is its account's, whatever ann's hash
+-- is. It is met too where FILE1 has no account, or one that is disabled or a user's, whatever its secret is; and where
+-- there is no member. It isn't with another secret than the account's, or with a second member of that controller and
+-- name.
+pub record OfOwnMembers : Type 0 where
+  pub meets : HasOwnMember (able_plan ann_accounts machine_secret (replicate 16 8)) 0
+  pub unknown : (secret : List ℕ) → HasOwnMember (plan_beside [] secret) 0
+  pub disabled : (secret : List ℕ) → HasOwnMember (plan_beside (record machine_account { disabled = true } ∷ []) secret) 0
+  pub kind : (secret : List ℕ) → HasOwnMember (plan_beside (record machine_account { kind = User } ∷ []) secret) 0
+  pub nobody : HasOwnMember lost_plan 0
+  pub fails_secret : HasOwnMember (able_plan ann_accounts (replicate 16 4) small_hash) 0 → ⊥
+  pub fails_alike : HasOwnMember alike_plan 0 → ⊥
 
 -- so its dial fails
 abbrev pub lost_moves : List Move

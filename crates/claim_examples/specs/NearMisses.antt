@@ -287,9 +287,10 @@ pub record OfAsking : Type 0 where
   pub meets : MembersAskForKept (small_run blank)
   pub fails : MembersAskForKept (keeping ((0, small_logon 3) ∷ [])) → ⊥
   pub fails_messages : (run : Past) (member : ℕ) (m : MemberState) (controller number : ℕ) (piece : List ℕ) (now : ℕ) (left : List (List ℕ))
-      (unit : ServedUnit AtTurn TurnTalk) (more : List (ServedUnit AtTurn TurnTalk)) (channel : ChannelIdentity) (call timestamp : ℕ) →
+      (unit : ServedUnit AtTurn TurnTalk) (more : List (ServedUnit AtTurn TurnTalk)) (channel : ChannelIdentity) (call timestamp place : ℕ) →
       slice_get run.world.state.ends.members member ≡ Some m → run.book.messages ≡ [] → turn_units m number piece now left ≡ unit ∷ more →
-      (turn_note controller unit).mark ≡ Calling channel call timestamp → MembersAskForMessages run → ⊥
+      (turn_note controller unit).mark ≡ Calling channel call timestamp → (turn_note controller unit).called ≡ Some place →
+      MembersAskForMessages run → ⊥
 
 -- ---- what is written down of members, and what controllers tell
 

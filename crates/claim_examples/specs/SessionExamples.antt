@@ -3,13 +3,15 @@
 use Rattle.std.specs.Prelude.{ℕ, ◌≡◌, List, [], ◌∷◌, replicate, Some, None, codes}
 use Rattle.rc4_stream.specs.Rc4.{applied}
 use Rattle.authenticators.specs.SecureChannels.{key_of_channel}
+use Rattle.authenticators.specs.Sequences.{authenticator_of}
 use Rattle.outside.specs.declared.action.Judged.TheVariants as judged
-use Rattle.logon_stubs.specs.Status.{insufficient_resources, no_such_logon_session, wrong_password}
+use Rattle.account_table.specs.AccountTable.{AccountTable}
+use Rattle.logon_stubs.specs.Status.{insufficient_resources, no_such_logon_session, no_trust_sam_account, wrong_password}
 use Rattle.interactive_logon.specs.declared.calls.InteractiveCall.{InteractiveCall}
 use Rattle.interactive_logon.specs.declared.calls.InteractiveInfo.{InteractiveInfo}
 use Rattle.interactive_logon.specs.declared.sessions.Session.{Session}
 use Rattle.interactive_logon.specs.Sessions.{session_limit, session_of}
-use Rattle.controller_calls.specs.declared.calls.JudgedCall.TheVariants.{Interactive, Logoff}
+use Rattle.controller_calls.specs.declared.calls.JudgedCall.TheVariants.{Interactive, Logoff, Set}
 use Rattle.domain_controller.specs.State.{State as ControllerState}
 use Rattle.domain_controller.specs.declared.state.Running.{Running as ControllerRunning}
 use Rattle.step_notes.specs.Records.{Judging, blank}
@@ -19,7 +21,8 @@ use Rattle.domain_world.specs.Claims.Grants.{GrantsWhoseHashIsStored}
 use Rattle.domain_world.specs.Claims.Sessions.{ControllerRenewed, SessionsFollow, sessions_behind}
 use Rattle.domain_world.specs.Claims.Statuses.{StatusesAreTold}
 use Rattle.domain_world.specs.Past.{Past}
-use Rattle.claim_examples.specs.ClaimExamples.{judged_as, keeping_controller, message, next_call, next_logon, run_in, small_channel, small_computers, small_hash, small_world}
+use Rattle.claim_examples.specs.ClaimExamples.{judged_as, keeping_controller, message, next_call, next_logon, run_in, small_channel, small_computers, small_hash, small_table, small_world}
+use Rattle.claim_examples.specs.CompletenessExamples.{able_table, ann_accounts}
 use Rattle.claim_examples.specs.GrantExamples.{judged_all}
 
 -- ---- which are granted
@@ -130,11 +133,31 @@ pub record OfSessions : Type 0 where
 
 -- ---- which statuses are told
 
+-- FILE1 sets its secret anew, by such a table; ann's has no account of it
+abbrev pub set_call : AccountTable → Judging
+set_call table = record ann_call {
+  at = 8;
+  asked = Set (record {
+    primary = None;
+    account = codes "FILE1$";
+    channel = 2;
+    computer = codes "FILE1";
+    authenticator = authenticator_of (key_of_channel (small_channel [])) [] 0;
+    hidden = replicate 16 6;
+  });
+  table = table;
+}
+
 -- Statuses: the logoff of a session that stands was told with 0, and of one that doesn't with
--- STATUS_NO_SUCH_LOGON_SESSION; not the other way. Of a call that was barred nothing is asked.
+-- STATUS_NO_SUCH_LOGON_SESSION; not the other way. So was the change of a secret with 0 where the computer has an
+-- account, and with STATUS_NO_TRUST_SAM_ACCOUNT where it has none. Of a call that was barred nothing is asked.
 pub record OfStatuses : Type 0 where
   pub meets : StatusesAreTold (judged_all (logoff_call ann_session ∷ []))
   pub none : StatusesAreTold (judged_all (judged_as (judged.Passed no_such_logon_session) (logoff_call []) ∷ []))
   pub barred : StatusesAreTold (judged_all (judged_as judged.Barred (logoff_call []) ∷ []))
   pub fails_open : StatusesAreTold (judged_all (judged_as (judged.Passed no_such_logon_session) (logoff_call ann_session) ∷ [])) → ⊥
   pub fails_none : StatusesAreTold (judged_all (logoff_call [] ∷ [])) → ⊥
+  pub set : StatusesAreTold (judged_all (set_call (able_table ann_accounts) ∷ []))
+  pub set_none : StatusesAreTold (judged_all (judged_as (judged.Passed no_trust_sam_account) (set_call small_table) ∷ []))
+  pub fails_set : StatusesAreTold (judged_all (judged_as (judged.Passed no_trust_sam_account) (set_call (able_table ann_accounts)) ∷ [])) → ⊥
+  pub fails_set_none : StatusesAreTold (judged_all (set_call small_table ∷ [])) → ⊥

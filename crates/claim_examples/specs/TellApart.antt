@@ -3,7 +3,7 @@ use Rattle.std.specs.Prelude.{[]}
 use Rattle.world_moves.specs.declared.plan.Plan.{Plan}
 use Rattle.domain_world.specs.Headline.{IsClaimed}
 use Rattle.claim_examples.specs.ClaimExamples.{OfAcceptingAll, OfAcceptingOnly, OfAll, OfChallenges, OfClashes, OfCredentials, OfKeys, OfReplays, OfSequences, OfShortResponses, OfTakenAnswers, OfWraps}
-use Rattle.claim_examples.specs.CompletenessExamples.{OfCompleteness, OfSuccess}
+use Rattle.claim_examples.specs.CompletenessExamples.{OfCompleteness, OfOwnMembers, OfSuccess}
 
 -- all of them
 pub record ClaimsTellApart : Type 0 where
@@ -21,5 +21,6 @@ pub record ClaimsTellApart : Type 0 where
   pub together : OfAll
   pub success : OfSuccess
   pub completeness : OfCompleteness
+  pub own_members : OfOwnMembers
   -- and all is so of a world in which no move was made
   pub at_first : (plan : Plan) → IsClaimed plan []

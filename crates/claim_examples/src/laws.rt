@@ -85,7 +85,8 @@ pub fn sequences_tell_apart()
 
 /// The claims on interactive logons, on sessions and on statuses are met by small runs in which one is granted, opens a
 /// session, and is logged off. Others don't meet them: with 10,000 sessions, with a hash that differs in a byte, where
-/// sessions are lost, or kept over a restart or a logoff, or where a logoff was told with another status.
+/// sessions are lost, or kept over a restart or a logoff, or where a logoff or a change of a secret was told with
+/// another status.
 #[tactic(auto, using(crate::proofs::SessionExampleLaws::of_hash_grants, crate::proofs::SessionExampleLaws::of_sessions, crate::proofs::SessionExampleLaws::of_statuses))]
 pub fn sessions_tell_apart()
     ensures grants { OfHashGrants }

@@ -18,6 +18,7 @@ pub mod NamedLinkLaws
 pub mod NewMessageLaws
 pub mod OutStepLaws
 pub mod OwnMessageLaws
+pub mod ReadyLaws
 pub mod StepApartLaws
 pub mod WholeNotedLaws
 pub mod WholeOutLaws

@@ -138,7 +138,7 @@ fn answer_event<E: End>(
 }
 
 /// The answer to a step that is no moment: `wants`, or an event.
-fn answer<E: End>(
+pub(crate) fn answer<E: End>(
     alloc: Global,
     end: &mut E,
     chances: &mut ListChances,

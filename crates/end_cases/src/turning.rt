@@ -2,7 +2,7 @@
 //! turn, a scenario a line.
 
 use crate::scenes::{actions_text, add_left, chances, numbered_text};
-use crate::turns::{ask, channel, frames_text, info};
+use crate::turns::{ask, channel, frames_text, info, set_next, use_secret};
 use case_words::{answer_steps, blob, bytes, no_case, number, number64, refusal_text, truth, word};
 use channel_client::{Channel, ShortFrames, Turn};
 use channel_turns::{
@@ -71,6 +71,7 @@ fn how_text(alloc: Global, how: TurnEnd) -> anyhow::Result<String> {
         TurnEnd::Opened => Ok("opened".to_string(alloc)?),
         TurnEnd::Answer(place, verdict) => numbered_text(alloc, "answer", place, verdict),
         TurnEnd::Dropped(place, cause) => numbered_text(alloc, "dropped", place, cause),
+        TurnEnd::Set => Ok("set".to_string(alloc)?),
     }
 }
 
@@ -121,8 +122,17 @@ fn put_back(
     Ok(answer)
 }
 
-/// Lets a logon wait.
-fn ask_on(
+/// A step of the channel alone: a logon waits, or a secret is given.
+fn do_on_channel(alloc: Global, channel: &mut Channel, parts: &[&str]) -> anyhow::Result<String> {
+    match word(parts, 0) {
+        "secret" => use_secret(alloc, channel, word(parts, 1)),
+        "following" => set_next(alloc, channel, word(parts, 1)),
+        _ => ask(alloc, channel, info(alloc, parts)?),
+    }
+}
+
+/// A step of the channel.
+fn on_channel(
     alloc: Global,
     scene: &mut Scene,
     turning: Turning,
@@ -133,7 +143,7 @@ fn ask_on(
         dialling,
         actions,
     } = turning;
-    let answer = ask(alloc, &mut channel, info(alloc, parts)?)?;
+    let answer = do_on_channel(alloc, &mut channel, parts)?;
     scene.turning = Some(Turning {
         channel,
         dialling,
@@ -365,7 +375,7 @@ fn answer_step(
     parts: &[&str],
 ) -> anyhow::Result<String> {
     match word(parts, 0) {
-        "ask" => ask_on(alloc, scene, turning, parts),
+        "ask" | "secret" | "following" => on_channel(alloc, scene, turning, parts),
         "start" => start(alloc, scene, turning),
         "bind" => bind(alloc, scene, turning, number(word(parts, 1))?),
         "serve" => serve(alloc, scene, turning, word(parts, 1)),

@@ -181,6 +181,7 @@ fn taken_text(alloc: Global, scene: &mut Scene, taken: Taken) -> anyhow::Result<
         Taken::Opened => Ok("opened".to_string(alloc)?),
         Taken::Answer(place, verdict) => numbered_text(alloc, "answer", place, verdict),
         Taken::Dropped(place, cause) => numbered_text(alloc, "dropped", place, cause),
+        Taken::Set => Ok("set".to_string(alloc)?),
     }
 }
 
@@ -211,9 +212,49 @@ fn lose(alloc: Global, scene: &mut Scene) -> anyhow::Result<String> {
     Ok(format!(in alloc; "{place}")?)
 }
 
+/// Gives a channel that is none another secret.
+#[tactic(auto, using(member_server::proofs::SecretLaws::giving))]
+pub(crate) fn use_secret(
+    alloc: Global,
+    channel: &mut Channel,
+    secret: &str,
+) -> anyhow::Result<String> {
+    let secret = sixteen(secret)?;
+    if !channel.can_start() || !channel.needs_challenge() {
+        return no_case(alloc);
+    }
+    channel.use_secret(secret);
+    Ok("-".to_string(alloc)?)
+}
+
+/// The secret of a word, or none.
+fn following(word: &str) -> anyhow::Result<Option<[u8; 16]>> {
+    match word {
+        "none" => Ok(None),
+        secret => Ok(Some(sixteen(secret)?)),
+    }
+}
+
+/// Gives a channel the next secret, or none.
+#[tactic(auto, using(member_server::proofs::SecretLaws::giving))]
+pub(crate) fn set_next(
+    alloc: Global,
+    channel: &mut Channel,
+    secret: &str,
+) -> anyhow::Result<String> {
+    let next = following(secret)?;
+    if !channel.can_start() {
+        return no_case(alloc);
+    }
+    channel.set_next(next);
+    Ok("-".to_string(alloc)?)
+}
+
 /// The answer to a step of these parts.
 fn answer_step(alloc: Global, scene: &mut Scene, parts: &[&str]) -> anyhow::Result<String> {
     match word(parts, 0) {
+        "secret" => use_secret(alloc, &mut scene.channel, word(parts, 1)),
+        "following" => set_next(alloc, &mut scene.channel, word(parts, 1)),
         "ask" => ask(alloc, &mut scene.channel, info(alloc, parts)?),
         "fill" => fill(alloc, scene, number(word(parts, 1))?),
         "can" => can(alloc, scene),

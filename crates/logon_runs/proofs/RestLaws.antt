@@ -25,9 +25,10 @@ use Rattle.world_moves.specs.World.{IsPlan, first_world}
 use Rattle.world_moves.proofs.RangeLaws.{table_in_range}
 use Rattle.logon_steps.specs.Knowing.{StandsLater}
 use Rattle.logon_steps.proofs.KnowingLaws.{computers_are_known}
+use Rattle.logon_steps.proofs.MemberLinkLaws.{fresh_rests}
 use Rattle.logon_runs.specs.Seen.Others.{OthersStay}
 use Rattle.logon_runs.specs.Phases.{Coming}
-use Rattle.logon_runs.specs.Rests.{AtRest, CanBeGranted, CanCome, ClientRests, ControllerRests, HasBegun, HasCome, HasOwnComputer, HasOwnName, LogonsComeToRest, channel_account, coming_at, three_of}
+use Rattle.logon_runs.specs.Rests.{AreAlone, AtRest, CanBeGranted, CanCome, ClientRests, ControllerRests, HasBegun, HasCome, HasOwnComputer, HasOwnName, LogonsComeToRest, channel_account, coming_at, three_of}
 use Rattle.logon_runs.specs.Runs.{StandsInStep}
 use Rattle.logon_runs.specs.Failing.TurnedAway.{HasEnded, Settled, settled_in}
 use Rattle.logon_runs.specs.Any.AnyPhases.{HasSecret, IsAble, IsOwn, KeepsInStep, MayStand}
@@ -53,8 +54,8 @@ half_not_open one other o is = absurd cc
 
 -- ---- the first world
 
-first_so : (plan : Plan) → IsPlan plan → HasForms plan → AtRest plan (first_world plan).state
-first_so plan is forms = record {
+first_so : (plan : Plan) → IsPlan plan → HasForms plan → AreAlone plan.members → AtRest plan (first_world plan).state
+first_so plan is forms alone = record {
   opened = refl;
   dials = refl;
   units = refl;
@@ -74,7 +75,7 @@ first_so plan is forms = record {
     how = standing.Nothing;
     place = 0;
     number = 1;
-    rests = got_mapped fresh_member plan.members at member is_plan;
+    rests = got_mapped fresh_member plan.members at member is_plan ∙ ap Some (fresh_rests member (alone at member is_plan));
     place_below = omega arith;
     number_below = omega arith;
     stands = tt;

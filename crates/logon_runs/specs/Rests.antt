@@ -2,7 +2,7 @@
 -- another (this project's own choice).
 use Rattle.std.specs.List.{AllByRecursion}
 use Rattle.std.specs.Option.{option_and_then}
-use Rattle.std.specs.Prelude.{ℕ, ◌≡◌, ◌≢◌, ◌*◌, ◌≤◌, ◌<◌, ◌^◌, ◌⊎◌, false, List, [], ◌∷◌, length, Option, Some, slice_get}
+use Rattle.std.specs.Prelude.{ℕ, ◌≡◌, ◌≢◌, ◌*◌, ◌≤◌, ◌<◌, ◌^◌, ◌⊎◌, false, List, [], ◌∷◌, length, Option, Some, None, slice_get}
 use Rattle.wire_base.specs.Maps.{lookup}
 use Rattle.wire_base.specs.Names.{same_name}
 use Rattle.channel_keys.specs.ChannelTypes.{workstation_channel}
@@ -37,6 +37,7 @@ use Rattle.logon_steps.specs.Answering.{IsInStep}
 use Rattle.logon_steps.specs.ClientSteps.{client_ended}
 use Rattle.logon_steps.specs.ControllerTurns.{controller_at}
 use Rattle.logon_steps.specs.MemberLinks.{logons_at_rest}
+use Rattle.member_server.specs.Secrets.{tried_of}
 use Rattle.logon_steps.specs.MemberTurns.{member_at}
 use Rattle.logon_runs.specs.Seen.Others.{IsStepOn, OthersStay, Three}
 use Rattle.logon_runs.specs.Phases.{Coming, HasUser, IsUnderWay, IsKnown}
@@ -55,7 +56,7 @@ pub record HasOwnComputer (plan : Plan) (at : ℕ) (member : MemberPlan) (contro
   pub machine_found : account_in table.accounts (machine_name member.computer) ≡ Some machine
   pub kind : machine.kind ≡ Workstation
   pub enabled : machine.disabled ≡ false
-  pub secret : machine.hash ≡ member.secret
+  pub secret : machine.hash ≡ tried_of member.secrets
   pub apart : (other : ℕ) (peer : MemberPlan) → other ≢ at → slice_get plan.members other ≡ Some peer →
       end_of_peer peer.controller (first_ends plan) ≡ Some (Controller controller) → same_name peer.computer member.computer ≡ false
 
@@ -65,7 +66,7 @@ channel_account table computer = option_and_then (slice_get table.accounts) (mac
 
 -- its hash, where it is there, is the member's secret
 abbrev pub HasItsSecret : AccountTable → MemberPlan → Type 0
-HasItsSecret table member = (account : Account) → channel_account table member.computer ≡ Some account → account.hash ≡ member.secret
+HasItsSecret table member = (account : Account) → channel_account table member.computer ≡ Some account → account.hash ≡ tried_of member.secrets
 
 -- So it is of the member of that number at its controller, and no other member of the controller has its name. The
 -- controller may have no account of it.
@@ -74,6 +75,10 @@ pub record HasOwnName (plan : Plan) (at : ℕ) (member : MemberPlan) (controller
   pub secret : (table : AccountTable) → slice_get plan.tables controller ≡ Some table → HasItsSecret table member
   pub apart : (other : ℕ) (peer : MemberPlan) → other ≢ at → slice_get plan.members other ≡ Some peer →
       end_of_peer peer.controller (first_ends plan) ≡ Some (Controller controller) → same_name peer.computer member.computer ≡ false
+
+-- each member keeps one secret
+abbrev pub AreAlone : List MemberPlan → Type 0
+AreAlone members = (at : ℕ) (member : MemberPlan) → slice_get members at ≡ Some member → member.secrets.next ≡ None
 
 -- ---- what rests
 
@@ -192,8 +197,8 @@ abbrev pub three_of : ℕ → ℕ → ℕ → Three
 three_of client member controller = record { client = client; member = member; controller = controller }
 
 pub record LogonsComeToRest : Type 0 where
-  -- the first world rests
-  pub first : (plan : Plan) → IsPlan plan → HasForms plan → AtRest plan (first_world plan).state
+  -- the first world rests, where each member keeps one secret
+  pub first : (plan : Plan) → IsPlan plan → HasForms plan → AreAlone plan.members → AtRest plan (first_world plan).state
   -- a client that starts at rest is under way, by an account that is in its ranges, and by the user's where he has one
   pub comes : (plan : Plan) (s : State) (rest : AtRest plan s) (client member controller : ℕ) (can : CanCome plan client member controller) (account : Account) (number : ℕ) → IsPlan plan →
       HasForms plan → InRangeAccount account → chosen_place number (length s.ends.clients) ≡ Some client → HasCome plan s rest client member controller can account number

@@ -23,6 +23,7 @@ use Rattle.domain_controller.specs.Machine.{account_for}
 use Rattle.member_server.specs.declared.plan.MemberPlan.{MemberPlan}
 use Rattle.member_server.specs.Machine.{caller_of}
 use Rattle.logon_steps.specs.Answering.{auth_value}
+use Rattle.member_server.specs.Secrets.{tried_of}
 use Rattle.logon_steps.specs.Knowing.{ComputersAreKnown, IsKnownLater, StandsLater}
 use Rattle.logon_steps.proofs.AnsweringLaws.{calls_are_answered}
 
@@ -174,7 +175,7 @@ stands_later old new name account differ found =
     }
 
 known_later : (old new : AccountTable) (plan : MemberPlan) (client server : List ℕ) (account : Account) → DifferInCounts old new →
-    account_in old.accounts (machine_name plan.computer) ≡ Some account → account.kind ≡ Workstation → account.disabled ≡ false → account.hash ≡ plan.secret →
+    account_in old.accounts (machine_name plan.computer) ≡ Some account → account.kind ≡ Workstation → account.disabled ≡ false → account.hash ≡ tried_of plan.secrets →
     IsKnownLater new plan client server account
 known_later old new plan client server account differ found kind enabled hash =
     let there : StandsLater new (machine_name plan.computer) account = stands_later old new (machine_name plan.computer) account differ found in

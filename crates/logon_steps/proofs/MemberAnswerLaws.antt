@@ -44,7 +44,7 @@ use Rattle.logon_steps.specs.Asking.{at_rest}
 use Rattle.logon_steps.specs.Meeting.{bound_for}
 use Rattle.logon_steps.specs.MemberAnswers.{LogonsEnd, granting, let_in, sam_shown}
 use Rattle.logon_steps.specs.MemberLinks.{asked_talk, logons_at_rest, one_link}
-use Rattle.logon_steps.specs.MemberTurns.{logons_in_turn}
+use Rattle.logon_steps.specs.MemberTurns.{logons_in_turn, plan_of}
 use Rattle.logon_steps.specs.MemoCalls.{ReplyGoes, RequestGoes, logged_on}
 use Rattle.logon_steps.proofs.AskingLaws.{logons_are_asked}
 use Rattle.logon_steps.proofs.MemberLinkLaws.{link_serves}
@@ -120,7 +120,7 @@ logons_end = record {
       ∙ ap (λ (taking : Taking). step_by actions_in state_in halted_state left (next_turn now ((take_by taking None at).0.work, keep_turn (take_by taking None at).1 [] turn) left))
       (logons_are_asked.granted caller o info sam place next number timestamp moment authoritative)
       ∙ ap (λ (work : Work). step_by actions_in state_in halted_state left (next_turn now (work, dialling.Nothing) left))
-      (granted_work plan rest task (sam_shown o sam) logon place turn most one short who back);
+      (granted_work (plan_of plan caller) rest task (sam_shown o sam) logon place turn most one short who back);
   echoed = λ plan caller how place next link now most task on bytes one left bound short are asks back.
       let logons : Logons = logons_at_rest plan caller how place next in
       let at : AtLink = record { link = link; logons = logons; actions = [] } in

@@ -1,6 +1,6 @@
 -- The one accepted link of a member server, step by step.
 -- Of `links_step`.
-use Rattle.std.proofs.Common.{◌≡◌, ℕ, ◌+◌, Bool, List, [], ◌∷◌, length, Some, None, Result, Ok, refl, sym, ap, ◌∙◌, arith, if◌then◌else◌}
+use Rattle.std.proofs.Common.{◌≡◌, ℕ, ◌+◌, Bool, List, [], ◌∷◌, length, Option, Some, None, Result, Ok, refl, sym, ap, ◌∙◌, arith, if◌then◌else◌}
 use Rattle.std.proofs.lemmas.Bool.{le-leb, ne_eqb}
 use Rattle.ntlm_messages.specs.declared.messages.Authenticate.{Authenticate}
 use Rattle.wire_base.specs.Maps.{lookup, same_number}
@@ -16,7 +16,7 @@ use Rattle.rpc_units.specs.Writing.{IsSendable, written}
 use Rattle.end_links.specs.Links.{LinkState}
 use Rattle.end_links.specs.Serving.{ServedPart, served_cut}
 use Rattle.channel_client.specs.declared.state.Standing.TheVariants as standing
-use Rattle.channel_client.specs.Machine.{ask_of}
+use Rattle.channel_client.specs.Machine.{ask_of, fresh_requester}
 use Rattle.logon_client.specs.declared.plan.ClientPlan.{ClientPlan}
 use Rattle.logon_client.specs.Answering.{bind_for}
 use Rattle.logon_client.specs.Plans.{CanLogOn}
@@ -27,10 +27,13 @@ use Rattle.channel_turns.specs.declared.state.Dialling.TheVariants as dialling
 use Rattle.member_server.specs.declared.state.Logons.{Logons}
 use Rattle.member_server.specs.declared.state.Talk.{Talk}
 use Rattle.member_server.specs.declared.state.Work.{Work}
-use Rattle.member_server.specs.Machine.{actions_in, after_units, serve_alone, bytes_by, bytes_on, bytes_on_link, halted_state, state_in, step_of}
+use Rattle.member_server.specs.Machine.{actions_in, after_units, serve_alone, bytes_by, bytes_on, bytes_on_link, caller_of, fresh_member, halted_state, state_in, step_of}
 use Rattle.member_server.specs.Messages.{info_of, wait_for}
 use Rattle.member_server.specs.Requests.{body_asked, hold_by, unit_asked}
+use Rattle.member_server.specs.Secrets.{SecretsState, tried_of}
 use Rattle.member_server.specs.State.{State}
+use Rattle.secret_change.specs.Secrets.{alone, tried_of_next}
+use Rattle.secret_change.specs.declared.secrets.Next.{Next}
 use Rattle.member_server.specs.Turns.{DialWork, next_turn}
 use Rattle.member_server.specs.Units.{link_server}
 use Rattle.member_server.specs.Work.{Served, drawless, send_unit, stay}
@@ -80,7 +83,7 @@ links_step = record {
       let sends : IsSendable (bind_for task.level task.auth) = bind_sends task.level task.auth in
       link_serves (logons_at_rest plan caller how place number) dialling.Nothing link now fresh_talk (written (bind_for task.level task.auth)) (bind_for task.level task.auth)
       (challenge ∷ left) (drawless (stay (send_unit at (ack_for plan task challenge)) (challenged_talk task challenge)) left) tt (read_again (bind_for task.level task.auth) sends)
-      (sym (served_one link_server (bind_for task.level task.auth) at fresh_talk (challenge ∷ left) sends) ∙ meets.bind task at challenge left can short eight);
+      (sym (served_one link_server (bind_for task.level task.auth) at fresh_talk (challenge ∷ left) sends) ∙ meets.bind task at challenge left can (record { domain = short.domain; computer = short.computer }) eight);
   asks_first = λ plan peer caller place number link now then_now task challenge one two three other left can short are.
       let logons : Logons = logons_at_rest plan caller standing.Nothing place number in
       asks_steps logons peer link now then_now task challenge one two three (other ∷ left) can short are;
@@ -110,3 +113,18 @@ links_step = record {
       (drawless (wait_for (ask_of logons.channel (info_of message (flags_agreed task) challenge)) (logon_for link task challenge message) (bound_for task) None at) left) tt
       (read_again (auth3_for task message) (answers_are_asked.sends peer task challenge one two three then_now can short are))
       (ap (λ (s : Served). drawless s left) (answers_are_asked.asked peer task challenge one two three then_now at can short are))
+
+-- ---- a member that was just made
+
+-- one secret alone is the one that is tried
+is_alone : (s : SecretsState) → s.next ≡ None → s ≡ alone (tried_of s)
+is_alone s one =
+    ap (λ (next : Option Next). record s { next = next }) one
+    ∙ ap (λ (next : Option Next). alone (tried_of_next next s.current)) (sym one)
+
+-- with one secret it rests
+pub fresh_rests : (plan : MemberPlan) → plan.secrets.next ≡ None →
+    fresh_member plan ≡ member_at (logons_at_rest plan (caller_of plan) standing.Nothing 0 1) [] dialling.Nothing
+fresh_rests plan one =
+    ap (λ (secrets : SecretsState). member_at (record { plan = record plan { secrets = secrets }; channel = fresh_requester (caller_of plan); asked = [] }) [] dialling.Nothing)
+    (is_alone plan.secrets one)

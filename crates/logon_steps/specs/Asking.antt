@@ -28,7 +28,7 @@ use Rattle.channel_client.specs.declared.state.Step.TheVariants as step
 
 -- nobody waits; the next place, and the next number
 abbrev pub at_rest : Caller → Standing → ℕ → ℕ → Requester
-at_rest caller how place number = record { caller = caller; standing = how; waiting = []; next_place = place; next_call = number; turn = None }
+at_rest caller how place number = record { caller = caller; standing = how; waiting = []; next_place = place; next_call = number; turn = None; next = None }
 
 -- what is asked for a place
 abbrev pub info_at : ℕ → NetworkInfo → NetworkInfo
@@ -43,6 +43,7 @@ asking caller how info place number turn = record {
   next_place = after place;
   next_call = number;
   turn = turn;
+  next = None;
 }
 
 -- ---- what it comes to

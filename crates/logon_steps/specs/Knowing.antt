@@ -13,6 +13,7 @@ use Rattle.channel_client.specs.Machine.{offered_flags}
 use Rattle.domain_controller.specs.Machine.{account_for, channel_for}
 use Rattle.member_server.specs.declared.plan.MemberPlan.{MemberPlan}
 use Rattle.member_server.specs.Machine.{caller_of}
+use Rattle.member_server.specs.Secrets.{tried_of}
 use Rattle.logon_steps.specs.Answering.{IsInStep, auth_value, pair_of}
 
 -- the account of that name is there, but for its count of bad passwords
@@ -26,7 +27,7 @@ pub record IsKnownLater (table : AccountTable) (plan : MemberPlan) (client serve
   pub count : ℕ
   pub knows : knows_in table.accounts plan.computer ≡ true
   pub machine : account_for table (auth_value (caller_of plan) client server) ≡ Some (with_count count account)
-  pub step : IsInStep (fresh_channel plan.secret client server offered_flags)
+  pub step : IsInStep (fresh_channel (tried_of plan.secrets) client server offered_flags)
       (channel_for (with_count count account) (pair_of client server) (auth_value (caller_of plan) client server))
 
 pub record ComputersAreKnown : Type 0 where
@@ -39,5 +40,5 @@ pub record ComputersAreKnown : Type 0 where
   pub stands : (old new : AccountTable) (name : List ℕ) (account : Account) → DifferInCounts old new → account_in old.accounts name ≡ Some account →
       StandsLater new name account
   pub later : (old new : AccountTable) (plan : MemberPlan) (client server : List ℕ) (account : Account) → DifferInCounts old new →
-      account_in old.accounts (machine_name plan.computer) ≡ Some account → account.kind ≡ Workstation → account.disabled ≡ false → account.hash ≡ plan.secret →
+      account_in old.accounts (machine_name plan.computer) ≡ Some account → account.kind ≡ Workstation → account.disabled ≡ false → account.hash ≡ tried_of plan.secrets →
       IsKnownLater new plan client server account

@@ -33,12 +33,12 @@ use Rattle.member_server.specs.Turns.{timestamp_of}
 use Rattle.logon_steps.specs.Answers.{AreDraws, answer_for, auth3_for, drawn_of, logon_for}
 use Rattle.logon_steps.specs.Asking.{at_rest, info_at}
 use Rattle.logon_steps.specs.Meeting.{HasShortNames, ack_for, bound_for, challenged_talk, flags_agreed, fresh_talk}
-use Rattle.logon_steps.specs.MemberTurns.{bind_waits, logons_in_turn, member_at}
+use Rattle.logon_steps.specs.MemberTurns.{bind_waits, logons_in_turn, member_at, plan_of}
 use Rattle.logon_steps.specs.MemoCalls.{RequestGoes}
 
--- nobody waits
+-- nobody waits, at a member with one secret
 abbrev pub logons_at_rest : MemberPlan → Caller → Standing → ℕ → ℕ → Logons
-logons_at_rest plan caller how place number = record { plan = plan; channel = at_rest caller how place number; asked = [] }
+logons_at_rest plan caller how place number = record { plan = plan_of plan caller; channel = at_rest caller how place number; asked = [] }
 
 -- the one link, on which all that came is served
 abbrev pub one_link : ℕ → Talk → List (ℕ × LinkState Talk)

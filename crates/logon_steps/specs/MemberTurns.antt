@@ -35,6 +35,7 @@ use Rattle.member_server.specs.declared.state.Talk.{Talk}
 use Rattle.member_server.specs.declared.state.Work.{Work}
 use Rattle.member_server.specs.Machine.{actions_in, at_turn, halted_state, state_in, step_of}
 use Rattle.member_server.specs.State.{State}
+use Rattle.secret_change.specs.Secrets.{alone}
 use Rattle.member_server.specs.Turns.{TurnServed, do_taken, next_turn, timestamp_of, turn_talk, with_requester, with_work}
 use Rattle.logon_steps.specs.Asking.{asking}
 use Rattle.logon_steps.specs.Turning.{IsTurnReply, turn_ack, turn_request, turn_response}
@@ -44,10 +45,14 @@ use Rattle.logon_steps.specs.Turning.{IsTurnReply, turn_ack, turn_request, turn_
 abbrev pub member_at : Logons → List (ℕ × LinkState Talk) → Dialling → State
 member_at logons links how = record { running = Some (record { logons = logons; links = links; dialling = how }) }
 
+-- the plan of a member with one secret, which who asks has
+abbrev pub plan_of : MemberPlan → Caller → MemberPlan
+plan_of plan caller = record plan { secrets = alone caller.secret }
+
 -- one logon waits, whose turn waits for the answer to its bind or call of that number
 abbrev pub logons_in_turn : MemberPlan → Caller → Standing → NetworkInfo → ℕ → ℕ → ℕ → Step → List (ℕ × Logon) → Logons
 logons_in_turn plan caller how info place next number what asked = record {
-  plan = plan;
+  plan = plan_of plan caller;
   channel = asking caller how info place next (Some (record { number = number; place = place; step = what }));
   asked = asked;
 }

@@ -6,6 +6,7 @@ use anyhow::bail;
 use domain_controller::Controller;
 use member_server::{Member, MemberPlan};
 use outside::{Action, Actions, Draws, Event, ListChances, Outcome as Told};
+use secret_change::Secrets;
 use std::alloc::Global;
 use wire_base::{Blob, Name};
 
@@ -179,7 +180,7 @@ fn plan(alloc: Global) -> anyhow::Result<MemberPlan> {
     Ok(MemberPlan {
         computer,
         domain,
-        secret: SECRET,
+        secrets: Secrets::alone(SECRET),
         controller,
     })
 }

@@ -36,6 +36,7 @@ use Rattle.channel_client.specs.declared.hearing.Hearing.TheVariants as hearing
 use Rattle.channel_client.specs.declared.state.Question.TheVariants as question
 use Rattle.channel_client.specs.declared.state.Standing.TheVariants as standing
 use Rattle.channel_client.specs.declared.state.Step.TheVariants as step
+use Rattle.channel_client.specs.declared.state.SetStep.TheVariants as set_step
 use Rattle.domain_controller.specs.Hearing.{hear, served_call}
 use Rattle.domain_controller.specs.Machine.{Desk, account_for, by_call, controller_server, send_reply}
 use Rattle.domain_controller.specs.State.{State as ControllerState}
@@ -64,6 +65,8 @@ use Rattle.logon_client.specs.declared.state.Talk.{Talk as ClientTalk}
 use Rattle.logon_client.specs.declared.state.Terms.{Terms}
 use Rattle.member_server.specs.Turns.{AtTurn, turn_server}
 use Rattle.channel_turns.specs.declared.state.TurnTalk.{TurnTalk}
+use Rattle.secret_change.specs.Calls.{set_opnum, written_set_call}
+use Rattle.secret_change.specs.declared.calls.SetCall.{SetCall}
 use Rattle.channel_events.specs.Marks.{Calling, Mark, Opening, Plain}
 use Rattle.step_notes.specs.ClientNotes.{ClientAt, made_note, units_of_client}
 use Rattle.step_notes.specs.ControllerNotes.{Where, answer_on, call_answer, checked_on, has_passed, judged_answer, opened_by, opening, passing, units_of_controller}
@@ -95,6 +98,19 @@ pub record WillCall (s : Requester) (computer : List ℕ) : Type 0 where
   pub asks : WillAsk s (call.Logon logon)
   pub names : logon.computer ≡ Some computer
 
+-- a call waits that sets a secret, which names that computer
+pub record WillSet (s : Requester) (computer : List ℕ) : Type 0 where
+  pub call : SetCall
+  pub number : ℕ
+  pub place : ℕ
+  pub turn : s.turn ≡ Some (record { number = number; place = place; step = step.Set (set_step.Bind call) })
+  pub names : call.computer ≡ computer
+
+-- by whether a secret is next: it is set before any logon is asked for
+abbrev pub WillCallBy : Option (List ℕ) → Requester → List ℕ → Type 0
+WillCallBy None s computer = WillCall s computer
+WillCallBy (Some next) s computer = WillSet s computer
+
 -- the frames of the request that a unit lets go out, if it does
 abbrev pub frames_sent : Taken → Option (List (List ℕ))
 frames_sent (taken.Skip right) = None
@@ -103,6 +119,7 @@ frames_sent taken.Half = None
 frames_sent taken.Opened = None
 frames_sent (taken.Answer place verdict) = None
 frames_sent (taken.Dropped place cause) = None
+frames_sent taken.Set = None
 
 -- the place of the logon whose answer a unit is, if it is one
 abbrev pub place_answered : Taken → Option ℕ
@@ -112,10 +129,15 @@ place_answered taken.Half = None
 place_answered taken.Opened = None
 place_answered (taken.Answer place verdict) = Some place
 place_answered (taken.Dropped place cause) = None
+place_answered taken.Set = None
 
 -- they are those of that call, with that number, in fragments of some size
 abbrev pub AreFramesOf : ℕ → Call → List (List ℕ) → Type 0
 AreFramesOf number c frames = (limit : ℕ) × (frames ≡ frames_of (request_of number 0 (opnum_of_call c) (written_call c)) limit)
+
+-- the same of a call that sets a secret
+abbrev pub AreFramesOfSet : ℕ → SetCall → List (List ℕ) → Type 0
+AreFramesOfSet number c frames = (limit : ℕ) × (frames ≡ frames_of (request_of number 0 set_opnum (written_set_call c)) limit)
 
 -- a credential passed on that channel; and the answer of that place, to the call of that number, was taken, if one was
 abbrev pub passed_note : ChannelIdentity → Option ℕ → Option ℕ → TurnNote
@@ -219,19 +241,24 @@ pub record ChannelsStandAsAsked : Type 0 where
       StandsOrGoes channel (standing_channel controller (take_of s unit).state)
   pub loses : (controller : ℕ) (s : Requester) → standing_channel controller (lose_of s).state ≡ None
 
--- Calling: a Logon call is written down as made for the channel that stands, and names its computer. A controller that
--- has the channel keeps it until it opens another one for that computer, and a call that passes there passes on it. The
--- member takes the answer on the channel that stands.
+-- Calling: a Logon call, and one that sets a secret, is written down as made for the channel that stands, and names its
+-- computer. A controller that has the channel keeps it until it opens another one for that computer, and a call that
+-- passes there passes on it. The member takes the answer on the channel that stands.
 pub record CallsAreNamedAlike : Type 0 where
   pub starts : (controller : ℕ) (s : Requester) (timestamp : ℕ) (challenge : List ℕ) (channel : ChannelIdentity) →
       standing_channel controller s ≡ Some channel → can_start s.turn s.waiting ≡ true →
-      WillCall (start_of s timestamp challenge).state channel.computer
+      WillCallBy s.next (start_of s timestamp challenge).state channel.computer
   pub asks : (controller : ℕ) (s : Requester) (unit : RpcUnit) (channel : ChannelIdentity) (logon : LogonCall) (frames : List (List ℕ)) →
       standing_channel controller s ≡ Some channel → (ask : WillAsk s (call.Logon logon)) →
       frames_sent (take_of s unit).taken ≡ Some frames →
       AreFramesOf s.next_call (call.Logon logon) frames
       × (taking_note (Some (take_of s unit)) controller s
       ≡ request_note (Calling channel s.next_call (timestamp_in logon.authenticator)) (Some ask.place))
+  pub asks_set : (controller : ℕ) (s : Requester) (unit : RpcUnit) (channel : ChannelIdentity) (computer : List ℕ) (frames : List (List ℕ)) →
+      standing_channel controller s ≡ Some channel → (will : WillSet s computer) → frames_sent (take_of s unit).taken ≡ Some frames →
+      AreFramesOfSet s.next_call will.call frames
+      × (taking_note (Some (take_of s unit)) controller s
+      ≡ request_note (Calling channel s.next_call will.call.authenticator.timestamp) None)
   pub keeps : (controller : ℕ) (name : List ℕ) (now link : ℕ) (bytes : List ℕ) (before after : Desk) (talk : ControllerTalk) (left : List (List ℕ))
       (channel : ChannelIdentity) → HasChannel before.work.computers channel →
       IsOfOther channel.computer (opened_unit controller (hear link bytes talk) before) →
@@ -243,6 +270,10 @@ pub record CallsAreNamedAlike : Type 0 where
       (channel : ChannelIdentity) × (standing_channel controller s ≡ Some channel)
       × (standing_channel controller (take_of s unit).state ≡ Some channel)
       × (taking_note (Some (take_of s unit)) controller s ≡ passed_note channel (Some place) (Some (number_in s.turn)))
+  pub sets : (controller : ℕ) (s : Requester) (unit : RpcUnit) → (take_of s unit).taken ≡ taken.Set →
+      (channel : ChannelIdentity) × (standing_channel controller s ≡ Some channel)
+      × (standing_channel controller (take_of s unit).state ≡ Some channel)
+      × (taking_note (Some (take_of s unit)) controller s ≡ passed_note channel None (Some (number_in s.turn)))
 
 -- A credential that passes on a channel in a unit that was made for it is no clash.
 abbrev pub OwnUnitsAreNoClash : Type 0
@@ -257,7 +288,7 @@ channel_marked (Some unit) sent = sent_channel (slice_get sent unit)
 
 -- So there is no clash where the units of an exchange come to whom they were made for: at a controller that expects an
 -- opening, at the member whose channel its reply opens, at a controller that has the channel of a call that passes, and
--- at the member that takes the answer on it.
+-- at the member that takes the answer on it, or learns that the secret is set.
 pub record ExchangesHaveNoClash : Type 0 where
   pub opening : (s : Requester) (client server : List ℕ) (w : Where) (line : Line) (before : Desk) (after : Option Desk) (sent : List Sent) →
       Expects before s client server → channel_marked (unit_in w.source) sent ≡ Some (half_channel w.controller s client server) →
@@ -272,6 +303,9 @@ pub record ExchangesHaveNoClash : Type 0 where
       channel_marked (unit_in j.source) sent ≡ Some channel → clashes (judged_answer j).checked (unit_in j.source) sent ≡ false
   pub answered : (controller : ℕ) (s : Requester) (unit : RpcUnit) (place : ℕ) (channel : ChannelIdentity) (number : Option ℕ) (sent : List Sent) →
       standing_channel controller s ≡ Some channel → place_answered (take_of s unit).taken ≡ Some place →
+      channel_marked number sent ≡ Some channel → clashes (taking_note (Some (take_of s unit)) controller s).checked number sent ≡ false
+  pub set : (controller : ℕ) (s : Requester) (unit : RpcUnit) (channel : ChannelIdentity) (number : Option ℕ) (sent : List Sent) →
+      standing_channel controller s ≡ Some channel → (take_of s unit).taken ≡ taken.Set →
       channel_marked number sent ≡ Some channel → clashes (taking_note (Some (take_of s unit)) controller s).checked number sent ≡ false
 
 pub record ChannelsAreNamedAlike : Type 0 where

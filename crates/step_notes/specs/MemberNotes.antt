@@ -27,6 +27,7 @@ use Rattle.channel_client.specs.declared.state.Standing.{Standing}
 use Rattle.channel_client.specs.declared.state.Standing.TheVariants as standing
 use Rattle.channel_client.specs.declared.state.Step.{Step}
 use Rattle.channel_client.specs.declared.state.Step.TheVariants as step
+use Rattle.channel_client.specs.declared.state.SetStep.TheVariants as set_step
 use Rattle.member_server.specs.Binds.{challenge_message}
 use Rattle.member_server.specs.Laws.{is_past}
 use Rattle.member_server.specs.Machine.{at_turn, step_of, work_of}
@@ -138,10 +139,11 @@ half_channel controller s client server = record {
   flags = offered_flags;
 }
 
--- the timestamp of the Logon or Logoff call that waits for its bind; 0 where none does
+-- the timestamp of the Logon, Logoff or NetrServerPasswordSet call that waits for its bind; 0 where none does
 abbrev pub timestamp_bound : Option Step → ℕ
 timestamp_bound (Some (step.Bind (call.Logon c))) = timestamp_in c.authenticator
 timestamp_bound (Some (step.Bind (call.Logoff c))) = timestamp_in c.authenticator
+timestamp_bound (Some (step.Set (set_step.Bind c))) = c.authenticator.timestamp
 timestamp_bound _ = 0
 
 -- by what is asked, by the channel, and by the requester before and after it
@@ -152,6 +154,9 @@ asked_note (Some (step.Reply question.Logon)) (standing.Open o) controller befor
     request_note
     (Calling (channel_of controller after.caller.computer o) before.next_call (timestamp_bound (step_in before.turn)))
     (Some (place_of after.turn))
+asked_note (Some (step.Set set_step.Reply)) (standing.Open o) controller before after =
+    request_note
+    (Calling (channel_of controller after.caller.computer o) before.next_call (timestamp_bound (step_in before.turn))) None
 asked_note _ _ controller before after = request_note Plain None
 
 -- a credential passed on the channel that stands then; and the answer of that place, to the call of that number, was
@@ -175,6 +180,7 @@ taken_note taken.Half controller before after = no_note
 taken_note taken.Opened controller before after = checked_note controller None None after
 taken_note (taken.Answer place verdict) controller before after = checked_note controller (Some place) (Some (number_in before.turn)) after
 taken_note (taken.Dropped place cause) controller before after = no_note
+taken_note taken.Set controller before after = checked_note controller None (Some (number_in before.turn)) after
 
 abbrev pub taking_note : Option Taking → ℕ → Requester → TurnNote
 taking_note None controller before = no_note
@@ -193,6 +199,7 @@ stamped (Some channel) (Some given) who = record { requester = who; channel = ch
 
 abbrev pub turn_by : Option Step → Option ChannelIdentity → RequesterId → List ChannelTurn
 turn_by (Some (step.Bind (call.Logon c))) channel who = stamped channel c.authenticator who
+turn_by (Some (step.Set (set_step.Bind c))) channel who = stamped channel (Some c.authenticator) who
 turn_by _ channel who = []
 
 -- the turn on the channel whose bind waits, if one does, where the channel is with that controller

@@ -126,7 +126,7 @@ abbrev pub same_requester : RequesterId → RequesterId → Bool
 same_requester (OfMember one) (OfMember other) = one == other
 
 -- A turn of who asks on a channel that stands, whatever its call is: the channel and the timestamp of its
--- authenticator. The call is a NetrLogonSamLogon; no other is asked yet.
+-- authenticator. The call is a NetrLogonSamLogon, or a NetrServerPasswordSet.
 pub record ChannelTurn : Type 0 where
   pub requester : RequesterId
   pub channel : ChannelIdentity

@@ -32,12 +32,14 @@ use Rattle.member_server.specs.declared.state.Work.{Work}
 use Rattle.member_server.specs.Machine.{actions_in, after_units, by_event, close_link, event_part, fresh_link, halted_state, open_by, state_in, step_of, step_on, work_of}
 use Rattle.member_server.specs.Outcomes.{after_link, at_link, end_logon, keep_link, outcome_of, phase_after, tell_at, tell_outcome, without_link, without_logon}
 use Rattle.member_server.specs.State.{State as MemberState}
-use Rattle.member_server.specs.Turns.{DialWork}
+use Rattle.member_server.specs.Secrets.{SecretsState, changes_text, secrets_after, written_secrets}
+use Rattle.channel_turns.specs.declared.state.TurnEnd.{TurnEnd}
+use Rattle.member_server.specs.Turns.{DialWork, keep_ended}
 use Rattle.member_server.specs.Units.{is_fresh, link_server, serve_held, unit_by}
 use Rattle.member_server.specs.Work.{Served, send, shut}
 use Rattle.member_server.proofs.LinkView.{BoundView, Closes, Asks, Overflows, Keeps, Joins, Answers, Faults, UnitView, Serves, Naks, Spends, Challenges, bound_view, held_keeps, logon_at, unit_view}
 use Rattle.member_server.proofs.OutcomeView.{EndView, Unknown, Tells, Reaches, end_view}
-use Rattle.member_server.proofs.StepFrame.{KeepsEvent, KeepsNext, PartHolds, TakesTurn, WorkFact, dialled_keeps, each_taken, event_keeps, next_follows, turn_ended}
+use Rattle.member_server.proofs.StepFrame.{KeepsEvent, KeepsNext, PartHolds, TakesTurn, WorkFact, dialled_keeps, each_taken, event_keeps, next_follows, turn_ended, taken_at, text_kept}
 use Rattle.world_moves.specs.Ends.{actions_by}
 use Rattle.world_moves.specs.Telling.{asks_on, can_ask, opens_at, outcomes_left, tells_one, told_by}
 use Rattle.world_moves.proofs.TellingLaws.{told_more}
@@ -219,12 +221,22 @@ end_due most place how w few = ended_due most place how w (end_logon place how w
 
 -- ---- the turn
 
+-- a text that is kept tells nothing
+text_due : (most : ℕ) (how : TurnEnd) (w : Work) → due_in w ≤ most → due_in (keep_ended how w) ≤ most
+text_due most how w few =
+    let secrets : SecretsState = secrets_after how w.logons.plan.secrets in
+    text_kept (changes_text how w.logons.plan.secrets) secrets w.actions
+    (λ (actions : List Action). (told_by actions + length w.logons.asked) + asks_on w.links ≤ most) (λ none. few)
+    (λ some. omega (arith, few, told_more w.actions (action.Keep (written_secrets secrets))))
+
 turn_due : (most : ℕ) → TakesTurn (λ units at. due_in at.work ≤ most) (λ w. due_in w ≤ most)
 turn_due most = each_taken (λ units at. due_in at.work ≤ most) (λ w. due_in w ≤ most) (record {
   skips = λ right unit units at is few. few;
   sends = λ right frames unit units at is few. tells_due most at.work (action.Send at.link (joined_frames frames)) refl few;
   ends = λ how unit units at is few.
-      let closed : due_in (tell_at at.work (action.Close at.link close.CallDone)) ≤ most = tells_due most at.work (action.Close at.link close.CallDone) refl few in
+      let kept : Work = keep_ended how (taken_at at unit).work in
+      let closed : due_in (tell_at kept (action.Close at.link close.CallDone)) ≤ most =
+      tells_due most kept (action.Close at.link close.CallDone) refl (text_due most how (taken_at at unit).work few) in
       turn_ended how _ (λ w. due_in w ≤ most) (λ none. closed) (λ place ends some. end_due most place ends _ closed);
   breaks = λ cause at few.
       end_due most (lose_of at.work.logons.channel).place (ending.NoController drop_cause.BadReply) _ (tells_due most at.work (action.Close at.link cause) refl few);

@@ -84,7 +84,6 @@ module _ (P : EndId → EndStep → Type 0) (what : Event) (now : ℕ) (ends : E
 -- ---- seen from the ends of one kind: the other ends leave them as they are
 
 module _ (what : Event) (now : ℕ) (ends : EndStates) (chances : Drawing) where
-
   pub members_by : (P : EndId → List MemberState → Type 0) → ((end : EndId) → P end ends.members) →
       ((at : ℕ) (m : MemberState) → slice_get ends.members at ≡ Some m → P (Member at) (slice_set ends.members at (member_step_of m what now chances.left).state)) →
       (end : EndId) → P end (end_step end what now ends chances).ends.members

@@ -9,6 +9,7 @@ use Rattle.account_table.specs.declared.account.Trust.{Trust}
 use Rattle.account_table.specs.TableForms as forms
 use Rattle.logon_client.specs.declared.plan.ClientPlan.{ClientPlan}
 use Rattle.member_server.specs.declared.plan.MemberPlan.{MemberPlan}
+use Rattle.member_server.specs.Secrets.{tried_of}
 use Rattle.world_moves.specs.declared.moves.Move.{Move}
 use Rattle.world_moves.specs.declared.moves.Move.TheVariants as move
 use Rattle.world_moves.specs.declared.plan.Plan.{Plan}
@@ -38,11 +39,11 @@ IsTable table = forms.HasTableForm table
 abbrev pub AreUnits : List ℕ → Type 0
 AreUnits units = All (λ (unit : ℕ). unit < 2 ^ 16) units
 
--- the secret is an NT hash, and the controller's address has bytes
+-- the secret that is tried is an NT hash, and the controller's address has bytes
 pub record IsMemberPlan (plan : MemberPlan) : Type 0 where
   pub computer : IsName plan.computer
   pub domain : IsName plan.domain
-  pub secret : IsBlock 16 plan.secret
+  pub secret : IsBlock 16 (tried_of plan.secrets)
   pub controller : All IsByte plan.controller
 
 -- names of users, domains and computers are in units of UTF-16; how many, `CanLogOn` says

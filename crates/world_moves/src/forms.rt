@@ -31,7 +31,7 @@ fn member_has_form(plan: &MemberPlan)
 {
     let _computer = plan.computer.bytes();
     let _domain = plan.domain.bytes();
-    is_hash(plan.secret);
+    is_hash(plan.secrets.tried());
     are_bytes(plan.controller.bytes());
 }
 

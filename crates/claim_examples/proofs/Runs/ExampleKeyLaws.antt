@@ -26,6 +26,7 @@ use Rattle.ntlm_responses.specs.Hashes.{key_v2_of}
 use Rattle.ntlm_responses.specs.Responses.{proof_of, response_v2_of, temp_of}
 use Rattle.ntlm_responses.specs.Verification.{base_key_by, base_key_of}
 use Rattle.logon_client.specs.Answering.{pairs_sent}
+use Rattle.member_server.specs.Secrets.{tried_of}
 use Rattle.logon_steps.specs.Calling.{TravelsAsZeros}
 use Rattle.logon_steps.specs.Granting.{base_key}
 use Rattle.logon_steps.specs.Meeting.{info_for}
@@ -114,17 +115,17 @@ both_digest_so : md5 (replicate 4 0 ++ of_computer ++ of_controller) ≡ both_di
 unfolding md5 digest_bytes hash_after compress block_words digest.rounds
 both_digest_so = refl
 
-under_secret : hmac_of file1_plan.secret both_digest ≡ channel_key
+under_secret : hmac_of (tried_of file1_plan.secrets) both_digest ≡ channel_key
 unfolding hmac_of padded_key key_block shortened md5 digest_bytes hash_after compress block_words digest.rounds
 under_secret = refl
 
-channel_key_so : strong_key_of file1_plan.secret of_computer of_controller ≡ channel_key
+channel_key_so : strong_key_of (tried_of file1_plan.secrets) of_computer of_controller ≡ channel_key
 unfolding strong_key_of
-channel_key_so = ap (λ (challenges : List ℕ). hmac_of file1_plan.secret challenges) both_digest_so ∙ under_secret
+channel_key_so = ap (λ (challenges : List ℕ). hmac_of (tried_of file1_plan.secrets) challenges) both_digest_so ∙ under_secret
 
 open_key_so : key_of_channel (first_channel ann_plan 0 0 0 ann_can) ≡ channel_key
 open_key_so =
-    ap₂ (λ (client server : List ℕ). strong_key_of file1_plan.secret client server) (drawn_so 4 of_computer fifth_cred) (drawn_so 5 of_controller sixth_cred) ∙ channel_key_so
+    ap₂ (λ (client server : List ℕ). strong_key_of (tried_of file1_plan.secrets) client server) (drawn_so 4 of_computer fifth_cred) (drawn_so 5 of_controller sixth_cred) ∙ channel_key_so
 
 key_byte_so : key_byte channel_key 0 ≡ 0x6F
 unfolding key_byte state_after shuffled

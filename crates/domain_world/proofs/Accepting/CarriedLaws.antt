@@ -1,6 +1,8 @@
 -- What a unit of the bag carries is heard alike, and is what the message asks; and an answer is to the call of its
 -- message. It serves `carried_calls_are_heard`.
-use Rattle.std.proofs.Common.{◌≡◌, ℕ, Bool, true, false, not, List, [], ◌∷◌, map, Option, Some, None, Result, Ok, slice_get, refl, sym, ap, ◌∙◌, subst}
+use Rattle.channel_events.specs.Requests.{IsRequest}
+use Rattle.domain_world.specs.Claims.OpeningReplies.{AnswersOpening}
+use Rattle.std.proofs.Common.{◌≡◌, ℕ, Bool, true, false, not, List, [], ◌∷◌, map, Option, Some, None, Result, Ok, slice_get, refl, sym, ap, ◌∙◌, subst, inl, inr, arith, ◌<◌, ◌^◌, ◌%◌}
 use Rattle.std.specs.List.{AllByRecursion}
 use Rattle.authenticators.specs.Channels.{ChannelIdentity, SameChannel}
 use Rattle.rpc_units.specs.Calls.{IsHeard}
@@ -24,7 +26,7 @@ use Rattle.controller_calls.specs.declared.calls.JudgedCall.TheVariants.{Network
 use Rattle.step_notes.specs.ReplySends.{IsReplyOfCall}
 use Rattle.world_moves.specs.declared.bag.BagUnit.{BagUnit}
 use Rattle.domain_world.specs.Accepting.Answered.{AsksForIt, IsAnsweredIn, IsItsWay, MarksHaveTheirWay, PassesAreUnclashed}
-use Rattle.domain_world.specs.Accepting.Carried.{AnswersAreInTurn, AsksOf, CallsHaveNumbers, CarriedCallsAreHeard, IsCalledFor, IsJudgedAsCarried, IsPlain, IsReadAsAnswer, IsTakenInTurn, IsWholeAsMarked, IsWholeUnit, JudgedAsCarried, MarkedUnitsAreWhole, MessagesAreCalled, call_carried, call_judged, IsAnsweredInTurn}
+use Rattle.domain_world.specs.Accepting.Carried.{AnswersAreInTurn, AsksOf, CallsHaveNumbers, CarriedCallsAreHeard, IsCalledFor, IsJudgedAsCarried, IsPlain, IsReadAsLogon, IsTakenInTurn, IsWholeAsMarked, IsWholeUnit, JudgedAsCarried, MarkedUnitsAreWhole, MessagesAreCalled, call_carried, call_judged, IsAnsweredInTurn, OpeningsAreApart}
 use Rattle.step_notes.specs.HeardWhole.{call_read}
 use Rattle.domain_world.specs.Claims.Replies.{IsReplyOfOne, RepliesCarryTheirJudgement}
 use Rattle.domain_world.specs.Past.{Past, plain_form}
@@ -175,71 +177,90 @@ module _ (past : Past) where
         ∙ ap (λ (c : Option ChannelIdentity). clashes c (Some request) past.book.sent) reply.passed) ∙ free)
         reply.call
 
-    -- the unit that was taken was made as the reply to the call, on a channel with the controller of which is asked
-    pub record RepliesTo (taken : CallTaken) : Type 0 where
-      pub channel : ChannelIdentity
-      pub number : ℕ
-      pub sent : Sent
-      pub there : slice_get past.book.sent taken.reply ≡ Some sent
-      pub mark : sent.mark ≡ ReplyTo channel number taken.call
-      pub controller : AsksOf taken.requester past channel.controller
+    module _ (apart : OpeningsAreApart past) where
+      -- the unit that was taken was made as the reply to the call, on a channel with the controller of which is asked
+      pub record RepliesTo (taken : CallTaken) : Type 0 where
+        pub channel : ChannelIdentity
+        pub number : ℕ
+        pub sent : Sent
+        pub there : slice_get past.book.sent taken.reply ≡ Some sent
+        pub mark : sent.mark ≡ ReplyTo channel number taken.call
+        pub controller : AsksOf taken.requester past channel.controller
 
-    -- by the mark of the unit
-    replies_by : (mark : Mark) (taken : CallTaken) (is : IsTakenInTurn past taken) → is.sent.mark ≡ mark → mark_channel mark ≡ Some is.named → IsItsWay is.carrier.back mark →
-        ((IsPlain mark → ⊥) → IsWholeAsMarked mark (plain_form past.book.sent taken.reply is.carrier)) → IsReplyOfOne past.book.judged taken.reply (plain_form past.book.sent taken.reply is.carrier) mark → RepliesTo taken
-    replies_by Plain taken is marked made goes fit replied = absurd (let x = made in cc)
-    replies_by (Opening c k) taken is marked made goes fit replied = absurd (let x = sym is.back ∙ goes in cc)
-    replies_by (Opened c k r) taken is marked made goes fit replied =
-        let its = fit (λ none. none) in
-        absurd (its.marked.1 (subst IsReadAsAnswer (one_unit (plain_form past.book.sent taken.reply is.carrier) is.whole its.whole) is.answer))
-    replies_by (Calling c k t) taken is marked made goes fit replied = absurd (let x = sym is.back ∙ goes in cc)
-    replies_by (ReplyTo c k r) taken is marked made goes fit replied =
-        let its = fit (λ none. none) in
-        let one = placed (λ (j : Judging). (j.reply ≡ Some taken.reply) × IsReplyOfCall c k r j (plain_form past.book.sent taken.reply is.carrier)) past.book.judged replied in
-        let asked : IsRequested c k r = requested one.place c one.item r k (plain_form past.book.sent taken.reply is.carrier) one.there one.is.1 in
-        let named : c ≡ is.named = some_is c is.named made in
-        let same : k ≡ is.number = sym its.marked.1 ∙ ap (λ (unit : RpcUnit). unit.call) (one_unit (plain_form past.book.sent taken.reply is.carrier) its.whole is.whole) ∙ is.has in
-        let client : asked.named.client ≡ is.channel.client = asked.same.client ∙ ap (λ (d : ChannelIdentity). d.client) named ∙ is.same.client in
-        let found : r ≡ taken.call =
-        numbers r taken.call is.number asked.timestamp is.timestamp asked.named is.channel asked.sent is.out asked.there is.asked
-        (asked.mark ∙ ap (λ (m : ℕ). Calling asked.named m asked.timestamp) same) is.mark client in
-        record {
-          channel = c;
-          number = k;
-          sent = is.sent;
-          there = is.noted;
-          mark = marked ∙ ap (λ (request : ℕ). ReplyTo c k request) found;
-          controller = subst (λ (at : ℕ). AsksOf taken.requester past at) (sym (ap (λ (d : ChannelIdentity). d.controller) named ∙ is.same.controller)) is.controller;
-        }
+      -- by the mark of the unit
+      replies_by : (mark : Mark) (taken : CallTaken) (is : IsTakenInTurn past taken) → is.sent.mark ≡ mark → mark_channel mark ≡ Some is.named → IsItsWay is.carrier.back mark →
+          ((IsPlain mark → ⊥) → IsWholeAsMarked mark (plain_form past.book.sent taken.reply is.carrier)) → IsReplyOfOne past.book.judged taken.reply (plain_form past.book.sent taken.reply is.carrier) mark → RepliesTo taken
+      replies_by Plain taken is marked made goes fit replied = absurd (let x = made in cc)
+      replies_by (Opening c k) taken is marked made goes fit replied = absurd (let x = sym is.back ∙ goes in cc)
+      replies_by (Opened c k r) taken is marked made goes fit replied =
+          let its = fit (λ none. none) in
+          elim is.answer [
+            | inl logon ↦ absurd (its.marked.1 (subst IsReadAsLogon (one_unit (plain_form past.book.sent taken.reply is.carrier) is.whole its.whole) logon))
+            | inr set ↦
+                -- the reply has the number of the opening, which is not that of the call
+                (let asked : AnswersOpening past c k r taken.reply is.sent.at = apart.answered clear taken.reply is.sent c k r is.noted marked in
+                let small : k < 2 ^ 32 = apart.small r k asked.named asked.sent asked.there asked.mark in
+                let named : c ≡ is.named = some_is c is.named made in
+                let wrapped : k % 2 ^ 32 ≡ is.number =
+                sym its.marked.2 ∙ ap (λ (unit : RpcUnit). unit.call) (one_unit (plain_form past.book.sent taken.reply is.carrier) its.whole is.whole) ∙ is.has in
+                let same : k ≡ is.number = omega (arith, small, wrapped) in
+                let client : asked.named.client ≡ is.channel.client = asked.same.client ∙ ap (λ (d : ChannelIdentity). d.client) named ∙ is.same.client in
+                let found : r ≡ taken.call =
+                apart.numbers r taken.call is.number asked.named is.channel asked.sent is.out asked.there is.asked
+                (subst (λ (m : Mark). IsRequest asked.named is.number m) (sym asked.mark) (refl, same))
+                (subst (λ (m : Mark). IsRequest is.channel is.number m) (sym is.mark) (refl, refl)) client in
+                let one : asked.sent ≡ is.out = some_is asked.sent is.out (sym asked.there ∙ ap (slice_get past.book.sent) found ∙ is.asked) in
+                let never : Opening asked.named k ≡ Calling is.channel is.number is.timestamp = sym asked.mark ∙ ap (λ (m : Sent). m.mark) one ∙ is.mark in
+                absurd (let x = never in cc))
+          ]
+      replies_by (Calling c k t) taken is marked made goes fit replied = absurd (let x = sym is.back ∙ goes in cc)
+      replies_by (ReplyTo c k r) taken is marked made goes fit replied =
+          let its = fit (λ none. none) in
+          let one = placed (λ (j : Judging). (j.reply ≡ Some taken.reply) × IsReplyOfCall c k r j (plain_form past.book.sent taken.reply is.carrier)) past.book.judged replied in
+          let asked : IsRequested c k r = requested one.place c one.item r k (plain_form past.book.sent taken.reply is.carrier) one.there one.is.1 in
+          let named : c ≡ is.named = some_is c is.named made in
+          let same : k ≡ is.number = sym its.marked.1 ∙ ap (λ (unit : RpcUnit). unit.call) (one_unit (plain_form past.book.sent taken.reply is.carrier) its.whole is.whole) ∙ is.has in
+          let client : asked.named.client ≡ is.channel.client = asked.same.client ∙ ap (λ (d : ChannelIdentity). d.client) named ∙ is.same.client in
+          let found : r ≡ taken.call =
+          numbers r taken.call is.number asked.timestamp is.timestamp asked.named is.channel asked.sent is.out asked.there is.asked
+          (asked.mark ∙ ap (λ (m : ℕ). Calling asked.named m asked.timestamp) same) is.mark client in
+          record {
+            channel = c;
+            number = k;
+            sent = is.sent;
+            there = is.noted;
+            mark = marked ∙ ap (λ (request : ℕ). ReplyTo c k request) found;
+            controller = subst (λ (at : ℕ). AsksOf taken.requester past at) (sym (ap (λ (d : ChannelIdentity). d.controller) named ∙ is.same.controller)) is.controller;
+          }
 
-    pub replies_to : (taken : CallTaken) → IsTakenInTurn past taken → RepliesTo taken
-    replies_to taken is =
-        replies_by is.sent.mark taken is refl is.made (way taken.reply is.carrier is.sent is.there is.noted) (λ isn't. whole taken.reply is.carrier is.sent is.there is.noted isn't)
-        (replies taken.reply is.carrier is.sent is.there is.noted)
+      pub replies_to : (taken : CallTaken) → IsTakenInTurn past taken → RepliesTo taken
+      replies_to taken is =
+          replies_by is.sent.mark taken is refl is.made (way taken.reply is.carrier is.sent is.there is.noted) (λ isn't. whole taken.reply is.carrier is.sent is.there is.noted isn't)
+          (replies taken.reply is.carrier is.sent is.there is.noted)
 
-    answered : (message : MessageTaken) (u : ℕ) → IsAnsweredInTurn past message u → IsAnsweredIn past message u
-    answered message u its =
-        let its_reply : RepliesTo its.taken = replies_to its.taken its.turn in
-        record {
-          channel = its_reply.channel;
-          number = its_reply.number;
-          request = its.taken.call;
-          sent = its_reply.sent;
-          there = subst (λ (n : ℕ). slice_get past.book.sent n ≡ Some its_reply.sent) its.is.reply its_reply.there;
-          mark = its_reply.mark;
-          call = its.is.call;
-          controller = subst (λ (who : RequesterId). AsksOf who past its_reply.channel.controller) its.is.requester its_reply.controller;
-        }
+      answered : (message : MessageTaken) (u : ℕ) → IsAnsweredInTurn past message u → IsAnsweredIn past message u
+      answered message u its =
+          let its_reply : RepliesTo its.taken = replies_to its.taken its.turn in
+          record {
+            channel = its_reply.channel;
+            number = its_reply.number;
+            request = its.taken.call;
+            sent = its_reply.sent;
+            there = subst (λ (n : ℕ). slice_get past.book.sent n ≡ Some its_reply.sent) its.is.reply its_reply.there;
+            mark = its_reply.mark;
+            call = its.is.call;
+            controller = subst (λ (who : RequesterId). AsksOf who past its_reply.channel.controller) its.is.requester its_reply.controller;
+          }
 
-    all_answered : AnswersAreInTurn past → AllByRecursion (λ (message : MessageTaken). (unit : ℕ) → message.reply ≡ Some unit → IsAnsweredIn past message unit) past.book.messages
-    all_answered turns =
-        all_by_place (λ (message : MessageTaken). (unit : ℕ) → message.reply ≡ Some unit → IsAnsweredIn past message unit) past.book.messages
-        (λ k message at unit reply. answered message unit
-        (all_at (λ (m : MessageTaken). (u : ℕ) → m.reply ≡ Some u → IsAnsweredInTurn past m u) past.book.messages k message (turns clear) at unit reply))
+      all_answered : AnswersAreInTurn past → AllByRecursion (λ (message : MessageTaken). (unit : ℕ) → message.reply ≡ Some unit → IsAnsweredIn past message unit) past.book.messages
+      all_answered turns =
+          all_by_place (λ (message : MessageTaken). (unit : ℕ) → message.reply ≡ Some unit → IsAnsweredIn past message unit) past.book.messages
+          (λ k message at unit reply. answered message unit
+          (all_at (λ (m : MessageTaken). (u : ℕ) → m.reply ≡ Some u → IsAnsweredInTurn past m u) past.book.messages k message (turns clear) at unit reply))
 
 pub carried_heard : CarriedCallsAreHeard
 carried_heard = record {
   alike = λ past judged. heard_alike past judged;
   asks = λ past judged called. asks_for past judged called;
-  answers = λ past whole way judged passes replies numbers turns clear. all_answered past whole way judged passes replies numbers clear turns;
+  answers = λ past whole way judged passes replies numbers apart turns clear. all_answered past whole way judged passes replies numbers clear apart turns;
 }

@@ -1,5 +1,8 @@
 -- Of every schedule all that the claims on answers rest on, gathered.
 -- It serves `schedules_are_heard` and `Proved.numbers`.
+use Rattle.std.proofs.Common.{subst}
+use Rattle.channel_events.specs.Marks.{Mark, Opening}
+use Rattle.domain_world.specs.Accepting.Carried.{OpeningsAreSmall}
 use Rattle.domain_world.specs.Accepting.ReadBack.{TurnsAreHeard}
 use Rattle.domain_world.specs.Accepting.Runs.{RunsStandSo}
 use Rattle.domain_world.specs.Accepting.Units.{UnitsAreHeard}
@@ -7,14 +10,24 @@ use Rattle.domain_world.specs.Claims.RequestNumbers.{RequestsHaveNumbers}
 use Rattle.domain_world.specs.Past.{past}
 use Rattle.domain_world.specs.Schedules.{OfSchedules}
 use Rattle.domain_world.proofs.Accepting.Heard.JudgedRunLaws.{judged_as_carried, replies_back}
-use Rattle.domain_world.proofs.Accepting.Heard.MarkWholeLaws.{marked_whole}
+use Rattle.domain_world.proofs.Accepting.Heard.MarkSentLaws.{IsRequestSent}
+use Rattle.domain_world.proofs.Accepting.Heard.MarkWholeLaws.{FitsMark, OfMark, marked_whole, marks_fit}
 use Rattle.domain_world.proofs.Accepting.Messages.MessageMadeLaws.{messages_made}
 use Rattle.domain_world.proofs.Accepting.Messages.MessageTakenLaws.{messages_taken}
 use Rattle.domain_world.proofs.Accepting.Turns.TurnRunLaws.{turns_run}
 use Rattle.domain_world.proofs.Accepting.UnitLaws.{requests_numbered, runs_heard}
+use Rattle.domain_world.proofs.Frames.BagFrameLaws.{IsOfUnit}
 use Rattle.domain_world.proofs.Frames.DrawnRunLaws.{draws_differ}
+use Rattle.domain_world.proofs.Judgements.OpeningAnswerLaws.{replies_to_openings}
 use Rattle.domain_world.proofs.Requests.CallFrameLaws.{schedules_stand}
 use Rattle.domain_world.proofs.Requests.CalledRunLaws.{schedules_call}
+
+-- what was made as an opening was sent as a request of that number
+openings_small : OfSchedules (λ plan moves. OpeningsAreSmall (past plan moves))
+openings_small plan moves schedule n number channel one there mark =
+    let had : IsOfUnit OfMark tt (past plan moves).world.state.bag n one.mark = marks_fit plan moves schedule n one there in
+    let fits : FitsMark had.unit (Opening channel number) = subst (λ (m : Mark). FitsMark had.unit m) mark had.holds in
+    let sent : IsRequestSent number 15 had.unit.bytes = (fits (λ plain. plain)).1 in sent.small
 
 pub units_heard : OfSchedules (λ plan moves. UnitsAreHeard (past plan moves))
 units_heard plan moves schedule =
@@ -25,6 +38,11 @@ units_heard plan moves schedule =
       judged = judged_as_carried plan moves schedule;
       called = schedules_call plan moves schedule;
       numbers = runs_heard.numbers (past plan moves) stands.requests stands.shows.marks stands.apart;
+      openings = record {
+        numbers = requests_numbered (past plan moves) stands.requests stands.shows.marks stands.apart;
+        answered = λ clear. replies_to_openings plan moves schedule clear;
+        small = openings_small plan moves schedule;
+      };
       turns = turns.turns;
       back = replies_back plan moves schedule;
       told = turns.told;

@@ -19,6 +19,7 @@ use Rattle.account_table.specs.AccountTable.{AccountTable}
 use Rattle.account_table.specs.declared.account.Account.{Account}
 use Rattle.end_links.specs.Links.{LinkState}
 use Rattle.end_links.specs.Serving.{ServedUnit, ServedPart}
+use Rattle.channel_client.specs.declared.state.SetStep.TheVariants as set_step
 use Rattle.channel_client.specs.Machine.{Taking, after, judge, judge_auth, offered_flags, settle, wait_for, take_of}
 use Rattle.channel_client.specs.State.{Requester}
 use Rattle.channel_events.specs.Marks.{Calling, Opened, Opening, Plain, ReplyTo}
@@ -212,6 +213,10 @@ asks_unchecked (Some (step.Reply question.Authenticate)) (standing.Open o) contr
 asks_unchecked (Some (step.Reply question.Logon)) standing.Nothing controller before after = refl
 asks_unchecked (Some (step.Reply question.Logon)) (standing.Half client server) controller before after = refl
 asks_unchecked (Some (step.Reply question.Logon)) (standing.Open o) controller before after = refl
+asks_unchecked (Some (step.Set (set_step.Bind c))) how controller before after = refl
+asks_unchecked (Some (step.Set set_step.Reply)) standing.Nothing controller before after = refl
+asks_unchecked (Some (step.Set set_step.Reply)) (standing.Half client server) controller before after = refl
+asks_unchecked (Some (step.Set set_step.Reply)) (standing.Open o) controller before after = refl
 
 module _ (controller : ℕ) (channel : Requester) (unit : RpcUnit) (number : Option ℕ) (sent : List Sent) (made : IsMadeFor controller channel channel.standing number sent) where
   abbrev IsOwnTaking : Type 0
@@ -235,6 +240,9 @@ module _ (controller : ℕ) (channel : Requester) (unit : RpcUnit) (number : Opt
       let at = channels_are_named_alike.calls.takes controller channel unit place answered in
       channels_are_named_alike.exchanges.answered controller channel unit place at.0 number sent at.1 answered (made_open controller channel channel.standing number sent at.0 at.1 made)
   taking_own (taken.Dropped place cause) is = ap checked_by is
+  taking_own taken.Set is =
+      let at = channels_are_named_alike.calls.sets controller channel unit is in
+      channels_are_named_alike.exchanges.set controller channel unit at.0 number sent at.1 is (made_open controller channel channel.standing number sent at.0 at.1 made)
 
   pub takes_own : IsOwnTaking
   takes_own = taking_own (take_of channel unit).taken refl

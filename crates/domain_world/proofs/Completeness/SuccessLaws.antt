@@ -247,4 +247,4 @@ each_succeeds plan moves comes =
     (λ servers. each_from plan moves is forms servers (run moves first) (book moves first blank) moves first blank
     (record { plain = comes.plain; quiet = comes.quiet; same = ends_stay.none first.state; below = forms.now; placed = placed_first plan })
     comes.once (λ Fact each. each) refl refl
-    (inl (record { rest = logons_come_to_rest.first plan is forms; enough = first_enough plan (length moves) comes.schedule.few })))
+    (inl (record { rest = logons_come_to_rest.first plan is forms comes.alone; enough = first_enough plan (length moves) comes.schedule.few })))

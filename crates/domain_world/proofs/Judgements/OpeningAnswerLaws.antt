@@ -1,17 +1,11 @@
 -- In every schedule without a clash each unit that was made as the reply to an opening answers one opening of its
 -- channel, with its number, which was accepted at the step that sent it. It serves `Proved.opened_by`.
-use Rattle.std.proofs.Common.{◌≡◌, ℕ, true, false, List, Option, Some, Result, slice_get, sym, ap, subst, ◌∙◌}
+use Rattle.std.proofs.Common.{◌≡◌, ℕ, true, false, List, Option, Some, slice_get, sym, ap, subst, ◌∙◌}
 use Rattle.wire_base.specs.Numbers.{AreBytes}
 use Rattle.authenticators.specs.Channels.{ChannelIdentity, SameChannel}
 use Rattle.rpc_units.specs.declared.unit.Unit.{Unit as RpcUnit}
-use Rattle.logon_stubs.specs.Calls.{opnum_of_call}
-use Rattle.logon_stubs.specs.Writing.{written_call}
 use Rattle.logon_stubs.specs.declared.calls.AuthCall.{AuthCall}
-use Rattle.logon_stubs.specs.declared.calls.Call.{Call}
-use Rattle.logon_stubs.specs.declared.calls.Call.TheVariants as netlogon
 use Rattle.controller_calls.specs.declared.calls.ControllerCall.TheVariants as call
-use Rattle.controller_calls.specs.declared.calls.JudgedCall.TheVariants.{Network, NetworkLogoff}
-use Rattle.logon_stubs.specs.declared.refused.StubRefused.{StubRefused}
 use Rattle.end_links.specs.Sending.{request_of}
 use Rattle.channel_events.specs.Marks.{Mark, OneOf, Plain, Opening, Opened, Calling, ReplyTo}
 use Rattle.channel_events.proofs.ListLaws.{some_is}
@@ -23,7 +17,7 @@ use Rattle.world_moves.specs.declared.plan.Plan.{Plan}
 use Rattle.world_moves.specs.Forms.{IsSchedule}
 use Rattle.domain_world.specs.Accepting.Answered.{IsItsWay}
 use Rattle.domain_world.specs.Accepting.Carried.{call_carried}
-use Rattle.step_notes.specs.HeardWhole.{call_read, request_read}
+use Rattle.step_notes.specs.HeardWhole.{request_read}
 use Rattle.domain_world.specs.Claims.OpeningReplies.{AnswersOpening, IsAcceptedIn, IsMarkedAsOpened, IsReplyOfOpening, RepliesAreToOpenings}
 use Rattle.domain_world.specs.Past.{Past, past}
 use Rattle.domain_world.proofs.Accepting.CarriedLaws.{one_whole}
@@ -42,17 +36,10 @@ use Rattle.domain_world.proofs.Requests.MarkWayLaws.{marks_have_their_way}
 
 -- ---- a call of a turn opens no channel
 
-no_opening : (what : Call) (timestamp : ℕ) (c : AuthCall) → IsStampedCall what timestamp → request_read (opnum_of_call what) (written_call what) ≡ Some (call.Authenticate c) → ⊥
-no_opening (netlogon.Logon own) timestamp c stamped is =
-    let never : Some (call.Judged (Network own)) ≡ Some (call.Authenticate c) =
-    sym (ap (λ (read : Result Call StubRefused). call_read read 2 (written_call (netlogon.Logon own))) stamped.1) ∙ is in
+no_opening : (opnum : ℕ) (stub : List ℕ) (timestamp : ℕ) (c : AuthCall) → IsStampedCall opnum stub timestamp → request_read opnum stub ≡ Some (call.Authenticate c) → ⊥
+no_opening opnum stub timestamp c stamped is =
+    let never : Some (call.Judged stamped.asked) ≡ Some (call.Authenticate c) = sym stamped.read ∙ is in
     absurd (let x = never in cc)
-no_opening (netlogon.Logoff own) timestamp c stamped is =
-    let never : Some (call.Judged (NetworkLogoff own)) ≡ Some (call.Authenticate c) =
-    sym (ap (λ (read : Result Call StubRefused). call_read read 3 (written_call (netlogon.Logoff own))) stamped.1) ∙ is in
-    absurd (let x = never in cc)
-no_opening (netlogon.Challenge own) timestamp c stamped is = absurd stamped
-no_opening (netlogon.Authenticate own) timestamp c stamped is = absurd stamped
 
 -- ---- which mark the unit of an opening has
 
@@ -72,9 +59,9 @@ module _ (bag : List BagUnit) (number n : ℕ) (carried : IsCarriedOpening bag n
   marked_opening (Opened channel other request) of fits way = absurd (let never : false ≡ true = sym carried.back ∙ way in cc)
   marked_opening (Calling channel other timestamp) of fits way =
       let sent : IsCallSent other timestamp carried.carrier.bytes = (fits (λ plain. plain)).1 in
-      let request : RpcUnit = request_of other 0 (opnum_of_call sent.what) (written_call sent.what) in
+      let request : RpcUnit = request_of other 0 sent.opnum sent.stub in
       let is : carried.whole.unit ≡ request = one_whole carried.carrier.bytes carried.whole.frames sent.frames carried.whole.unit request carried.whole.heard sent.heard in
-      absurd (no_opening sent.what timestamp carried.asked sent.stamped (ap (λ (u : RpcUnit). call_carried u.body) (sym is) ∙ carried.carried))
+      absurd (no_opening sent.opnum sent.stub timestamp carried.asked sent.stamped (ap (λ (u : RpcUnit). call_carried u.body) (sym is) ∙ carried.carried))
   marked_opening (ReplyTo channel other request) of fits way = absurd (let never : false ≡ true = sym carried.back ∙ way in cc)
 
 -- ---- a run

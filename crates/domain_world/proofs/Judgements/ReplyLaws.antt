@@ -7,6 +7,7 @@ use Rattle.outside.specs.declared.action.Action.{Action}
 use Rattle.outside.specs.declared.action.StepRefused.{StepRefused}
 use Rattle.outside.specs.declared.event.Event.TheVariants as event
 use Rattle.end_links.specs.Serving.{ServedUnit}
+use Rattle.channel_client.specs.declared.state.SetStep.TheVariants as set_step
 use Rattle.channel_client.specs.Effects.{step_in}
 use Rattle.channel_client.specs.Machine.{Taking}
 use Rattle.channel_client.specs.State.{Requester}
@@ -160,6 +161,10 @@ module _ (judgings : List Judging) (number : ℕ) (bytes : List ℕ) where
   asked_free (Some (step.Reply question.Logon)) standing.Nothing controller before after = tt
   asked_free (Some (step.Reply question.Logon)) (standing.Half client server) controller before after = tt
   asked_free (Some (step.Reply question.Logon)) (standing.Open o) controller before after = tt
+  asked_free (Some (step.Set (set_step.Bind c))) how controller before after = tt
+  asked_free (Some (step.Set set_step.Reply)) standing.Nothing controller before after = tt
+  asked_free (Some (step.Set set_step.Reply)) (standing.Half client server) controller before after = tt
+  asked_free (Some (step.Set set_step.Reply)) (standing.Open o) controller before after = tt
 
   taken_free : (what : Taken) (controller : ℕ) (before after : Requester) → IsFree (taken_note what controller before after).mark
   taken_free (taken.Skip right) controller before after = tt
@@ -168,6 +173,7 @@ module _ (judgings : List Judging) (number : ℕ) (bytes : List ℕ) where
   taken_free taken.Opened controller before after = tt
   taken_free (taken.Answer place verdict) controller before after = tt
   taken_free (taken.Dropped place cause) controller before after = tt
+  taken_free taken.Set controller before after = tt
 
   taking_free : (taking : Option Taking) (controller : ℕ) (before : Requester) → IsFree (taking_note taking controller before).mark
   taking_free None controller before = tt

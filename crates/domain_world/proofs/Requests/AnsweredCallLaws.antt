@@ -5,6 +5,7 @@ use Rattle.std.specs.List.{AllByRecursion}
 use Rattle.std.proofs.lemmas.Bool.{eqb-true}
 use Rattle.wire_base.specs.Maps.{lookup, same_number}
 use Rattle.rpc_units.specs.declared.unit.Unit.{Unit as RpcUnit}
+use Rattle.channel_client.specs.declared.state.SetStep.TheVariants as set_step
 use Rattle.channel_client.specs.Machine.{take_of}
 use Rattle.channel_client.specs.State.{Requester}
 use Rattle.channel_client.specs.declared.answers.Taken.{Taken}
@@ -115,6 +116,10 @@ asked_sends (Some (step.Reply question.Authenticate)) (standing.Open o) controll
 asked_sends (Some (step.Reply question.Logon)) standing.Nothing controller before after = refl
 asked_sends (Some (step.Reply question.Logon)) (standing.Half client server) controller before after = refl
 asked_sends (Some (step.Reply question.Logon)) (standing.Open o) controller before after = refl
+asked_sends (Some (step.Set (set_step.Bind c))) how controller before after = refl
+asked_sends (Some (step.Set set_step.Reply)) standing.Nothing controller before after = refl
+asked_sends (Some (step.Set set_step.Reply)) (standing.Half client server) controller before after = refl
+asked_sends (Some (step.Set set_step.Reply)) (standing.Open o) controller before after = refl
 
 pub calls_go_out : (t : Taken) (controller : ℕ) (before after : Requester) → ((taken_note t controller before after).called ≡ None) ⊎ ((taken_note t controller before after).sends ≡ true)
 calls_go_out (taken.Skip right) controller before after = inl refl
@@ -123,6 +128,7 @@ calls_go_out taken.Half controller before after = inl refl
 calls_go_out taken.Opened controller before after = inl refl
 calls_go_out (taken.Answer place verdict) controller before after = inl refl
 calls_go_out (taken.Dropped place cause) controller before after = inl refl
+calls_go_out taken.Set controller before after = inl refl
 
 -- an answer, or none
 taken_cases : (t : Taken) → ((place : ℕ) × (v : Verdict) × (t ≡ taken.Answer place v)) ⊎ (place_answered t ≡ None)
@@ -132,6 +138,7 @@ taken_cases taken.Half = inr refl
 taken_cases taken.Opened = inr refl
 taken_cases (taken.Answer place v) = inl (place, v, refl)
 taken_cases (taken.Dropped place cause) = inr refl
+taken_cases taken.Set = inr refl
 
 module _ (units : List Sent) (messages : List MessageTaken) (controller member : ℕ) (running : Running) (unit : RpcUnit) (out : OutFor units messages controller member (Some running)) where
   abbrev c : Requester

@@ -6,6 +6,7 @@ use Rattle.wire_base.specs.Maps.{lookup, same_number}
 use Rattle.authenticators.specs.Channels.{ChannelIdentity}
 use Rattle.authenticators.specs.SecureChannels.{channel_of}
 use Rattle.end_links.specs.Serving.{ServedUnit}
+use Rattle.channel_client.specs.declared.state.SetStep.TheVariants as set_step
 use Rattle.channel_client.specs.Effects.{step_in}
 use Rattle.channel_client.specs.Machine.{Taking}
 use Rattle.channel_client.specs.State.{Requester}
@@ -51,6 +52,10 @@ asked_so (Some (step.Reply (question.Challenge client))) how controller before a
 asked_so (Some (step.Reply question.Authenticate)) standing.Nothing controller before after place is = absurd (no_some place is)
 asked_so (Some (step.Reply question.Authenticate)) (standing.Half client server) controller before after place is = absurd (no_some place is)
 asked_so (Some (step.Reply question.Authenticate)) (standing.Open o) controller before after place is = absurd (no_some place is)
+asked_so (Some (step.Set (set_step.Bind c))) how controller before after place is = absurd (no_some place is)
+asked_so (Some (step.Set set_step.Reply)) standing.Nothing controller before after place is = absurd (no_some place is)
+asked_so (Some (step.Set set_step.Reply)) (standing.Half client server) controller before after place is = absurd (no_some place is)
+asked_so (Some (step.Set set_step.Reply)) (standing.Open o) controller before after place is = absurd (no_some place is)
 asked_so (Some (step.Reply question.Logon)) standing.Nothing controller before after place is = absurd (no_some place is)
 asked_so (Some (step.Reply question.Logon)) (standing.Half client server) controller before after place is = absurd (no_some place is)
 asked_so (Some (step.Reply question.Logon)) (standing.Open o) controller before after place is = (
@@ -71,6 +76,7 @@ taken_so taken.Half controller before after place is = absurd (no_some place is)
 taken_so taken.Opened controller before after place is = absurd (no_some place is)
 taken_so (taken.Answer other verdict) controller before after place is = absurd (no_some place is)
 taken_so (taken.Dropped other cause) controller before after place is = absurd (no_some place is)
+taken_so taken.Set controller before after place is = absurd (no_some place is)
 
 taking_so : (taking : Option Taking) (controller : ℕ) (before : Requester) → CallsSo controller (taking_note taking controller before)
 taking_so None controller before place is = absurd (no_some place is)

@@ -1,6 +1,6 @@
 -- In every run each Logon call that goes out at a member next is for a message that the member took.
 -- It serves `Proved.asked`, `Proved.sends`.
-use Rattle.std.proofs.Common.{◌≡◌, ℕ, zero, suc, Bool, true, false, List, [], ◌∷◌, ◌++◌, map, Option, Some, None, Result, Ok, Err, refl, sym, ap, ap₂, subst, ◌∙◌, slice_get}
+use Rattle.std.proofs.Common.{◌≡◌, ℕ, zero, suc, Bool, true, false, List, [], ◌∷◌, ◌++◌, map, Option, Some, None, Result, Ok, Err, refl, sym, ap, ap₂, subst, ◌∙◌, slice_get, inl, inr}
 use Rattle.std.specs.List.{AllByRecursion}
 use Rattle.wire_base.specs.Maps.{lookup, same_number}
 use Rattle.authenticators.specs.Channels.{ChannelIdentity, channel_key}
@@ -14,6 +14,7 @@ use Rattle.rpc_units.specs.Stream.{cut_stream}
 use Rattle.end_links.specs.Links.{LinkState}
 use Rattle.end_links.specs.Sending.{joined_frames}
 use Rattle.end_links.specs.Serving.{ServedPart, ServedUnit, served_units}
+use Rattle.channel_client.specs.declared.hearing.SetHearing.TheVariants as set_hearing
 use Rattle.channel_client.specs.declared.caller.Caller.{Caller}
 use Rattle.channel_client.specs.declared.hearing.Hearing.{Hearing}
 use Rattle.channel_client.specs.declared.hearing.Hearing.TheVariants as hearing
@@ -21,25 +22,26 @@ use Rattle.channel_client.specs.declared.judging.Judgement.{Judgement}
 use Rattle.channel_client.specs.declared.judging.Judgement.TheVariants as judgement
 use Rattle.channel_client.specs.Effects.{seed_in}
 use Rattle.channel_client.specs.State.{Requester}
-use Rattle.channel_client.specs.Machine.{act, hear, judge, settle}
+use Rattle.channel_client.specs.Machine.{act, hear, judge, settle, SetOutcome, judge_set, settle_set}
 use Rattle.member_server.specs.declared.plan.MemberPlan.{MemberPlan}
 use Rattle.member_server.specs.declared.state.Logon.{Logon}
 use Rattle.member_server.specs.declared.state.Logons.{Logons}
 use Rattle.member_server.specs.declared.state.Running.{Running}
 use Rattle.channel_turns.specs.declared.state.TurnTalk.{TurnTalk}
 use Rattle.member_server.specs.Machine.{at_turn, work_of}
+use Rattle.member_server.specs.Secrets.{next_of}
 use Rattle.member_server.specs.State.{State as MemberState}
 use Rattle.member_server.specs.Turns.{AtTurn, TurnServed, do_taken, turn_server, turn_unit}
 use Rattle.channel_events.specs.Marks.{Calling, Mark, Opened, Opening, Plain, ReplyTo}
-use Rattle.step_notes.specs.CallLogons.{AreFirst, AreForLogon, CarriesItsLogon, IfCalling, IsFirstBy, IsForItsLogon, call_for, info_at}
-use Rattle.step_notes.specs.ChannelNames.{AreFramesOf, sends_in}
+use Rattle.step_notes.specs.CallLogons.{AreFirst, AreForChange, AreForLogon, CarriesBy, CarriesItsLogon, IfCalling, IsFirstBy, IsForItsChange, IsForItsLogon, call_for, change_for, info_at}
+use Rattle.step_notes.specs.ChannelNames.{AreFramesOf, AreFramesOfSet, sends_in}
 use Rattle.step_notes.specs.Marking.{mark_if, turn_marks}
 use Rattle.step_notes.specs.MemberNotes.{turn_note, turn_units}
 use Rattle.step_notes.specs.Records.{MessageTaken}
 use Rattle.step_notes.specs.Served.{work_after}
 use Rattle.world_moves.specs.declared.moves.Move.{Move}
 use Rattle.world_moves.specs.declared.plan.Plan.{Plan}
-use Rattle.domain_world.specs.Claims.AskedFor.{AreSentForMessage, AsksForItsMessage, IsForItsMessage, IsOfMessage, MembersAskForMessages, SendsAskForMessages}
+use Rattle.domain_world.specs.Claims.AskedFor.{AreSentFor, AsksBy, AsksForItsMessage, IsForItsMessage, IsOfMessage, MembersAskForMessages, SendsAskForMessages}
 use Rattle.domain_world.specs.Past.{past}
 use Rattle.step_notes.proofs.ServedLaws.{served_such}
 use Rattle.step_notes.proofs.Members.CallKeptLaws.{at_channel}
@@ -127,6 +129,12 @@ module _ (r : Option Running) where
   as_settled (judgement.Answer o v) joiner at = tt
   as_settled (judgement.Drop cause) joiner at = tt
 
+  as_set : (judged : SetOutcome) (joiner : Option RpcUnit) (at : AtTurn) →
+      let served : TurnServed = do_taken (settle_set judged at.work.logons.channel).taken joiner (at_channel at (settle_set judged at.work.logons.channel).state) in
+      HoldsBy (AreAsBefore r) served.1 served.0.work.logons
+  as_set (Ok o) joiner at = tt
+  as_set (Err cause) joiner at = tt
+
   as_acted : (h : Hearing) (joiner : Option RpcUnit) (at : AtTurn) → AreAsBefore r at.work.logons →
       let served : TurnServed = do_taken (act h at.work.logons.channel).taken joiner (at_channel at (act h at.work.logons.channel).state) in
       HoldsBy (AreAsBefore r) served.1 served.0.work.logons
@@ -136,6 +144,9 @@ module _ (r : Option Running) where
   as_acted (hearing.Reply q reply) joiner at alike =
       as_settled (judge q reply at.work.logons.channel.standing at.work.logons.channel.caller.secret) joiner at
   as_acted (hearing.Drop cause) joiner at alike = tt
+  as_acted (hearing.Set (set_hearing.Next frames)) joiner at alike =
+      record { running = alike.running; runs = alike.runs; plan = alike.plan; asked = alike.asked; standing = alike.standing; caller = alike.caller }
+  as_acted (hearing.Set (set_hearing.Reply reply)) joiner at alike = as_set (judge_set reply at.work.logons.channel.standing) joiner at
 
   as_kept : (unit : Result RpcUnit UnitRefused) (joiner : Option RpcUnit) (at : AtTurn) → AreAsBefore r at.work.logons →
       HoldsBy (AreAsBefore r) (turn_unit unit joiner at).1 (turn_unit unit joiner at).0.work.logons
@@ -161,6 +172,19 @@ for_same controller one other channel number timestamp frames plan asked standin
   asks = subst (λ (p : MemberPlan). AreFramesOf number (call_for p (authenticator_of (channel_key channel) are.seed timestamp) are.place are.logon) frames) plan are.asks;
 }
 
+change_same : (controller : ℕ) (one other : Logons) (channel : ChannelIdentity) (number timestamp : ℕ) (frames : List (List ℕ)) → one.plan ≡ other.plan →
+    one.channel.standing ≡ other.channel.standing → one.channel.caller ≡ other.channel.caller → AreForChange controller one channel number timestamp frames → AreForChange controller other channel number timestamp frames
+change_same controller one other channel number timestamp frames plan standing caller are = record {
+  next = are.next;
+  kept = subst (λ (p : MemberPlan). next_of p.secrets ≡ Some are.next) plan are.kept;
+  with_controller = are.with_controller;
+  computer = are.computer ∙ ap (λ (p : MemberPlan). p.computer) plan;
+  secret = are.secret ∙ ap (λ (c : Caller). c.secret) caller;
+  seed = are.seed;
+  moved = sym (ap seed_in standing) ∙ are.moved;
+  asks = subst (λ (p : MemberPlan). AreFramesOfSet number (change_for p (authenticator_of (channel_key channel) are.seed timestamp) (channel_key channel) are.next) frames) plan are.asks;
+}
+
 -- ---- each call is for the message of its logon
 
 if_so : (Fits Later : ChannelIdentity → ℕ → ℕ → Type 0) → ((channel : ChannelIdentity) (number timestamp : ℕ) → Fits channel number timestamp → Later channel number timestamp) → (mark : Mark) →
@@ -180,9 +204,10 @@ module _ (most member : ℕ) (messages : List MessageTaken) where
   }
 
   by_message : (controller : ℕ) (before : AtTurn) (later : Option AtTurn) (called : Option ℕ) (mark : Mark) → EachFits (HasFor ⊥ most member messages) before.work.logons →
-      IfCalling (IsForItsLogon controller before later called) mark → IfCalling (IsForItsMessage member messages controller before later called) mark
-  by_message controller before later called mark all is =
-      if_so (IsForItsLogon controller before later called) (IsForItsMessage member messages controller before later called) (
+      CarriesBy called mark controller before later → AsksBy called member messages controller before later mark
+  by_message controller before later None mark all is = is
+  by_message controller before later (Some called) mark all is =
+      if_so (IsForItsLogon controller before later (Some called)) (IsForItsMessage member messages controller before later (Some called)) (
       λ channel number timestamp carries. record {
         carries = carries;
         message = one_so (λ (message : MessageTaken). IsFor ⊥ most member carries.asks.place carries.asks.logon message)
@@ -222,18 +247,33 @@ bytes_are link one other is = let x = is in cc
 
 module _ (member : ℕ) (m : MemberState) (messages : List MessageTaken) (controller : ℕ) where
   abbrev pub AreSentBy : Mark → List ℕ → Type 0
-  AreSentBy mark bytes = IfCalling (AreSentForMessage member m messages controller bytes) mark
+  AreSentBy mark bytes = IfCalling (AreSentFor member m messages controller bytes) mark
 
   sent_is : (before done : AtTurn) (later : Option AtTurn) (called : Option ℕ) (bytes : List ℕ) (mark : Mark) → AreAsBefore m.running before.work.logons → later ≡ Some done →
-      done.work.actions ≡ before.work.actions ++ action.Send before.link bytes ∷ [] → IfCalling (IsForItsMessage member messages controller before later called) mark →
+      done.work.actions ≡ before.work.actions ++ action.Send before.link bytes ∷ [] → AsksBy called member messages controller before later mark →
       AreSentBy mark bytes
   unfolding for_same
-  sent_is before done later called bytes mark alike comes sends is =
-      if_so (IsForItsMessage member messages controller before later called) (AreSentForMessage member m messages controller bytes) (
+  sent_is before done later None bytes mark alike comes sends is =
+      if_so (IsForItsChange controller before later) (AreSentFor member m messages controller bytes) (
+      λ channel number timestamp its.
+      let both : Some done ≡ Some its.done = sym comes ∙ its.comes in
+      let same : done ≡ its.done = (let x = both in cc) in
+      inr (record {
+        running = alike.running;
+        runs = alike.runs;
+        frames = its.frames;
+        asks = change_same controller before.work.logons alike.running.logons channel number timestamp its.frames alike.plan alike.standing alike.caller its.asks;
+        is = bytes_are before.link bytes (joined_frames its.frames)
+            (last_is before.work.actions (action.Send before.link bytes) (action.Send before.link (joined_frames its.frames))
+            (sym sends ∙ ap (λ (at : AtTurn). at.work.actions) same ∙ its.sends));
+      })
+      ) mark is
+  sent_is before done later (Some called) bytes mark alike comes sends is =
+      if_so (IsForItsMessage member messages controller before later (Some called)) (AreSentFor member m messages controller bytes) (
       λ channel number timestamp its.
       let both : Some done ≡ Some its.carries.done = sym comes ∙ its.carries.comes in
       let same : done ≡ its.carries.done = (let x = both in cc) in
-      record {
+      inl (record {
         running = alike.running;
         runs = alike.runs;
         frames = its.carries.frames;
@@ -242,7 +282,7 @@ module _ (member : ℕ) (m : MemberState) (messages : List MessageTaken) (contro
         is = bytes_are before.link bytes (joined_frames its.carries.frames)
             (last_is before.work.actions (action.Send before.link bytes) (action.Send before.link (joined_frames its.carries.frames))
             (sym sends ∙ ap (λ (at : AtTurn). at.work.actions) same ∙ its.carries.sends));
-      }
+      })
       ) mark is
 
   abbrev pub AtPlace : List Mark → List Action → Type 0
@@ -259,7 +299,7 @@ module _ (member : ℕ) (m : MemberState) (messages : List MessageTaken) (contro
 
   by_place : (sends : Bool) (mark : Mark) (marks : List Mark) (called : Option ℕ) (before : AtTurn) (later : Option AtTurn) (actions : List Action) (Holds : List Action → Type 0) →
       ((more : List Action) → Holds more → AtPlace marks more) → AreAsBefore m.running before.work.logons →
-      IfCalling (IsForItsMessage member messages controller before later called) mark → IsFirstBy sends before later actions Holds → AtPlace (mark_if sends mark ++ marks) actions
+      AsksBy called member messages controller before later mark → IsFirstBy sends before later actions Holds → AtPlace (mark_if sends mark ++ marks) actions
   by_place false mark marks called before later actions Holds so alike asks first = so actions first
   by_place true mark marks called before later actions Holds so alike asks first =
       subst (λ (a : List Action). AtPlace (mark ∷ marks) a) (sym first.3)

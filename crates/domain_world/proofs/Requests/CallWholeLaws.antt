@@ -21,6 +21,8 @@ use Rattle.end_links.specs.Links.{LinkState}
 use Rattle.end_links.specs.Sending.{frames_of, joined_frames, request_of}
 use Rattle.end_links.specs.Serving.{ServedPart, ServedUnit, served_units}
 use Rattle.end_links.proofs.BoundLaws.{frames_joined}
+use Rattle.channel_client.specs.declared.hearing.SetHearing.TheVariants as set_hearing
+use Rattle.channel_client.specs.declared.state.SetStep.TheVariants as set_step
 use Rattle.channel_client.specs.declared.answers.Taken.TheVariants as taken
 use Rattle.channel_client.specs.declared.hearing.Hearing.{Hearing}
 use Rattle.channel_client.specs.declared.hearing.Hearing.TheVariants as hearing
@@ -34,7 +36,7 @@ use Rattle.channel_client.specs.declared.state.Standing.TheVariants as standing
 use Rattle.channel_client.specs.declared.state.Step.TheVariants as step
 use Rattle.channel_client.specs.declared.state.Waiting.{Waiting}
 use Rattle.channel_client.specs.Effects.{IsForFirst, MatchesStep, step_in}
-use Rattle.channel_client.specs.Machine.{act, hear, judge, place_of, question_of, settle, wait_for}
+use Rattle.channel_client.specs.Machine.{act, hear, judge, place_of, question_of, settle, wait_for, SetOutcome, judge_set, settle_set}
 use Rattle.channel_client.specs.State.{Requester}
 use Rattle.channel_client.specs.Whole.{HasRoom, InRangeRequester, InRangeTurn}
 use Rattle.channel_turns.specs.declared.state.Dialling.{Dialling}
@@ -174,6 +176,17 @@ module _ (controller : ℕ) (at : AtTurn) (kept : AsksForKept true at.work.logon
   settled_out (judgement.Answer o v) later = tt
   settled_out (judgement.Drop cause) later = tt
 
+  -- a call that sets a secret is of no logon
+  set_out : (how : Standing) (before after : Requester) (later : Option AtTurn) → CallsOut (asked_note (Some (step.Set set_step.Reply)) how controller before after) at later
+  set_out standing.Nothing before after later = tt
+  set_out (standing.Half client server) before after later = tt
+  set_out (standing.Open o) before after later = tt
+
+  set_settled_out : (judged : SetOutcome) (later : Option AtTurn) →
+      CallsOut (taken_note (settle_set judged at.work.logons.channel).taken controller at.work.logons.channel (settle_set judged at.work.logons.channel).state) at later
+  set_settled_out (Ok o) later = tt
+  set_settled_out (Err cause) later = tt
+
   acted_out : (h : Hearing) (joiner : Option RpcUnit) → IsOfTurn at.work.logons.channel.turn at.work.logons.channel.next_call h →
       CallsOut (taken_note (act h at.work.logons.channel).taken controller at.work.logons.channel (act h at.work.logons.channel).state) at
       (Some (do_taken (act h at.work.logons.channel).taken joiner (at_channel at (act h at.work.logons.channel).state)).0)
@@ -185,6 +198,8 @@ module _ (controller : ℕ) (at : AtTurn) (kept : AsksForKept true at.work.logon
   acted_out (hearing.Reply q r) joiner is =
       let s : Requester = at.work.logons.channel in settled_out (judge q r s.standing s.caller.secret) _
   acted_out (hearing.Drop cause) joiner is = tt
+  acted_out (hearing.Set (set_hearing.Next frames)) joiner is = set_out at.work.logons.channel.standing _ _ _
+  acted_out (hearing.Set (set_hearing.Reply r)) joiner is = set_settled_out (judge_set r at.work.logons.channel.standing) _
 
   read_out : (read : Result RpcUnit UnitRefused) (joiner : Option RpcUnit) →
       CallsOut (taking_note (taking_read read joiner at.work.logons.channel) controller at.work.logons.channel) at (Some (turn_unit read joiner at).0)

@@ -5,6 +5,7 @@ use Rattle.std.specs.List.{AllByRecursion}
 use Rattle.authenticators.specs.Channels.{ChannelIdentity}
 use Rattle.controller_calls.specs.declared.calls.ControllerCall.TheVariants as call
 use Rattle.end_links.specs.Serving.{ServedUnit}
+use Rattle.channel_client.specs.declared.state.SetStep.TheVariants as set_step
 use Rattle.channel_client.specs.Effects.{step_in}
 use Rattle.channel_client.specs.Machine.{Taking}
 use Rattle.channel_client.specs.State.{Requester}
@@ -60,6 +61,10 @@ asked_way (Some (step.Reply question.Authenticate)) (standing.Open o) controller
 asked_way (Some (step.Reply question.Logon)) standing.Nothing controller before after = tt
 asked_way (Some (step.Reply question.Logon)) (standing.Half client server) controller before after = tt
 asked_way (Some (step.Reply question.Logon)) (standing.Open o) controller before after = refl
+asked_way (Some (step.Set (set_step.Bind c))) how controller before after = tt
+asked_way (Some (step.Set set_step.Reply)) standing.Nothing controller before after = tt
+asked_way (Some (step.Set set_step.Reply)) (standing.Half client server) controller before after = tt
+asked_way (Some (step.Set set_step.Reply)) (standing.Open o) controller before after = refl
 
 taken_way : (what : Taken) (controller : ℕ) (before after : Requester) → IsRequest (taken_note what controller before after).mark
 taken_way (taken.Skip right) controller before after = tt
@@ -68,6 +73,7 @@ taken_way taken.Half controller before after = tt
 taken_way taken.Opened controller before after = tt
 taken_way (taken.Answer place verdict) controller before after = tt
 taken_way (taken.Dropped place cause) controller before after = tt
+taken_way taken.Set controller before after = tt
 
 taking_way : (taking : Option Taking) (controller : ℕ) (before : Requester) → IsRequest (taking_note taking controller before).mark
 taking_way None controller before = tt

@@ -12,6 +12,7 @@ use Rattle.outside.specs.declared.event.Event.TheVariants as event
 use Rattle.authenticators.specs.Channels.{ChannelIdentity}
 use Rattle.logon_stubs.specs.declared.info.NetworkInfo.{NetworkInfo}
 use Rattle.end_links.specs.Links.{LinkState}
+use Rattle.member_server.specs.declared.state.Work.{Work}
 use Rattle.channel_client.specs.Effects.{ArePlacesApart, IsForFirst, stands_in}
 use Rattle.channel_client.specs.Machine.{ask_by, ask_of, begin_with, can_start, lose_of, needs_challenge, start_by}
 use Rattle.channel_client.specs.State.{Requester}
@@ -20,6 +21,7 @@ use Rattle.channel_client.specs.declared.state.Pending.{Pending}
 use Rattle.channel_client.specs.declared.state.Question.{Question}
 use Rattle.channel_client.specs.declared.state.Question.TheVariants as question
 use Rattle.channel_client.specs.declared.state.Standing.{Standing}
+use Rattle.channel_client.specs.declared.state.Standing.TheVariants as standing
 use Rattle.channel_client.specs.declared.state.Step.{Step}
 use Rattle.channel_client.specs.declared.state.Step.TheVariants as step
 use Rattle.channel_client.specs.declared.state.Waiting.{Waiting}
@@ -29,7 +31,7 @@ use Rattle.channel_events.proofs.ListLaws.{one_weaker}
 use Rattle.member_server.specs.ChannelSteps.{ChannelSteps, ComesCalmly, IsCalm, IsNextTurn, StepsIfTaken}
 use Rattle.member_server.specs.Laws.{Asks, Doing, Loses, Starts, Takes, heard_if, heard_in, is_dialled, state_after}
 use Rattle.member_server.specs.Machine.{actions_in, by_event, event_part, halted_state, state_in, step_of, work_of}
-use Rattle.member_server.specs.Turns.{DialWork}
+use Rattle.member_server.specs.Turns.{DialWork, ready_channel}
 use Rattle.channel_turns.specs.declared.state.Dialling.{Dialling}
 use Rattle.channel_turns.specs.declared.state.Dialling.TheVariants as dialling
 use Rattle.member_server.specs.declared.state.Logon.{Logon}
@@ -47,7 +49,7 @@ use Rattle.step_notes.proofs.Members.UnservedLaws.{LinksIn, Opens, bytes_took, i
 use Rattle.world_moves.specs.declared.links.Route.{Route}
 use Rattle.domain_world.proofs.Accepting.LetInStepLaws.{IsAcceptedBy, IsDialledBy}
 use Rattle.domain_world.proofs.Requests.KeptFirstLaws.{LeadsAfter, bytes_lead}
-use Rattle.member_server.proofs.StepFrame.{PartHolds}
+use Rattle.member_server.proofs.StepFrame.{PartHolds, is_left}
 
 -- ---- what is known of a member
 
@@ -115,8 +117,13 @@ calm_out (Starts timestamp challenge ∷ doings) s pending calm out = absurd cal
 calm_out (Takes unit ∷ doings) s pending calm out = absurd calm.0
 calm_out (Loses ∷ doings) s pending calm out = absurd (none_out pending (calm_out doings (lose_of s).state pending calm.1 out).turn)
 
-bind_no_reply : (s : Step) (c : _) (q : Question) → s ≡ step.Bind c → s ≡ step.Reply q → ⊥
-bind_no_reply s c q is isnt = let both : step.Bind c ≡ step.Reply q = sym is ∙ isnt in cc
+-- the call of a turn that starts waits for its bind
+begun_waits : (how : Standing) (next : Option (List ℕ)) (caller : Caller) (info : NetworkInfo) (timestamp : ℕ) (challenge : List ℕ) (q : Question) →
+    (begin_with how next caller info timestamp challenge).step ≡ step.Reply q → ⊥
+begun_waits standing.Nothing next caller info timestamp challenge q is = let x = is in cc
+begun_waits (standing.Half client server) next caller info timestamp challenge q is = let x = is in cc
+begun_waits (standing.Open o) None caller info timestamp challenge q is = let x = is in cc
+begun_waits (standing.Open o) (Some next) caller info timestamp challenge q is = let x = is in cc
 
 -- a turn that starts waits for the answer to its bind
 start_out : (turn : Option Pending) (logons : List Waiting) (s : Requester) (timestamp : ℕ) (challenge : List ℕ) (pending : Pending) (q : Question) → can_start turn logons ≡ true →
@@ -124,9 +131,9 @@ start_out : (turn : Option Pending) (logons : List Waiting) (s : Requester) (tim
 start_out (Some p) logons s timestamp challenge pending q can is reply = let x = can in cc
 start_out None [] s timestamp challenge pending q can is reply = let x = can in cc
 start_out None (logon ∷ logons) s timestamp challenge pending q can is reply =
-    let begun = begin_with s.standing s.caller logon.info timestamp challenge in
-    let same : record { number = s.next_call; place = logon.place; step = step.Bind begun.call } ≡ pending = (let x = is in cc) in
-    bind_no_reply pending.step begun.call q (sym (ap (λ (p : Pending). p.step) same)) reply
+    let begun : Step = (begin_with s.standing s.next s.caller logon.info timestamp challenge).step in
+    let same : record { number = s.next_call; place = logon.place; step = begun } ≡ pending = (let x = is in cc) in
+    begun_waits s.standing s.next s.caller logon.info timestamp challenge q (ap (λ (p : Pending). p.step) same ∙ reply)
 
 next_out : (starts needs : Bool) (now : ℕ) (mid : Requester) (before : List (List ℕ)) (new : Requester) (after : List (List ℕ)) (pending : Pending) (q : Question) →
     IsNextTurn starts needs now mid before new after → can_start mid.turn mid.waiting ≡ starts → new.turn ≡ Some pending → pending.step ≡ step.Reply q →
@@ -148,9 +155,10 @@ pub record OutSteps (old : Requester) (first : Result (Part DialWork) StepRefuse
 pub out_steps : (old : Requester) (first : Result (Part DialWork) StepRefused) (now : ℕ) (new : Requester) (after : List (List ℕ)) (pending : Pending) (q : Question) →
     ChannelSteps first (ComesCalmly old) now new after → new.turn ≡ Some pending → pending.step ≡ step.Reply q → OutSteps old first new pending
 out_steps old first now new after pending q steps out reply =
-    let mid : Requester = steps.part.value.0.logons.channel in
+    let w : Work = steps.part.value.0 in
+    let mid : Requester = ready_channel w in
     let next = next_out (can_start mid.turn mid.waiting) (needs_challenge mid.standing) now mid steps.part.left new after pending q steps.next refl out reply in
-    let same : new ≡ state_after steps.mid.doings old = next.0 ∙ steps.mid.is in
+    let same : new ≡ state_after steps.mid.doings old = next.0 ∙ is_left w next.1 ∙ steps.mid.is in
     record {
       stays = subst (λ (x : Requester). StaysOut old x pending) (sym same)
           (calm_out steps.mid.doings old pending steps.mid.calm (subst (λ (x : Requester). x.turn ≡ Some pending) same out));

@@ -15,6 +15,7 @@ use Rattle.rpc_units.specs.Calls.{IsHeard}
 use Rattle.rpc_units.specs.declared.unit.Unit.{Unit as RpcUnit}
 use Rattle.authenticators.specs.Channels.{ChannelIdentity}
 use Rattle.end_links.specs.Links.{LinkState}
+use Rattle.member_server.specs.declared.state.Work.{Work}
 use Rattle.channel_client.specs.Effects.{Answers, Begins, Calls, Counts, Drops, Effect, IsCoherent, Moves, Opens, Stays, View, effect_of_take, view_of}
 use Rattle.channel_client.specs.Machine.{ask_of, can_start, lose_of, needs_challenge, start_of, take_of}
 use Rattle.channel_client.specs.State.{Requester}
@@ -26,7 +27,7 @@ use Rattle.member_server.specs.ChannelSteps.{ChannelSteps, ComesCalmly, IsCalm, 
 use Rattle.member_server.specs.Laws.{Asks, Doing, Loses, Starts, Takes, heard_in, state_after}
 use Rattle.member_server.specs.Machine.{actions_in, by_event, event_part, halted_state, state_in, step_of, work_of}
 use Rattle.member_server.specs.State.{State as MemberState}
-use Rattle.member_server.specs.Turns.{DialWork, timestamp_of}
+use Rattle.member_server.specs.Turns.{DialWork, timestamp_of, ready_channel}
 use Rattle.channel_turns.specs.declared.state.Dialling.TheVariants as dialling
 use Rattle.member_server.specs.declared.state.Running.{Running}
 use Rattle.channel_turns.specs.declared.state.TurnTalk.{TurnTalk}
@@ -37,6 +38,7 @@ use Rattle.step_notes.specs.MemberNotes.{TurnNote, no_note, request_note, taking
 use Rattle.step_notes.proofs.Channels.EffectNoteLaws.{steps_are_noted}
 use Rattle.step_notes.proofs.Members.RestLaws.{event_rest}
 use Rattle.domain_world.specs.Accepting.Runs.{view_with}
+use Rattle.domain_world.proofs.Requests.ReadyLaws.{ready_coherent}
 use Rattle.domain_world.proofs.Requests.LooserLaws.{IsPlaced, NoRequests, Placed, drawn_before, fewer_marks, looser, more_marks, placed_marks}
 use Rattle.domain_world.specs.Past.{requester_in, running_in}
 
@@ -208,8 +210,8 @@ module _ (views : ℕ → Option View) (who controller : ℕ) where
     by_effect (Opens c) note v old new noted placed takes = none_later (placed_by note (passed_note c None None) noted placed) (takes marks stands)
     by_effect (Moves c timestamp) note v old new noted placed takes = absurd noted
     by_effect (Calls c number) note v old new noted placed takes =
-        called c number noted.0 (placed_by note (request_note (Calling c number noted.0) (Some noted.1)) noted.2 placed) takes
-    by_effect (Answers c number) note v old new noted placed takes = none_later (placed_by note (passed_note c (Some noted.0) (Some number)) noted.1 placed) (takes marks stands)
+        called c number noted.0 (placed_by note (request_note (Calling c number noted.0) noted.1) noted.2 placed) takes
+    by_effect (Answers c number) note v old new noted placed takes = none_later (placed_by note (passed_note c noted.0 (Some number)) noted.1 placed) (takes marks stands)
     by_effect Drops note v old new noted placed takes = none_later (placed_by note no_note noted placed) (takes marks stands)
 
   taken_so : (s : Requester) (unit : RpcUnit) (marks more : List Mark) (drawn : List (List ℕ)) (uses : ℕ) → uses + 2 < 2 ^ 32 →
@@ -355,11 +357,14 @@ module _ (views : ℕ → Option View) (who controller : ℕ) where
       ChannelSteps first Mid now part.value.0.logons.channel part.left → Differ (drawn ++ draws_between left part.left) →
       CallsAreApart (requests_after views who controller (state_in part.value).running marks (drawn ++ draws_between left part.left) (uses + 1))
   part_apart Mid now marks drawn left uses few first so rests part steps differ =
-      let mid : Requester = steps.part.value.0.logons.channel in
+      let w : Work = steps.part.value.0 in
+      let mid : Requester = ready_channel w in
       let rest : IsRest steps.part.left left = rests steps.part steps.is in
+      let before : StandsApart views who controller w.logons.channel marks drawn uses = so w.logons.channel steps.mid in
+      let ready : StandsApart views who controller mid marks drawn uses = record { coherent = ready_coherent w before.coherent; apart = before.apart } in
       running_so (record { logons = part.value.0.logons; links = part.value.0.links; dialling = part.value.1 }) marks (drawn ++ draws_between left part.left) (uses + 1)
       (next_so views who controller now marks drawn left uses few (can_start mid.turn mid.waiting) (needs_challenge mid.standing) mid steps.part.left part.value.0.logons.channel part.left rest
-      steps.next refl refl differ (drawn_more views who controller mid marks drawn rest.front uses uses (omega arith) (so mid steps.mid)))
+      steps.next refl refl differ (drawn_more views who controller mid marks drawn rest.front uses uses (omega arith) ready))
 
   -- ---- where the requester stands before it
 

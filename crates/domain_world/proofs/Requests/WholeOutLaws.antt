@@ -14,8 +14,10 @@ use Rattle.authenticators.specs.SecureChannels.{channel_of}
 use Rattle.rpc_units.specs.Calls.{IsHeard}
 use Rattle.rpc_units.specs.declared.unit.Unit.{Unit as RpcUnit}
 use Rattle.end_links.specs.Links.{LinkState}
+use Rattle.channel_client.specs.declared.hearing.SetHearing.TheVariants as set_hearing
+use Rattle.channel_client.specs.declared.state.SetStep.TheVariants as set_step
 use Rattle.channel_client.specs.Effects.{IsCoherent, MatchesStep, stands_in, step_in}
-use Rattle.channel_client.specs.Machine.{act, can_start, hear, judge, place_of, settle, take_of}
+use Rattle.channel_client.specs.Machine.{act, can_start, hear, judge, place_of, settle, take_of, SetOutcome, judge_set, settle_set}
 use Rattle.channel_client.specs.State.{Requester}
 use Rattle.channel_client.specs.declared.hearing.Hearing.{Hearing}
 use Rattle.channel_client.specs.declared.hearing.Hearing.TheVariants as hearing
@@ -81,6 +83,10 @@ module _ (controller : ℕ) (c : Requester) where
   settled_none (judgement.Answer o v) pending out = none_out pending out
   settled_none (judgement.Drop cause) pending out = none_out pending out
 
+  set_none : (judged : SetOutcome) (pending : Pending) → (settle_set judged c).state.turn ≡ Some pending → ⊥
+  set_none (Ok o) pending out = none_out pending out
+  set_none (Err cause) pending out = none_out pending out
+
   -- the call waits for its answer
   abbrev asking : Pending
   asking = record { number = c.next_call; place = place_of c.turn; step = step.Reply question.Logon }
@@ -114,6 +120,11 @@ module _ (controller : ℕ) (c : Requester) where
   acted_case (hearing.Next q frames) pending out reply coherent = next_case q frames pending out reply coherent
   acted_case (hearing.Reply q r) pending out reply coherent = absurd (settled_none (judge q r c.standing c.caller.secret) pending out)
   acted_case (hearing.Drop cause) pending out reply coherent = absurd (settled_none (judgement.Drop cause) pending out)
+  acted_case (hearing.Set (set_hearing.Next frames)) pending out reply coherent =
+      let same : record { number = c.next_call; place = place_of c.turn; step = step.Set set_step.Reply } ≡ pending = (let x = out in cc) in
+      let never : step.Set set_step.Reply ≡ step.Reply question.Logon = ap (λ (p : Pending). p.step) same ∙ reply in
+      absurd (let x = never in cc)
+  acted_case (hearing.Set (set_hearing.Reply r)) pending out reply coherent = absurd (set_none (judge_set r c.standing) pending out)
 
   -- the logons are kept
   acted_asked : (h : Hearing) (pending : Pending) (at : AtTurn) → (act h c).state.turn ≡ Some pending → (take_by (act h c) None at).0.work.logons.asked ≡ at.work.logons.asked
@@ -121,6 +132,8 @@ module _ (controller : ℕ) (c : Requester) where
   acted_asked (hearing.Next q frames) pending at out = refl
   acted_asked (hearing.Reply q r) pending at out = absurd (settled_none (judge q r c.standing c.caller.secret) pending out)
   acted_asked (hearing.Drop cause) pending at out = absurd (settled_none (judgement.Drop cause) pending out)
+  acted_asked (hearing.Set (set_hearing.Next frames)) pending at out = refl
+  acted_asked (hearing.Set (set_hearing.Reply r)) pending at out = absurd (set_none (judge_set r c.standing) pending out)
 
 -- ---- the step: the unit is taken, and no turn starts
 

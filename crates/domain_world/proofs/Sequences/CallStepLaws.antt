@@ -7,6 +7,7 @@ use Rattle.outside.specs.declared.action.Action.{Action}
 use Rattle.outside.specs.declared.action.StepRefused.{StepRefused}
 use Rattle.outside.specs.declared.event.Event.{Event}
 use Rattle.authenticators.specs.Channels.{ChannelIdentity}
+use Rattle.member_server.specs.declared.state.Work.{Work}
 use Rattle.channel_client.specs.Effects.{IsCoherent, stands_in, view_of}
 use Rattle.channel_client.specs.Machine.{can_start, needs_challenge, start_of}
 use Rattle.channel_client.specs.State.{Requester}
@@ -15,13 +16,14 @@ use Rattle.channel_events.specs.Requests.{IsDrawn}
 use Rattle.member_server.specs.ChannelSteps.{IsNextTurn}
 use Rattle.member_server.specs.Dials.{IsDialledBy, IsWaiting, TurnSteps, dials_in}
 use Rattle.member_server.specs.Machine.{by_event, work_of}
-use Rattle.member_server.specs.Turns.{DialWork, timestamp_of}
+use Rattle.member_server.specs.Turns.{DialWork, timestamp_of, ready_channel}
 use Rattle.channel_turns.specs.declared.state.Dialling.{Dialling}
 use Rattle.member_server.specs.declared.state.Running.{Running}
 use Rattle.step_notes.specs.MemberNotes.{turn_of}
 use Rattle.step_notes.specs.Records.{ChannelTurn, RequesterId}
 use Rattle.step_notes.proofs.Members.RestLaws.{event_rest}
 use Rattle.world_moves.specs.Acting.{Given, given_by}
+use Rattle.domain_world.proofs.Requests.ReadyLaws.{ready_coherent}
 use Rattle.domain_world.proofs.Requests.StepApartLaws.{Differ, fresh_last}
 use Rattle.domain_world.proofs.Sequences.CallTurnLaws.{KnowsCalls, calls_still, start_knows}
 use Rattle.domain_world.proofs.Sequences.DialCountLaws.{given_append, given_dials, given_own}
@@ -130,14 +132,15 @@ pub step_calls : (Done : ℕ → Type 0) (marks : List Mark) (drawn : List (List
     OwnCalls Done marks (drawn ++ draws_between left part.left) turns (given ++ given_by (asking_end who) part.value.0.actions) controller who
     (record { logons = part.value.0.logons; links = part.value.0.links; dialling = part.value.1 })
 step_calls Done marks drawn turns given controller who running what now left part own steps before none still coherent turned calls differ =
-    let mid : Requester = steps.part.value.0.logons.channel in
+    let w : Work = steps.part.value.0 in
+    let mid : Requester = ready_channel w in
     let actions : List Action = part.value.0.actions in
-    let comes = comes_so own drawn controller running.logons.channel mid steps.comes coherent turned in
+    let comes = comes_so own drawn controller running.logons.channel w.logons.channel steps.comes coherent turned in
     let rest_left : IsRest steps.part.left left =
     subst (λ (first : Result (Part DialWork) StepRefused). IsRest (left_by first) left) steps.is (event_rest what running.dialling (work_of running) left) in
     let next : Next Done marks (drawn ++ draws_between left part.left) own controller who part.value.0.logons.channel (dials_in actions) =
     next_calls Done marks drawn own controller who before (can_start mid.turn mid.waiting) (needs_challenge mid.standing) now mid left steps.part.left part.value.0.logons.channel part.left
-    steps.part.value.1 part.value refl refl steps.next rest_left steps.dials comes.0 differ comes.1 calls in
+    steps.part.value.1 part.value refl refl steps.next rest_left steps.dials (ready_coherent w comes.0) differ comes.1 calls in
     let count : given_dials who (given ++ given_by (asking_end who) actions) ≡ given_dials who given + dials_in actions =
     omega (arith, given_append who given (given_by (asking_end who) actions), given_own who (asking_end who) actions (is_itself who)) in
     record {

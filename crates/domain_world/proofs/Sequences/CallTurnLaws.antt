@@ -6,6 +6,8 @@ use Rattle.std.specs.List.{AllByRecursion}
 use Rattle.std.proofs.lemmas.List.{map-append}
 use Rattle.authenticators.specs.Channels.{ChannelIdentity}
 use Rattle.authenticators.specs.SecureChannels.{channel_of}
+use Rattle.secret_change.specs.declared.calls.SetCall.{SetCall}
+use Rattle.channel_client.specs.declared.state.SetStep.TheVariants as set_step
 use Rattle.channel_client.specs.Effects.{stands_in, step_in}
 use Rattle.channel_client.specs.Machine.{ask_by, ask_of, can_start, lose_of, start_of}
 use Rattle.channel_client.specs.State.{Requester}
@@ -51,6 +53,8 @@ pub record LastIsOut (Done : ℕ → Type 0) (marks : List Mark) (c : ChannelIde
 abbrev pub AreFarBy : (Done : ℕ → Type 0) (marks : List Mark) (channel : ChannelIdentity) (number : ℕ) (step : Step) (bound : ℕ) (made : List (ℕ × ℕ)) (stamps : List ℕ) → Type 0
 AreFarBy Done marks c number (step.Bind what) bound made stamps = (stamps ≡ stamps_of made ++ bound ∷ []) × AllDone Done made
 AreFarBy Done marks c number (step.Reply q) bound made stamps = LastIsOut Done marks c number made stamps
+AreFarBy Done marks c number (step.Set (set_step.Bind what)) bound made stamps = (stamps ≡ stamps_of made ++ bound ∷ []) × AllDone Done made
+AreFarBy Done marks c number (step.Set set_step.Reply) bound made stamps = LastIsOut Done marks c number made stamps
 
 abbrev pub AreFar : (ℕ → Type 0) → List Mark → ChannelIdentity → Option Pending → ℕ → List (ℕ × ℕ) → List ℕ → Type 0
 AreFar Done marks c None bound made stamps = (stamps ≡ stamps_of made) × AllDone Done made
@@ -80,9 +84,8 @@ module _ (Done Later : ℕ → Type 0) (so : (n : ℕ) → Done n → Later n) (
   done_still [] all = tt
   done_still (one ∷ made) all = (so one.0 all.0, done_still made all.1)
 
-  far_step : (number : ℕ) (st : Step) (bound : ℕ) (made : List (ℕ × ℕ)) (stamps : List ℕ) → AreFarBy Done marks c number st bound made stamps → AreFarBy Later later c number st bound made stamps
-  far_step number (step.Bind what) bound made stamps far = (far.0, done_still made far.1)
-  far_step number (step.Reply q) bound made stamps far = record {
+  last_still : (number : ℕ) (made : List (ℕ × ℕ)) (stamps : List ℕ) → LastIsOut Done marks c number made stamps → LastIsOut Later later c number made stamps
+  last_still number made stamps far = record {
     earlier = far.earlier;
     last = far.last;
     split = far.split;
@@ -90,6 +93,12 @@ module _ (Done Later : ℕ → Type 0) (so : (n : ℕ) → Done n → Later n) (
     answered = done_still far.earlier far.answered;
     out = still far.last.0 (Calling c number far.last.1) far.out;
   }
+
+  far_step : (number : ℕ) (st : Step) (bound : ℕ) (made : List (ℕ × ℕ)) (stamps : List ℕ) → AreFarBy Done marks c number st bound made stamps → AreFarBy Later later c number st bound made stamps
+  far_step number (step.Bind what) bound made stamps far = (far.0, done_still made far.1)
+  far_step number (step.Reply q) bound made stamps far = last_still number made stamps far
+  far_step number (step.Set (set_step.Bind what)) bound made stamps far = (far.0, done_still made far.1)
+  far_step number (step.Set set_step.Reply) bound made stamps far = last_still number made stamps far
 
   far_still : (turn : Option Pending) (bound : ℕ) (made : List (ℕ × ℕ)) (stamps : List ℕ) → AreFar Done marks c turn bound made stamps → AreFar Later later c turn bound made stamps
   far_still None bound made stamps far = (far.0, done_still made far.1)
@@ -137,21 +146,38 @@ module _ (Done : ℕ → Type 0) (marks : List Mark) (own : List ChannelTurn) (c
     );
   }
 
-  start_by : (who : RequesterId) (timestamp : ℕ) (challenge : List ℕ) (caller : Caller) (how : Standing) (logons : List Waiting) (place next : ℕ) (turn : Option Pending) →
-      let s : Requester = record { caller = caller; standing = how; waiting = logons; next_place = place; next_call = next; turn = turn } in
+  -- likewise of a call that sets a secret
+  set_started_far : (c : ChannelIdentity) (turn : ChannelTurn) → turn.channel ≡ c → CallsMade Done marks own c None → (number place : ℕ) (what : SetCall) → what.authenticator.timestamp ≡ turn.timestamp →
+      CallsMade Done marks (own ++ turn ∷ []) c (Some (record { number = number; place = place; step = step.Set (set_step.Bind what) }))
+  set_started_far c turn on calls number place what is = record {
+    made = calls.made;
+    each = calls.each;
+    apart = calls.apart;
+    every = calls.every;
+    far = (
+      stamps_last own [] c turn on ∙ ap (λ (l : List ℕ). l ++ turn.timestamp ∷ []) calls.far.0 ∙ ap (λ (t : ℕ). stamps_of calls.made ++ t ∷ []) (sym is),
+      calls.far.1,
+    );
+  }
+
+  start_by : (who : RequesterId) (timestamp : ℕ) (challenge : List ℕ) (caller : Caller) (how : Standing) (logons : List Waiting) (place next : ℕ) (turn : Option Pending) (secret : Option (List ℕ)) →
+      let s : Requester = record { caller = caller; standing = how; waiting = logons; next_place = place; next_call = next; turn = turn; next = secret } in
       can_start turn logons ≡ true → KnowsCalls Done marks own controller s →
       KnowsCalls Done marks (own ++ turn_of controller who (start_of s timestamp challenge).state) controller (start_of s timestamp challenge).state
-  start_by who timestamp challenge caller how logons place next (Some pending) can knows = absurd (let x = can in cc)
-  start_by who timestamp challenge caller how [] place next None can knows = absurd (let x = can in cc)
-  start_by who timestamp challenge caller standing.Nothing (logon ∷ logons) place next None can knows = λ c is. absurd (let x = is in cc)
-  start_by who timestamp challenge caller (standing.Half client server) (logon ∷ logons) place next None can knows = λ c is. absurd (let x = is in cc)
-  start_by who timestamp challenge caller (standing.Open o) (logon ∷ logons) place next None can knows = λ c is.
+  start_by who timestamp challenge caller how logons place next (Some pending) secret can knows = absurd (let x = can in cc)
+  start_by who timestamp challenge caller how [] place next None secret can knows = absurd (let x = can in cc)
+  start_by who timestamp challenge caller standing.Nothing (logon ∷ logons) place next None secret can knows = λ c is. absurd (let x = is in cc)
+  start_by who timestamp challenge caller (standing.Half client server) (logon ∷ logons) place next None secret can knows = λ c is. absurd (let x = is in cc)
+  start_by who timestamp challenge caller (standing.Open o) (logon ∷ logons) place next None None can knows = λ c is.
       started_far c (record { requester = who; channel = channel_of controller caller.computer o; timestamp = timestamp }) (some_is (channel_of controller caller.computer o) c is) (knows c is) next
+      logon.place _ refl
+  start_by who timestamp challenge caller (standing.Open o) (logon ∷ logons) place next None (Some secret) can knows = λ c is.
+      set_started_far c (record { requester = who; channel = channel_of controller caller.computer o; timestamp = timestamp }) (some_is (channel_of controller caller.computer o) c is) (knows c is) next
       logon.place _ refl
 
   pub start_knows : (who : RequesterId) (timestamp : ℕ) (challenge : List ℕ) (s : Requester) → can_start s.turn s.waiting ≡ true → KnowsCalls Done marks own controller s →
       KnowsCalls Done marks (own ++ turn_of controller who (start_of s timestamp challenge).state) controller (start_of s timestamp challenge).state
-  start_knows who timestamp challenge s can knows = start_by who timestamp challenge s.caller s.standing s.waiting s.next_place s.next_call s.turn can knows
+  start_knows who timestamp challenge s can knows = start_by who timestamp challenge s.caller s.standing s.waiting s.next_place s.next_call s.turn s.next can knows
 
 -- ---- a call goes out
 
@@ -196,12 +222,12 @@ module _ (Done : ℕ → Type 0) (marks more : List Mark) (own : List ChannelTur
   each_last (one ∷ made) each =
       (record { number = each.0.number; there = got_append marks more one.0 (Calling c each.0.number one.1) each.0.there }, each_last made each.1)
 
-  pub called_knows : (turn : Option Pending) (place bound_number : ℕ) (what : Call) (q : Question) (bound : ℕ) → turn ≡ Some (record { number = bound_number; place = place; step = step.Bind what }) →
-      timestamp ≡ timestamp_bound (step_in turn) → CallsMade Done marks own c turn →
-      CallsMade Done (marks ++ more) own c (Some (record { number = number; place = bound; step = step.Reply q }))
-  called_knows turn place bound_number what q bound is stamp calls =
-      let far : (stamps_on c own ≡ stamps_of calls.made ++ timestamp_bound (step_in turn) ∷ []) × AllDone Done calls.made =
-      subst (λ (t : Option Pending). AreFar Done marks c t (timestamp_bound (step_in turn)) calls.made (stamps_on c own)) is calls.far in
+  -- where the turn waits for its bind, and then for the reply
+  out_knows : (turn after : Option Pending) → timestamp ≡ timestamp_bound (step_in turn) → (calls : CallsMade Done marks own c turn) →
+      (stamps_on c own ≡ stamps_of calls.made ++ timestamp_bound (step_in turn) ∷ []) × AllDone Done calls.made →
+      ((some : List Mark) (bound : ℕ) (made : List (ℕ × ℕ)) (stamps : List ℕ) → LastIsOut Done some c number made stamps → AreFar Done some c after bound made stamps) →
+      CallsMade Done (marks ++ more) own c after
+  out_knows turn after stamp calls far waits =
       record {
         made = calls.made ++ (at, timestamp) ∷ [];
         each = each_last calls.made calls.each;
@@ -210,15 +236,30 @@ module _ (Done : ℕ → Type 0) (marks more : List Mark) (own : List ChannelTur
           | inl old ↦ one_more (λ (one : ℕ × ℕ). one.0 ≡ n) calls.made (at, timestamp) (calls.every n other later d old same)
           | inr new ↦ one_last (λ (one : ℕ × ℕ). one.0 ≡ n) calls.made (at, timestamp) (sym new)
         ];
-        far = record {
+        far = waits (marks ++ more) _ (calls.made ++ (at, timestamp) ∷ []) (stamps_on c own) (record {
           earlier = calls.made;
           last = (at, timestamp);
           split = refl;
           all = far.0 ∙ ap (λ (t : ℕ). stamps_of calls.made ++ t ∷ []) (sym stamp) ∙ sym (map-append (λ (one : ℕ × ℕ). one.1) calls.made ((at, timestamp) ∷ []));
           answered = far.1;
           out = there_now;
-        };
+        });
       }
+
+  pub called_knows : (turn : Option Pending) (place bound_number : ℕ) (what : Call) (q : Question) (bound : ℕ) → turn ≡ Some (record { number = bound_number; place = place; step = step.Bind what }) →
+      timestamp ≡ timestamp_bound (step_in turn) → CallsMade Done marks own c turn →
+      CallsMade Done (marks ++ more) own c (Some (record { number = number; place = bound; step = step.Reply q }))
+  called_knows turn place bound_number what q bound is stamp calls =
+      out_knows turn (Some (record { number = number; place = bound; step = step.Reply q })) stamp calls
+      (subst (λ (t : Option Pending). AreFar Done marks c t (timestamp_bound (step_in turn)) calls.made (stamps_on c own)) is calls.far) (λ some later made stamps out. out)
+
+  -- likewise of a call that sets a secret
+  pub set_called_knows : (turn : Option Pending) (place bound_number : ℕ) (what : SetCall) (bound : ℕ) → turn ≡ Some (record { number = bound_number; place = place; step = step.Set (set_step.Bind what) }) →
+      timestamp ≡ timestamp_bound (step_in turn) → CallsMade Done marks own c turn →
+      CallsMade Done (marks ++ more) own c (Some (record { number = number; place = bound; step = step.Set set_step.Reply }))
+  set_called_knows turn place bound_number what bound is stamp calls =
+      out_knows turn (Some (record { number = number; place = bound; step = step.Set set_step.Reply })) stamp calls
+      (subst (λ (t : Option Pending). AreFar Done marks c t (timestamp_bound (step_in turn)) calls.made (stamps_on c own)) is calls.far) (λ some later made stamps out. out)
 
 -- ---- an answer is taken
 
@@ -226,12 +267,16 @@ done_last : (Done : ℕ → Type 0) (made : List (ℕ × ℕ)) (last : ℕ × �
 done_last Done [] last all is = (is, tt)
 done_last Done (one ∷ made) last all is = (all.0, done_last Done made last all.1 is)
 
-pub answered_knows : (Done : ℕ → Type 0) (marks : List Mark) (own : List ChannelTurn) (c : ChannelIdentity) (turn : Option Pending) (number place : ℕ) (q : Question) →
-    turn ≡ Some (record { number = number; place = place; step = step.Reply q }) → ((n timestamp : ℕ) → slice_get marks n ≡ Some (Calling c number timestamp) → Done n) →
+-- the turn waits for the reply to the call of that number
+abbrev pub WaitsFor : Option Pending → ℕ → Type 1
+WaitsFor turn number = (Done : ℕ → Type 0) (marks : List Mark) (c : ChannelIdentity) (bound : ℕ) (made : List (ℕ × ℕ)) (stamps : List ℕ) → AreFar Done marks c turn bound made stamps →
+    LastIsOut Done marks c number made stamps
+
+pub answered_knows : (Done : ℕ → Type 0) (marks : List Mark) (own : List ChannelTurn) (c : ChannelIdentity) (turn : Option Pending) (number : ℕ) →
+    WaitsFor turn number → ((n timestamp : ℕ) → slice_get marks n ≡ Some (Calling c number timestamp) → Done n) →
     CallsMade Done marks own c turn → CallsMade Done marks own c None
-answered_knows Done marks own c turn number place q is done calls =
-    let far : LastIsOut Done marks c number calls.made (stamps_on c own) =
-    subst (λ (t : Option Pending). AreFar Done marks c t (timestamp_bound (step_in turn)) calls.made (stamps_on c own)) is calls.far in
+answered_knows Done marks own c turn number waits done calls =
+    let far : LastIsOut Done marks c number calls.made (stamps_on c own) = waits Done marks c (timestamp_bound (step_in turn)) calls.made (stamps_on c own) calls.far in
     record {
       made = calls.made;
       each = calls.each;

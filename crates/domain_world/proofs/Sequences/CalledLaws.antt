@@ -3,6 +3,7 @@
 use Rattle.std.proofs.Common.{◌≡◌, ℕ, List, [], ◌∷◌, inl, inr, Option, Some, None, refl, ap, subst, ◌∙◌}
 use Rattle.std.specs.List.{AllByRecursion}
 use Rattle.authenticators.specs.Channels.{ChannelIdentity}
+use Rattle.channel_client.specs.declared.state.SetStep.TheVariants as set_step
 use Rattle.channel_client.specs.Effects.{step_in}
 use Rattle.channel_client.specs.declared.state.Pending.{Pending}
 use Rattle.channel_client.specs.declared.state.Step.{Step}
@@ -54,6 +55,10 @@ module _ (p : Past) (Done : ℕ → Type 0) (passed : (n : ℕ) → Done n → H
   far_step c turn pending number (step.Bind what) bound made stamps is far =
       inr (inl (record { pending = pending; is_out = is; last = bound; all = far.0; passed = have_passed made far.1 }))
   far_step c turn pending number (step.Reply q) bound made stamps is far =
+      inr (inr (record { pending = pending; is_out = is; earlier = far.earlier; last = far.last; split = far.split; all = far.all; passed = have_passed far.earlier far.answered }))
+  far_step c turn pending number (step.Set (set_step.Bind what)) bound made stamps is far =
+      inr (inl (record { pending = pending; is_out = is; last = bound; all = far.0; passed = have_passed made far.1 }))
+  far_step c turn pending number (step.Set set_step.Reply) bound made stamps is far =
       inr (inr (record { pending = pending; is_out = is; earlier = far.earlier; last = far.last; split = far.split; all = far.all; passed = have_passed far.earlier far.answered }))
 
   so_far : (c : ChannelIdentity) (turn : Option Pending) (bound : ℕ) (made : List (ℕ × ℕ)) (stamps : List ℕ) → AreFar Done marks c turn bound made stamps → AreSoFar p turn made stamps

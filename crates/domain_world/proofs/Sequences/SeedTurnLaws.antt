@@ -1,13 +1,14 @@
 -- The seed of a requester's channel is the client's credential moved by the timestamps of its turns on it: each step of
 -- the requester keeps that, with the turn that starts in it.
 -- It serves `Proved.own`.
-use Rattle.std.proofs.Common.{◌≡◌, ℕ, ◌+◌, Bool, true, false, List, [], ◌∷◌, ◌++◌, map, filter, inl, inr, Option, Some, None, refl, sym, ap, subst, ◌∙◌, arith, if◌then◌else◌}
+use Rattle.std.proofs.Common.{◌≡◌, ℕ, ◌+◌, Bool, true, false, List, [], ◌∷◌, ◌++◌, map, filter, inl, inr, Option, Some, None, refl, sym, ap, subst, ◌∙◌, arith, if◌then◌else◌, Ok, Err}
 use Rattle.std.specs.List.{AllByRecursion}
 use Rattle.std.proofs.lemmas.List.{append-nil, map-append}
 use Rattle.std.proofs.lemmas.List.Elements.{filter-append}
 use Rattle.authenticators.specs.Channels.{ChannelIdentity, same_channel}
 use Rattle.authenticators.specs.Sequences.{moved_by}
 use Rattle.authenticators.specs.SecureChannels.{channel_of}
+use Rattle.channel_client.specs.declared.hearing.SetHearing.TheVariants as set_hearing
 use Rattle.channel_client.specs.declared.caller.Caller.{Caller}
 use Rattle.channel_client.specs.declared.state.Pending.{Pending}
 use Rattle.channel_client.specs.declared.state.Standing.{Standing}
@@ -17,8 +18,8 @@ use Rattle.channel_client.specs.declared.hearing.Hearing.{Hearing}
 use Rattle.channel_client.specs.declared.hearing.Hearing.TheVariants as hearing
 use Rattle.channel_client.specs.declared.judging.Judgement.{Judgement}
 use Rattle.channel_client.specs.declared.judging.Judgement.TheVariants as judgement
-use Rattle.channel_client.specs.Effects.{Answers, Begins, Calls, Changes, Counts, Drops, Effect, HasEffect, IsCoherent, Moves, Opens, Stays, View, effect_heard, effect_judged, effect_next, effect_of_take, view_of}
-use Rattle.channel_client.specs.Machine.{ask_of, can_start, hear, judge, lose_of, needs_challenge, start_of, take_of}
+use Rattle.channel_client.specs.Effects.{Answers, Begins, Calls, Changes, Counts, Drops, Effect, HasEffect, IsCoherent, Moves, Opens, Stays, View, effect_heard, effect_judged, effect_next, effect_of_take, view_of, effect_judged_set}
+use Rattle.channel_client.specs.Machine.{ask_of, can_start, hear, judge, lose_of, needs_challenge, start_of, take_of, SetOutcome, judge_set}
 use Rattle.channel_client.specs.State.{Requester}
 use Rattle.channel_client.proofs.EffectLaws.{steps_have_effects}
 use Rattle.channel_events.specs.RequestSteps.{IsFreshIf, drawn_if}
@@ -100,6 +101,10 @@ judged_unstarted controller (judgement.Opened o) computer number = tt
 judged_unstarted controller (judgement.Answer o v) computer number = tt
 judged_unstarted controller (judgement.Drop cause) computer number = tt
 
+set_unstarted : (controller : ℕ) (judged : SetOutcome) (computer : List ℕ) (number : ℕ) → IsUnstarted (effect_judged_set controller judged computer number)
+set_unstarted controller (Ok o) computer number = tt
+set_unstarted controller (Err cause) computer number = tt
+
 next_unstarted : (controller : ℕ) (how : Standing) (computer : List ℕ) (next : ℕ) → IsUnstarted (effect_next controller how computer next)
 next_unstarted controller standing.Nothing computer next = tt
 next_unstarted controller (standing.Half client server) computer next = tt
@@ -110,6 +115,8 @@ heard_unstarted controller hearing.Skip s = tt
 heard_unstarted controller (hearing.Next q frames) s = next_unstarted controller s.standing s.caller.computer s.next_call
 heard_unstarted controller (hearing.Reply q r) s = judged_unstarted controller (judge q r s.standing s.caller.secret) s.caller.computer _
 heard_unstarted controller (hearing.Drop cause) s = tt
+heard_unstarted controller (hearing.Set (set_hearing.Next frames)) s = next_unstarted controller s.standing s.caller.computer s.next_call
+heard_unstarted controller (hearing.Set (set_hearing.Reply r)) s = set_unstarted controller (judge_set r s.standing) s.caller.computer _
 
 -- a channel that opens has no turn
 none_by : (hit : Bool) (c : ChannelIdentity) (turn : ChannelTurn) (own : List ChannelTurn) → same_channel turn.channel c ≡ hit → (turn.channel.client ≡ c.client → ⊥) → stamps_on c own ≡ [] →
@@ -240,23 +247,27 @@ module _ (own : List ChannelTurn) (drawn : List (List ℕ)) where
       }
 
   -- where one can start, by how far the channel is
-  start_by : (controller : ℕ) (who : RequesterId) (timestamp : ℕ) (challenge : List ℕ) (caller : Caller) (how : Standing) (logons : List Waiting) (place next : ℕ) (turn : Option Pending) →
-      let s : Requester = record { caller = caller; standing = how; waiting = logons; next_place = place; next_call = next; turn = turn } in
+  start_by : (controller : ℕ) (who : RequesterId) (timestamp : ℕ) (challenge : List ℕ) (caller : Caller) (how : Standing) (logons : List Waiting) (place next : ℕ) (turn : Option Pending) (secret : Option (List ℕ)) →
+      let s : Requester = record { caller = caller; standing = how; waiting = logons; next_place = place; next_call = next; turn = turn; next = secret } in
       can_start turn logons ≡ true → IsFreshIf (needs_challenge how) challenge drawn → AllByRecursion (λ (turn : ChannelTurn). IsDrawn turn.channel.client drawn) own → IsCoherent s →
       Turned (view_of controller s) own drawn →
       Turned (view_of controller (start_of s timestamp challenge).state) (own ++ turn_of controller who (start_of s timestamp challenge).state) (drawn_if (needs_challenge how) challenge drawn)
-  start_by controller who timestamp challenge caller how logons place next (Some pending) can new before coherent turned = absurd (let x = can in cc)
-  start_by controller who timestamp challenge caller how [] place next None can new before coherent turned = absurd (let x = can in cc)
-  start_by controller who timestamp challenge caller standing.Nothing (logon ∷ logons) place next None can new before coherent turned =
-      let s : Requester = record { caller = caller; standing = standing.Nothing; waiting = logon ∷ logons; next_place = place; next_call = next; turn = None } in
+  start_by controller who timestamp challenge caller how logons place next (Some pending) secret can new before coherent turned = absurd (let x = can in cc)
+  start_by controller who timestamp challenge caller how [] place next None secret can new before coherent turned = absurd (let x = can in cc)
+  start_by controller who timestamp challenge caller standing.Nothing (logon ∷ logons) place next None secret can new before coherent turned =
+      let s : Requester = record { caller = caller; standing = standing.Nothing; waiting = logon ∷ logons; next_place = place; next_call = next; turn = None; next = secret } in
       subst (λ (all : List ChannelTurn). Turned (view_of controller (start_of s timestamp challenge).state) all (drawn ++ challenge ∷ [])) (sym (append-nil own))
       (begins_turned challenge (view_of controller s) (view_of controller (start_of s timestamp challenge).state) (steps_have_effects.start controller s timestamp challenge coherent).0 new before)
-  start_by controller who timestamp challenge caller (standing.Half client server) (logon ∷ logons) place next None can new before coherent turned =
-      let s : Requester = record { caller = caller; standing = standing.Half client server; waiting = logon ∷ logons; next_place = place; next_call = next; turn = None } in
+  start_by controller who timestamp challenge caller (standing.Half client server) (logon ∷ logons) place next None secret can new before coherent turned =
+      let s : Requester = record { caller = caller; standing = standing.Half client server; waiting = logon ∷ logons; next_place = place; next_call = next; turn = None; next = secret } in
       subst (λ (all : List ChannelTurn). Turned (view_of controller (start_of s timestamp challenge).state) all drawn) (sym (append-nil own))
       (changed Counts (view_of controller s) (view_of controller (start_of s timestamp challenge).state) tt (steps_have_effects.start controller s timestamp challenge coherent).0 turned)
-  start_by controller who timestamp challenge caller (standing.Open o) (logon ∷ logons) place next None can new before coherent turned =
-      let s : Requester = record { caller = caller; standing = standing.Open o; waiting = logon ∷ logons; next_place = place; next_call = next; turn = None } in
+  start_by controller who timestamp challenge caller (standing.Open o) (logon ∷ logons) place next None None can new before coherent turned =
+      let s : Requester = record { caller = caller; standing = standing.Open o; waiting = logon ∷ logons; next_place = place; next_call = next; turn = None; next = None } in
+      let turn : ChannelTurn = record { requester = who; channel = channel_of controller caller.computer o; timestamp = timestamp } in
+      moves_turned turn (view_of controller s) (view_of controller (start_of s timestamp challenge).state) (steps_have_effects.start controller s timestamp challenge coherent).0 refl turned
+  start_by controller who timestamp challenge caller (standing.Open o) (logon ∷ logons) place next None (Some secret) can new before coherent turned =
+      let s : Requester = record { caller = caller; standing = standing.Open o; waiting = logon ∷ logons; next_place = place; next_call = next; turn = None; next = Some secret } in
       let turn : ChannelTurn = record { requester = who; channel = channel_of controller caller.computer o; timestamp = timestamp } in
       moves_turned turn (view_of controller s) (view_of controller (start_of s timestamp challenge).state) (steps_have_effects.start controller s timestamp challenge coherent).0 refl turned
 
@@ -266,5 +277,5 @@ module _ (own : List ChannelTurn) (drawn : List (List ℕ)) where
   starts_so controller who timestamp challenge needs s can need new before coherent turned =
       subst
       (λ (b : Bool). Turned (view_of controller (start_of s timestamp challenge).state) (own ++ turn_of controller who (start_of s timestamp challenge).state) (drawn_if b challenge drawn)) need
-      (start_by controller who timestamp challenge s.caller s.standing s.waiting s.next_place s.next_call s.turn can (subst (λ (b : Bool). IsFreshIf b challenge drawn) (sym need) new) before
+      (start_by controller who timestamp challenge s.caller s.standing s.waiting s.next_place s.next_call s.turn s.next can (subst (λ (b : Bool). IsFreshIf b challenge drawn) (sym need) new) before
       coherent turned)

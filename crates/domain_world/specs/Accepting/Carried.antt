@@ -1,7 +1,7 @@
 -- What is below the premises of the claims on answers (`Answered`): of each unit of the bag that its bytes are those of
 -- one whole unit, of each mark what such a unit is, and of each message which calls were made for it and in which turn
 -- its answer was taken. From these follow three of the eight premises (`CarriedCallsAreHeard`).
-use Rattle.std.specs.Prelude.{ℕ, ◌≡◌, ◌%◌, ◌^◌, true, false, List, Some, Ok, slice_get}
+use Rattle.std.specs.Prelude.{ℕ, ◌≡◌, ◌%◌, ◌^◌, true, false, List, Some, Ok, slice_get, ◌⊎◌, ◌<◌}
 use Rattle.std.specs.List.{AllByRecursion}
 use Rattle.wire_base.specs.declared.authenticator.Authenticator.{Authenticator}
 use Rattle.authenticators.specs.Channels.{ChannelIdentity, SameChannel}
@@ -23,6 +23,10 @@ use Rattle.step_notes.specs.Marking.{sent_channel}
 use Rattle.step_notes.specs.Records.{CallTaken, InUnit, Judging, MessageTaken, OfMember, RequesterId, Sent}
 use Rattle.controller_calls.specs.declared.calls.JudgedCall.{JudgedCall}
 use Rattle.world_moves.specs.declared.bag.BagUnit.{BagUnit}
+use Rattle.domain_world.specs.Claims.OpeningReplies.{RepliesAreToOpenings}
+use Rattle.domain_world.specs.Claims.RequestNumbers.{RequestsHaveNumbers}
+use Rattle.secret_change.specs.Calls.{set_reply_of}
+use Rattle.secret_change.specs.declared.calls.SetReply.{SetReply}
 use Rattle.domain_world.specs.Accepting.Answered.{AnswersAreToCalls, CallsAskForMessages, MarksHaveTheirWay, PassesAreUnclashed, UnitsAreHeardAlike}
 use Rattle.domain_world.specs.Claims.{HasController, info_asked}
 use Rattle.domain_world.specs.Claims.Replies.{RepliesCarryTheirJudgement}
@@ -44,16 +48,25 @@ pub record IsWholeUnit (bytes : List ℕ) : Type 0 where
 abbrev pub IsNotJudged : RpcUnit → Type 0
 IsNotJudged unit = (asked : JudgedCall) → call_carried unit.body ≡ Some (call_judged asked) → ⊥
 
--- it can be read as the reply to a call that is judged, with an authenticator: to a Logon call, which is the only one
--- that a member asks
-pub record IsReadAsAnswer (unit : RpcUnit) : Type 0 where
+-- it can be read as the reply to a Logon call, with an authenticator
+pub record IsReadAsLogon (unit : RpcUnit) : Type 0 where
   pub read : LogonReply
   pub given : Authenticator
   pub reads : reply_of 2 (stub_of unit.body) ≡ Ok (reply.Logon read)
   pub returned : read.returned ≡ Some given
 
+-- or as the reply to a call that sets a secret
+pub record IsReadAsSet (unit : RpcUnit) : Type 0 where
+  pub read : SetReply
+  pub reads : set_reply_of (stub_of unit.body) ≡ Ok read
+
+-- which are the calls that a member asks on a channel
+abbrev pub IsReadAsAnswer : RpcUnit → Type 0
+IsReadAsAnswer unit = IsReadAsLogon unit ⊎ IsReadAsSet unit
+
+-- no reply to a Logon call is read in it
 abbrev pub IsNoAnswer : RpcUnit → Type 0
-IsNoAnswer unit = IsReadAsAnswer unit → ⊥
+IsNoAnswer unit = IsReadAsLogon unit → ⊥
 
 -- by what a unit was made for; its number is that of its mark
 abbrev pub IsAsMarked : Mark → RpcUnit → Type 0
@@ -168,10 +181,24 @@ CallsHaveNumbers past =
     (n m number timestamp later : ℕ) (c d : ChannelIdentity) (one other : Sent) → slice_get past.book.sent n ≡ Some one → slice_get past.book.sent m ≡ Some other →
     one.mark ≡ Calling c number timestamp → other.mark ≡ Calling d number later → c.client ≡ d.client → n ≡ m
 
+-- ---- openings and their replies beside the calls
+
+-- the number of an opening has 32 bits
+abbrev pub OpeningsAreSmall : Past → Type 0
+OpeningsAreSmall past =
+    (n number : ℕ) (channel : ChannelIdentity) (one : Sent) → slice_get past.book.sent n ≡ Some one → one.mark ≡ Opening channel number → number < 2 ^ 32
+
+-- no opening has the number of a call that was made with its client's challenge, and each reply to an opening is to one
+-- with its number
+pub record OpeningsAreApart (past : Past) : Type 0 where
+  pub numbers : RequestsHaveNumbers past
+  pub answered : past.book.clash ≡ false → RepliesAreToOpenings past
+  pub small : OpeningsAreSmall past
+
 -- ---- the law
 
 pub record CarriedCallsAreHeard : Type 0 where
   pub alike : (past : Past) → JudgedAsCarried past → UnitsAreHeardAlike past
   pub asks : (past : Past) → JudgedAsCarried past → MessagesAreCalled past → CallsAskForMessages past
   pub answers : (past : Past) → MarkedUnitsAreWhole past → MarksHaveTheirWay past → JudgedAsCarried past → PassesAreUnclashed past →
-      RepliesCarryTheirJudgement past → CallsHaveNumbers past → AnswersAreInTurn past → AnswersAreToCalls past
+      RepliesCarryTheirJudgement past → CallsHaveNumbers past → OpeningsAreApart past → AnswersAreInTurn past → AnswersAreToCalls past

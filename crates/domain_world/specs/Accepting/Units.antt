@@ -7,7 +7,7 @@ use Rattle.world_moves.specs.declared.moves.Move.{Move}
 use Rattle.world_moves.specs.declared.plan.Plan.{Plan}
 use Rattle.world_moves.specs.Draws.{DrawsDiffer}
 use Rattle.domain_world.specs.Accepting.Answered.{AnswersAreHeard}
-use Rattle.domain_world.specs.Accepting.Carried.{AnswersAreInTurn, CallsHaveNumbers, JudgedAsCarried, MarkedUnitsAreWhole, MessagesAreCalled}
+use Rattle.domain_world.specs.Accepting.Carried.{AnswersAreInTurn, CallsHaveNumbers, JudgedAsCarried, MarkedUnitsAreWhole, MessagesAreCalled, OpeningsAreApart}
 use Rattle.domain_world.specs.Accepting.KeysMade.{MessagesAreMade, MessagesAreTakenAsSent}
 use Rattle.domain_world.specs.Accepting.ReadBack.{RepliesAreReadBack, TurnsAreTold, TurnsLetIn}
 use Rattle.domain_world.specs.Claims.{AcceptsAllGranted, AcceptsOnlyGranted, IsClear, KeysAgree}
@@ -20,6 +20,7 @@ pub record UnitsAreHeard (past : Past) : Type 0 where
   pub judged : JudgedAsCarried past
   pub called : MessagesAreCalled past
   pub numbers : CallsHaveNumbers past
+  pub openings : OpeningsAreApart past
   pub turns : AnswersAreInTurn past
   pub back : RepliesAreReadBack past
   pub told : TurnsAreTold past

@@ -1,6 +1,7 @@
 -- What members ask for in a run: in each Logon call what a message says that the member took in the run (MS-NRPC
--- 3.5.4.5.3, MS-NLMP 3.2.5.1.2). What is claimed is this project's own choice.
-use Rattle.std.specs.Prelude.{ℕ, ◌≡◌, List, map, Option, Some, Ok, slice_get}
+-- 3.5.4.5.3, MS-NLMP 3.2.5.1.2), and in each other call on a channel that the next secret is set that the member keeps
+-- (MS-NRPC 3.5.4.4.6). What is claimed is this project's own choice.
+use Rattle.std.specs.Prelude.{ℕ, ◌≡◌, ◌⊎◌, List, map, Option, Some, None, Ok, slice_get}
 use Rattle.std.specs.List.{AllByRecursion}
 use Rattle.authenticators.specs.Channels.{ChannelIdentity}
 use Rattle.outside.specs.declared.action.Action.{Action}
@@ -14,7 +15,7 @@ use Rattle.member_server.specs.declared.state.Logon.{Logon}
 use Rattle.member_server.specs.declared.state.Running.{Running}
 use Rattle.channel_turns.specs.declared.state.TurnTalk.{TurnTalk}
 use Rattle.channel_events.specs.Marks.{Mark, OneOf}
-use Rattle.step_notes.specs.CallLogons.{AreForLogon, AsksUnlessStopped, IfCalling, IsForItsLogon, info_at}
+use Rattle.step_notes.specs.CallLogons.{AreForChange, AreForLogon, AsksUnlessStopped, IfCalling, IsForItsChange, IsForItsLogon, info_at}
 use Rattle.step_notes.specs.ChannelNames.{sends_in}
 use Rattle.step_notes.specs.Marking.{turn_marks}
 use Rattle.step_notes.specs.MemberNotes.{turn_note, turn_units}
@@ -45,15 +46,19 @@ pub record IsForItsMessage
   pub carries : IsForItsLogon controller before later called channel number timestamp
   pub message : OneOf (IsOfMessage member carries.asks.place carries.asks.logon) messages
 
+-- by the place whose Logon call goes out: it is for the message of that place; or it sets a secret, where it is of none
+abbrev pub AsksBy : Option ℕ → ℕ → List MessageTaken → ℕ → AtTurn → Option AtTurn → Mark → Type 0
+AsksBy (Some place) member messages controller before later mark =
+    IfCalling (IsForItsMessage member messages controller before later (Some place)) mark
+AsksBy None member messages controller before later mark = IfCalling (IsForItsChange controller before later) mark
+
 -- of a unit that the member serves, where the channel is with that controller
 abbrev pub AsksForItsMessage : ℕ → List MessageTaken → ℕ → ServedUnit AtTurn TurnTalk → Type 0
 AsksForItsMessage member messages controller unit =
-    IfCalling
-    (IsForItsMessage member messages controller unit.work (work_after unit.part) (turn_note controller unit).called)
-    (turn_note controller unit).mark
+    AsksBy (turn_note controller unit).called member messages controller unit.work (work_after unit.part) (turn_note controller unit).mark
 
 -- At the end of a run, whatever bytes then come at a member on whatever link: each Logon call that goes out carries
--- what a message asks that the member took in the run.
+-- what a message asks that the member took in the run, and each other call on a channel the next secret.
 abbrev pub MembersAskForMessages : Past → Type 0
 MembersAskForMessages past =
     (member : ℕ) (m : MemberState) → slice_get past.world.state.ends.members member ≡ Some m →
@@ -71,6 +76,19 @@ pub record AreSentForMessage
   pub message : OneOf (IsOfMessage member asks.place asks.logon) messages
   pub is : bytes ≡ joined_frames frames
 
+-- or that sets the next secret
+pub record AreSentForChange (m : MemberState) (controller : ℕ) (bytes : List ℕ) (channel : ChannelIdentity) (number timestamp : ℕ) : Type 0 where
+  pub running : Running
+  pub runs : m.running ≡ Some running
+  pub frames : List (List ℕ)
+  pub asks : AreForChange controller running.logons channel number timestamp frames
+  pub is : bytes ≡ joined_frames frames
+
+abbrev pub AreSentFor : ℕ → MemberState → List MessageTaken → ℕ → List ℕ → ChannelIdentity → ℕ → ℕ → Type 0
+AreSentFor member m messages controller bytes channel number timestamp =
+    AreSentForMessage member m messages controller bytes channel number timestamp
+    ⊎ AreSentForChange m controller bytes channel number timestamp
+
 -- So of the marks that are written down of that step and of what it sends, those in one place go together.
 abbrev pub SendsAskForMessages : Past → Type 0
 SendsAskForMessages past =
@@ -79,4 +97,4 @@ SendsAskForMessages past =
     (step_of m (event.Bytes number piece) now left).answer ≡ Ok actions → (place : ℕ) (mark : Mark) (bytes : List ℕ) →
     slice_get (turn_marks (map (turn_note controller) (turn_units m number piece now left))) place ≡ Some mark →
     slice_get (sends_in actions) place ≡ Some bytes →
-    IfCalling (AreSentForMessage member m past.book.messages controller bytes) mark
+    IfCalling (AreSentFor member m past.book.messages controller bytes) mark

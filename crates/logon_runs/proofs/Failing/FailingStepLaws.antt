@@ -1,6 +1,6 @@
 -- The steps of a member and a client where a logon fails.
 -- Of `failings_step`.
-use Rattle.std.proofs.Common.{◌≡◌, ℕ, ◌<◌, ◌^◌, Bool, List, [], ◌∷◌, ◌++◌, Option, Some, None, Result, refl, sym, ap, ◌∙◌, arith, if◌then◌else◌}
+use Rattle.std.proofs.Common.{◌≡◌, ℕ, ◌<◌, ◌^◌, Bool, List, [], ◌∷◌, ◌++◌, Option, Some, None, Result, refl, sym, ap, ◌∙◌, arith, if◌then◌else◌, true, false}
 use Rattle.ntlm_seal.specs.Sessions.{SessionState}
 use Rattle.outside.specs.declared.action.Action.{Action}
 use Rattle.outside.specs.declared.action.Action.TheVariants as action
@@ -39,13 +39,15 @@ use Rattle.member_server.specs.declared.state.Work.{Work}
 use Rattle.member_server.specs.Machine.{actions_in, at_turn, halted_state, keep_turn, state_in}
 use Rattle.member_server.specs.Outcomes.{after_served, at_link, end_found, end_logon, outcome_of, phase_after, reach_link, reach_in_map, reach_waiting, waiting_if}
 use Rattle.member_server.specs.Requests.{body_out, unit_out}
+use Rattle.member_server.specs.Secrets.{SecretsState, is_denied, secrets_dropped}
+use Rattle.secret_change.specs.Secrets.{alone}
 use Rattle.member_server.specs.Turns.{AtTurn, next_turn, take_by}
 use Rattle.member_server.specs.Units.{serve_held, then_held}
 use Rattle.member_server.specs.Work.{Served, drawless, send_unit, stay}
 use Rattle.logon_steps.specs.Asking.{at_rest}
 use Rattle.logon_steps.specs.Meeting.{bound_for}
 use Rattle.logon_steps.specs.MemberLinks.{asked_talk, logons_at_rest, one_link}
-use Rattle.logon_steps.specs.MemberTurns.{logons_in_turn}
+use Rattle.logon_steps.specs.MemberTurns.{logons_in_turn, plan_of}
 use Rattle.logon_steps.specs.MemoCalls.{RequestGoes}
 use Rattle.logon_steps.proofs.ClientStepLaws.{link_hears}
 use Rattle.logon_steps.proofs.MemberLinkLaws.{link_serves}
@@ -95,6 +97,11 @@ held_work plan channel task how logon place status most one other first who out 
     ∙ ap (λ (served : Served). after_served (then_held served (λ next said. serve_held [] next said)) [] logon.link alone)
     (who_faulted task (at_link logon.link alone) most status one other who)
 
+-- a member with one secret keeps it, whyever its turn is dropped
+dropped_one : (denied : Bool) (secret : List ℕ) → secrets_dropped denied (alone secret) ≡ alone secret
+dropped_one false secret = refl
+dropped_one true secret = refl
+
 -- ---- a fault can be sent
 
 pub fault_sends : (call status : ℕ) → call < 2 ^ 32 → status < 2 ^ 32 → IsSendable (fault_of call 0 status)
@@ -114,7 +121,10 @@ failings_step = record {
       ∙ ap (λ (j : Judgement). step_by actions_in state_in halted_state left
       (next_turn now ((take_by (settle j logons.channel) None at).0.work, keep_turn (take_by (settle j logons.channel) None at).1 [] turn) left)) dropped
       ∙ ap (λ (work : Work). step_by actions_in state_in halted_state left (next_turn now (work, dialling.Nothing) left))
-      (held_work plan (at_rest caller standing.Nothing (after place) next) task (ending.NoController cause) logon place rpc_s_server_unavailable most one other
+      (ap (λ (secrets : SecretsState). end_logon place (ending.NoController cause)
+      (waiting_work (record plan { secrets = secrets }) (at_rest caller standing.Nothing (after place) next) ((place, logon) ∷ []) links (action.Close turn close.CallDone ∷ [])))
+      (dropped_one (is_denied cause) caller.secret)
+      ∙ held_work (plan_of plan caller) (at_rest caller standing.Nothing (after place) next) task (ending.NoController cause) logon place rpc_s_server_unavailable most one other
       (action.Close turn close.CallDone ∷ []) who refl);
   refuses = λ plan caller how o info place next number turn now most status q r logon task one other left below is answered who.
       let logons : Logons = logons_in_turn plan caller how info place next number (step.Reply q) ((place, logon) ∷ []) in
@@ -124,15 +134,15 @@ failings_step = record {
       ∙ ap (λ (j : Judgement). step_by actions_in state_in halted_state left
       (next_turn now ((take_by (settle j logons.channel) None at).0.work, keep_turn (take_by (settle j logons.channel) None at).1 [] turn) left)) answered
       ∙ ap (λ (work : Work). step_by actions_in state_in halted_state left (next_turn now (work, dialling.Nothing) left))
-      (held_work plan (at_rest caller (standing.Open o) (after place) next) task (ending.Refused status) logon place error_access_denied most one other
+      (held_work (plan_of plan caller) (at_rest caller (standing.Open o) (after place) next) task (ending.Refused status) logon place error_access_denied most one other
       (action.Close turn close.CallDone ∷ []) who refl);
   dial_fails = λ plan caller how info place next number now c logon task left.
       ap (λ (work : Work). step_by actions_in state_in halted_state left (next_turn now (work, dialling.Nothing) left))
-      (ended_work plan (at_rest caller standing.Nothing (after place) next) task (ending.NoController drop_cause.DialFailed) logon place
+      (ended_work (plan_of plan caller) (at_rest caller standing.Nothing (after place) next) task (ending.NoController drop_cause.DialFailed) logon place
       (phase.Out (bound_for task) rpc_s_server_unavailable) [] [] refl);
   dial_fails_held = λ plan caller how info place next number now most c logon task one other left who.
       ap (λ (work : Work). step_by actions_in state_in halted_state left (next_turn now (work, dialling.Nothing) left))
-      (held_work plan (at_rest caller standing.Nothing (after place) next) task (ending.NoController drop_cause.DialFailed) logon place rpc_s_server_unavailable most one other [] who refl);
+      (held_work (plan_of plan caller) (at_rest caller standing.Nothing (after place) next) task (ending.NoController drop_cause.DialFailed) logon place rpc_s_server_unavailable most one other [] who refl);
   faults = λ plan caller how place number link now most status task one other left who.
       let logons : Logons = logons_at_rest plan caller how place number in
       let at : AtLink = record { link = link; logons = logons; actions = [] } in

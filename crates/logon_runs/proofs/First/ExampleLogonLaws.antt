@@ -171,6 +171,7 @@ ann_can = record {
   machine_found = file1_found;
   kind = refl;
   enabled = refl;
+  one = refl;
   secret = refl;
   account = ann;
   found = ann_found;

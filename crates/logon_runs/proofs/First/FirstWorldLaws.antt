@@ -37,6 +37,7 @@ use Rattle.logon_steps.specs.Meeting.{HasShortNames}
 use Rattle.logon_steps.proofs.CallingLaws.{calls_can_go}
 use Rattle.logon_steps.proofs.KnowingLaws.{computers_are_known}
 use Rattle.logon_steps.proofs.TellingLaws.{logons_are_short}
+use Rattle.logon_steps.proofs.MemberLinkLaws.{fresh_rests}
 use Rattle.logon_runs.specs.Seen.AskScenes.{with_controller}
 use Rattle.logon_runs.specs.First.FirstLogonRuns.{ComesInFirst, after_first, first_turns}
 use Rattle.logon_runs.specs.First.FirstRuns.{IsToBeOpened}
@@ -113,7 +114,7 @@ module _ (plan : Plan) (client member controller : ℕ) (can : CanComeIn plan cl
       (draw plan 0 ∷ draw plan 1 ∷ draw plan 2 ∷ draw plan 3 ∷ draw plan 4 ∷ draw plan 5 ∷ left_then plan) plan.now [])
   first_shows = record {
     client = got_mapped fresh_client plan.clients client can.task can.is_task;
-    member = got_mapped fresh_member plan.members member can.member_plan can.is_member_plan;
+    member = got_mapped fresh_member plan.members member can.member_plan can.is_member_plan ∙ ap Some (fresh_rests can.member_plan can.one);
     controller = got_controller plan.tables plan.controllers controller can.table can.name can.is_table can.is_name;
     links = refl;
     opened = refl;

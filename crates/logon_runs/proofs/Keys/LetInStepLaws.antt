@@ -44,7 +44,7 @@ use Rattle.logon_steps.specs.Asking.{at_rest}
 use Rattle.logon_steps.specs.Meeting.{bound_for}
 use Rattle.logon_steps.specs.MemberAnswers.{let_in}
 use Rattle.logon_steps.specs.MemberLinks.{asked_talk, logons_at_rest, one_link}
-use Rattle.logon_steps.specs.MemberTurns.{logons_in_turn, member_at, on_turn}
+use Rattle.logon_steps.specs.MemberTurns.{logons_in_turn, member_at, on_turn, plan_of}
 use Rattle.logon_steps.specs.Turning.{IsTurnReply, turn_response}
 use Rattle.logon_steps.proofs.MemberLinkLaws.{link_serves}
 use Rattle.logon_steps.proofs.MemberTurnLaws.{replied_steps}
@@ -58,7 +58,7 @@ use Rattle.rpc_units.specs.declared.unit.Body.TheVariants.{Request}
 granted_served : (plan : MemberPlan) (caller : Caller) (how : Standing) (o : SecureChannelState) (info : NetworkInfo) (place next number turn now : ℕ) (q : Question) (r : Reply) (sam : SamInfo) (logon : Logon)
     (task : ClientPlan) (bytes : List ℕ) (served : Served) (left : List (List ℕ)) → number < 2 ^ 32 → IsTurnReply q r → judge q r how caller.secret ≡ judgement.Answer o (verdict.Granted sam) →
     let told : List Action = action.Close turn close.CallDone ∷ action.Told logon.link (outcome_of (ending.Granted sam) logon) ∷ [] in
-    let alone : Work = waiting_work plan (at_rest caller (standing.Open o) (after place) next) [] [] told in
+    let alone : Work = waiting_work (plan_of plan caller) (at_rest caller (standing.Open o) (after place) next) [] [] told in
     let on : LoggedOn = let_in task sam logon in
     unit_in (is_plain on.bound.level) bytes on None (at_link logon.link alone) ≡ served →
     step_of (member_at (logons_in_turn plan caller how info place next number (step.Reply q) ((place, logon) ∷ [])) (one_link logon.link (asked_talk (bound_for task) place (bytes ∷ [])))
@@ -70,12 +70,12 @@ granted_served plan caller how o info place next number turn now q r sam logon t
     let logons : Logons = logons_in_turn plan caller how info place next number (step.Reply q) ((place, logon) ∷ []) in
     let at : AtTurn = at_turn turn (record { logons = logons; links = links; actions = [] }) in
     let rest : Requester = at_rest caller (standing.Open o) (after place) next in
-    let alone : Work = waiting_work plan rest [] [] (action.Close turn close.CallDone ∷ action.Told logon.link (outcome_of (ending.Granted sam) logon) ∷ []) in
+    let alone : Work = waiting_work (plan_of plan caller) rest [] [] (action.Close turn close.CallDone ∷ action.Told logon.link (outcome_of (ending.Granted sam) logon) ∷ []) in
     replied_steps plan caller how info place next number turn now q r ((place, logon) ∷ []) links left below is
     ∙ ap (λ (j : Judgement). step_by actions_in state_in halted_state left
     (next_turn now ((take_by (settle j logons.channel) None at).0.work, keep_turn (take_by (settle j logons.channel) None at).1 [] turn) left)) granted
     ∙ ap (λ (work : Work). step_by actions_in state_in halted_state left (next_turn now (work, dialling.Nothing) left))
-    (ended_work plan rest task (ending.Granted sam) logon place (phase.In (let_in task sam logon)) (bytes ∷ []) (action.Close turn close.CallDone ∷ []) refl)
+    (ended_work (plan_of plan caller) rest task (ending.Granted sam) logon place (phase.In (let_in task sam logon)) (bytes ∷ []) (action.Close turn close.CallDone ∷ []) refl)
     ∙ ap (λ (what : Served). step_by actions_in state_in halted_state left
     (next_turn now (after_served (then_held what (λ next_at said. serve_held [] next_at said)) [] logon.link alone, dialling.Nothing) left)) comes
 

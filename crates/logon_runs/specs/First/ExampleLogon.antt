@@ -8,6 +8,7 @@ use Rattle.logon_client.specs.declared.outcome.ClientOutcome.TheVariants.{In}
 use Rattle.logon_client.specs.declared.plan.AuthKind.TheVariants as auth
 use Rattle.logon_client.specs.declared.plan.ClientPlan.{ClientPlan}
 use Rattle.member_server.specs.declared.plan.MemberPlan.{MemberPlan}
+use Rattle.secret_change.specs.Secrets.{alone}
 use Rattle.world_moves.specs.declared.moves.Move.{Move}
 use Rattle.world_moves.specs.declared.moves.Move.TheVariants as move
 use Rattle.world_moves.specs.declared.plan.Plan.{Plan}
@@ -52,7 +53,7 @@ corp = record {
 
 -- ends are numbered from 0: the controller PDC, FILE1 and ann
 abbrev pub file1_plan : MemberPlan
-file1_plan = record { computer = codes "FILE1"; domain = codes "CORP"; secret = replicate 16 3; controller = 0 ∷ [] }
+file1_plan = record { computer = codes "FILE1"; domain = codes "CORP"; secrets = alone (replicate 16 3); controller = 0 ∷ [] }
 
 -- at the level without signatures, by NTLMv2, and 16 bytes are echoed
 abbrev pub ann_task : ClientPlan

@@ -1,6 +1,6 @@
 -- The first logon in a world, from its plan to the client's outcome: the moves, the plan's values of which it is
 -- granted, and what it comes to (this project's own choice).
-use Rattle.std.specs.Prelude.{ℕ, ◌≡◌, ◌-◌, ◌==◌, Bool, true, false, List, [], ◌∷◌, ◌++◌, length, Some, slice_get}
+use Rattle.std.specs.Prelude.{ℕ, ◌≡◌, ◌-◌, ◌==◌, Bool, true, false, List, [], ◌∷◌, ◌++◌, length, Some, None, slice_get}
 use Rattle.authenticators.specs.SecureChannels.{SecureChannelState}
 use Rattle.outside.specs.Counter.{challenge_of, challenges_from, most_draws}
 use Rattle.account_table.specs.AccountTable.{AccountTable}
@@ -15,6 +15,7 @@ use Rattle.logon_client.specs.declared.outcome.ClientOutcome.TheVariants.{In}
 use Rattle.logon_client.specs.declared.plan.ClientPlan.{ClientPlan}
 use Rattle.member_server.specs.declared.plan.MemberPlan.{MemberPlan}
 use Rattle.member_server.specs.Machine.{caller_of}
+use Rattle.member_server.specs.Secrets.{tried_of}
 use Rattle.world_moves.specs.declared.links.EndId.TheVariants.{Controller, Member}
 use Rattle.world_moves.specs.declared.moves.Move.{Move}
 use Rattle.world_moves.specs.declared.moves.Move.TheVariants as move
@@ -53,7 +54,7 @@ logon_moves number silent =
 -- ---- the plan
 
 -- A client, the member that it reaches, and that member's controller: the computer's account is an enabled workstation
--- with the member's secret, the user's hash is the one stored, and he may log on at the first moment.
+-- with the member's one secret, the user's hash is the one stored, and he may log on at the first moment.
 pub record CanComeIn (plan : Plan) (client member controller : ℕ) : Type 0 where
   pub task : ClientPlan
   pub is_task : slice_get plan.clients client ≡ Some task
@@ -69,7 +70,8 @@ pub record CanComeIn (plan : Plan) (client member controller : ℕ) : Type 0 whe
   pub machine_found : account_in table.accounts (machine_name member_plan.computer) ≡ Some machine
   pub kind : machine.kind ≡ Workstation
   pub enabled : machine.disabled ≡ false
-  pub secret : machine.hash ≡ member_plan.secret
+  pub one : member_plan.secrets.next ≡ None
+  pub secret : machine.hash ≡ tried_of member_plan.secrets
   pub account : Account
   pub found : account_in table.accounts task.user ≡ Some account
   pub hash : account.hash ≡ task.hash

@@ -28,13 +28,15 @@ use Rattle.logon_stubs.specs.declared.calls.Reply.{Reply}
 use Rattle.logon_stubs.specs.declared.calls.Reply.TheVariants as reply
 use Rattle.logon_stubs.specs.declared.info.NetworkInfo.{NetworkInfo}
 use Rattle.logon_stubs.specs.declared.info.SamInfo.{SamInfo}
+use Rattle.secret_change.specs.declared.calls.SetCall.{SetCall}
+use Rattle.secret_change.specs.declared.calls.SetReply.{SetReply}
 use Rattle.account_table.specs.AccountTable.{AccountTable}
 use Rattle.account_table.specs.LookUps.{knows_in}
 use Rattle.account_table.specs.declared.account.Account.{Account}
 use Rattle.end_links.specs.Binding.{limit_of}
 use Rattle.end_links.specs.Serving.{ServedPart}
 use Rattle.channel_client.specs.Effects.{number_in, stands_in, step_in}
-use Rattle.channel_client.specs.Machine.{Taking, act, ask_by, auth_call, begin_with, can_start, challenge_call, hear, hear_ack, hear_body, hear_by, is_accepting, judge, judge_auth, judge_awaited, judge_challenge, judge_credential, judge_flags, judge_level, judge_logon, judge_return, judge_status, level_asked, offered_flags, place_of, question_of, server_credential, settle, start_by, wait_for, waiting_limit}
+use Rattle.channel_client.specs.Machine.{SetOutcome, Taking, act, ask_by, auth_call, begin_with, can_start, challenge_call, hear, hear_ack, hear_body, hear_by, is_accepting, judge, judge_auth, judge_awaited, judge_challenge, judge_credential, judge_flags, judge_level, judge_logon, judge_return, judge_set, judge_set_awaited, judge_set_return, judge_set_status, judge_status, level_asked, offered_flags, place_of, question_of, server_credential, settle, settle_set, start_by, wait_for, waiting_limit}
 use Rattle.channel_client.specs.State.{Requester}
 use Rattle.channel_client.specs.declared.answers.Taken.TheVariants as taken
 use Rattle.channel_client.specs.declared.caller.Caller.{Caller}
@@ -47,7 +49,10 @@ use Rattle.channel_client.specs.declared.state.Question.{Question}
 use Rattle.channel_client.specs.declared.state.Question.TheVariants as question
 use Rattle.channel_client.specs.declared.state.Standing.{Standing}
 use Rattle.channel_client.specs.declared.state.Standing.TheVariants as standing
+use Rattle.channel_client.specs.declared.state.Step.{Step}
 use Rattle.channel_client.specs.declared.state.Step.TheVariants as step
+use Rattle.channel_client.specs.declared.state.SetStep.TheVariants as set_step
+use Rattle.channel_client.specs.declared.hearing.SetHearing.TheVariants as set_hearing
 use Rattle.channel_client.specs.declared.state.Waiting.{Waiting}
 use Rattle.domain_controller.specs.Hearing.{hear as hear_unit}
 use Rattle.domain_controller.specs.Machine.{Desk, account_for, answer_authenticate, answer_challenge, by_heard, channel_for, desk, grant_flags, open_channel, send_reply, take_pair}
@@ -58,8 +63,9 @@ use Rattle.controller_calls.specs.declared.state.ChallengePair.{ChallengePair}
 use Rattle.domain_controller.specs.declared.state.Talk.{Talk}
 use Rattle.controller_calls.specs.declared.state.Work.{Work}
 use Rattle.channel_events.specs.Marks.{Calling, Opening}
+use Rattle.channel_events.proofs.ListLaws.{some_is}
 use Rattle.channel_events.proofs.SameLaws.{same_self}
-use Rattle.step_notes.specs.ChannelNames.{AreFramesOf, CallsAreNamedAlike, ChallengesAreShared, ChannelsAreNamedAlike, ChannelsStandAsAsked, ExchangesHaveNoClash, Expects, HasChannel, IsOfOther, OpeningsAreNamedAlike, OwnUnitsAreNoClash, StandsOrGoes, WillAsk, WillCall, WillOpen, frames_sent, opened_unit, channel_marked, passed_note, place_answered, standing_channel}
+use Rattle.step_notes.specs.ChannelNames.{AreFramesOf, AreFramesOfSet, CallsAreNamedAlike, ChallengesAreShared, ChannelsAreNamedAlike, ChannelsStandAsAsked, ExchangesHaveNoClash, Expects, HasChannel, IsOfOther, OpeningsAreNamedAlike, OwnUnitsAreNoClash, StandsOrGoes, WillAsk, WillCallBy, WillOpen, frames_sent, opened_unit, channel_marked, passed_note, place_answered, standing_channel}
 use Rattle.step_notes.specs.ControllerNotes.{Answered, identity_by, channel_in, checked_on, has_passed, judging_by, opened_account, opened_by, opened_if, opened_offer, opening, passing}
 use Rattle.step_notes.specs.Marking.{clashes, is_channel}
 use Rattle.step_notes.specs.MemberNotes.{TurnNote, asked_note, half_channel, request_note, taking_note, timestamp_bound}
@@ -71,18 +77,22 @@ use Rattle.step_notes.proofs.Controllers.ComputerLaws.{judged_finds}
 use Rattle.step_notes.proofs.Controllers.KeptNoteLaws.{moved_alike}
 use Rattle.step_notes.proofs.Controllers.OpenedLaws.{opened_is, opening_noted}
 
-some_is : {T : Type 0} (one other : T) → Some one ≡ Some other → one ≡ other
-some_is one other is = cc
-
 -- both challenges, as a controller keeps them
 abbrev pub pair_of : List ℕ → List ℕ → ChallengePair
 pair_of client server = record { client = client; server = server }
 
 -- ---- a turn that starts
 
--- a bind is out with that number, for that place, and that call waits
+-- a bind is out with that number, for that place, and that call waits, or that one which sets a secret
 abbrev pub bound_at : ℕ → ℕ → Call → Option Pending
 bound_at number place c = Some (record { number = number; place = place; step = step.Bind c })
+
+abbrev pub set_bound_at : ℕ → ℕ → SetCall → Option Pending
+set_bound_at number place c = Some (record { number = number; place = place; step = step.Set (set_step.Bind c) })
+
+-- what the turn waits for is that
+abbrev pub stepped_at : ℕ → ℕ → Step → Option Pending
+stepped_at number place st = Some (record { number = number; place = place; step = st })
 
 starts_asking : (turn : Option Pending) (logons : List Waiting) (s : Requester) (timestamp : ℕ) (challenge : List ℕ) → s.standing ≡ standing.Nothing → can_start turn logons ≡ true →
     WillAsk (start_by turn logons s timestamp challenge).state (challenge_call s.caller challenge) × ((start_by turn logons s timestamp challenge).state.caller ≡ s.caller)
@@ -92,15 +102,17 @@ starts_asking None (logon ∷ logons) s timestamp challenge none can = (
   record {
     number = s.next_call;
     place = logon.place;
-    turn = ap (λ (how : Standing). bound_at s.next_call logon.place (begin_with how s.caller logon.info timestamp challenge).call) none;
+    turn = ap (λ (how : Standing). stepped_at s.next_call logon.place (begin_with how s.next s.caller logon.info timestamp challenge).step) none;
   },
   refl,
 )
 
-begins_half : (how : Standing) (caller : Caller) (info : NetworkInfo) (timestamp : ℕ) (challenge client server : List ℕ) → how ≡ standing.Half client server →
-    ((begin_with how caller info timestamp challenge).standing ≡ standing.Half client server) × ((begin_with how caller info timestamp challenge).call ≡ auth_call caller client server)
-begins_half how caller info timestamp challenge client server half =
-    subst (λ (h : Standing). ((begin_with h caller info timestamp challenge).standing ≡ standing.Half client server) × ((begin_with h caller info timestamp challenge).call ≡ auth_call caller client server))
+begins_half : (how : Standing) (next : Option (List ℕ)) (caller : Caller) (info : NetworkInfo) (timestamp : ℕ) (challenge client server : List ℕ) → how ≡ standing.Half client server →
+    ((begin_with how next caller info timestamp challenge).standing ≡ standing.Half client server)
+    × ((begin_with how next caller info timestamp challenge).step ≡ step.Bind (auth_call caller client server))
+begins_half how next caller info timestamp challenge client server half =
+    subst (λ (h : Standing). ((begin_with h next caller info timestamp challenge).standing ≡ standing.Half client server)
+    × ((begin_with h next caller info timestamp challenge).step ≡ step.Bind (auth_call caller client server)))
     (sym half) (refl, refl)
 
 starts_half : (turn : Option Pending) (logons : List Waiting) (s : Requester) (timestamp : ℕ) (challenge client server : List ℕ) → s.standing ≡ standing.Half client server → can_start turn logons ≡ true →
@@ -108,40 +120,53 @@ starts_half : (turn : Option Pending) (logons : List Waiting) (s : Requester) (t
 starts_half (Some p) logons s timestamp challenge client server half can = absurd cc
 starts_half None [] s timestamp challenge client server half can = absurd cc
 starts_half None (logon ∷ logons) s timestamp challenge client server half can =
-    let begins = begins_half s.standing s.caller logon.info timestamp challenge client server half in
-    (record { half = begins.0; asks = record { number = s.next_call; place = logon.place; turn = ap (bound_at s.next_call logon.place) begins.1 } }, refl)
+    let begins = begins_half s.standing s.next s.caller logon.info timestamp challenge client server half in
+    (record { half = begins.0; asks = record { number = s.next_call; place = logon.place; turn = ap (stepped_at s.next_call logon.place) begins.1 } }, refl)
 
--- the Logon call of a turn that starts
-abbrev pub HasLogon : Call → List ℕ → Type 0
-HasLogon c computer = (logon : LogonCall) × (c ≡ call.Logon logon) × (logon.computer ≡ Some computer)
+-- the call of a turn that starts, by whether a secret is next: a Logon call, or one that sets the secret
+abbrev pub HasCallBy : Option (List ℕ) → Step → List ℕ → Type 0
+HasCallBy None st computer = (logon : LogonCall) × (st ≡ step.Bind (call.Logon logon)) × (logon.computer ≡ Some computer)
+HasCallBy (Some next) st computer = (c : SetCall) × (st ≡ step.Set (set_step.Bind c)) × (c.computer ≡ computer)
 
-begins_open : (controller : ℕ) (how : Standing) (caller : Caller) (info : NetworkInfo) (timestamp : ℕ) (challenge : List ℕ) (channel : ChannelIdentity) → stands_in controller caller.computer how ≡ Some channel →
-    HasLogon (begin_with how caller info timestamp challenge).call channel.computer
-begins_open controller standing.Nothing caller info timestamp challenge channel stands = absurd cc
-begins_open controller (standing.Half client server) caller info timestamp challenge channel stands = absurd cc
-begins_open controller (standing.Open o) caller info timestamp challenge channel stands =
+begins_open : (controller : ℕ) (how : Standing) (next : Option (List ℕ)) (caller : Caller) (info : NetworkInfo) (timestamp : ℕ) (challenge : List ℕ) (channel : ChannelIdentity) →
+    stands_in controller caller.computer how ≡ Some channel → HasCallBy next (begin_with how next caller info timestamp challenge).step channel.computer
+begins_open controller standing.Nothing next caller info timestamp challenge channel stands = absurd cc
+begins_open controller (standing.Half client server) next caller info timestamp challenge channel stands = absurd cc
+begins_open controller (standing.Open o) None caller info timestamp challenge channel stands =
     let is : channel_of controller caller.computer o ≡ channel = cc in
     (_, refl, ap (λ (c : ChannelIdentity). Some c.computer) is)
+begins_open controller (standing.Open o) (Some next) caller info timestamp challenge channel stands =
+    let is : channel_of controller caller.computer o ≡ channel = cc in
+    (_, refl, ap (λ (c : ChannelIdentity). c.computer) is)
+
+will_call : (next : Option (List ℕ)) (s : Requester) (number place : ℕ) (st : Step) (computer : List ℕ) → s.turn ≡ stepped_at number place st → HasCallBy next st computer →
+    WillCallBy next s computer
+will_call None s number place st computer turn has =
+    record { logon = has.0; asks = record { number = number; place = place; turn = turn ∙ ap (stepped_at number place) has.1 }; names = has.2 }
+will_call (Some next) s number place st computer turn has =
+    record { call = has.0; number = number; place = place; turn = turn ∙ ap (stepped_at number place) has.1; names = has.2 }
 
 starts_open : (controller : ℕ) (turn : Option Pending) (logons : List Waiting) (s : Requester) (timestamp : ℕ) (challenge : List ℕ) (channel : ChannelIdentity) → standing_channel controller s ≡ Some channel →
-    can_start turn logons ≡ true → WillCall (start_by turn logons s timestamp challenge).state channel.computer
+    can_start turn logons ≡ true → WillCallBy s.next (start_by turn logons s timestamp challenge).state channel.computer
 starts_open controller (Some p) logons s timestamp challenge channel stands can = absurd cc
 starts_open controller None [] s timestamp challenge channel stands can = absurd cc
 starts_open controller None (logon ∷ logons) s timestamp challenge channel stands can =
-    let begins = begins_open controller s.standing s.caller logon.info timestamp challenge channel stands in
-    record { logon = begins.0; asks = record { number = s.next_call; place = logon.place; turn = ap (bound_at s.next_call logon.place) begins.1 }; names = begins.2 }
+    will_call s.next (start_by None (logon ∷ logons) s timestamp challenge).state s.next_call logon.place
+    (begin_with s.standing s.next s.caller logon.info timestamp challenge).step channel.computer refl
+    (begins_open controller s.standing s.next s.caller logon.info timestamp challenge channel stands)
 
-begun_stands : (controller : ℕ) (how : Standing) (caller : Caller) (info : NetworkInfo) (timestamp : ℕ) (challenge : List ℕ) →
-    stands_in controller caller.computer (begin_with how caller info timestamp challenge).standing ≡ stands_in controller caller.computer how
-begun_stands controller standing.Nothing caller info timestamp challenge = refl
-begun_stands controller (standing.Half client server) caller info timestamp challenge = refl
-begun_stands controller (standing.Open o) caller info timestamp challenge = refl
+begun_stands : (controller : ℕ) (how : Standing) (next : Option (List ℕ)) (caller : Caller) (info : NetworkInfo) (timestamp : ℕ) (challenge : List ℕ) →
+    stands_in controller caller.computer (begin_with how next caller info timestamp challenge).standing ≡ stands_in controller caller.computer how
+begun_stands controller standing.Nothing next caller info timestamp challenge = refl
+begun_stands controller (standing.Half client server) next caller info timestamp challenge = refl
+begun_stands controller (standing.Open o) None caller info timestamp challenge = refl
+begun_stands controller (standing.Open o) (Some next) caller info timestamp challenge = refl
 
 started_stands : (controller : ℕ) (turn : Option Pending) (logons : List Waiting) (s : Requester) (timestamp : ℕ) (challenge : List ℕ) →
     standing_channel controller (start_by turn logons s timestamp challenge).state ≡ standing_channel controller s
 started_stands controller (Some p) logons s timestamp challenge = refl
 started_stands controller None [] s timestamp challenge = refl
-started_stands controller None (logon ∷ logons) s timestamp challenge = begun_stands controller s.standing s.caller logon.info timestamp challenge
+started_stands controller None (logon ∷ logons) s timestamp challenge = begun_stands controller s.standing s.next s.caller logon.info timestamp challenge
 
 asked_stands : (controller : ℕ) (full : Bool) (s : Requester) (info : NetworkInfo) → standing_channel controller (ask_by full s info).state ≡ standing_channel controller s
 asked_stands controller true s info = refl
@@ -154,6 +179,7 @@ IsBindHeard c next hearing.Skip = Unit {0}
 IsBindHeard c next (hearing.Next q frames) = (q ≡ question_of c) × AreFramesOf next c frames
 IsBindHeard c next (hearing.Reply q r) = ⊥
 IsBindHeard c next (hearing.Drop cause) = Unit {0}
+IsBindHeard c next (hearing.Set what) = ⊥
 
 ack_heard : (accepts : Bool) (c : Call) (receive next : ℕ) → IsBindHeard c next (hear_ack accepts (step.Bind c) receive next)
 ack_heard false c receive next = tt
@@ -176,6 +202,36 @@ bind_heard : (turn : Option Pending) (number place : ℕ) (c : Call) (unit : Rpc
 bind_heard turn number place c unit next is =
     subst (λ (t : Option Pending). IsBindHeard c next (hear t unit next)) (sym is) (numbered_heard (unit.call == number) number place c unit next)
 
+abbrev pub IsSetHeard : SetCall → ℕ → Hearing → Type 0
+IsSetHeard c next hearing.Skip = Unit {0}
+IsSetHeard c next (hearing.Next q frames) = ⊥
+IsSetHeard c next (hearing.Reply q r) = ⊥
+IsSetHeard c next (hearing.Drop cause) = Unit {0}
+IsSetHeard c next (hearing.Set (set_hearing.Next frames)) = AreFramesOfSet next c frames
+IsSetHeard c next (hearing.Set (set_hearing.Reply r)) = ⊥
+
+set_ack_heard : (accepts : Bool) (c : SetCall) (receive next : ℕ) → IsSetHeard c next (hear_ack accepts (step.Set (set_step.Bind c)) receive next)
+set_ack_heard false c receive next = tt
+set_ack_heard true c receive next = (limit_of receive, refl)
+
+set_body_heard : (body : Body) (c : SetCall) (next : ℕ) → IsSetHeard c next (hear_body body (step.Set (set_step.Bind c)) next)
+set_body_heard (Bind send receive group contexts) c next = tt
+set_body_heard (BindAck send receive group results) c next = set_ack_heard (is_accepting results) c receive next
+set_body_heard (BindNak reason) c next = tt
+set_body_heard Auth3 c next = tt
+set_body_heard (Request hint context opnum stub) c next = tt
+set_body_heard (Response hint context stub) c next = tt
+set_body_heard (Fault hint context status) c next = tt
+
+set_numbered_heard : (same : Bool) (number place : ℕ) (c : SetCall) (unit : RpcUnit) (next : ℕ) →
+    IsSetHeard c next (hear_by same (record { number = number; place = place; step = step.Set (set_step.Bind c) }) unit next)
+set_numbered_heard false number place c unit next = tt
+set_numbered_heard true number place c unit next = set_body_heard unit.body c next
+
+set_heard : (turn : Option Pending) (number place : ℕ) (c : SetCall) (unit : RpcUnit) (next : ℕ) → turn ≡ set_bound_at number place c → IsSetHeard c next (hear turn unit next)
+set_heard turn number place c unit next is =
+    subst (λ (t : Option Pending). IsSetHeard c next (hear t unit next)) (sym is) (set_numbered_heard (unit.call == number) number place c unit next)
+
 -- ---- challenges
 
 challenge_asked : (what : Hearing) (s : Requester) (client : List ℕ) (frames : List (List ℕ)) → IsBindHeard (challenge_call s.caller client) s.next_call what → frames_sent (act what s).taken ≡ Some frames →
@@ -188,6 +244,7 @@ challenge_asked (hearing.Next q more) s client frames out sent =
     )
 challenge_asked (hearing.Reply q r) s client frames out sent = absurd out
 challenge_asked (hearing.Drop cause) s client frames out sent = absurd cc
+challenge_asked (hearing.Set what) s client frames out sent = absurd out
 
 -- a controller that knows the computer keeps both
 abbrev pub IsChallenged : Requester → List ℕ → List ℕ → Line → Desk → Desk → Type 0
@@ -227,6 +284,7 @@ opening_asked (hearing.Next q more) controller s client server frames out half s
     )
 opening_asked (hearing.Reply q r) controller s client server frames out half sent = absurd out
 opening_asked (hearing.Drop cause) controller s client server frames out half sent = absurd cc
+opening_asked (hearing.Set what) controller s client server frames out half sent = absurd out
 
 -- ---- a Logon call goes out
 
@@ -253,6 +311,32 @@ calling_asked (hearing.Next q more) controller s channel logon number place fram
     )
 calling_asked (hearing.Reply q r) controller s channel logon number place frames out stands turn sent = absurd out
 calling_asked (hearing.Drop cause) controller s channel logon number place frames out stands turn sent = absurd cc
+calling_asked (hearing.Set what) controller s channel logon number place frames out stands turn sent = absurd out
+
+-- ---- a call that sets a secret goes out
+
+note_setting : (how : Standing) (controller : ℕ) (before later : Requester) (channel : ChannelIdentity) → stands_in controller later.caller.computer how ≡ Some channel →
+    asked_note (Some (step.Set set_step.Reply)) how controller before later ≡ request_note (Calling channel before.next_call (timestamp_bound (step_in before.turn))) None
+note_setting standing.Nothing controller before later channel stands = absurd cc
+note_setting (standing.Half client server) controller before later channel stands = absurd cc
+note_setting (standing.Open o) controller before later channel stands =
+    let same : channel_of controller later.caller.computer o ≡ channel = cc in
+    ap (λ (c : ChannelIdentity). request_note (Calling c before.next_call (timestamp_bound (step_in before.turn))) None) same
+
+setting_asked : (what : Hearing) (controller : ℕ) (s : Requester) (channel : ChannelIdentity) (c : SetCall) (number place : ℕ) (frames : List (List ℕ)) → IsSetHeard c s.next_call what →
+    standing_channel controller s ≡ Some channel → s.turn ≡ set_bound_at number place c → frames_sent (act what s).taken ≡ Some frames →
+    AreFramesOfSet s.next_call c frames × (taking_note (Some (act what s)) controller s ≡ request_note (Calling channel s.next_call c.authenticator.timestamp) None)
+setting_asked hearing.Skip controller s channel c number place frames out stands turn sent = absurd cc
+setting_asked (hearing.Next q more) controller s channel c number place frames out stands turn sent = absurd out
+setting_asked (hearing.Reply q r) controller s channel c number place frames out stands turn sent = absurd out
+setting_asked (hearing.Drop cause) controller s channel c number place frames out stands turn sent = absurd cc
+setting_asked (hearing.Set (set_hearing.Next more)) controller s channel c number place frames out stands turn sent =
+    let same : more ≡ frames = cc in (
+      subst (λ (f : List (List ℕ)). AreFramesOfSet s.next_call c f) same out,
+      note_setting s.standing controller s (wait_for s (place_of s.turn) (step.Set set_step.Reply)) channel stands
+          ∙ ap (λ (t : Option Pending). request_note (Calling channel s.next_call (timestamp_bound (step_in t))) None) turn,
+    )
+setting_asked (hearing.Set (set_hearing.Reply r)) controller s channel c number place frames out stands turn sent = absurd out
 
 -- ---- how a reply that is judged stands to the channel
 
@@ -319,6 +403,27 @@ fits question.Logon (reply.Authenticate r) how secret = tt
 fits question.Logon (reply.Logon r) how secret = logon_fits (r.status == access_denied) how r.returned r.status r.level r.info secret
 fits question.Logon (reply.Logoff r) how secret = tt
 
+-- the same of the reply to a call that sets a secret
+abbrev pub SetFits : SetOutcome → Standing → Type 0
+SetFits (Ok o) how = (p : SecureChannelState) × (how ≡ standing.Open p) × (o ≡ after_return true p)
+SetFits (Err cause) how = Unit {0}
+
+set_awaited_fits : (right : Bool) (p : SecureChannelState) → SetFits (judge_set_awaited right p) (standing.Open p)
+set_awaited_fits false p = tt
+set_awaited_fits true p = (p, refl, refl)
+
+set_return_fits : (how : Standing) (returned : Authenticator) → SetFits (judge_set_return how returned) how
+set_return_fits standing.Nothing returned = tt
+set_return_fits (standing.Half client server) returned = tt
+set_return_fits (standing.Open p) returned = set_awaited_fits (is_awaited p.awaited returned.credential) p
+
+set_status_fits : (granted : Bool) (how : Standing) (returned : Authenticator) → SetFits (judge_set_status granted how returned) how
+set_status_fits false how returned = tt
+set_status_fits true how returned = set_return_fits how returned
+
+pub set_fits : (r : SetReply) (how : Standing) → SetFits (judge_set r how) how
+set_fits r how = set_status_fits (r.status == 0) how r.returned
+
 -- ---- a channel opens
 
 abbrev pub IsOpenedAsAsked : ℕ → Requester → Taking → Type 0
@@ -339,11 +444,17 @@ opened_settles (judgement.Opened o) controller s fit is = (
 opened_settles (judgement.Answer o v) controller s fit is = absurd cc
 opened_settles (judgement.Drop cause) controller s fit is = absurd cc
 
+set_unopened : (judged : SetOutcome) (s : Requester) → (settle_set judged s).taken ≡ taken.Opened → ⊥
+set_unopened (Ok o) s is = absurd cc
+set_unopened (Err cause) s is = absurd cc
+
 opened_acts : (what : Hearing) (controller : ℕ) (s : Requester) → (act what s).taken ≡ taken.Opened → IsOpenedAsAsked controller s (act what s)
 opened_acts hearing.Skip controller s is = absurd cc
 opened_acts (hearing.Next q frames) controller s is = absurd cc
 opened_acts (hearing.Reply q r) controller s is = opened_settles (judge q r s.standing s.caller.secret) controller s (fits q r s.standing s.caller.secret) is
 opened_acts (hearing.Drop cause) controller s is = absurd cc
+opened_acts (hearing.Set (set_hearing.Next frames)) controller s is = absurd cc
+opened_acts (hearing.Set (set_hearing.Reply r)) controller s is = absurd (set_unopened (judge_set r s.standing) s is)
 
 -- ---- it stands, or goes
 
@@ -363,12 +474,21 @@ settled_stands (judgement.Answer o v) controller s channel fit stands =
     still channel (Some (channel_of controller s.caller.computer o)) (ap (λ (x : SecureChannelState). Some (channel_of controller s.caller.computer x)) fit.2 ∙ before)
 settled_stands (judgement.Drop cause) controller s channel fit stands = tt
 
+set_stands : (judged : SetOutcome) (controller : ℕ) (s : Requester) (channel : ChannelIdentity) → SetFits judged s.standing → standing_channel controller s ≡ Some channel →
+    StandsOrGoes channel (standing_channel controller (settle_set judged s).state)
+set_stands (Ok o) controller s channel fit stands =
+    let before : Some (channel_of controller s.caller.computer fit.0) ≡ Some channel = sym (ap (stands_in controller s.caller.computer) fit.1) ∙ stands in
+    still channel (Some (channel_of controller s.caller.computer o)) (ap (λ (x : SecureChannelState). Some (channel_of controller s.caller.computer x)) fit.2 ∙ before)
+set_stands (Err cause) controller s channel fit stands = tt
+
 acted_stands : (what : Hearing) (controller : ℕ) (s : Requester) (channel : ChannelIdentity) → standing_channel controller s ≡ Some channel →
     StandsOrGoes channel (standing_channel controller (act what s).state)
 acted_stands hearing.Skip controller s channel stands = still channel (standing_channel controller s) stands
 acted_stands (hearing.Next q frames) controller s channel stands = still channel (standing_channel controller s) stands
 acted_stands (hearing.Reply q r) controller s channel stands = settled_stands (judge q r s.standing s.caller.secret) controller s channel (fits q r s.standing s.caller.secret) stands
 acted_stands (hearing.Drop cause) controller s channel stands = tt
+acted_stands (hearing.Set (set_hearing.Next frames)) controller s channel stands = still channel (standing_channel controller s) stands
+acted_stands (hearing.Set (set_hearing.Reply r)) controller s channel stands = set_stands (judge_set r s.standing) controller s channel (set_fits r s.standing) stands
 
 -- ---- an answer is taken
 
@@ -390,11 +510,48 @@ answer_settles (judgement.Answer o v) controller s place fit is =
     )
 answer_settles (judgement.Drop cause) controller s place fit is = absurd cc
 
+set_unanswered : (judged : SetOutcome) (s : Requester) (place : ℕ) → place_answered (settle_set judged s).taken ≡ Some place → ⊥
+set_unanswered (Ok o) s place is = absurd cc
+set_unanswered (Err cause) s place is = absurd cc
+
 answer_acts : (what : Hearing) (controller : ℕ) (s : Requester) (place : ℕ) → place_answered (act what s).taken ≡ Some place → IsTakenOn controller s place (act what s)
 answer_acts hearing.Skip controller s place is = absurd cc
 answer_acts (hearing.Next q frames) controller s place is = absurd cc
 answer_acts (hearing.Reply q r) controller s place is = answer_settles (judge q r s.standing s.caller.secret) controller s place (fits q r s.standing s.caller.secret) is
 answer_acts (hearing.Drop cause) controller s place is = absurd cc
+answer_acts (hearing.Set (set_hearing.Next frames)) controller s place is = absurd cc
+answer_acts (hearing.Set (set_hearing.Reply r)) controller s place is = absurd (set_unanswered (judge_set r s.standing) s place is)
+
+-- ---- a secret is set
+
+abbrev pub IsSetOn : ℕ → Requester → Taking → Type 0
+IsSetOn controller s taking =
+    (channel : ChannelIdentity) × (standing_channel controller s ≡ Some channel)
+    × (standing_channel controller taking.state ≡ Some channel)
+    × (taking_note (Some taking) controller s ≡ passed_note channel None (Some (number_in s.turn)))
+
+set_settles : (judged : SetOutcome) (controller : ℕ) (s : Requester) → SetFits judged s.standing → (settle_set judged s).taken ≡ taken.Set → IsSetOn controller s (settle_set judged s)
+set_settles (Ok o) controller s fit is = (
+  channel_of controller s.caller.computer fit.0,
+  ap (stands_in controller s.caller.computer) fit.1,
+  ap (λ (x : SecureChannelState). Some (channel_of controller s.caller.computer x)) fit.2,
+  ap (λ (x : SecureChannelState). passed_note (channel_of controller s.caller.computer x) None (Some (number_in s.turn))) fit.2,
+)
+set_settles (Err cause) controller s fit is = absurd cc
+
+settled_unset : (j : Judgement) (s : Requester) → (settle j s).taken ≡ taken.Set → ⊥
+settled_unset (judgement.Half client server) s is = absurd cc
+settled_unset (judgement.Opened o) s is = absurd cc
+settled_unset (judgement.Answer o v) s is = absurd cc
+settled_unset (judgement.Drop cause) s is = absurd cc
+
+set_acts : (what : Hearing) (controller : ℕ) (s : Requester) → (act what s).taken ≡ taken.Set → IsSetOn controller s (act what s)
+set_acts hearing.Skip controller s is = absurd cc
+set_acts (hearing.Next q frames) controller s is = absurd cc
+set_acts (hearing.Reply q r) controller s is = absurd (settled_unset (judge q r s.standing s.caller.secret) s is)
+set_acts (hearing.Drop cause) controller s is = absurd cc
+set_acts (hearing.Set (set_hearing.Next frames)) controller s is = absurd cc
+set_acts (hearing.Set (set_hearing.Reply r)) controller s is = set_settles (judge_set r s.standing) controller s (set_fits r s.standing) is
 
 -- ---- a controller accepts the opening
 
@@ -552,11 +709,15 @@ calls = record {
   asks = λ controller s unit channel logon frames stands ask sent.
       calling_asked (hear s.turn unit s.next_call) controller s channel logon ask.number ask.place frames
       (bind_heard s.turn ask.number ask.place (call.Logon logon) unit s.next_call ask.turn) stands ask.turn sent;
+  asks_set = λ controller s unit channel computer frames stands will sent.
+      setting_asked (hear s.turn unit s.next_call) controller s channel will.call will.number will.place frames
+      (set_heard s.turn will.number will.place will.call unit s.next_call will.turn) stands will.turn sent;
   keeps = λ controller name now link bytes before later talk left channel has other is.
       part_has (by_heard (hear_unit link bytes talk) link name now before left) channel later
       (unit_has controller link name now before left channel has (hear_unit link bytes talk) other) is;
   passes = λ j computers channel checks at names has passed. passes_named j computers channel checks at names has passed;
   takes = λ controller s unit place is. answer_acts (hear s.turn unit s.next_call) controller s place is;
+  sets = λ controller s unit is. set_acts (hear s.turn unit s.next_call) controller s is;
 }
 
 own_units : OwnUnitsAreNoClash
@@ -584,6 +745,11 @@ answered_clear : (controller : ℕ) (s : Requester) (taking : Taking) (place : �
 answered_clear controller s taking place channel number sent stands on is =
     ap (λ (note : TurnNote). clashes note.checked number sent) on.3 ∙ own_passes on.0 number sent (is ∙ sym stands ∙ on.1)
 
+set_clear : (controller : ℕ) (s : Requester) (taking : Taking) (channel : ChannelIdentity) (number : Option ℕ) (sent : List Sent) → standing_channel controller s ≡ Some channel → IsSetOn controller s taking →
+    channel_marked number sent ≡ Some channel → clashes (taking_note (Some taking) controller s).checked number sent ≡ false
+set_clear controller s taking channel number sent stands on is =
+    ap (λ (note : TurnNote). clashes note.checked number sent) on.3 ∙ own_passes on.0 number sent (is ∙ sym stands ∙ on.1)
+
 passing_clear : (j : Judging) (channel : ChannelIdentity) (sent : List Sent) → channel_marked (unit_in j.source) sent ≡ Some channel → clashes (passing (Some channel) j).checked (unit_in j.source) sent ≡ false
 passing_clear j channel sent is = own_passes channel (unit_in j.source) sent is
 
@@ -598,6 +764,8 @@ exchanges = record {
       ap (λ (one : Answered). clashes one.checked (unit_in j.source) sent) (passes_named j computers channel checks at names has passed) ∙ passing_clear j channel sent is;
   answered = λ controller s unit place channel number sent stands took is.
       answered_clear controller s _ place channel number sent stands (answer_acts (hear s.turn unit s.next_call) controller s place took) is;
+  set = λ controller s unit channel number sent stands took is.
+      set_clear controller s _ channel number sent stands (set_acts (hear s.turn unit s.next_call) controller s took) is;
 }
 
 -- ---- the way to a controller

@@ -1,6 +1,6 @@
 -- What is written down of a step of a requester is what its effect on the channel says.
 -- It serves `steps_are_noted_by_effect`.
-use Rattle.std.proofs.Common.{◌≡◌, ◌==◌, ◌&&◌, ℕ, Bool, true, false, List, [], ◌∷◌, inl, inr, Option, Some, None, refl, sym, ap, subst, length, nat_le}
+use Rattle.std.proofs.Common.{◌≡◌, ◌==◌, ◌&&◌, ℕ, Bool, true, false, List, [], ◌∷◌, inl, inr, Option, Some, None, Ok, Err, refl, sym, ap, subst, length, nat_le, ◌∙◌}
 use Rattle.std.specs.Prelude.{bytes_eq}
 use Rattle.ntlm_flags.specs.Flags.{has_flag}
 use Rattle.channel_keys.specs.Flags.{rc4_flag}
@@ -11,9 +11,10 @@ use Rattle.logon_stubs.specs.declared.calls.Call.{Call}
 use Rattle.logon_stubs.specs.declared.calls.Reply.{Reply}
 use Rattle.logon_stubs.specs.declared.info.NetworkInfo.{NetworkInfo}
 use Rattle.logon_stubs.specs.declared.info.SamInfo.{SamInfo}
-use Rattle.channel_client.specs.Effects.{MatchesCall, MatchesStep, effect_heard, effect_judged, effect_next, number_in, step_in, view_at, view_of}
-use Rattle.channel_client.specs.Machine.{act, after, ask_by, hear, judge, judge_auth, judge_awaited, judge_challenge, judge_credential, judge_flags, judge_level, judge_logon, judge_return, judge_status, level_asked, offered_flags, place_of, question_of, server_credential, settle, start_by, wait_for, waiting_limit}
+use Rattle.channel_client.specs.Effects.{MatchesCall, MatchesSet, MatchesStep, effect_heard, effect_judged, effect_judged_set, effect_next, number_in, step_in, view_at, view_of}
+use Rattle.channel_client.specs.Machine.{SetOutcome, act, after, ask_by, begin_with, hear, judge, judge_auth, judge_awaited, judge_challenge, judge_credential, judge_flags, judge_level, judge_logon, judge_return, judge_set, judge_status, level_asked, offered_flags, place_of, question_of, server_credential, settle, settle_set, start_by, wait_for, waiting_limit}
 use Rattle.channel_client.specs.State.{Requester}
+use Rattle.channel_client.specs.declared.caller.Caller.{Caller}
 use Rattle.channel_client.specs.declared.hearing.Hearing.{Hearing}
 use Rattle.channel_client.specs.declared.judging.Judgement.{Judgement}
 use Rattle.channel_client.specs.declared.state.Pending.{Pending}
@@ -32,6 +33,8 @@ use Rattle.channel_client.specs.declared.judging.Judgement.TheVariants as judgem
 use Rattle.channel_client.specs.declared.state.Question.TheVariants as question
 use Rattle.channel_client.specs.declared.state.Standing.TheVariants as standing
 use Rattle.channel_client.specs.declared.state.Step.TheVariants as step
+use Rattle.channel_client.specs.declared.state.SetStep.TheVariants as set_step
+use Rattle.channel_client.specs.declared.hearing.SetHearing.TheVariants as set_hearing
 
 -- ---- a logon that is asked, and a turn that starts
 
@@ -39,23 +42,32 @@ asked_out : (full : Bool) (s : Requester) (info : NetworkInfo) → opening_out_o
 asked_out true s info = refl
 asked_out false s info = refl
 
+-- the call of a turn that starts waits for its bind
+begun_unasked : (how : Standing) (next : Option (List ℕ)) (caller : Caller) (info : NetworkInfo) (timestamp : ℕ) (challenge : List ℕ) →
+    asks_opening (Some (begin_with how next caller info timestamp challenge).step) ≡ false
+begun_unasked standing.Nothing next caller info timestamp challenge = refl
+begun_unasked (standing.Half client server) next caller info timestamp challenge = refl
+begun_unasked (standing.Open o) None caller info timestamp challenge = refl
+begun_unasked (standing.Open o) (Some next) caller info timestamp challenge = refl
+
 started_out : (turn : Option Pending) (logons : List Waiting) (s : Requester) (timestamp : ℕ) (challenge : List ℕ) → s.turn ≡ turn →
     opening_out_of (start_by turn logons s timestamp challenge).state ≡ opening_out_of s
 started_out (Some p) logons s timestamp challenge is = refl
 started_out None [] s timestamp challenge is = refl
-started_out None (logon ∷ logons) s timestamp challenge is = sym (ap (λ (turn : Option Pending). asks_opening (step_in turn)) is)
+started_out None (logon ∷ logons) s timestamp challenge is =
+    begun_unasked s.standing s.next s.caller logon.info timestamp challenge ∙ sym (ap (λ (turn : Option Pending). asks_opening (step_in turn)) is)
 
 -- ---- both challenges are known only by the reply to the first call
 
 abbrev pub AsksFirst : Judgement → Question → Type 0
-AsksFirst (judgement.Half client server) q = asks_opening (Some (step.Reply q)) ≡ false
+AsksFirst (judgement.Half client server) q = (given : List ℕ) × (q ≡ question.Challenge given)
 AsksFirst (judgement.Opened o) q = Unit {0}
 AsksFirst (judgement.Answer o v) q = Unit {0}
 AsksFirst (judgement.Drop cause) q = Unit {0}
 
 challenge_first : (granted : Bool) (client server : List ℕ) → AsksFirst (judge_challenge granted client server) (question.Challenge client)
 challenge_first false client server = tt
-challenge_first true client server = refl
+challenge_first true client server = (client, refl)
 
 flags_first : (enough : Bool) (secret client server : List ℕ) (q : Question) → AsksFirst (judge_flags enough secret client server) q
 flags_first false secret client server q = tt
@@ -96,7 +108,7 @@ logon_first false standing.Nothing returned status level info q = tt
 logon_first false (standing.Half client server) returned status level info q = tt
 logon_first false (standing.Open o) returned status level info q = return_first returned status level info o q
 
-judged_first : (q : Question) (r : Reply) (how : Standing) (secret : List ℕ) → AsksFirst (judge q r how secret) q
+pub judged_first : (q : Question) (r : Reply) (how : Standing) (secret : List ℕ) → AsksFirst (judge q r how secret) q
 judged_first (question.Challenge client) (reply.Challenge r) how secret = challenge_first (r.status == 0) client r.challenge
 judged_first (question.Challenge client) (reply.Authenticate r) how secret = tt
 judged_first (question.Challenge client) (reply.Logon r) how secret = tt
@@ -126,10 +138,21 @@ IsSettled controller s j q =
     (asks_opening (Some (step.Reply q))) (opening_out_of (settle j s).state)
 
 settles_noted : (controller : ℕ) (s : Requester) (j : Judgement) (q : Question) → AsksFirst j q → IsSettled controller s j q
-settles_noted controller s (judgement.Half client server) q first = (refl, λ challenge under. sym first)
+settles_noted controller s (judgement.Half client server) q first = (refl, λ challenge under. sym (ap (λ (x : Question). asks_opening (Some (step.Reply x))) first.1))
 settles_noted controller s (judgement.Opened o) q first = refl
-settles_noted controller s (judgement.Answer o v) q first = (place_of s.turn, refl, λ challenge under. absurd (no_some challenge under))
+settles_noted controller s (judgement.Answer o v) q first = (Some (place_of s.turn), refl, λ challenge under. absurd (no_some challenge under))
 settles_noted controller s (judgement.Drop cause) q first = refl
+
+-- likewise of the reply to a call that sets a secret
+abbrev pub IsSetSettled : ℕ → Requester → SetOutcome → Type 0
+IsSetSettled controller s judged =
+    IsNotedBy (effect_judged_set controller judged s.caller.computer (number_in s.turn)) (taking_note (Some (settle_set judged s)) controller s)
+    (view_at controller s.caller.computer s.standing (Some (step.Set set_step.Reply)) (number_in s.turn) s.next_call) (view_of controller (settle_set judged s).state)
+    (asks_opening (Some (step.Set set_step.Reply))) (opening_out_of (settle_set judged s).state)
+
+set_noted : (controller : ℕ) (s : Requester) (judged : SetOutcome) → IsSetSettled controller s judged
+set_noted controller s (Ok o) = (None, refl, λ challenge under. absurd (no_some challenge under))
+set_noted controller s (Err cause) = refl
 
 -- ---- a request
 
@@ -152,7 +175,7 @@ goes_noted controller s (standing.Half client server) (call.Logon value) m = abs
 goes_noted controller s (standing.Half client server) (call.Logoff value) m = absurd m
 goes_noted controller s (standing.Open o) (call.Challenge value) m = absurd m
 goes_noted controller s (standing.Open o) (call.Authenticate value) m = absurd m
-goes_noted controller s (standing.Open o) (call.Logon value) m = (timestamp_bound (step_in s.turn), place_of s.turn, refl)
+goes_noted controller s (standing.Open o) (call.Logon value) m = (timestamp_bound (step_in s.turn), Some (place_of s.turn), refl)
 goes_noted controller s (standing.Open o) (call.Logoff value) m = absurd m
 
 next_noted : (controller : ℕ) (s : Requester) (turn : Option Step) (q : Question) (c : Call) → turn ≡ Some (step.Bind c) → q ≡ question_of c → MatchesStep s.standing turn →
@@ -161,6 +184,19 @@ next_noted controller s turn q c is asks m =
     subst (λ (x : Option Step). GoesNoted controller s s.standing x q) (sym is)
     (subst (λ (x : Question). GoesNoted controller s s.standing (Some (step.Bind c)) x) (sym asks)
     (goes_noted controller s s.standing c (subst (λ (x : Option Step). MatchesStep s.standing x) is m)))
+
+-- likewise of a call that sets a secret
+abbrev pub SetGoesNoted : ℕ → Requester → Standing → Option Step → Type 0
+SetGoesNoted controller s how turn =
+    IsNotedBy (effect_next controller how s.caller.computer s.next_call)
+    (asked_note (Some (step.Set set_step.Reply)) how controller s (wait_for s (place_of s.turn) (step.Set set_step.Reply)))
+    (view_at controller s.caller.computer how turn (number_in s.turn) s.next_call)
+    (view_at controller s.caller.computer how (Some (step.Set set_step.Reply)) s.next_call (after s.next_call)) (asks_opening turn) false
+
+set_goes_noted : (controller : ℕ) (s : Requester) (how : Standing) (turn : Option Step) → MatchesSet how → SetGoesNoted controller s how turn
+set_goes_noted controller s standing.Nothing turn m = absurd m
+set_goes_noted controller s (standing.Half client server) turn m = absurd m
+set_goes_noted controller s (standing.Open o) turn m = (timestamp_bound (step_in s.turn), None, refl)
 
 -- ---- a unit
 
@@ -172,11 +208,17 @@ heard_noted controller s (hearing.Reply q r) turn at heard m =
     subst (λ (x : Option Step). IsNoted controller s (hearing.Reply q r) x) (sym heard)
     (settles_noted controller s (judge q r s.standing s.caller.secret) q (judged_first q r s.standing s.caller.secret))
 heard_noted controller s (hearing.Drop cause) turn at heard m = refl
+heard_noted controller s (hearing.Set (set_hearing.Next frames)) turn at heard m =
+    set_goes_noted controller s s.standing turn (subst (λ (x : Option Step). MatchesStep s.standing x) heard.1 m)
+heard_noted controller s (hearing.Set (set_hearing.Reply r)) turn at heard m =
+    subst (λ (x : Option Step). IsNoted controller s (hearing.Set (set_hearing.Reply r)) x) (sym heard) (set_noted controller s (judge_set r s.standing))
 
 pub steps_are_noted : StepsAreNoted
 steps_are_noted = record {
   fresh = λ controller caller. refl;
   ask = λ s info. asked_out (nat_le waiting_limit (length s.waiting)) s info;
+  use_secret = λ s secret. refl;
+  set_next = λ s next. refl;
   start = λ s timestamp challenge. started_out s.turn s.waiting s timestamp challenge refl;
   take = λ controller s unit c. heard_noted controller s (hear s.turn unit s.next_call) (step_in s.turn) refl (heard_fits s.turn unit s.next_call) c.matches;
 }

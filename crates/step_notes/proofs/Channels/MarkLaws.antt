@@ -23,6 +23,7 @@ use Rattle.channel_client.specs.declared.state.Standing.{Standing}
 use Rattle.channel_client.specs.declared.state.Standing.TheVariants as standing
 use Rattle.channel_client.specs.declared.state.Step.{Step}
 use Rattle.channel_client.specs.declared.state.Step.TheVariants as step
+use Rattle.channel_client.specs.declared.state.SetStep.TheVariants as set_step
 use Rattle.domain_controller.specs.Machine.{Desk, answer_authenticate, answer_challenge, answer_judged}
 use Rattle.domain_controller.specs.State.{State as ControllerState}
 use Rattle.domain_controller.specs.Step.{step_of}
@@ -133,6 +134,10 @@ asked_sends (Some (step.Reply question.Authenticate)) (standing.Open o) controll
 asked_sends (Some (step.Reply question.Logon)) standing.Nothing controller before after = refl
 asked_sends (Some (step.Reply question.Logon)) (standing.Half client server) controller before after = refl
 asked_sends (Some (step.Reply question.Logon)) (standing.Open o) controller before after = refl
+asked_sends (Some (step.Set (set_step.Bind c))) how controller before after = refl
+asked_sends (Some (step.Set set_step.Reply)) standing.Nothing controller before after = refl
+asked_sends (Some (step.Set set_step.Reply)) (standing.Half client server) controller before after = refl
+asked_sends (Some (step.Set set_step.Reply)) (standing.Open o) controller before after = refl
 
 abbrev pub IsServedBy : Bool → AtTurn → TurnServed → Type 0
 IsServedBy sends before served = IsMarkedBy sends served.1 before served.0
@@ -151,6 +156,7 @@ taken_marked taken.Half joiner at controller before after = tt
 taken_marked taken.Opened joiner at controller before after = tt
 taken_marked (taken.Answer place verdict) joiner at controller before after = tt
 taken_marked (taken.Dropped place cause) joiner at controller before after = tt
+taken_marked taken.Set joiner at controller before after = tt
 
 joined_marked : (joined : Result (Option RpcUnit) JoinRefused) (later : Option RpcUnit) (at : AtTurn) (controller : ℕ) →
     IsServedBy (taking_note (taking_joined joined at.work.logons.channel) controller at.work.logons.channel).sends at (turn_by_join joined later at)

@@ -1,6 +1,6 @@
 -- Each Logon call that goes out at a member carries the logon that it keeps under the place of the turn.
 -- It serves `calls_carry_their_logon`.
-use Rattle.std.proofs.Common.{◌≡◌, ℕ, true, List, ◌++◌, Option, Some, Result, refl, sym, ap, ap₂, subst, ◌∙◌}
+use Rattle.std.proofs.Common.{◌≡◌, ℕ, true, List, ◌++◌, Option, Some, Result, Ok, Err, refl, sym, ap, ap₂, subst, ◌∙◌}
 use Rattle.std.specs.List.{AllByRecursion}
 use Rattle.authenticators.specs.Channels.{ChannelIdentity, channel_key}
 use Rattle.authenticators.specs.Sequences.{authenticator_of, next_seed}
@@ -27,9 +27,13 @@ use Rattle.channel_client.specs.declared.state.Question.TheVariants as question
 use Rattle.channel_client.specs.declared.state.Standing.{Standing}
 use Rattle.channel_client.specs.declared.state.Standing.TheVariants as standing
 use Rattle.channel_client.specs.declared.state.Step.TheVariants as step
+use Rattle.channel_client.specs.declared.state.SetStep.TheVariants as set_step
+use Rattle.channel_client.specs.declared.hearing.SetHearing.TheVariants as set_hearing
+use Rattle.secret_change.specs.declared.calls.SetCall.{SetCall}
 use Rattle.channel_client.specs.declared.state.Waiting.{Waiting}
 use Rattle.channel_client.specs.Effects.{IsForFirst, MatchesStep, seed_in, step_in}
-use Rattle.channel_client.specs.Machine.{act, hear, judge, logon_call, place_of, question_of, settle, wait_for}
+use Rattle.channel_client.specs.Machine.{SetOutcome, act, change_call, hear, judge, judge_set, logon_call, place_of, question_of, settle, settle_set, wait_for}
+use Rattle.channel_client.specs.NoNext.{sets_in_turn}
 use Rattle.channel_client.specs.State.{Requester}
 use Rattle.member_server.specs.declared.plan.MemberPlan.{MemberPlan}
 use Rattle.member_server.specs.declared.state.Running.{Running}
@@ -37,12 +41,12 @@ use Rattle.channel_turns.specs.declared.state.TurnTalk.{TurnTalk}
 use Rattle.member_server.specs.Laws.{is_dialled}
 use Rattle.member_server.specs.Machine.{at_turn, caller_of, work_of}
 use Rattle.member_server.specs.Turns.{AtTurn, do_taken, turn_server, turn_unit}
-use Rattle.step_notes.specs.CallLogons.{AsksForKept, AsksUnlessStopped, CallsCarryTheirLogon, CarriesItsLogon, CarriesNoted, HasSecret, IsForItsLogon, IsStamped, IsStampedStep, call_for, info_at}
-use Rattle.step_notes.specs.ChannelNames.{AreFramesOf}
+use Rattle.step_notes.specs.CallLogons.{AsksForKept, AsksUnlessStopped, CallsCarryTheirLogon, CarriesItsLogon, CarriesNoted, HasSecret, IsForItsChange, IsForItsLogon, IsStamped, IsStampedSet, IsStampedSetStep, IsStampedStep, call_for, change_for, info_at}
+use Rattle.step_notes.specs.ChannelNames.{AreFramesOf, AreFramesOfSet}
 use Rattle.step_notes.specs.MemberNotes.{asked_note, taken_note, taking_note, taking_read, timestamp_bound}
-use Rattle.step_notes.proofs.Channels.ChannelNameLaws.{bound_at}
-use Rattle.step_notes.proofs.Members.TurnRequestLaws.{HasLogon, IsOfTurn, asked_after, first_logon, of_turn}
-use Rattle.step_notes.proofs.Members.CallKeptLaws.{TurnPartAsks, at_channel, fresh_asks, step_asks, turn_asks}
+use Rattle.step_notes.proofs.Channels.ChannelNameLaws.{bound_at, set_bound_at}
+use Rattle.step_notes.proofs.Members.TurnRequestLaws.{HasLogon, IsOfTurn, asked_after, first_logon, of_turn, set_after}
+use Rattle.step_notes.proofs.Members.CallKeptLaws.{TurnPartAsks, at_channel, fresh_alone, fresh_asks, step_alone, step_asks, turn_asks}
 use Rattle.step_notes.proofs.ServedLaws.{served_such}
 use Rattle.step_notes.proofs.Members.TurnUnitLaws.{taking_by, turn_units_such}
 
@@ -111,9 +115,61 @@ module _ (controller : ℕ) (at : AtTurn) (joiner : Option RpcUnit) (kept : Asks
       absurd (subst (λ (how : Standing). MatchesStep how (Some (step.Bind (call.Logoff c)))) stands
       (subst (λ (t : Option Pending). MatchesStep at.work.logons.channel.standing (step_in t)) turn kept.coherent.matches))
 
+  -- a call that sets the next secret
+  set_goes : (c : SetCall) (o : SecureChannelState) → at.work.logons.channel.standing ≡ standing.Open o → at.work.logons.channel.turn ≡ set_bound_at number place c →
+      AreFramesOfSet at.work.logons.channel.next_call c frames →
+      IsForItsChange controller at (set_after at joiner frames)
+      (channel_of controller at.work.logons.channel.caller.computer o) at.work.logons.channel.next_call (timestamp_bound (step_in at.work.logons.channel.turn))
+  set_goes c o stands turn goes =
+      let s : Requester = at.work.logons.channel in
+      let plan : MemberPlan = at.work.logons.plan in
+      let channel : ChannelIdentity = channel_of controller s.caller.computer o in
+      let stamped : IsStampedSet s.caller s.standing s.next c = subst (λ (t : Option Pending). IsStampedSetStep s.caller s.standing s.next (step_in t)) turn kept.own.set in
+      let earlier : SecureChannelState = stamped.earlier in
+      let moved : o ≡ after_call earlier stamped.timestamp = open_is o (after_call earlier stamped.timestamp) (sym stands ∙ stamped.stands) in
+      let key : key_of_channel earlier ≡ channel_key channel = ap key_of_channel (sym moved) in
+      let one : c ≡ change_for plan (authenticator_of (key_of_channel earlier) earlier.seed stamped.timestamp) (key_of_channel earlier) stamped.secret =
+      stamped.is ∙ ap (λ (caller : Caller). change_call caller earlier stamped.timestamp stamped.secret) kept.caller in
+      let two : change_for plan (authenticator_of (key_of_channel earlier) earlier.seed stamped.timestamp) (key_of_channel earlier) stamped.secret
+      ≡ change_for plan (authenticator_of (channel_key channel) earlier.seed stamped.timestamp) (channel_key channel) stamped.secret =
+      ap (λ (k : List ℕ). change_for plan (authenticator_of k earlier.seed stamped.timestamp) k stamped.secret) key in
+      let when : timestamp_bound (step_in s.turn) ≡ stamped.timestamp =
+      ap (λ (t : Option Pending). timestamp_bound (step_in t)) turn ∙ ap (λ (x : SetCall). x.authenticator.timestamp) stamped.is in
+      record {
+        frames = frames;
+        asks = record {
+          next = stamped.secret;
+          kept = sym (kept.sets (ap sets_in_turn turn)) ∙ stamped.is_next;
+          with_controller = refl;
+          computer = ap (λ (caller : Caller). caller.computer) kept.caller;
+          secret = subst (λ (how : Standing). HasSecret s.caller.secret how) stands kept.own.secret;
+          seed = earlier.seed;
+          moved = subst (λ (t : ℕ). seed_in s.standing ≡ Some (next_seed earlier.seed t)) (sym when) (ap seed_in stamped.stands);
+          asks = subst (λ (t : ℕ). AreFramesOfSet s.next_call (change_for plan (authenticator_of (channel_key channel) earlier.seed t) (channel_key channel) stamped.secret) frames) (sym when)
+              (subst (λ (x : SetCall). AreFramesOfSet s.next_call x frames) (one ∙ two) goes);
+        };
+        done = (do_taken (taken.Next tt frames) joiner (at_channel at (wait_for s (place_of s.turn) (step.Set set_step.Reply)))).0;
+        comes = refl;
+        sends = refl;
+      }
+
+  setting_goes : (c : SetCall) (how : Standing) → at.work.logons.channel.standing ≡ how → at.work.logons.channel.turn ≡ set_bound_at number place c →
+      AreFramesOfSet at.work.logons.channel.next_call c frames →
+      CarriesNoted
+      (asked_note (Some (step.Set set_step.Reply)) how controller at.work.logons.channel (wait_for at.work.logons.channel (place_of at.work.logons.channel.turn) (step.Set set_step.Reply)))
+      controller at (set_after at joiner frames)
+  setting_goes c standing.Nothing stands turn goes = tt
+  setting_goes c (standing.Half client server) stands turn goes = tt
+  setting_goes c (standing.Open o) stands turn goes = set_goes c o stands turn goes
+
 -- ---- a unit
 
 module _ (controller : ℕ) (at : AtTurn) (kept : AsksForKept true at.work.logons) where
+  set_carries : (judged : SetOutcome) (later : Option AtTurn) →
+      CarriesNoted (taken_note (settle_set judged at.work.logons.channel).taken controller at.work.logons.channel (settle_set judged at.work.logons.channel).state) controller at later
+  set_carries (Ok o) later = tt
+  set_carries (Err cause) later = tt
+
   settled_carries : (j : Judgement) (later : Option AtTurn) → CarriesNoted (taken_note (settle j at.work.logons.channel).taken controller at.work.logons.channel (settle j at.work.logons.channel).state) controller at later
   settled_carries (judgement.Half client server) later = tt
   settled_carries (judgement.Opened o) later = tt
@@ -131,6 +187,9 @@ module _ (controller : ℕ) (at : AtTurn) (kept : AsksForKept true at.work.logon
   acted_carries (hearing.Reply q r) joiner is =
       let s : Requester = at.work.logons.channel in settled_carries (judge q r s.standing s.caller.secret) _
   acted_carries (hearing.Drop cause) joiner is = tt
+  acted_carries (hearing.Set (set_hearing.Next frames)) joiner is =
+      setting_goes controller at joiner kept frames is.0 is.1 is.2 at.work.logons.channel.standing refl is.3 (is.4, is.7)
+  acted_carries (hearing.Set (set_hearing.Reply r)) joiner is = set_carries (judge_set r at.work.logons.channel.standing) _
 
   read_carries : (read : Result RpcUnit UnitRefused) (joiner : Option RpcUnit) →
       CarriesNoted (taking_note (taking_read read joiner at.work.logons.channel) controller at.work.logons.channel) controller at (Some (turn_unit read joiner at).0)
@@ -158,6 +217,8 @@ units_carry controller said number piece running left kept =
 pub calls_carry : CallsCarryTheirLogon
 calls_carry = record {
   fresh = fresh_asks;
+  alone = fresh_alone;
+  stays_alone = step_alone;
   keeps = step_asks;
   carries = λ controller m number piece now left kept.
       turn_units_such (CarriesItsLogon controller) (λ how running. AsksForKept (is_dialled how) running.logons) number piece left

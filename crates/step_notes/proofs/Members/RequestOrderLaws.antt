@@ -29,7 +29,8 @@ use Rattle.channel_turns.specs.declared.state.TurnTalk.{TurnTalk}
 use Rattle.member_server.specs.declared.state.Work.{Work}
 use Rattle.member_server.specs.Machine.{after_turn, at_turn, bytes_by, bytes_on, event_part, work_of}
 use Rattle.member_server.specs.Outcomes.{tell_at}
-use Rattle.member_server.specs.Turns.{end_turn, AtTurn, DialWork, TurnServed, break_turn, do_taken, turn_server, turn_talk, turn_unit, with_requester}
+use Rattle.member_server.specs.Secrets.{SecretsState, changes_text, secrets_after}
+use Rattle.member_server.specs.Turns.{end_turn, AtTurn, DialWork, TurnServed, break_turn, do_taken, keep_ended, keep_if, turn_server, turn_talk, turn_unit, with_requester}
 use Rattle.member_server.proofs.StepFrame.{KeepsNext, PartHolds, WorkFact, next_follows, step_answers, turn_ended}
 use Rattle.channel_turns.specs.declared.state.TurnEnd.{TurnEnd}
 use Rattle.channel_turns.specs.declared.state.TurnEnd.TheVariants as turn_end
@@ -47,11 +48,24 @@ ended_grows : (how : TurnEnd) (w : Work) → Grows w.actions (end_turn how w).ac
 ended_grows how w =
     turn_ended how w (λ after. Grows w.actions after.actions) (λ none. grows_not w.actions) (λ place ends some. (logon_ended place ends w).grows)
 
--- its link is closed first
+-- a text is kept, or isn't
+kept_grows : (changes : Bool) (secrets : SecretsState) (old : List Action) → Grows old (keep_if changes secrets old)
+kept_grows false secrets old = grows_not old
+kept_grows true secrets old = told old _
+
+-- its link is closed before it ends
 closed_grows : (cause : CloseCause) (how : TurnEnd) (link : ℕ) (w : Work) → Grows w.actions (end_turn how (tell_at w (action.Close link cause))).actions
 closed_grows cause how link w =
     let closed : Work = tell_at w (action.Close link cause) in
     grows_then w.actions closed.actions (end_turn how closed).actions (told w.actions _) (ended_grows how closed)
+
+-- a text of the secrets stands before that
+turn_grows : (how : TurnEnd) (link : ℕ) (w : Work) → Grows w.actions (end_turn how (tell_at (keep_ended how w) (action.Close link close.CallDone))).actions
+turn_grows how link w =
+    let kept : Work = keep_ended how w in
+    let secrets : SecretsState = w.logons.plan.secrets in
+    grows_then w.actions kept.actions (end_turn how (tell_at kept (action.Close link close.CallDone))).actions
+    (kept_grows (changes_text how secrets) (secrets_after how secrets) w.actions) (closed_grows close.CallDone how link kept)
 
 broken : (cause : CloseCause) (at : AtTurn) → (more : List Action) × ((break_turn cause at).0.work.actions ≡ at.work.actions ++ more) × Unit {0}
 broken cause at =
@@ -99,12 +113,13 @@ module _ (controller : ℕ) where
         (λ more. AreFirst controller (units_on served.0 served.1 left (λ next said rest. served_units turn_server units next said rest)) more)
         (then_talk served.0 served.1 left (λ next said rest. served_by turn_server units why next said rest))
         refl (λ more first. (bytes, more, served.0, refl, refl, refl, first)) (later served.0 _ left))
-    done_first taken.Half joiner at before after left = (_, refl, tt)
-    done_first taken.Opened joiner at before after left = (_, refl, tt)
+    done_first taken.Half joiner at before after left = let grows = turn_grows turn_end.Half at.link (with_requester at.work after) in (grows.more, grows.is, tt)
+    done_first taken.Opened joiner at before after left = let grows = turn_grows turn_end.Opened at.link (with_requester at.work after) in (grows.more, grows.is, tt)
     done_first (taken.Answer place verdict) joiner at before after left =
-        let grows = closed_grows close.CallDone (turn_end.Answer place verdict) at.link (with_requester at.work after) in (grows.more, grows.is, tt)
+        let grows = turn_grows (turn_end.Answer place verdict) at.link (with_requester at.work after) in (grows.more, grows.is, tt)
     done_first (taken.Dropped place cause) joiner at before after left =
-        let grows = closed_grows close.CallDone (turn_end.Dropped place cause) at.link (with_requester at.work after) in (grows.more, grows.is, tt)
+        let grows = turn_grows (turn_end.Dropped place cause) at.link (with_requester at.work after) in (grows.more, grows.is, tt)
+    done_first taken.Set joiner at before after left = let grows = turn_grows turn_end.Set at.link (with_requester at.work after) in (grows.more, grows.is, tt)
 
     read_first : (read : Result RpcUnit UnitRefused) (joiner : Option RpcUnit) (at : AtTurn) (left : List (List ℕ)) →
         UnitFirst (taking_note (taking_read read joiner at.work.logons.channel) controller at.work.logons.channel).sends at (turn_unit read joiner at) left

@@ -27,7 +27,7 @@ use Rattle.member_server.specs.Machine as member
 use Rattle.member_server.specs.Outcomes.{at_link, without_link}
 use Rattle.member_server.specs.Rests.{link_leaves, turn_leaves}
 use Rattle.member_server.specs.State.{State as MemberState}
-use Rattle.member_server.specs.Turns.{AtTurn, DialWork, next_turn, turn_by, turn_server}
+use Rattle.member_server.specs.Turns.{AtTurn, DialWork, next_turn, turn_by, turn_server, ready_channel, with_requester}
 use Rattle.member_server.specs.Units.{link_server}
 use Rattle.member_server.specs.declared.state.AtLink.{AtLink}
 use Rattle.channel_turns.specs.declared.state.Dialling.{Dialling}
@@ -51,7 +51,7 @@ turn_rest true true now work how [] = IsRest-nothing []
 turn_rest true true now work how (challenge ∷ left) = IsRest-later challenge left left (IsRest-refl left)
 
 pub next_rest : (now : ℕ) (dial_work : DialWork) (left : List (List ℕ)) → IsRest (left_by (next_turn now dial_work left)) left
-next_rest now dial_work left = turn_rest _ _ now dial_work.0 dial_work.1 left
+next_rest now dial_work left = turn_rest _ _ now (with_requester dial_work.0 (ready_channel dial_work.0)) dial_work.1 left
 
 units_rest : (part : ServedPart AtLink Talk) (rest : List ℕ) (left : List (List ℕ)) (number : ℕ) (how : Dialling) (work : Work) → IsRest (left_by part) left →
     IsRest (left_by (member.after_units part rest number how work)) left

@@ -11,12 +11,13 @@ use Rattle.rpc_units.specs.Stream.{cut_stream}
 use Rattle.logon_stubs.specs.declared.info.Verdict.{Verdict}
 use Rattle.end_links.specs.Links.{LinkState}
 use Rattle.end_links.specs.Serving.{ServedUnit, served_units, units_on}
-use Rattle.channel_client.specs.Machine.{act, hear, judge, settle, take_of}
+use Rattle.channel_client.specs.Machine.{SetOutcome, act, hear, judge, judge_set, settle, settle_set, take_of}
 use Rattle.channel_client.specs.State.{Requester}
 use Rattle.channel_client.specs.declared.answers.Taken.{Taken}
 use Rattle.channel_client.specs.declared.answers.Taken.TheVariants as taken
 use Rattle.channel_client.specs.declared.hearing.Hearing.{Hearing}
 use Rattle.channel_client.specs.declared.hearing.Hearing.TheVariants as hearing
+use Rattle.channel_client.specs.declared.hearing.SetHearing.TheVariants as set_hearing
 use Rattle.channel_client.specs.declared.judging.Judgement.{Judgement}
 use Rattle.channel_client.specs.declared.judging.Judgement.TheVariants as judgement
 use Rattle.channel_turns.specs.declared.state.Dialling.{Dialling}
@@ -47,6 +48,7 @@ IfEnded taken.Half c = c.turn ≡ None
 IfEnded taken.Opened c = c.turn ≡ None
 IfEnded (taken.Answer place verdict) c = c.turn ≡ None
 IfEnded (taken.Dropped place cause) c = c.turn ≡ None
+IfEnded taken.Set c = c.turn ≡ None
 
 settled_ends : (j : Judgement) (c : Requester) → IfEnded (settle j c).taken (settle j c).state
 settled_ends (judgement.Half client server) c = refl
@@ -54,11 +56,17 @@ settled_ends (judgement.Opened o) c = refl
 settled_ends (judgement.Answer o verdict) c = refl
 settled_ends (judgement.Drop cause) c = refl
 
+set_settled_ends : (judged : SetOutcome) (c : Requester) → IfEnded (settle_set judged c).taken (settle_set judged c).state
+set_settled_ends (Ok o) c = refl
+set_settled_ends (Err cause) c = refl
+
 acted_ends : (h : Hearing) (c : Requester) → IfEnded (act h c).taken (act h c).state
 acted_ends hearing.Skip c = tt
 acted_ends (hearing.Next question frames) c = tt
 acted_ends (hearing.Reply question reply) c = settled_ends (judge question reply c.standing c.caller.secret) c
 acted_ends (hearing.Drop cause) c = settled_ends (judgement.Drop cause) c
+acted_ends (hearing.Set (set_hearing.Next frames)) c = tt
+acted_ends (hearing.Set (set_hearing.Reply reply)) c = set_settled_ends (judge_set reply c.standing) c
 
 none_taken : (units : List RpcUnit) (unit : RpcUnit) (c : Requester) (place : ℕ) (verdict : Verdict) → c.turn ≡ None →
     (take_of (took units c) unit).taken ≡ taken.Answer place verdict → ⊥
@@ -110,6 +118,8 @@ module _ (controller place : ℕ) (logon : Logon) (verdict : Verdict) (unit : Rp
   goes_on units later_answers (taken.Answer other how) first after earlier at left is ends whole comes kept =
       absurd (none_taken earlier unit (take_of at.work.logons.channel first).state place verdict ends comes)
   goes_on units later_answers (taken.Dropped other cause) first after earlier at left is ends whole comes kept =
+      absurd (none_taken earlier unit (take_of at.work.logons.channel first).state place verdict ends comes)
+  goes_on units later_answers taken.Set first after earlier at left is ends whole comes kept =
       absurd (none_taken earlier unit (take_of at.work.logons.channel first).state place verdict ends comes)
 
   -- a whole unit: it brings the answer, or is earlier

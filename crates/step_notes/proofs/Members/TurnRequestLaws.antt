@@ -21,14 +21,20 @@ use Rattle.channel_client.specs.declared.state.Pending.{Pending}
 use Rattle.channel_client.specs.declared.state.Question.{Question}
 use Rattle.channel_client.specs.declared.state.Step.{Step}
 use Rattle.channel_client.specs.declared.state.Step.TheVariants as step
+use Rattle.channel_client.specs.declared.state.SetStep.TheVariants as set_step
+use Rattle.channel_client.specs.declared.hearing.SetHearing.TheVariants as set_hearing
 use Rattle.channel_client.specs.Effects.{IsForFirst}
-use Rattle.channel_client.specs.Machine.{hear, hear_ack, hear_body, hear_by, hear_reply, hear_stub, is_accepting, opnum_asked, place_of, question_of, wait_for}
+use Rattle.channel_client.specs.Machine.{hear, hear_ack, hear_body, hear_by, hear_reply, hear_set_reply, hear_stub, is_accepting, opnum_asked, place_of, question_of, wait_for}
 use Rattle.member_server.specs.declared.state.Logon.{Logon}
 use Rattle.member_server.specs.Turns.{AtTurn, do_taken}
 use Rattle.step_notes.specs.CallLogons.{info_at, waiting_for}
-use Rattle.step_notes.proofs.Channels.ChannelNameLaws.{bound_at}
+use Rattle.step_notes.proofs.Channels.ChannelNameLaws.{bound_at, set_bound_at}
 use Rattle.step_notes.proofs.Members.CallKeptLaws.{at_channel}
 use Rattle.logon_stubs.specs.Writing.{written_call}
+use Rattle.secret_change.specs.Calls.{set_opnum, set_reply_of, written_set_call}
+use Rattle.secret_change.specs.declared.calls.SetCall.{SetCall}
+use Rattle.secret_change.specs.declared.calls.SetReply.{SetReply}
+use Rattle.secret_change.specs.declared.refused.SetRefused.{SetRefused}
 use Rattle.end_links.specs.Sending.{frames_of, request_of}
 use Rattle.end_links.proofs.WholeLaws.{limit_bounds}
 
@@ -42,6 +48,10 @@ IsOfTurn turn next (hearing.Next q frames) =
     × (frames ≡ frames_of (request_of next 0 (opnum_of_call c) (written_call c)) limit)
 IsOfTurn turn next (hearing.Reply q r) = Unit {0}
 IsOfTurn turn next (hearing.Drop cause) = Unit {0}
+IsOfTurn turn next (hearing.Set (set_hearing.Next frames)) =
+    (number : ℕ) × (place : ℕ) × (c : SetCall) × (turn ≡ set_bound_at number place c) × (limit : ℕ) × (1432 ≤ limit) × (limit ≤ 5840)
+    × (frames ≡ frames_of (request_of next 0 set_opnum (written_set_call c)) limit)
+IsOfTurn turn next (hearing.Set (set_hearing.Reply r)) = Unit {0}
 
 module _ (p : Pending) (next : ℕ) where
   ack_of : (accepts : Bool) (st : Step) (receive : ℕ) → p.step ≡ st → IsOfTurn (Some p) next (hear_ack accepts st receive next)
@@ -58,14 +68,31 @@ module _ (p : Pending) (next : ℕ) where
     refl,
   )
   ack_of true (step.Reply q) receive is = tt
+  ack_of true (step.Set (set_step.Bind c)) receive is = (
+    p.number,
+    p.place,
+    c,
+    ap (λ (st : Step). Some (record { number = p.number; place = p.place; step = st })) is,
+    limit_of receive,
+    (limit_bounds receive).0,
+    (limit_bounds receive).1,
+    refl,
+  )
+  ack_of true (step.Set set_step.Reply) receive is = tt
 
   reply_of_turn : (q : Question) (read : Result Reply StubRefused) → IsOfTurn (Some p) next (hear_reply q read)
   reply_of_turn q (Err why) = tt
   reply_of_turn q (Ok r) = tt
 
+  set_reply_of_turn : (read : Result SetReply SetRefused) → IsOfTurn (Some p) next (hear_set_reply read)
+  set_reply_of_turn (Err why) = tt
+  set_reply_of_turn (Ok r) = tt
+
   stub_of_turn : (st : Step) (stub : List ℕ) → IsOfTurn (Some p) next (hear_stub st stub)
   stub_of_turn (step.Bind c) stub = tt
   stub_of_turn (step.Reply q) stub = reply_of_turn q (reply_of (opnum_asked q) stub)
+  stub_of_turn (step.Set (set_step.Bind c)) stub = tt
+  stub_of_turn (step.Set set_step.Reply) stub = set_reply_of_turn (set_reply_of stub)
 
   body_of_turn : (body : Body) → IsOfTurn (Some p) next (hear_body body p.step next)
   body_of_turn (Bind send receive group contexts) = tt
@@ -109,3 +136,8 @@ first_logon (entry ∷ asked) number place c first = (
 abbrev pub asked_after : AtTurn → Option RpcUnit → Question → List (List ℕ) → Option AtTurn
 asked_after at joiner q frames =
     Some (do_taken (taken.Next tt frames) joiner (at_channel at (wait_for at.work.logons.channel (place_of at.work.logons.channel.turn) (step.Reply q)))).0
+
+-- behind one that sets a secret
+abbrev pub set_after : AtTurn → Option RpcUnit → List (List ℕ) → Option AtTurn
+set_after at joiner frames =
+    Some (do_taken (taken.Next tt frames) joiner (at_channel at (wait_for at.work.logons.channel (place_of at.work.logons.channel.turn) (step.Set set_step.Reply)))).0

@@ -1,7 +1,7 @@
 -- What a member reads where it takes an answer in its turn, and what it tells then: the reply, how it is judged on the
 -- channel that stands, the outcome of the logon of the place, and which logons it keeps.
 -- It serves `schedules_are_heard`.
-use Rattle.std.proofs.Common.{◌≡◌, ◌≢◌, ℕ, ◌==◌, Bool, true, false, List, [], ◌∷◌, ◌++◌, map, Option, Some, None, Result, Ok, Err, refl, sym, ap, subst, ◌∙◌, if◌then◌else◌}
+use Rattle.std.proofs.Common.{◌≡◌, ◌≢◌, ℕ, ◌==◌, Bool, true, false, List, [], ◌∷◌, ◌++◌, map, Option, Some, None, Result, Ok, Err, refl, sym, ap, subst, ◌∙◌, if◌then◌else◌, inl, inr}
 use Rattle.std.specs.List.{AllByRecursion}
 use Rattle.std.proofs.lemmas.Bool.Decides.{Decides-eqb}
 use Rattle.wire_base.specs.Maps.{has_key, lookup, same_number, take_out}
@@ -29,8 +29,14 @@ use Rattle.logon_stubs.specs.declared.calls.Reply.TheVariants as reply
 use Rattle.logon_stubs.specs.declared.info.Verdict.{Verdict}
 use Rattle.logon_stubs.specs.declared.refused.StubRefused.{StubRefused}
 use Rattle.end_links.specs.Links.{LinkState}
-use Rattle.channel_client.specs.Effects.{ArePlacesApart}
-use Rattle.channel_client.specs.Machine.{Taking, act, hear, hear_ack, hear_body, hear_by, hear_reply, hear_stub, is_accepting, judge, judge_auth, judge_challenge, judge_credential, judge_flags, judge_logon, opnum_asked, settle, take_of}
+use Rattle.secret_change.specs.Calls.{set_reply_of}
+use Rattle.secret_change.specs.declared.calls.SetReply.{SetReply}
+use Rattle.secret_change.specs.declared.refused.SetRefused.{SetRefused}
+use Rattle.domain_world.specs.Accepting.Carried.{IsReadAsAnswer}
+use Rattle.step_notes.proofs.Channels.ChannelNameLaws.{SetFits, set_fits}
+use Rattle.channel_client.specs.declared.state.SetStep.TheVariants as set_step
+use Rattle.channel_client.specs.Effects.{ArePlacesApart, asking_in}
+use Rattle.channel_client.specs.Machine.{Taking, act, hear, hear_ack, hear_body, hear_by, hear_reply, hear_stub, is_accepting, judge, judge_auth, judge_challenge, judge_credential, judge_flags, judge_logon, opnum_asked, settle, take_of, SetOutcome, judge_set, settle_set, hear_set_reply}
 use Rattle.channel_client.specs.State.{Requester}
 use Rattle.channel_client.specs.declared.answers.Taken.{Taken}
 use Rattle.channel_client.specs.declared.answers.Taken.TheVariants as taken
@@ -178,6 +184,17 @@ module _ (c : Requester) (unit : RpcUnit) (place : ℕ) (verdict : Verdict) wher
   ack_acts false s receive acts = let x = acts in cc
   ack_acts true (step.Bind call) receive acts = let x = acts in cc
   ack_acts true (step.Reply q) receive acts = let x = acts in cc
+  ack_acts true (step.Set (set_step.Bind call)) receive acts = let x = acts in cc
+  ack_acts true (step.Set set_step.Reply) receive acts = let x = acts in cc
+
+  -- the reply to a call that sets a secret is no answer of a logon
+  set_settles : (judged : SetOutcome) → (settle_set judged c).taken ≡ taken.Answer place verdict → ⊥
+  set_settles (Ok o) is = let x = is in cc
+  set_settles (Err cause) is = let x = is in cc
+
+  set_reply_acts : (found : Result SetReply SetRefused) → Acts (hear_set_reply found)
+  set_reply_acts (Err why) acts = let x = acts in cc
+  set_reply_acts (Ok r) acts = absurd (set_settles (judge_set r c.standing) acts)
 
   reply_acts : (pending : Pending) (stub : List ℕ) (q : Question) (found : Result Reply StubRefused) → c.turn ≡ Some pending → unit.call ≡ pending.number → pending.step ≡ step.Reply q →
       stub_of unit.body ≡ stub → reply_of (opnum_asked q) stub ≡ found → Acts (hear_reply q found)
@@ -204,6 +221,8 @@ module _ (c : Requester) (unit : RpcUnit) (place : ℕ) (verdict : Verdict) wher
 
   stub_acts : (pending : Pending) (s : Step) (stub : List ℕ) → c.turn ≡ Some pending → unit.call ≡ pending.number → pending.step ≡ s → stub_of unit.body ≡ stub → Acts (hear_stub s stub)
   stub_acts pending (step.Bind call) stub turn number is carried acts = let x = acts in cc
+  stub_acts pending (step.Set (set_step.Bind call)) stub turn number is carried acts = let x = acts in cc
+  stub_acts pending (step.Set set_step.Reply) stub turn number is carried acts = set_reply_acts (set_reply_of stub) acts
   stub_acts pending (step.Reply q) stub turn number is carried acts = reply_acts pending stub q (reply_of (opnum_asked q) stub) turn number is carried refl acts
 
   body_acts : (pending : Pending) (body : Body) → c.turn ≡ Some pending → unit.call ≡ pending.number → unit.body ≡ body → Acts (hear_body body pending.step c.next_call)
@@ -226,6 +245,121 @@ module _ (c : Requester) (unit : RpcUnit) (place : ℕ) (verdict : Verdict) wher
   -- what is taken as an answer
   pub answer_is : (take_of c unit).taken ≡ taken.Answer place verdict → IsAnswerOf c unit place verdict
   answer_is is = turn_acts c.turn refl is
+
+-- ---- the reply that says that a secret is set
+
+-- The turn waited for the reply to a call that sets a secret, on a channel that stood; the unit has its number, and
+-- such a reply is read in it.
+pub record IsSetAnswerOf (c : Requester) (unit : RpcUnit) : Type 0 where
+  pub pending : Pending
+  pub turn : c.turn ≡ Some pending
+  pub asked : pending.step ≡ step.Set set_step.Reply
+  pub number : unit.call ≡ pending.number
+  pub stood : SecureChannelState
+  pub stands : c.standing ≡ standing.Open stood
+  pub read : SetReply
+  pub reads : set_reply_of (stub_of unit.body) ≡ Ok read
+
+settled_unset : (j : Judgement) (c : Requester) → (settle j c).taken ≡ taken.Set → ⊥
+settled_unset (judgement.Half client server) c is = let x = is in cc
+settled_unset (judgement.Opened o) c is = let x = is in cc
+settled_unset (judgement.Answer o v) c is = let x = is in cc
+settled_unset (judgement.Drop cause) c is = let x = is in cc
+
+set_stood : (judged : SetOutcome) (c : Requester) → SetFits judged c.standing → (settle_set judged c).taken ≡ taken.Set → (stood : SecureChannelState) × (c.standing ≡ standing.Open stood)
+set_stood (Ok o) c fit is = (fit.0, fit.1)
+set_stood (Err cause) c fit is = absurd (let x = is in cc)
+
+module _ (c : Requester) (unit : RpcUnit) where
+  abbrev SetActs : Hearing → Type 0
+  SetActs h = (act h c).taken ≡ taken.Set → IsSetAnswerOf c unit
+
+  ack_sets : (accepts : Bool) (s : Step) (receive : ℕ) → SetActs (hear_ack accepts s receive c.next_call)
+  ack_sets false s receive acts = absurd (let x = acts in cc)
+  ack_sets true (step.Bind call) receive acts = absurd (let x = acts in cc)
+  ack_sets true (step.Reply q) receive acts = absurd (let x = acts in cc)
+  ack_sets true (step.Set (set_step.Bind call)) receive acts = absurd (let x = acts in cc)
+  ack_sets true (step.Set set_step.Reply) receive acts = absurd (let x = acts in cc)
+
+  logon_sets : (q : Question) (found : Result Reply StubRefused) → SetActs (hear_reply q found)
+  logon_sets q (Err why) acts = absurd (let x = acts in cc)
+  logon_sets q (Ok r) acts = absurd (settled_unset (judge q r c.standing c.caller.secret) c acts)
+
+  reply_sets : (pending : Pending) (stub : List ℕ) (found : Result SetReply SetRefused) → c.turn ≡ Some pending → unit.call ≡ pending.number → pending.step ≡ step.Set set_step.Reply →
+      stub_of unit.body ≡ stub → set_reply_of stub ≡ found → SetActs (hear_set_reply found)
+  reply_sets pending stub (Err why) turn number asked carried is acts = absurd (let x = acts in cc)
+  reply_sets pending stub (Ok r) turn number asked carried is acts =
+      let stood = set_stood (judge_set r c.standing) c (set_fits r c.standing) acts in
+      record {
+        pending = pending;
+        turn = turn;
+        asked = asked;
+        number = number;
+        stood = stood.0;
+        stands = stood.1;
+        read = r;
+        reads = ap (λ (s : List ℕ). set_reply_of s) carried ∙ is;
+      }
+
+  stub_sets : (pending : Pending) (s : Step) (stub : List ℕ) → c.turn ≡ Some pending → unit.call ≡ pending.number → pending.step ≡ s → stub_of unit.body ≡ stub → SetActs (hear_stub s stub)
+  stub_sets pending (step.Bind call) stub turn number is carried acts = absurd (let x = acts in cc)
+  stub_sets pending (step.Reply q) stub turn number is carried acts = logon_sets q (reply_of (opnum_asked q) stub) acts
+  stub_sets pending (step.Set (set_step.Bind call)) stub turn number is carried acts = absurd (let x = acts in cc)
+  stub_sets pending (step.Set set_step.Reply) stub turn number is carried acts = reply_sets pending stub (set_reply_of stub) turn number is carried refl acts
+
+  body_sets : (pending : Pending) (body : Body) → c.turn ≡ Some pending → unit.call ≡ pending.number → unit.body ≡ body → SetActs (hear_body body pending.step c.next_call)
+  body_sets pending (BindNak reason) turn number is acts = absurd (let x = acts in cc)
+  body_sets pending (BindAck send receive group results) turn number is acts = ack_sets (is_accepting results) pending.step receive acts
+  body_sets pending (Fault hint context status) turn number is acts = absurd (let x = acts in cc)
+  body_sets pending (Response hint context stub) turn number is acts = stub_sets pending pending.step stub turn number refl (ap stub_of is) acts
+  body_sets pending (Bind send receive group contexts) turn number is acts = absurd (let x = acts in cc)
+  body_sets pending (Request hint context opnum stub) turn number is acts = absurd (let x = acts in cc)
+  body_sets pending Auth3 turn number is acts = absurd (let x = acts in cc)
+
+  numbered_sets : (hit : Bool) (pending : Pending) → c.turn ≡ Some pending → (unit.call == pending.number) ≡ hit → SetActs (hear_by hit pending unit c.next_call)
+  numbered_sets false pending turn is acts = absurd (let x = acts in cc)
+  numbered_sets true pending turn is acts = body_sets pending unit.body turn ((Decides-eqb unit.call pending.number).0 is) refl acts
+
+  turn_sets : (turn : Option Pending) → c.turn ≡ turn → SetActs (hear turn unit c.next_call)
+  turn_sets None is acts = absurd (let x = acts in cc)
+  turn_sets (Some pending) is acts = numbered_sets (unit.call == pending.number) pending is refl acts
+
+  pub set_answer_is : (take_of c unit).taken ≡ taken.Set → IsSetAnswerOf c unit
+  set_answer_is is = turn_sets c.turn refl is
+
+-- ---- the reply that is read, to a call of either kind
+
+-- the turn waited for the reply to the call of that number, on a channel that stood
+pub record IsReplyRead (c : Requester) (unit : RpcUnit) : Type 0 where
+  pub pending : Pending
+  pub turn : c.turn ≡ Some pending
+  pub number : unit.call ≡ pending.number
+  pub stood : SecureChannelState
+  pub stands : c.standing ≡ standing.Open stood
+  pub asks : asking_in (standing.Open stood) (Some pending.step) pending.number ≡ Some pending.number
+  pub answer : IsReadAsAnswer unit
+
+abbrev pub logon_read : (c : Requester) (unit : RpcUnit) (place : ℕ) (verdict : Verdict) → IsAnswerOf c unit place verdict → IsReplyRead c unit
+logon_read c unit place verdict own = record {
+  pending = own.pending;
+  turn = own.turn;
+  number = own.number;
+  stood = own.stood;
+  stands = own.stands;
+  asks = ap (λ (st : Step). asking_in (standing.Open own.stood) (Some st) own.pending.number) own.asked;
+  answer = inl (record { read = own.read; given = own.given; reads = own.reads; returned = own.returned });
+}
+
+abbrev pub set_read : (c : Requester) (unit : RpcUnit) → IsSetAnswerOf c unit → IsReplyRead c unit
+set_read c unit own = record {
+  pending = own.pending;
+  turn = own.turn;
+  number = own.number;
+  stood = own.stood;
+  stands = own.stands;
+  asks = ap (λ (st : Step). asking_in (standing.Open own.stood) (Some st) own.pending.number) own.asked;
+  answer = inr (record { read = own.read; reads = own.reads });
+}
 
 -- ---- what is heard of a whole unit
 

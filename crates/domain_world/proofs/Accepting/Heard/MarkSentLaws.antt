@@ -1,6 +1,6 @@
 -- What a unit is that an end sends for a mark: at a controller the reply that opens a channel, and at a member, where a
 -- whole unit comes on the link of its turn, the one request that it then sends. It serves `marked_units_are_whole`.
-use Rattle.std.proofs.Common.{◌≡◌, ◌⊎◌, ℕ, zero, suc, ◌<◌, ◌^◌, ◌==◌, Bool, true, false, List, [], ◌∷◌, ◌++◌, map, inl, inr, Option, Some, None, Result, Ok, Err, slice_get, refl, sym, ap, subst, ◌∙◌, arith, ◌≤◌}
+use Rattle.std.proofs.Common.{◌≡◌, ◌⊎◌, ℕ, zero, suc, ◌<◌, ◌^◌, ◌==◌, Bool, true, false, List, [], ◌∷◌, ◌++◌, map, inl, inr, Option, Some, None, Result, Ok, Err, slice_get, refl, sym, ap, subst, ◌∙◌, arith, ◌≤◌, length}
 use Rattle.std.specs.List.{AllByRecursion}
 use Rattle.std.proofs.lemmas.Bool.{eqb-true}
 use Rattle.outside.specs.declared.action.Action.{Action}
@@ -11,18 +11,28 @@ use Rattle.rpc_units.specs.Calls.{IsHeard}
 use Rattle.rpc_units.specs.Joining.{cut_of}
 use Rattle.rpc_units.specs.declared.unit.Unit.{Unit as RpcUnit}
 use Rattle.rpc_units.specs.Stream.{cut_stream}
-use Rattle.logon_stubs.specs.Calls.{call_of, opnum_of_call}
+use Rattle.logon_stubs.specs.Calls.{opnum_of_call}
 use Rattle.logon_stubs.specs.Writing.{written_call}
 use Rattle.logon_stubs.proofs.WrittenLaws.{call_of-written_call, written_call-content}
 use Rattle.logon_stubs.specs.declared.calls.Call.{Call}
+use Rattle.logon_stubs.specs.declared.refused.StubRefused.{StubRefused}
+use Rattle.ndr_codec.specs.Parts.{size_if_there, text_size}
+use Rattle.secret_change.specs.Calls.{set_call, set_call_of, set_opnum, written_set_call}
+use Rattle.secret_change.specs.declared.calls.SetCall.{SetCall}
+use Rattle.secret_change.proofs.SetLaws.{call_stub, stub_again}
+use Rattle.controller_calls.specs.declared.calls.JudgedCall.{JudgedCall}
+use Rattle.controller_calls.specs.declared.calls.JudgedCall.TheVariants.{Network, NetworkLogoff, Set}
+use Rattle.domain_world.specs.Accepting.Carried.{call_judged}
 use Rattle.logon_stubs.specs.declared.calls.Call.TheVariants as call
 use Rattle.end_links.specs.Links.{LinkState}
 use Rattle.end_links.specs.Sending.{frames_of, joined_frames, request_of}
 use Rattle.end_links.specs.Serving.{ServedUnit, served_units}
-use Rattle.channel_client.specs.Machine.{Taking, act, hear, judge, question_of, settle, take_of}
+use Rattle.channel_client.specs.declared.hearing.SetHearing.TheVariants as set_hearing
+use Rattle.channel_client.specs.declared.state.SetStep.TheVariants as set_step
+use Rattle.channel_client.specs.Machine.{Taking, act, hear, judge, question_of, settle, take_of, SetOutcome, judge_set, settle_set}
 use Rattle.channel_client.specs.Effects.{step_in}
 use Rattle.channel_client.specs.State.{Requester}
-use Rattle.channel_client.specs.Whole.{HasRoom, InRangeRequester, InRangeTurn}
+use Rattle.channel_client.specs.Whole.{HasRoom, HasSetRoom, InRangeRequester, InRangeTurn}
 use Rattle.channel_client.specs.declared.state.Pending.{Pending}
 use Rattle.channel_client.specs.declared.answers.Taken.{Taken}
 use Rattle.channel_client.specs.declared.answers.Taken.TheVariants as taken
@@ -50,11 +60,12 @@ use Rattle.step_notes.specs.ChannelNames.{sends_in}
 use Rattle.step_notes.specs.ControllerNotes.{Answered}
 use Rattle.step_notes.specs.Marking.{answered_marks, mark_if, turn_marks}
 use Rattle.step_notes.specs.MemberNotes.{TurnNote, asked_note, no_note, taking_at, taking_note, timestamp_bound, turn_note, turn_units, turn_units_by, turn_units_in, turn_units_on}
-use Rattle.step_notes.specs.Records.{timestamp_in}
+use Rattle.step_notes.specs.HeardWhole.{call_read, request_read, set_read}
+use Rattle.step_notes.specs.Records.{given_in, timestamp_in}
 use Rattle.step_notes.specs.ReplySends.{AreSentFor, CarriesReply, IsOpeningReply, IsSentIf}
 use Rattle.step_notes.specs.Served.{units_if_taken, work_after}
 use Rattle.step_notes.specs.TakenWhole.{TakesWhole}
-use Rattle.step_notes.proofs.Channels.ChannelNameLaws.{bound_at}
+use Rattle.step_notes.proofs.Channels.ChannelNameLaws.{bound_at, set_bound_at}
 use Rattle.step_notes.proofs.Controllers.ReplyStepLaws.{replies_sent}
 use Rattle.step_notes.proofs.Members.RequestOrderLaws.{requests_first}
 use Rattle.step_notes.proofs.Members.TurnHeardLaws.{members_take}
@@ -79,18 +90,18 @@ pub record IsRequestSent (number opnum : ℕ) (bytes : List ℕ) : Type 0 where
   pub limit : ℕ
   pub is : bytes ≡ joined_frames (frames_of (request_of number 0 opnum stub) limit)
 
--- the call of a turn on a channel: a Logon call that has the timestamp, and is read as it was written
-abbrev pub IsStampedCall : Call → ℕ → Type 0
-IsStampedCall (call.Logon c) timestamp = (timestamp_in c.authenticator ≡ timestamp) × (call_of 2 (written_call (call.Logon c)) ≡ Ok (call.Logon c))
-IsStampedCall (call.Logoff c) timestamp = (timestamp_in c.authenticator ≡ timestamp) × (call_of 3 (written_call (call.Logoff c)) ≡ Ok (call.Logoff c))
-IsStampedCall (call.Challenge c) timestamp = ⊥
-IsStampedCall (call.Authenticate c) timestamp = ⊥
+-- the call of a turn on a channel: what is sent is read as a call that has the timestamp
+pub record IsStampedCall (opnum : ℕ) (stub : List ℕ) (timestamp : ℕ) : Type 0 where
+  pub asked : JudgedCall
+  pub read : request_read opnum stub ≡ Some (call_judged asked)
+  pub stamp : timestamp_in (given_in asked) ≡ timestamp
 
 pub record IsCallSent (number timestamp : ℕ) (bytes : List ℕ) : Type 0 where
-  pub what : Call
-  pub stamped : IsStampedCall what timestamp
+  pub opnum : ℕ
+  pub stub : List ℕ
+  pub stamped : IsStampedCall opnum stub timestamp
   pub frames : List RpcUnit
-  pub heard : IsHeard bytes frames (request_of number 0 (opnum_of_call what) (written_call what))
+  pub heard : IsHeard bytes frames (request_of number 0 opnum stub)
 
 -- a reply to a Logon call is said elsewhere (`RepliesCarryTheirJudgement`)
 abbrev pub CarriesMark : Mark → List ℕ → Type 0
@@ -163,14 +174,36 @@ IsOut taken.Half bytes = Unit {0}
 IsOut taken.Opened bytes = Unit {0}
 IsOut (taken.Answer place verdict) bytes = Unit {0}
 IsOut (taken.Dropped place cause) bytes = Unit {0}
+IsOut taken.Set bytes = Unit {0}
 
-stamped_call : (turn : Option Pending) (number place : ℕ) (c : Call) → turn ≡ bound_at number place c → question.Logon ≡ question_of c → HasRoom c → IsStampedCall c (timestamp_bound (step_in turn))
-stamped_call turn number place (call.Logon c) is asks room =
-    (sym (ap (λ (t : Option Pending). timestamp_bound (step_in t)) is), call_of-written_call (call.Logon c) room.writes room.range)
-stamped_call turn number place (call.Logoff c) is asks room =
-    (sym (ap (λ (t : Option Pending). timestamp_bound (step_in t)) is), call_of-written_call (call.Logoff c) room.writes room.range)
+stamped_call : (turn : Option Pending) (number place : ℕ) (c : Call) → turn ≡ bound_at number place c → question.Logon ≡ question_of c → HasRoom c →
+    IsStampedCall (opnum_of_call c) (written_call c) (timestamp_bound (step_in turn))
+stamped_call turn number place (call.Logon c) is asks room = record {
+  asked = Network c;
+  read = ap (λ (read : Result Call StubRefused). call_read read 2 (written_call (call.Logon c))) (call_of-written_call (call.Logon c) room.writes room.range);
+  stamp = sym (ap (λ (t : Option Pending). timestamp_bound (step_in t)) is);
+}
+stamped_call turn number place (call.Logoff c) is asks room = record {
+  asked = NetworkLogoff c;
+  read = ap (λ (read : Result Call StubRefused). call_read read 3 (written_call (call.Logoff c))) (call_of-written_call (call.Logoff c) room.writes room.range);
+  stamp = sym (ap (λ (t : Option Pending). timestamp_bound (step_in t)) is);
+}
 stamped_call turn number place (call.Challenge c) is asks room = absurd (let never = asks in cc)
 stamped_call turn number place (call.Authenticate c) is asks room = absurd (let never = asks in cc)
+
+-- a call that sets a secret
+stamped_set : (turn : Option Pending) (number place : ℕ) (c : SetCall) → turn ≡ set_bound_at number place c → HasSetRoom c →
+    IsStampedCall set_opnum (written_set_call c) (timestamp_bound (step_in turn))
+unfolding set_call_of
+stamped_set turn number place c is room = record {
+  asked = Set c;
+  read = ap set_read (stub_again set_call c _ _ (call_stub c room.sends.writes room.sends.range));
+  stamp = sym (ap (λ (t : Option Pending). timestamp_bound (step_in t)) is);
+}
+
+set_few : (c : SetCall) → HasSetRoom c → length (written_set_call c) ≤ 58209
+set_few c room =
+    omega (arith, (call_stub c room.sends.writes room.sends.range).short, ap (λ (primary : Option (List ℕ)). size_if_there text_size primary) room.primary, room.few)
 
 module _ (controller : ℕ) (s : Requester) (range : InRangeRequester s) (bytes : List ℕ) where
   settled_out : (j : Judgement) → CarriesMark (taking_note (Some (settle j s)) controller s).mark bytes
@@ -192,12 +225,34 @@ module _ (controller : ℕ) (s : Requester) (range : InRangeRequester s) (bytes 
   asked_out question.Logon (standing.Open o) after number place c limit turn least most asks is =
       let room : HasRoom c = subst InRangeTurn turn range.turn in
       record {
-        what = c;
+        opnum = opnum_of_call c;
+        stub = written_call c;
         stamped = stamped_call s.turn number place c turn asks room;
         frames = cut_of (request_of s.next_call 0 (opnum_of_call c) (written_call c)) limit;
         heard = subst (λ (b : List ℕ). IsHeard b (cut_of (request_of s.next_call 0 (opnum_of_call c) (written_call c)) limit) (request_of s.next_call 0 (opnum_of_call c) (written_call c))) (sym is)
             (request_heard s.next_call (opnum_of_call c) limit (written_call c) range.next_call (known_opnum c) least most (omega (arith, written_call-content c room.writes room.range, room.few)));
       }
+
+  set_out : (how : Standing) (after : Requester) (number place : ℕ) (c : SetCall) (limit : ℕ) → s.turn ≡ set_bound_at number place c → 1432 ≤ limit → limit ≤ 5840 →
+      bytes ≡ joined_frames (frames_of (request_of s.next_call 0 set_opnum (written_set_call c)) limit) →
+      CarriesMark (asked_note (Some (step.Set set_step.Reply)) how controller s after).mark bytes
+  set_out standing.Nothing after number place c limit turn least most is = tt
+  set_out (standing.Half client server) after number place c limit turn least most is = tt
+  set_out (standing.Open o) after number place c limit turn least most is =
+      let room : HasSetRoom c = subst InRangeTurn turn range.turn in
+      let request : RpcUnit = request_of s.next_call 0 set_opnum (written_set_call c) in
+      record {
+        opnum = set_opnum;
+        stub = written_set_call c;
+        stamped = stamped_set s.turn number place c turn room;
+        frames = cut_of request limit;
+        heard = subst (λ (b : List ℕ). IsHeard b (cut_of request limit) request) (sym is)
+            (request_heard s.next_call set_opnum limit (written_set_call c) range.next_call (omega arith) least most (set_few c room));
+      }
+
+  set_settled_out : (judged : SetOutcome) → CarriesMark (taking_note (Some (settle_set judged s)) controller s).mark bytes
+  set_settled_out (Ok o) = tt
+  set_settled_out (Err cause) = tt
 
   acted_out : (h : Hearing) → IsOfTurn s.turn s.next_call h → IsOut (act h s).taken bytes → CarriesMark (taking_note (Some (act h s)) controller s).mark bytes
   acted_out hearing.Skip of out = tt
@@ -205,6 +260,9 @@ module _ (controller : ℕ) (s : Requester) (range : InRangeRequester s) (bytes 
       asked_out q s.standing (act (hearing.Next q frames) s).state of.0 of.1 of.2 of.5 of.3 of.6 of.7 of.4 (out ∙ ap (λ (f : List (List ℕ)). joined_frames f) of.8)
   acted_out (hearing.Reply q r) of out = settled_out (judge q r s.standing s.caller.secret)
   acted_out (hearing.Drop cause) of out = settled_out (judgement.Drop cause)
+  acted_out (hearing.Set (set_hearing.Next frames)) of out =
+      set_out s.standing (act (hearing.Set (set_hearing.Next frames)) s).state of.0 of.1 of.2 of.4 of.3 of.5 of.6 (out ∙ ap (λ (f : List (List ℕ)). joined_frames f) of.7)
+  acted_out (hearing.Set (set_hearing.Reply r)) of out = set_settled_out (judge_set r s.standing)
 
   taken_out : (unit : RpcUnit) → IsOut (take_of s unit).taken bytes → CarriesMark (taking_note (Some (take_of s unit)) controller s).mark bytes
   taken_out unit out = acted_out (hear s.turn unit s.next_call) (of_turn s.turn unit s.next_call) out
@@ -219,6 +277,7 @@ out_of taken.Half at bytes is = tt
 out_of taken.Opened at bytes is = tt
 out_of (taken.Answer place verdict) at bytes is = tt
 out_of (taken.Dropped place cause) at bytes is = tt
+out_of taken.Set at bytes is = tt
 
 -- what is sent for the marks goes out first, on the link on which bytes came
 pub record SendsFirst (link : ℕ) (marks : List Mark) (actions : List Action) : Type 0 where

@@ -23,8 +23,6 @@ use Rattle.domain_controller.proofs.ReadBackLaws.{replies_are_read_back}
 use Rattle.member_server.specs.State.{State as MemberState}
 use Rattle.member_server.specs.declared.state.Running.{Running}
 use Rattle.end_links.specs.Sending.{request_of}
-use Rattle.logon_stubs.specs.Calls.{opnum_of_call}
-use Rattle.logon_stubs.specs.Writing.{written_call}
 use Rattle.channel_client.specs.Whole.{InRangeRequester}
 use Rattle.domain_world.specs.Schedules.{OfSchedules}
 use Rattle.domain_world.proofs.Accepting.CarriedLaws.{one_whole}
@@ -275,7 +273,7 @@ module _ (bag : List BagUnit) (js : List Judging) (stand : JudgedStand bag js) (
     ap (λ (u : RpcUnit). u.call) (opened_is number bytes frames unit sent heard),
   )
   as_marked (Calling channel number timestamp) sent replied =
-      ap (λ (u : RpcUnit). u.call) (one_whole bytes frames sent.frames unit (request_of number 0 (opnum_of_call sent.what) (written_call sent.what)) heard sent.heard)
+      ap (λ (u : RpcUnit). u.call) (one_whole bytes frames sent.frames unit (request_of number 0 sent.opnum sent.stub) heard sent.heard)
   as_marked (ReplyTo channel number request) sent replied = reply_marked channel number request replied
 
 -- ---- a run

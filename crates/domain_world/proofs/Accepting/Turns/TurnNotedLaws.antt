@@ -11,6 +11,7 @@ use Rattle.authenticators.proofs.ChannelLaws.{same_channel-Decides}
 use Rattle.outside.specs.declared.event.Event.TheVariants as event
 use Rattle.rpc_units.specs.declared.unit.Unit.{Unit as RpcUnit}
 use Rattle.end_links.specs.Serving.{ServedUnit}
+use Rattle.channel_client.specs.declared.state.SetStep.TheVariants as set_step
 use Rattle.channel_client.specs.Machine.{take_of}
 use Rattle.channel_client.specs.State.{Requester}
 use Rattle.channel_client.specs.declared.answers.Taken.{Taken}
@@ -190,6 +191,10 @@ asked_none (Some (step.Reply question.Authenticate)) (standing.Open o) controlle
 asked_none (Some (step.Reply question.Logon)) standing.Nothing controller before after = refl
 asked_none (Some (step.Reply question.Logon)) (standing.Half client server) controller before after = refl
 asked_none (Some (step.Reply question.Logon)) (standing.Open o) controller before after = refl
+asked_none (Some (step.Set (set_step.Bind c))) how controller before after = refl
+asked_none (Some (step.Set set_step.Reply)) standing.Nothing controller before after = refl
+asked_none (Some (step.Set set_step.Reply)) (standing.Half client server) controller before after = refl
+asked_none (Some (step.Set set_step.Reply)) (standing.Open o) controller before after = refl
 
 pub answered_is : (t : Taken) (controller : ℕ) (before after : Requester) → (taken_note t controller before after).answered ≡ place_answered t
 answered_is (taken.Skip right) controller before after = refl
@@ -198,6 +203,7 @@ answered_is taken.Half controller before after = refl
 answered_is taken.Opened controller before after = refl
 answered_is (taken.Answer place verdict) controller before after = refl
 answered_is (taken.Dropped place cause) controller before after = refl
+answered_is taken.Set controller before after = refl
 
 asked_no_reply : (s : Option Step) (how : Standing) (controller : ℕ) (before after : Requester) → (asked_note s how controller before after).replied ≡ None
 asked_no_reply None how controller before after = refl
@@ -209,21 +215,36 @@ asked_no_reply (Some (step.Reply question.Authenticate)) (standing.Open o) contr
 asked_no_reply (Some (step.Reply question.Logon)) standing.Nothing controller before after = refl
 asked_no_reply (Some (step.Reply question.Logon)) (standing.Half client server) controller before after = refl
 asked_no_reply (Some (step.Reply question.Logon)) (standing.Open o) controller before after = refl
+asked_no_reply (Some (step.Set (set_step.Bind c))) how controller before after = refl
+asked_no_reply (Some (step.Set set_step.Reply)) standing.Nothing controller before after = refl
+asked_no_reply (Some (step.Set set_step.Reply)) (standing.Half client server) controller before after = refl
+asked_no_reply (Some (step.Set set_step.Reply)) (standing.Open o) controller before after = refl
 
--- what answers no place answers no call
-no_reply : (t : Taken) (controller : ℕ) (before after : Requester) → place_answered t ≡ None → (taken_note t controller before after).replied ≡ None
+-- an answer was taken, of a logon or of a call that sets a secret
+abbrev pub is_answer : Taken → Bool
+is_answer (taken.Skip right) = false
+is_answer (taken.Next right frames) = false
+is_answer taken.Half = false
+is_answer taken.Opened = false
+is_answer (taken.Answer place verdict) = true
+is_answer (taken.Dropped place cause) = false
+is_answer taken.Set = true
+
+-- what is none answers no call
+no_reply : (t : Taken) (controller : ℕ) (before after : Requester) → is_answer t ≡ false → (taken_note t controller before after).replied ≡ None
 no_reply (taken.Skip right) controller before after none = refl
 no_reply (taken.Next right frames) controller before after none = asked_no_reply _ after.standing controller before after
 no_reply taken.Half controller before after none = refl
 no_reply taken.Opened controller before after none = refl
 no_reply (taken.Answer place verdict) controller before after none = absurd (let x = none in cc)
 no_reply (taken.Dropped place cause) controller before after none = refl
+no_reply taken.Set controller before after none = absurd (let x = none in cc)
 
 none_on : (checked : Option ChannelIdentity) (who : RequesterId) (at : ℕ) (unit : Option ℕ) (sent : List Sent) → answer_on_channel checked None who at unit sent ≡ []
 none_on None who at unit sent = refl
 none_on (Some channel) who at unit sent = refl
 
-pub none_taken : (t : Taken) (controller : ℕ) (before after : Requester) (who : RequesterId) (at : ℕ) (unit : Option ℕ) (sent : List Sent) → place_answered t ≡ None →
+pub none_taken : (t : Taken) (controller : ℕ) (before after : Requester) (who : RequesterId) (at : ℕ) (unit : Option ℕ) (sent : List Sent) → is_answer t ≡ false →
     answers_by who at unit sent (taken_note t controller before after) ≡ []
 none_taken t controller before after who at unit sent none =
     ap (λ (replied : Option ℕ). answer_on_channel (taken_note t controller before after).checked replied who at unit sent) (no_reply t controller before after none)

@@ -58,11 +58,11 @@ use Rattle.domain_world.specs.Accepting.ReadBack.{IsLetInInTurn, IsReadIn, IsTol
 use Rattle.domain_world.specs.Accepting.Runs.{IsOut}
 use Rattle.domain_world.specs.Claims.{HasController}
 use Rattle.domain_world.specs.Past.{answers_by, call_made, change_message, taken_as, told_by, told_in, with_answer, with_call}
-use Rattle.domain_world.proofs.Accepting.Heard.AnswerReadLaws.{HearsWhole, IsAnswerOf, TellsAnswer, answer_is, answer_tells, heard_whole, out_differ}
+use Rattle.domain_world.proofs.Accepting.Heard.AnswerReadLaws.{HearsWhole, IsAnswerOf, TellsAnswer, answer_is, answer_tells, heard_whole, out_differ, IsReplyRead, logon_read, set_answer_is, set_read}
 use Rattle.domain_world.proofs.Accepting.Turns.CallUnitLaws.{IsCallAt, call_at, call_is}
 use Rattle.domain_world.proofs.Accepting.Turns.TurnChangedLaws.{all_pair, answered_facts, called_facts}
 use Rattle.domain_world.proofs.Accepting.Turns.TurnFactLaws.{Any, AreApart, HasFree, IsFree, MarksAreKnown, TurnFacts, answers_more, facts_stay, one_is_all, past_at}
-use Rattle.domain_world.proofs.Accepting.Turns.TurnNotedLaws.{IsMadeFor, answered_is, none_taken, unclashed as made_unless}
+use Rattle.domain_world.proofs.Accepting.Turns.TurnNotedLaws.{IsMadeFor, answered_is, is_answer, none_taken, unclashed as made_unless}
 use Rattle.domain_world.proofs.Accepting.Turns.TurnQuietLaws.{granted_known, same_ends, told_of}
 use Rattle.domain_world.proofs.Challenges.MessageApartLaws.{links_in}
 use Rattle.domain_world.proofs.Frames.ComingLaws.{kept_same}
@@ -129,13 +129,14 @@ named_with : (controller : ℕ) (computer : List ℕ) (how : Standing) (stood : 
     channel_of controller computer stood ≡ channel
 named_with controller computer how stood channel stands is = some_is _ channel (sym (ap (λ (h : Standing). stands_in controller computer h) stands) ∙ is)
 
-taken_cases : (t : Taken) → ((place : ℕ) × (v : Verdict) × (t ≡ taken.Answer place v)) ⊎ (place_answered t ≡ None)
-taken_cases (taken.Skip right) = inr refl
-taken_cases (taken.Next right frames) = inr refl
-taken_cases taken.Half = inr refl
-taken_cases taken.Opened = inr refl
+taken_cases : (t : Taken) → ((place : ℕ) × (v : Verdict) × (t ≡ taken.Answer place v)) ⊎ ((t ≡ taken.Set) ⊎ ((place_answered t ≡ None) × (is_answer t ≡ false)))
+taken_cases (taken.Skip right) = inr (inr (refl, refl))
+taken_cases (taken.Next right frames) = inr (inr (refl, refl))
+taken_cases taken.Half = inr (inr (refl, refl))
+taken_cases taken.Opened = inr (inr (refl, refl))
 taken_cases (taken.Answer place v) = inl (place, v, refl)
-taken_cases (taken.Dropped place cause) = inr refl
+taken_cases (taken.Dropped place cause) = inr (inr (refl, refl))
+taken_cases taken.Set = inr (inl refl)
 
 -- What is known as the bytes come: who hears them and which unit of the bag carries them, what was written down of the
 -- unit and of calls, that there is no clash, and what the step gives. Behind the step the state is `t`, and `d` is what
@@ -192,11 +193,8 @@ module _ (plan : Plan) (k number u : ℕ) (s t : State) (b d : Book) (messages :
 
   -- ---- an answer that is taken
 
-  module _ (place : ℕ) (v : Verdict) (answered : (take_of c unit).taken ≡ taken.Answer place v) (channel : ChannelIdentity) (stands : standing_channel controller c ≡ Some channel)
-      (is_note : note ≡ passed_note channel (Some place) (Some (number_in c.turn))) where
-    abbrev pub its : IsAnswerOf c unit place v
-    its = answer_is c unit place v answered
-
+  module _ (its : IsReplyRead c unit) (of : Option ℕ) (channel : ChannelIdentity) (stands : standing_channel controller c ≡ Some channel)
+      (is_note : note ≡ passed_note channel of (Some (number_in c.turn))) where
     named : channel_of controller c.caller.computer its.stood ≡ channel
     named = named_with controller c.caller.computer c.standing its.stood channel its.stands stands
 
@@ -232,7 +230,7 @@ module _ (plan : Plan) (k number u : ℕ) (s t : State) (b d : Book) (messages :
         heard = heard_plain d.sent u comes.carries.carrier comes.hears.frames unit (subst (λ (bs : List ℕ). IsHeard bs comes.hears.frames unit) comes.carries.same comes.hears.heard);
       };
       has = its.number;
-      answer = record { read = its.read; given = its.given; reads = its.reads; returned = its.returned };
+      answer = its.answer;
       sent = made.sent;
       noted = comes.sent u made.sent made.noted;
       named = made.named;
@@ -310,10 +308,10 @@ module _ (plan : Plan) (k number u : ℕ) (s t : State) (b d : Book) (messages :
         (lets_in (λ (one : OutcomeTold). OneOf (λ (message : MessageTaken). IsLetInInTurn (past_at plan t d) one message) after) (λ link how granted. absurd (none link how granted))) so.free so
 
     -- no answer is taken
-    unanswered : (requested : Option ℕ) → place_answered (take_of c unit).taken ≡ None → TurnFacts plan t d (noted_by note running.logons (Some u) requested messages) (answers ++ new) (told ++ more)
-    unanswered requested none =
+    unanswered : (requested : Option ℕ) → place_answered (take_of c unit).taken ≡ None → is_answer (take_of c unit).taken ≡ false → TurnFacts plan t d (noted_by note running.logons (Some u) requested messages) (answers ++ new) (told ++ more)
+    unanswered requested none no_reply =
         subst (λ (all : List CallTaken). TurnFacts plan t d (noted_by note running.logons (Some u) requested messages) all (told ++ more))
-        (sym (ap (λ (fresh : List CallTaken). answers ++ fresh) (none_taken (take_of c unit).taken controller c (take_of c unit).state (OfMember k) at (Some u) b.sent none) ∙ append-nil answers))
+        (sym (ap (λ (fresh : List CallTaken). answers ++ fresh) (none_taken (take_of c unit).taken controller c (take_of c unit).state (OfMember k) at (Some u) b.sent no_reply) ∙ append-nil answers))
         (subst (λ (answered : Option ℕ). TurnFacts plan t d
         (change_message (link_of_place answered running.logons) (with_answer (Some u)) (change_message (link_of_place note.called running.logons) (with_call requested) messages)) answers (told ++ more))
         (sym (answered_is (take_of c unit).taken controller c (take_of c unit).state ∙ none))
@@ -324,10 +322,13 @@ module _ (plan : Plan) (k number u : ℕ) (s t : State) (b d : Book) (messages :
     module _ (place : ℕ) (v : Verdict) (answered : (take_of c unit).taken ≡ taken.Answer place v) (channel : ChannelIdentity) (stands : standing_channel controller c ≡ Some channel)
         (is_note : note ≡ passed_note channel (Some place) (Some (number_in c.turn))) where
       abbrev own : IsAnswerOf c unit place v
-      own = its place v answered channel stands is_note
+      own = answer_is c unit place v answered
+
+      abbrev own_read : IsReplyRead c unit
+      own_read = logon_read c unit place v own
 
       abbrev own_made : IsMadeFor channel u b.sent
-      own_made = made place v answered channel stands is_note
+      own_made = made own_read (Some place) channel stands is_note
 
       same_grant : (link : ℕ) (how : Outcome) (granted : IsGrantedBy running unit link how) → (place ≡ granted.place) × (v ≡ verdict.Granted granted.info)
       same_grant link how granted =
@@ -348,7 +349,7 @@ module _ (plan : Plan) (k number u : ℕ) (s t : State) (b d : Book) (messages :
         answer_there message mine out =
             let one : out.channel ≡ channel = some_is out.channel channel (sym out.stands ∙ stands) in
             subst (λ (all : List CallTaken). OneOf (IsAnswerFor (with_answer (Some u) message) u) all)
-            (sym (noted_for place v answered channel stands is_note at out.request out.timestamp out.sent out.there (out.mark ∙ ap (λ (x : ChannelIdentity). Calling x own.pending.number out.timestamp) one)))
+            (sym (noted_for own_read (Some place) channel stands is_note at out.request out.timestamp out.sent out.there (out.mark ∙ ap (λ (x : ChannelIdentity). Calling x own.pending.number out.timestamp) one)))
             (inl (record { requester = sym (ap (λ (n : ℕ). OfMember n) mine.same_member); call = out.call; reply = refl }))
 
         read_there : (message : MessageTaken) (how : Outcome) → IsFree k place logon message → how ≡ outcome_of (ending_of v) logon →
@@ -356,7 +357,7 @@ module _ (plan : Plan) (k number u : ℕ) (s t : State) (b d : Book) (messages :
         read_there message how mine is = record {
           channel = channel;
           stood = own.stood;
-          key = ap channel_key (named place v answered channel stands is_note);
+          key = ap channel_key (named own_read (Some place) channel stands is_note);
           carrier = comes.carries.carrier;
           there = comes.carries.there;
           whole = record {
@@ -397,7 +398,7 @@ module _ (plan : Plan) (k number u : ℕ) (s t : State) (b d : Book) (messages :
 
         answered_there : TurnFacts plan t d (change_message (Some logon.link) (with_answer (Some u)) messages) (answers ++ new) (told ++ more)
         answered_there =
-            answered_facts plan t d messages answers told k place logon u more new (all_in_turn place v answered channel stands is_note at) (own_all place logon kept)
+            answered_facts plan t d messages answers told k place logon u more new (all_in_turn own_read (Some place) channel stands is_note at) (own_all place logon kept)
             (all_weaker (λ (message : MessageTaken). (message.link ≡ logon.link → IsFree k place logon message) × (message.link ≡ logon.link → IsOutThere message))
             (λ (message : MessageTaken).
             message.link ≡ logon.link → OneOf (IsAnswerFor (with_answer (Some u) message) u) new
@@ -425,7 +426,7 @@ module _ (plan : Plan) (k number u : ℕ) (s t : State) (b d : Book) (messages :
       answered_by : (found : Option Logon) → lookup same_number place running.logons.asked ≡ found →
           TurnFacts plan t d (change_message (link_of_logon found) (with_answer (Some u)) messages) (answers ++ new) (told ++ more)
       answered_by None kept =
-          answers_more plan t d messages answers new (told ++ more) (all_in_turn place v answered channel stands is_note at)
+          answers_more plan t d messages answers new (told ++ more) (all_in_turn own_read (Some place) channel stands is_note at)
           (silent_facts messages answers
           (λ link how granted. no_some (lookup same_number place running.logons.asked) granted.logon kept
           (subst (λ (n : ℕ). lookup same_number n running.logons.asked ≡ Some granted.logon) (sym (same_grant link how granted).0) granted.kept)) facts)
@@ -436,10 +437,19 @@ module _ (plan : Plan) (k number u : ℕ) (s t : State) (b d : Book) (messages :
           subst (λ (n : TurnNote). TurnFacts plan t d (noted_by n running.logons (Some u) requested messages) (answers ++ new) (told ++ more)) (sym is_note)
           (answered_by (lookup same_number place running.logons.asked) refl)
 
+    -- a secret is set: the answer is written down, and of no message
+    set_noted : (is : (take_of c unit).taken ≡ taken.Set) (channel : ChannelIdentity) (stands : standing_channel controller c ≡ Some channel) → note ≡ passed_note channel None (Some (number_in c.turn)) →
+        (requested : Option ℕ) → TurnFacts plan t d (noted_by note running.logons (Some u) requested messages) (answers ++ new) (told ++ more)
+    set_noted is channel stands is_note requested =
+        subst (λ (n : TurnNote). TurnFacts plan t d (noted_by n running.logons (Some u) requested messages) (answers ++ new) (told ++ more)) (sym is_note)
+        (answers_more plan t d messages answers new (told ++ more) (all_in_turn (set_read c unit (set_answer_is c unit is)) None channel stands is_note at)
+        (silent_facts messages answers (λ link how granted. absurd (let x = sym is ∙ granted.takes in cc)) facts))
+
     pub whole_facts : (requested : Option ℕ) → TurnFacts plan t d (noted_by note running.logons (Some u) requested messages) (answers ++ new) (told ++ more)
     whole_facts requested = elim (taken_cases (take_of c unit).taken) [
       | inl answer ↦
           (let takes = channels_are_named_alike.calls.takes controller c unit answer.0 (ap place_answered answer.2) in
           answered_noted answer.0 answer.1 answer.2 takes.0 takes.1 takes.3 requested)
-      | inr none ↦ unanswered requested none
+      | inr (inl is) ↦ (let sets = channels_are_named_alike.calls.sets controller c unit is in set_noted is sets.0 sets.1 sets.3 requested)
+      | inr (inr none) ↦ unanswered requested none.0 none.1
     ]

@@ -12,6 +12,7 @@ use Rattle.wire_base.specs.declared.authenticator.Authenticator.{Authenticator}
 use Rattle.authenticators.specs.SecureChannels.{SecureChannelState}
 use Rattle.domain_controller.specs.Step.{first_state}
 use Rattle.logon_client.specs.Machine.{begin_of, fresh_client}
+use Rattle.channel_client.specs.declared.state.SetStep.TheVariants as set_step
 use Rattle.channel_client.specs.Effects.{seed_in, stands_in, step_in, view_of}
 use Rattle.channel_client.specs.declared.state.Step.{Step}
 use Rattle.channel_client.specs.declared.state.Step.TheVariants as step
@@ -169,6 +170,8 @@ by_mine hit who other (Some (step.Bind (call.Challenge c))) channel is = none_mi
 by_mine hit who other (Some (step.Bind (call.Authenticate c))) channel is = none_mine hit
 by_mine hit who other (Some (step.Bind (call.Logoff c))) channel is = none_mine hit
 by_mine hit who other (Some (step.Reply q)) channel is = none_mine hit
+by_mine hit who other (Some (step.Set (set_step.Bind c))) channel is = stamped_mine hit who other channel (Some c.authenticator) is
+by_mine hit who other (Some (step.Set set_step.Reply)) channel is = none_mine hit
 
 -- the turn whose bind waits, where its end runs
 abbrev turn_if : ℕ → RequesterId → Option Running → List ChannelTurn

@@ -83,8 +83,8 @@ pub own_whole : (Done Later : ℕ → Type 0) → ((n : ℕ) → Done n → Late
     d.client ≡ challenge → ⊥) →
     Placed (taking_note (Some (take_of running.logons.channel unit)) controller running.logons.channel).sends
     (taking_note (Some (take_of running.logons.channel unit)) controller running.logons.channel).mark more →
-    ((c : ChannelIdentity) (number timestamp place : ℕ) → taking_note (Some (take_of running.logons.channel unit)) controller running.logons.channel
-    ≡ request_note (Calling c number timestamp) (Some place) → IsPlaced more (Calling c number timestamp)) →
+    ((c : ChannelIdentity) (number timestamp : ℕ) (called : Option ℕ) → taking_note (Some (take_of running.logons.channel unit)) controller running.logons.channel
+    ≡ request_note (Calling c number timestamp) called → IsPlaced more (Calling c number timestamp)) →
     ((c : ChannelIdentity) (number : ℕ) → IsAnswer (take_of running.logons.channel unit).taken → (view_of controller running.logons.channel).stands ≡ Some c →
     (view_of controller running.logons.channel).asking ≡ Some number → (n timestamp : ℕ) → slice_get marks n ≡ Some (Calling c number timestamp) → Later n) →
     OwnCalls Done marks drawn turns given controller who running →

@@ -10,6 +10,8 @@ use Rattle.outside.specs.declared.action.StepRefused.{StepRefused}
 use Rattle.outside.specs.declared.event.Event.{Event}
 use Rattle.outside.proofs.DrawLaws.{between_front}
 use Rattle.authenticators.specs.Channels.{ChannelIdentity}
+use Rattle.member_server.specs.declared.state.Work.{Work}
+use Rattle.channel_client.specs.declared.state.SetStep.TheVariants as set_step
 use Rattle.channel_client.specs.Effects.{IsCoherent, opening_in, seed_in, stands_in, step_in, view_of}
 use Rattle.channel_client.specs.Machine.{can_start, needs_challenge, start_of}
 use Rattle.channel_client.specs.State.{Requester}
@@ -22,7 +24,7 @@ use Rattle.member_server.specs.ChannelSteps.{IsNextTurn}
 use Rattle.member_server.specs.Dials.{IsDialledBy, IsNoAnswer, IsWaiting, StaysOutIfTaken, TurnStepsIfTaken, dials_in}
 use Rattle.member_server.specs.Laws.{InOrderUnlessStopped, IsInOrder, is_dialled}
 use Rattle.member_server.specs.Machine.{actions_in, by_event, event_part, halted_state, state_in, step_of, work_of}
-use Rattle.member_server.specs.Turns.{DialWork, timestamp_of}
+use Rattle.member_server.specs.Turns.{DialWork, timestamp_of, ready_channel}
 use Rattle.channel_turns.specs.declared.state.Dialling.{Dialling}
 use Rattle.channel_turns.specs.declared.state.Dialling.TheVariants as dialling
 use Rattle.member_server.specs.declared.state.Running.{Running}
@@ -39,6 +41,7 @@ use Rattle.world_moves.specs.declared.links.EndId.{EndId}
 use Rattle.world_moves.specs.declared.state.WaitingDial.{WaitingDial}
 use Rattle.world_moves.specs.Acting.{Given, given_by}
 use Rattle.world_moves.specs.Ends.{actions_by}
+use Rattle.domain_world.proofs.Requests.ReadyLaws.{ready_coherent}
 use Rattle.domain_world.proofs.Requests.StepApartLaws.{Differ, fresh_last}
 use Rattle.domain_world.proofs.Sequences.DialCountLaws.{answered_dials, dials_out, given_append, given_dials, given_own, one_if}
 use Rattle.domain_world.proofs.Sequences.SeedTurnLaws.{Turned, comes_so, drawn_still, starts_so, turned_alike, turned_later}
@@ -115,6 +118,8 @@ by_drawn drawn who (Some (step.Bind (call.Challenge c))) channel so = tt
 by_drawn drawn who (Some (step.Bind (call.Authenticate c))) channel so = tt
 by_drawn drawn who (Some (step.Bind (call.Logoff c))) channel so = tt
 by_drawn drawn who (Some (step.Reply q)) channel so = tt
+by_drawn drawn who (Some (step.Set (set_step.Bind c))) channel so = stamped_drawn drawn who channel (Some c.authenticator) so
+by_drawn drawn who (Some (step.Set set_step.Reply)) channel so = tt
 
 -- the turn that is out was on a channel whose client's challenge was drawn
 pub turn_drawn : (controller : ℕ) (who : RequesterId) (s : Requester) (own : List ChannelTurn) (drawn : List (List ℕ)) → Turned (view_of controller s) own drawn → AreDrawn drawn (turn_of controller who s)
@@ -181,14 +186,15 @@ module _ (who : RequesterId) (controller : ℕ) (drawn : List (List ℕ)) (turns
       (step_by actions_in state_in halted_state left part).state.running
   free_by (Err why) running what now left d rest dials given steps order out none coherent turned differ = tt
   free_by (Ok part) running what now left d rest dials given steps order out none coherent turned differ =
-      let mid : Requester = steps.part.value.0.logons.channel in
+      let w : Work = steps.part.value.0 in
+      let mid : Requester = ready_channel w in
       let actions : List Action = part.value.0.actions in
-      let comes = comes_so (mine who turns) drawn controller running.logons.channel mid steps.comes coherent turned in
+      let comes = comes_so (mine who turns) drawn controller running.logons.channel w.logons.channel steps.comes coherent turned in
       let rest_left : IsRest steps.part.left left =
       subst (λ (first : Result (Part DialWork) StepRefused). IsRest (left_by first) left) steps.is (event_rest what running.dialling (work_of running) left) in
       let has : HasStarted who controller (drawn ++ draws_between left part.left) turns part.value.0.logons.channel part.value.1 (dials_in actions) =
       started (can_start mid.turn mid.waiting) (needs_challenge mid.standing) now mid left steps.part.left part.value.0.logons.channel part.left steps.part.value.1 part.value refl refl steps.next
-      rest_left steps.dials comes.0 differ comes.1 in
+      rest_left steps.dials (ready_coherent w comes.0) differ comes.1 in
       let count : given_dials who (given_by (asking_end who) actions) ≡ dials_in actions = given_own who (asking_end who) actions (is_itself who) in
       let given_after : given_dials who (given ++ given_by (asking_end who) actions) ≡ dials_in actions = omega (arith, given_append who given (given_by (asking_end who) actions), count, none) in
       let rest_after : given_dials who (given_by (asking_end who) actions ++ rest) ≡ dials_in actions + given_dials who rest = omega (arith, given_append who (given_by (asking_end who) actions) rest, count) in
