@@ -100,10 +100,10 @@ kind = "workstation"
 hash = "$secret"
 TABLE
 
-# starts the controller, and waits until it listens
+# starts the controller, with these words beside the usual ones, and waits until it listens
 start_controller() {
     "$bin/nt_controller" serve --listen "127.0.0.1:$controller_port" --name PDC --table "$folder/accounts.toml" \
-        --seed "$folder/controller.seed" --boot 1 > "$folder/controller.out" 2> "$folder/controller.err" &
+        --seed "$folder/controller.seed" --boot 1 "$@" > "$folder/controller.out" 2> "$folder/controller.err" &
     controller=$!
     wait_for $controller "$controller_port" || { echo "nt_controller doesn't listen"; cat "$folder/controller.err"; exit 1; }
 }

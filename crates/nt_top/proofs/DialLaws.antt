@@ -78,14 +78,14 @@ by_link plan (Some link) before middle after left last steps first more are fail
     let kept = answered plan link left last steps are in absurd cc
 
 -- what happened at the port in such a run
-tells : {S : Type 0} (machine : Machine S) (first : List Action) (old last : S) (most : ℕ) (opened ended : Sight) (begun : Begun machine first old last most opened ended) →
+tells : {S : Type 0} (machine : Machine S) (file : Option (List ℕ)) (first : List Action) (old last : S) (most : ℕ) (opened ended : Sight) (begun : Begun machine file first old last most opened ended) →
     Appends opened.story ended.story (begun.happened ++ (story_of begun.run.ran.steps ++ begun.run.stop))
-tells machine first old last most opened ended begun =
-    let rest = Shows-trans begun.middle begun.run.middle ended (story_of begun.run.ran.steps) begun.run.stop (moments_of begun.run.ran.steps) [] (drawn_of begun.run.ran.steps) [] _ [] begun.run.ran.shows begun.run.shows in
-    (Shows-trans opened begun.middle ended begun.happened (story_of begun.run.ran.steps ++ begun.run.stop) [] (moments_of begun.run.ran.steps ++ []) [] (drawn_of begun.run.ran.steps ++ []) _ _ begun.shows rest).story
+tells machine file first old last most opened ended begun =
+    let rest = Shows-trans begun.middle begun.run.middle ended (story_of begun.run.ran.steps) begun.run.stop (moments_of begun.run.ran.steps) [] (drawn_of begun.run.ran.steps) [] _ [] _ [] begun.run.ran.shows begun.run.shows in
+    (Shows-trans opened begun.middle ended begun.happened (story_of begun.run.ran.steps ++ begun.run.stop) [] (moments_of begun.run.ran.steps ++ []) [] (drawn_of begun.run.ran.steps ++ []) _ _ _ _ begun.shows rest).story
 
 -- a client finds its dial failed only where the dial of its server failed, and the count of link faults rose
-pub dial_cause : (plan : ClientPlan) (last : State) (most : ℕ) (opened ended : Sight) → Begun client_machine (first_actions plan) (client_that_dials plan) last most opened ended →
+pub dial_cause : (plan : ClientPlan) (last : State) (most : ℕ) (opened ended : Sight) → Begun client_machine None (first_actions plan) (client_that_dials plan) last most opened ended →
     is_dial_failed last.outcome ≡ true → FailsToDial plan.server opened ended
 dial_cause plan last most opened ended begun failed =
     let dial = dials_once plan begun.happened begun.performs in
@@ -98,5 +98,5 @@ dial_cause plan last most opened ended begun failed =
       rose = fails.0;
       happened = story_of begun.run.ran.steps ++ begun.run.stop;
       told = subst (λ (h : List Happening). Appends opened.story ended.story (h ++ (story_of begun.run.ran.steps ++ begun.run.stop))) happened
-          (tells client_machine (first_actions plan) (client_that_dials plan) last most opened ended begun);
+          (tells client_machine None (first_actions plan) (client_that_dials plan) last most opened ended begun);
     }

@@ -11,3 +11,4 @@ pub mod LinkLaws
 pub mod LogonLaws
 pub mod ServingLaws
 pub mod RunLaws
+pub mod WritesLaws

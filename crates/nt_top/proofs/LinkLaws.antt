@@ -18,6 +18,7 @@ use Rattle.end_loop.specs.Begun.{Begun}
 use Rattle.end_loop.specs.Runs.{Step, IsStep, AreSteps, Chooses, RunState as Places, drawn_of, lines_of, moments_of, story_of, step_story}
 use Rattle.end_loop.specs.Acts.{puts}
 use Rattle.end_loop.specs.Seen.{Sight, Shows}
+use Rattle.end_loop.specs.Writing.{Write}
 use Rattle.end_loop.proofs.AskingLaws.{asks_for}
 use Rattle.end_loop.proofs.RunLaws.{Shows-trans}
 use Rattle.logon_client.specs.declared.outcome.ClientOutcome.{ClientOutcome}
@@ -137,11 +138,12 @@ run_lost start last (step ∷ steps) are was comes =
 
 -- ---- the run of a client whose dial is asked for first
 
-whole : (opened middle ran ended : Sight) (happened later stop : List Happening) (moments : List ℕ) (drawn : List (List ℕ)) (put put2 : List ℕ) →
-    Shows opened middle happened [] [] put → Shows middle ran later moments drawn put2 → Shows ran ended stop [] [] [] → Shows opened ended (happened ++ (later ++ stop)) ([] ++ (moments ++ [])) ([] ++ (drawn ++ [])) (put ++ (put2 ++ []))
-whole opened middle ran ended happened later stop moments drawn put put2 first second third =
-    Shows-trans opened middle ended happened (later ++ stop) [] (moments ++ []) [] (drawn ++ []) put (put2 ++ []) first
-    (Shows-trans middle ran ended later stop moments [] drawn [] put2 [] second third)
+whole : (opened middle ran ended : Sight) (happened later stop : List Happening) (moments : List ℕ) (drawn : List (List ℕ)) (put put2 : List ℕ) (writes writes2 : List Write) →
+    Shows opened middle happened [] [] put writes → Shows middle ran later moments drawn put2 writes2 → Shows ran ended stop [] [] [] [] →
+    Shows opened ended (happened ++ (later ++ stop)) ([] ++ (moments ++ [])) ([] ++ (drawn ++ [])) (put ++ (put2 ++ [])) (writes ++ (writes2 ++ []))
+whole opened middle ran ended happened later stop moments drawn put put2 writes writes2 first second third =
+    Shows-trans opened middle ended happened (later ++ stop) [] (moments ++ []) [] (drawn ++ []) put (put2 ++ []) writes (writes2 ++ []) first
+    (Shows-trans middle ran ended later stop moments [] drawn [] put2 [] writes2 [] second third)
 
 -- no event is asked for while the client's dial is asked for
 dial_asks : (plan : ClientPlan) (happened : List Happening) → Performs [] (first_actions plan) happened → events_in happened ≡ []
@@ -162,11 +164,11 @@ send_failed : (opened ended : Sight) (happened : List Happening) → Appends ope
     list_any fails_to_send happened ≡ true → LosesLink opened ended
 send_failed opened ended happened told links failed = SendFailed happened told failed (links.1 (sends_fail happened failed))
 
-pub loses_link : (plan : ClientPlan) (last : State) (opened ended : Sight) → Begun client_machine (first_actions plan) (client_that_dials plan) last most_answers opened ended →
+pub loses_link : (plan : ClientPlan) (last : State) (opened ended : Sight) → Begun client_machine None (first_actions plan) (client_that_dials plan) last most_answers opened ended →
     (last.outcome ≡ None) ⊎ (is_link_closed last.outcome ≡ true) → LosesLink opened ended
 loses_link plan last opened ended begun (inr closed) =
     let steps = begun.run.ran.steps in
-    let all = whole opened begun.middle begun.run.middle ended begun.happened (story_of steps) begun.run.stop (moments_of steps) (drawn_of steps) _ (lines_of (puts client_machine) steps) begun.shows begun.run.ran.shows begun.run.shows in
+    let all = whole opened begun.middle begun.run.middle ended begun.happened (story_of steps) begun.run.stop (moments_of steps) (drawn_of steps) _ (lines_of (puts client_machine) steps) _ _ begun.shows begun.run.ran.shows begun.run.shows in
     elim (run_lost _ _ steps begun.run.ran.are refl closed) [
       | inl queued ↦ send_failed opened ended (begun.happened ++ (story_of steps ++ begun.run.stop)) all.story all.links
           (any_left fails_to_send begun.happened (story_of steps ++ begun.run.stop) (made_closing begun.happened queued))
@@ -178,7 +180,7 @@ loses_link plan last opened ended begun (inr closed) =
     ]
 loses_link plan last opened ended begun (inl none) =
     let steps = begun.run.ran.steps in
-    let all = whole opened begun.middle begun.run.middle ended begun.happened (story_of steps) begun.run.stop (moments_of steps) (drawn_of steps) _ (lines_of (puts client_machine) steps) begun.shows begun.run.ran.shows begun.run.shows in
+    let all = whole opened begun.middle begun.run.middle ended begun.happened (story_of steps) begun.run.stop (moments_of steps) (drawn_of steps) _ (lines_of (puts client_machine) steps) _ _ begun.shows begun.run.ran.shows begun.run.shows in
     elim begun.run.closes [
       | inl over ↦ absurd (let wrong : has_outcome None ≡ true = subst (λ (o : Option ClientOutcome). has_outcome o ≡ true) none over.0 in cc)
       | inr other ↦ elim other [

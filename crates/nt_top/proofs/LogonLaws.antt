@@ -19,6 +19,7 @@ use Rattle.end_loop.specs.Asking.{gives_stop as is_stop_given}
 use Rattle.end_loop.specs.Begun.{Begun, BegunUntil}
 use Rattle.end_loop.specs.Runs.{RunState, Step, AreSteps, Chooses, Closes, Halts, RanInto, asked_by, drawn_of, lines_of, moments_of, step_story, story_of, run_state_at}
 use Rattle.end_loop.specs.Seen.{Sight, Shows}
+use Rattle.end_loop.specs.Writing.{FilesTold, Write}
 use Rattle.end_loop.specs.Serving.{Opens}
 use Rattle.end_loop.specs.declared.halt.Halt.{Halt}
 use Rattle.end_loop.specs.declared.halt.Halt.TheVariants as halts
@@ -44,11 +45,11 @@ use Rattle.nt_top.proofs.LinkLaws.{later_events, loses_link}
 use Rattle.nt_top.proofs.PairLaws.{both_whole, spent_not_whole}
 
 -- the challenges were started, and nothing else was done
-pub started : (story : Option (List Happening)) (faults : ℕ) (moments : Option (List ℕ)) (old new : Drawing) (taken : Option (List ℕ)) (seed : List ℕ) (boot : ℕ) →
+pub started : (story : Option (List Happening)) (faults : ℕ) (moments : Option (List ℕ)) (old new : Drawing) (taken : Option (List ℕ)) (files : FilesTold) (seed : List ℕ) (boot : ℕ) →
     new.seed ≡ seed → new.boot ≡ boot → new.drawn ≡ [] →
-    Opens seed boot (record { story = story; link_faults = faults; moments = moments; drawing = old; taken = taken; written = None }) (record { story = story; link_faults = faults; moments = moments; drawing = new; taken = taken; written = None }) []
-started story faults moments old new taken seed boot seed_is boot_is drawn =
-    record { seed_is = seed_is; boot_is = boot_is; none_drawn = drawn; story = Appends-nothing story; link_faults = refl; moments = refl; taken = refl; written = refl }
+    Opens seed boot (record { story = story; link_faults = faults; moments = moments; drawing = old; taken = taken; files = files }) (record { story = story; link_faults = faults; moments = moments; drawing = new; taken = taken; files = files }) []
+started story faults moments old new taken files seed boot seed_is boot_is drawn =
+    record { seed_is = seed_is; boot_is = boot_is; none_drawn = drawn; story = Appends-nothing story; link_faults = refl; moments = refl; taken = refl; files = refl }
 
 -- ---- what a run shows, from the first actions on
 
@@ -66,13 +67,13 @@ left_is opened middle ended draws none first all =
     sym first.left ∙ all.left ∙ ap (λ (d : List (List ℕ)). d ++ ended.left) (sym drawn)
 
 told_by : (plan : ClientPlan) (seed : List ℕ) (boot : ℕ) (before opened middle ran ended : Sight) (happened : List Happening) (steps : List Step) (last : RunState State)
-    (later : List Happening) (moments_later : List ℕ) (drawn_later : List (List ℕ)) (put put2 put3 : List ℕ) →
-    Opens seed boot before opened [] → Performs [] (first_actions plan) happened → Shows opened middle happened [] [] put →
-    AreSteps client_machine (run_state_at (client_that_dials plan) (made_events happened) middle) steps last → Shows middle ran (story_of steps) (moments_of steps) (drawn_of steps) put2 →
-    Shows ran ended later moments_later drawn_later put3 → Told plan before ended steps last later moments_later
-told_by plan seed boot before opened middle ran ended happened steps last later moments_later drawn_later put put2 put3 opens performs first are run more =
-    let rest = Shows-trans middle ran ended (story_of steps) later (moments_of steps) moments_later (drawn_of steps) drawn_later put2 put3 run more in
-    let all = Shows-trans opened middle ended happened (story_of steps ++ later) [] (moments_of steps ++ moments_later) [] (drawn_of steps ++ drawn_later) put (put2 ++ put3) first rest in
+    (later : List Happening) (moments_later : List ℕ) (drawn_later : List (List ℕ)) (put put2 put3 : List ℕ) (writes writes2 writes3 : List Write) →
+    Opens seed boot before opened [] → Performs [] (first_actions plan) happened → Shows opened middle happened [] [] put writes →
+    AreSteps client_machine (run_state_at (client_that_dials plan) (made_events happened) middle) steps last → Shows middle ran (story_of steps) (moments_of steps) (drawn_of steps) put2 writes2 →
+    Shows ran ended later moments_later drawn_later put3 writes3 → Told plan before ended steps last later moments_later
+told_by plan seed boot before opened middle ran ended happened steps last later moments_later drawn_later put put2 put3 writes writes2 writes3 opens performs first are run more =
+    let rest = Shows-trans middle ran ended (story_of steps) later (moments_of steps) moments_later (drawn_of steps) drawn_later put2 put3 writes2 writes3 run more in
+    let all = Shows-trans opened middle ended happened (story_of steps ++ later) [] (moments_of steps ++ moments_later) [] (drawn_of steps ++ drawn_later) put (put2 ++ put3) writes (writes2 ++ writes3) first rest in
     let left = left_is opened.drawing middle.drawing ended.drawing (drawn_of steps ++ drawn_later) opens.none_drawn first.drawing all.drawing in
     record {
       happened = happened;
@@ -140,7 +141,7 @@ concluded : (plan : ClientPlan) (seed : List ℕ) (boot : ℕ) (before opened af
     Told plan before after ends.run.run.ran.steps (end_at ends.last ends.run.run.left) ends.run.run.stop []
 concluded plan seed boot before opened after exit opens ends =
     subst (λ (s : Sight). Told plan before s ends.run.run.ran.steps (end_at ends.last ends.run.run.left) ends.run.run.stop []) (sym ends.only)
-    (let told = told_by plan seed boot before opened ends.run.middle ends.run.run.middle ends.ended ends.run.happened ends.run.run.ran.steps (end_at ends.last ends.run.run.left) ends.run.run.stop [] [] _ _ [] opens
+    (let told = told_by plan seed boot before opened ends.run.middle ends.run.run.middle ends.ended ends.run.happened ends.run.run.ran.steps (end_at ends.last ends.run.run.left) ends.run.run.stop [] [] _ _ [] _ _ [] opens
     ends.run.performs ends.run.shows ends.run.run.ran.are ends.run.run.ran.shows ends.run.run.shows in
     record { happened = told.happened; performs = told.performs; are = told.are; story = told.story; moments = told.moments })
 
@@ -154,14 +155,14 @@ record Spends (plan : ClientPlan) (before after : Sight) : Type 0 where
   spent : (step_of last.state step.event step.moment last.left).answer ≡ Err refusals.Spent
 
 spends : (plan : ClientPlan) (seed : List ℕ) (boot : ℕ) (before opened after : Sight) → Opens seed boot before opened [] →
-    BegunUntil client_machine (first_actions plan) (client_that_dials plan) most_answers opened after halts.Spent → Spends plan before after
+    BegunUntil client_machine None (first_actions plan) (client_that_dials plan) most_answers opened after halts.Spent → Spends plan before after
 spends plan seed boot before opened after opens (inl cut) = absurd cut.0
 spends plan seed boot before opened after opens (inr half) = record {
   steps = half.run.ran.steps;
   last = half.run.last;
   step = half.run.step;
   waiting = half.run.begins.waiting;
-  told = told_by plan seed boot before opened half.middle half.run.middle after half.happened half.run.ran.steps half.run.last (step_story half.run.step) (half.run.step.moment ∷ []) half.run.step.drawn _ _ _ opens
+  told = told_by plan seed boot before opened half.middle half.run.middle after half.happened half.run.ran.steps half.run.last (step_story half.run.step) (half.run.step.moment ∷ []) half.run.step.drawn _ _ _ _ _ _ opens
       half.performs half.shows half.run.ran.are half.run.ran.shows half.run.shows;
   chooses = half.run.begins.chooses;
   spent = half.run.begins.breaks.0;
@@ -176,12 +177,12 @@ record AsksStill (plan : ClientPlan) (before after : Sight) : Type 0 where
   open_still : client_machine.is_over last.state ≡ false
 
 asks_still : (plan : ClientPlan) (seed : List ℕ) (boot : ℕ) (before opened after : Sight) → Opens seed boot before opened [] →
-    BegunUntil client_machine (first_actions plan) (client_that_dials plan) most_answers opened after halts.PortFault → AsksStill plan before after
+    BegunUntil client_machine None (first_actions plan) (client_that_dials plan) most_answers opened after halts.PortFault → AsksStill plan before after
 asks_still plan seed boot before opened after opens (inl cut) = absurd cut.0
 asks_still plan seed boot before opened after opens (inr half) = record {
   steps = half.run.ran.steps;
   last = half.run.last;
-  told = told_by plan seed boot before opened half.middle after after half.happened half.run.ran.steps half.run.last [] [] [] _ _ _ opens
+  told = told_by plan seed boot before opened half.middle after after half.happened half.run.ran.steps half.run.last [] [] [] _ _ _ _ _ _ opens
       half.performs half.shows half.run.ran.are half.run.ran.shows (Shows-none after);
   more = subst (λ (n : ℕ). n < most_answers) half.run.ran.count half.run.more;
   open_still = half.run.open_still;
@@ -200,14 +201,20 @@ asks_not_closed steps others state left last stop start are others_are story sam
 asks_not_closed steps others state left last stop start are others_are story same none more open_still (inr (inr stopped)) =
     let wrong : [] ≡ happening.Given event.Stop (client_machine.want state) ∷ [] = none ∙ stopped.2 in cc
 
+-- a client keeps nothing, so that no write fails
+never_file : (plan : ClientPlan) (opened after : Sight) → BegunUntil client_machine None (first_actions plan) (client_that_dials plan) most_answers opened after halts.FileFault → ⊥
+never_file plan opened after (inl cut) = let is = cut.1.loses.name_is in cc
+never_file plan opened after (inr half) = let is = half.run.begins.loses.name_is in cc
+
 outcome_by : (plan : ClientPlan) (seed : List ℕ) (boot : ℕ) (before opened after : Sight) (exit : Exit) (outcome : Option ClientOutcome) → Opens seed boot before opened [] → ComesTo plan before after outcome →
-    (halt : Halt) → exit ≡ halt_exit halt → BegunUntil client_machine (first_actions plan) (client_that_dials plan) most_answers opened after halt → (exit ≡ outcome_exit outcome) ⊎ IsExcuse exit
+    (halt : Halt) → exit ≡ halt_exit halt → BegunUntil client_machine None (first_actions plan) (client_that_dials plan) most_answers opened after halt → (exit ≡ outcome_exit outcome) ⊎ IsExcuse exit
 outcome_by plan seed boot before opened after exit outcome opens comes halts.PortFault is run =
     let asks = asks_still plan seed boot before opened after opens run in
     let same = compare plan before after asks.steps comes.steps asks.last (end_at comes.state comes.left) [] comes.stop [] [] asks.told comes.tells in
     let whole = both_whole client_machine (start_of plan same.happened after.drawing) asks.last (end_at comes.state comes.left) asks.steps comes.steps [] comes.stop same.are same.others_are
     same.story (append_cancel_right (moments_of asks.steps) (moments_of comes.steps) [] same.moments) in
     absurd (asks_not_closed asks.steps comes.steps comes.state comes.left asks.last comes.stop (start_of plan same.happened after.drawing) same.are same.others_are same.story whole.0 whole.1 asks.more asks.open_still comes.closes)
+outcome_by plan seed boot before opened after exit outcome opens comes halts.FileFault is run = absurd (never_file plan opened after run)
 outcome_by plan seed boot before opened after exit outcome opens comes halts.SinkFault is run = inr (subst IsExcuse (sym is) tt)
 outcome_by plan seed boot before opened after exit outcome opens comes halts.NoMemory is run = inr (subst IsExcuse (sym is) tt)
 outcome_by plan seed boot before opened after exit outcome opens comes halts.Spent is run =
@@ -248,10 +255,11 @@ spent_not_told plan before after steps last stop told comes =
     same.others_are (quiet_chooses comes.last.state comes.last.queue comes.step comes.waiting comes.chooses) comes.spent same.are story (sym same.moments ∙ append-nil (moments_of steps))
 
 spent_by : (plan : ClientPlan) (seed : List ℕ) (boot : ℕ) (before opened after : Sight) (exit : Exit) → Opens seed boot before opened [] → ComesToSpent plan before after →
-    (halt : Halt) → exit ≡ halt_exit halt → BegunUntil client_machine (first_actions plan) (client_that_dials plan) most_answers opened after halt → (exit ≡ Spent) ⊎ IsExcuse exit
+    (halt : Halt) → exit ≡ halt_exit halt → BegunUntil client_machine None (first_actions plan) (client_that_dials plan) most_answers opened after halt → (exit ≡ Spent) ⊎ IsExcuse exit
 spent_by plan seed boot before opened after exit opens comes halts.PortFault is run =
     let asks = asks_still plan seed boot before opened after opens run in
     absurd (spent_not_told plan before after asks.steps asks.last [] asks.told comes)
+spent_by plan seed boot before opened after exit opens comes halts.FileFault is run = absurd (never_file plan opened after run)
 spent_by plan seed boot before opened after exit opens comes halts.SinkFault is run = inr (subst IsExcuse (sym is) tt)
 spent_by plan seed boot before opened after exit opens comes halts.NoMemory is run = inr (subst IsExcuse (sym is) tt)
 spent_by plan seed boot before opened after exit opens comes halts.Spent is run = inl is
@@ -296,40 +304,42 @@ no_front (x ∷ part) more is = absurd cc
 no_part : (part more : List ℕ) (rest : List Action) → part ++ more ≡ next_line (puts client_machine) rest → part ≡ []
 no_part part more rest front = no_front part more (front ∙ no_next rest)
 
-quiet : (before after : Sight) (happened : List Happening) (given : List ℕ) (drawn : List (List ℕ)) (put : List ℕ) → put ≡ [] → Shows before after happened given drawn put → Appends before.taken after.taken []
-quiet before after happened given drawn put none shows = subst (λ (p : List ℕ). Appends before.taken after.taken p) none shows.taken
+quiet : (before after : Sight) (happened : List Happening) (given : List ℕ) (drawn : List (List ℕ)) (put : List ℕ) (writes : List Write) → put ≡ [] → Shows before after happened given drawn put writes → Appends before.taken after.taken []
+quiet before after happened given drawn put writes none shows = subst (λ (p : List ℕ). Appends before.taken after.taken p) none shows.taken
 
 joined : (first second third : Option (List ℕ)) → Appends first second [] → Appends second third [] → Appends first third []
 joined first second third one other = Appends-trans first second third [] [] one other
 
-into_quiet : (start : RunState State) (most : ℕ) (before after : Sight) (halt : Halt) → RanInto client_machine start most before after halt → Appends before.taken after.taken []
+into_quiet : (start : RunState State) (most : ℕ) (before after : Sight) (halt : Halt) → RanInto client_machine None start most before after halt → Appends before.taken after.taken []
 into_quiet start most before after halt into =
-    joined before.taken into.middle.taken after.taken (quiet before into.middle _ _ _ _ (no_run_lines into.ran.steps) into.ran.shows)
-    (quiet into.middle after _ _ _ _ (ap (λ (l : List ℕ). l ++ into.part) (no_lines into.step.actions) ∙ no_part into.part into.begins.more into.begins.rest into.begins.front) into.shows)
+    joined before.taken into.middle.taken after.taken (quiet before into.middle _ _ _ _ _ (no_run_lines into.ran.steps) into.ran.shows)
+    (quiet into.middle after _ _ _ _ _ (ap (λ (l : List ℕ). l ++ into.part) (no_lines into.step.actions) ∙ no_part into.part into.begins.more into.begins.rest into.begins.front) into.shows)
 
-halts_quiet : (start : RunState State) (most : ℕ) (before after : Sight) (halt : Halt) → Halts client_machine start most before after halt → Appends before.taken after.taken []
-halts_quiet start most before after halts.PortFault run = quiet before after _ _ _ _ (no_run_lines run.ran.steps) run.ran.shows
+halts_quiet : (start : RunState State) (most : ℕ) (before after : Sight) (halt : Halt) → Halts client_machine None start most before after halt → Appends before.taken after.taken []
+halts_quiet start most before after halts.PortFault run = quiet before after _ _ _ _ _ (no_run_lines run.ran.steps) run.ran.shows
+halts_quiet start most before after halts.FileFault run = into_quiet start most before after halts.FileFault run
 halts_quiet start most before after halts.SinkFault run = into_quiet start most before after halts.SinkFault run
-halts_quiet start most before after halts.NoMemory (inl run) = quiet before after _ _ _ _ (no_run_lines run.ran.steps) run.ran.shows
+halts_quiet start most before after halts.NoMemory (inl run) = quiet before after _ _ _ _ _ (no_run_lines run.ran.steps) run.ran.shows
 halts_quiet start most before after halts.NoMemory (inr run) = into_quiet start most before after halts.NoMemory run
 halts_quiet start most before after halts.Spent run = into_quiet start most before after halts.Spent run
 
-until_quiet : (first : List Action) (old : State) (most : ℕ) (before after : Sight) (halt : Halt) → BegunUntil client_machine first old most before after halt → Appends before.taken after.taken []
+until_quiet : (first : List Action) (old : State) (most : ℕ) (before after : Sight) (halt : Halt) → BegunUntil client_machine None first old most before after halt → Appends before.taken after.taken []
 until_quiet first old most before after halt (inl cut) =
-    quiet before after _ _ _ _ (ap (λ (l : List ℕ). l ++ cut.1.part) (no_lines cut.1.done) ∙ no_part cut.1.part cut.1.more cut.1.rest cut.1.front) cut.1.shows
+    quiet before after _ _ _ _ _ (ap (λ (l : List ℕ). l ++ cut.1.part) (no_lines cut.1.done) ∙ no_part cut.1.part cut.1.more cut.1.rest cut.1.front) cut.1.shows
 until_quiet first old most before after halt (inr half) =
-    joined before.taken half.middle.taken after.taken (quiet before half.middle _ _ _ _ (no_lines first) half.shows) (halts_quiet _ most half.middle after halt half.run)
+    joined before.taken half.middle.taken after.taken (quiet before half.middle _ _ _ _ _ (no_lines first) half.shows) (halts_quiet _ most half.middle after halt half.run)
 
-begun_quiet : (first : List Action) (old new : State) (most : ℕ) (before after : Sight) → Begun client_machine first old new most before after → Appends before.taken after.taken []
+begun_quiet : (first : List Action) (old new : State) (most : ℕ) (before after : Sight) → Begun client_machine None first old new most before after → Appends before.taken after.taken []
 begun_quiet first old new most before after begun =
-    joined before.taken begun.middle.taken after.taken (quiet before begun.middle _ _ _ _ (no_lines first) begun.shows)
-    (joined begun.middle.taken begun.run.middle.taken after.taken (quiet begun.middle begun.run.middle _ _ _ _ (no_run_lines begun.run.ran.steps) begun.run.ran.shows) (quiet begun.run.middle after _ _ _ _ refl begun.run.shows))
+    joined before.taken begun.middle.taken after.taken (quiet before begun.middle _ _ _ _ _ (no_lines first) begun.shows)
+    (joined begun.middle.taken begun.run.middle.taken after.taken (quiet begun.middle begun.run.middle _ _ _ _ _ (no_run_lines begun.run.ran.steps) begun.run.ran.shows) (quiet begun.run.middle after _ _ _ _ _ refl begun.run.shows))
 
 nothing_front : (before now : Option (List ℕ)) (items : List ℕ) → Appends before now [] → AppendsFront before now items
 nothing_front before now items none = AppendsFront-append before now [] items none
 
 halt_puts : (halt : Halt) (exit : Exit) (before now : Option (List ℕ)) → exit ≡ halt_exit halt → Appends before now [] → Puts exit before now
 halt_puts halts.PortFault exit before now is none = subst (λ (e : Exit). Puts e before now) (sym is) none
+halt_puts halts.FileFault exit before now is none = subst (λ (e : Exit). Puts e before now) (sym is) none
 halt_puts halts.SinkFault exit before now is none = subst (λ (e : Exit). Puts e before now) (sym is) ([], 0, nothing_front before now (in_lines [] 0) none)
 halt_puts halts.NoMemory exit before now is none = subst (λ (e : Exit). Puts e before now) (sym is) none
 halt_puts halts.Spent exit before now is none = subst (λ (e : Exit). Puts e before now) (sym is) none
@@ -404,8 +414,9 @@ puts_law plan seed boot before after exit logon =
 -- ---- what an exit shows of the run
 
 halt_comes : (plan : ClientPlan) (seed : List ℕ) (boot : ℕ) (before opened after : Sight) (halt : Halt) (exit : Exit) → Opens seed boot before opened [] → exit ≡ halt_exit halt →
-    BegunUntil client_machine (first_actions plan) (client_that_dials plan) most_answers opened after halt → ComesBy exit plan seed boot before after
+    BegunUntil client_machine None (first_actions plan) (client_that_dials plan) most_answers opened after halt → ComesBy exit plan seed boot before after
 halt_comes plan seed boot before opened after halts.PortFault exit opens is run = subst (λ (e : Exit). ComesBy e plan seed boot before after) (sym is) (record { opened = opened; opens = opens; run = run })
+halt_comes plan seed boot before opened after halts.FileFault exit opens is run = subst (λ (e : Exit). ComesBy e plan seed boot before after) (sym is) tt
 halt_comes plan seed boot before opened after halts.SinkFault exit opens is run = subst (λ (e : Exit). ComesBy e plan seed boot before after) (sym is) tt
 halt_comes plan seed boot before opened after halts.NoMemory exit opens is run = subst (λ (e : Exit). ComesBy e plan seed boot before after) (sym is) tt
 halt_comes plan seed boot before opened after halts.Spent exit opens is run = subst (λ (e : Exit). ComesBy e plan seed boot before after) (sym is) (record { opened = opened; opens = opens; run = run })
@@ -505,6 +516,7 @@ fails_by (Some (outcomes.BadPeer fault)) is = absurd cc
 
 never_dial : (halt : Halt) → NoAnswer DialFailed ≡ halt_exit halt → ⊥
 never_dial halts.PortFault is = absurd cc
+never_dial halts.FileFault is = absurd cc
 never_dial halts.SinkFault is = absurd cc
 never_dial halts.NoMemory is = absurd cc
 never_dial halts.Spent is = absurd cc
@@ -548,6 +560,7 @@ closed_by (Some (outcomes.BadPeer fault)) is = absurd cc
 
 never_closed : (halt : Halt) → NoAnswer LinkClosed ≡ halt_exit halt → ⊥
 never_closed halts.PortFault is = absurd cc
+never_closed halts.FileFault is = absurd cc
 never_closed halts.SinkFault is = absurd cc
 never_closed halts.NoMemory is = absurd cc
 never_closed halts.Spent is = absurd cc
@@ -576,7 +589,7 @@ closed_law plan seed boot before after exit logon is =
 -- ---- a port that failed
 
 gives_fewer : (plan : ClientPlan) (seed : List ℕ) (boot : ℕ) (before opened after : Sight) → Opens seed boot before opened [] →
-    BegunUntil client_machine (first_actions plan) (client_that_dials plan) most_answers opened after halts.PortFault → GivesFewer most_answers before after
+    BegunUntil client_machine None (first_actions plan) (client_that_dials plan) most_answers opened after halts.PortFault → GivesFewer most_answers before after
 gives_fewer plan seed boot before opened after opens (inl cut) = absurd cut.0
 gives_fewer plan seed boot before opened after opens (inr half) =
     let story = story_of half.run.ran.steps in
@@ -597,11 +610,12 @@ port_law plan seed boot before after exit logon is =
 
 -- ---- the exits of a client
 
-halt_is : (halt : Halt) → IsOfClients (halt_exit halt)
-halt_is halts.PortFault = tt
-halt_is halts.SinkFault = tt
-halt_is halts.NoMemory = tt
-halt_is halts.Spent = tt
+halt_is : (plan : ClientPlan) (opened after : Sight) (halt : Halt) → BegunUntil client_machine None (first_actions plan) (client_that_dials plan) most_answers opened after halt → IsOfClients (halt_exit halt)
+halt_is plan opened after halts.PortFault run = tt
+halt_is plan opened after halts.FileFault run = never_file plan opened after run
+halt_is plan opened after halts.SinkFault run = tt
+halt_is plan opened after halts.NoMemory run = tt
+halt_is plan opened after halts.Spent run = tt
 
 outcome_exit_is : (outcome : Option ClientOutcome) → IsOfClients (outcome_exit outcome)
 outcome_exit_is None = tt
@@ -633,7 +647,7 @@ exits_law plan seed boot before after exit logon =
     elim logon.ends [
       | inl none ↦ subst IsOfClients (sym none.0) tt
       | inr begun ↦ elim begun [
-        | inl breaks ↦ subst IsOfClients (sym breaks.exit_is) (halt_is breaks.halt)
+        | inl breaks ↦ subst IsOfClients (sym breaks.exit_is) (halt_is plan logon.opened after breaks.halt breaks.run)
         | inr ends ↦ either_is ends.last.outcome exit (says_exit ends.last.outcome ends.ended.taken after.taken exit ends.says)
       ]
     ]

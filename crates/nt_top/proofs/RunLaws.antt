@@ -1,7 +1,6 @@
 -- What the top call does and comes to (`Runs`), where the words ask for a service or a command.
 use Rattle.std.proofs.Common.{◌≡◌, ◌≢◌, ◌≤◌, ℕ, Bool, true, false, List, [], Option, Some, None, IfSome, Result, Ok, Err, refl, sym, ap, subst, ◌∙◌, arith}
 use Rattle.outside.specs.Causes.{Rose}
-use Rattle.outside.specs.Telling.{Appends}
 use Rattle.outside.proofs.TellingLaws.{Appends-nothing}
 use Rattle.wire_base.specs.Memory.{UpToMemory}
 use Rattle.logon_client.specs.declared.outcome.NoAnswerCause.{NoAnswerCause}
@@ -24,6 +23,7 @@ use Rattle.nt_top.specs.Drill.{AskedDrill, IsProvedDrill}
 use Rattle.nt_top.specs.Ends.{Ends}
 use Rattle.nt_top.specs.Runs.{Acts, Meanings, Outside, Runs, outside_of, put_in, shelf_in, sight_in}
 use Rattle.nt_top.specs.Service.{ActsByWords, ServiceReads, ServiceRuns, uses_port}
+use Rattle.nt_top.specs.Writes.{WritesInto, file_of_job, file_of_service}
 use Rattle.nt_top.proofs.EndLaws.{accepted_ends, refused_ends, shown_ends, drilled_ends, done_is, refused_is, bad_words_come, words_only, bad_input_comes, input_only, others, fault_rose, work_done}
 use Rattle.nt_top.proofs.JobLaws.{acts_by_words, service_uses_port}
 use Rattle.nt_top.proofs.ServeLaws.{dial_fault, files_come, files_only, link_lost, not_accepted, not_drilled, not_input, not_of_form, not_rejected, not_shown, serve_done, words_come, words_only_by}
@@ -54,7 +54,7 @@ pub service_acts : {P F S C Q : Type 0} (m : Meanings P F S C Q) (role : Role) (
     came ≡ Ok (jobs.Service service) → UpToMemory refusals.Memory came (job_of role words) → IfSome (job_at_once role words) (λ due. came ≡ due) →
     ServiceReads service (shelf_in m old) (shelf_in m new) (sight_in m old) (sight_in m new) exit →
     (exit ≡ FileFault → Rose (m.file_faults old.files) (m.file_faults new.files)) → (exit ≡ PortFault → Rose (m.port_faults old.port) (m.port_faults new.port)) →
-    (exit ≡ SinkFault → Rose (m.sink_faults old.out) (m.sink_faults new.out)) → Appends (m.writes old.files) (m.writes new.files) [] →
+    (exit ≡ SinkFault → Rose (m.sink_faults old.out) (m.sink_faults new.out)) → WritesInto (file_of_service service) (m.writes old.files) (m.writes new.files) →
     m.sink_faults old.out ≤ m.sink_faults new.out → m.file_faults old.files ≤ m.file_faults new.files → m.port_faults old.port ≤ m.port_faults new.port →
     m.link_faults old.port ≤ m.link_faults new.port → Acts m role words old new exit
 service_acts m role words came service old new exit is up seen reads file_cause port_cause sink_cause writes sink files port links =
@@ -74,7 +74,7 @@ service_acts m role words came service old new exit is up seen reads file_cause 
       files = λ other. absurd (not_both (uses_port role words) uses other);
       clock = λ other. absurd (not_both (uses_port role words) uses other);
       chances = λ other. absurd (not_both (uses_port role words) uses other);
-      writes = writes;
+      writes = subst (λ (j : Result Job WordsRefused). WritesInto (file_of_job j) (m.writes old.files) (m.writes new.files)) (sym asked) writes;
       faults = sink;
       file_faults = files;
       port_faults = port;
@@ -113,7 +113,7 @@ command_acts m role words came command port files out after clock chances exit i
       files = λ by. refl;
       clock = λ by. refl;
       chances = λ by. refl;
-      writes = Appends-nothing (m.writes files);
+      writes = record { writes = []; told = Appends-nothing (m.writes files); into = tt };
       faults = sink;
       file_faults = same_count (m.file_faults files);
       port_faults = same_count (m.port_faults port);

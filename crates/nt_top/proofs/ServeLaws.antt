@@ -1,5 +1,5 @@
 -- A command that serves, by the results of its parts.
-use Rattle.std.proofs.Common.{◌≡◌, inl, inr, ℕ, true, false, List, ◌∷◌, codes, Some, IfSome, Result, Ok, Err, OnOk, IfErr, refl, sym, ap, subst, ◌∙◌}
+use Rattle.std.proofs.Common.{◌≡◌, inl, inr, ℕ, true, false, List, ◌∷◌, codes, Option, Some, IfSome, Result, Ok, Err, OnOk, IfErr, refl, sym, ap, subst, ◌∙◌}
 use Rattle.outside.specs.Causes.{Rose}
 use Rattle.outside.specs.Machine.{Machine}
 use Rattle.end_loop.specs.Seen.{Sight}
@@ -32,44 +32,46 @@ use Rattle.nt_top.specs.Show.{AskedShown}
 use Rattle.nt_top.specs.Refusals.{files_exit, words_exit}
 use Rattle.nt_top.specs.Serve.{IsServed, MayServe, ServesTo, halt_exit, service_exit}
 use Rattle.nt_top.specs.Logon.{plan_of}
-use Rattle.nt_top.specs.LogonExits.{IsAnswered, IsOfClients, LosesLink}
-use Rattle.nt_top.specs.Service.{IsBadOfFiles, IsOfContents, IsServedBy, IsServiceOfForm, ServiceAsked, ServiceBy, ServiceFollows, ServiceRuns, uses_port}
+use Rattle.nt_top.specs.LogonExits.{IsAnswered, IsOfClients, LosesLink, Gone, SendFailed, Stopped, TookAll}
+use Rattle.nt_top.specs.Service.{IsBadOfFiles, IsOfContents, IsServedBy, IsServiceOfForm, ServiceAsked, ServiceBy, ServiceFollows, ServiceRuns, files_on, uses_port}
 use Rattle.nt_top.proofs.JobLaws.{acts_by_words}
 use Rattle.nt_top.proofs.LogonLaws.{logon_laws}
 
-halt_serves : {S : Type 0} (machine : Machine S) (old : S) (address seed : List ℕ) (boot most : ℕ) (before after : Sight) (halt : Halt) →
-    ServedUntil machine old address seed boot most before after halt → ServesTo machine old address seed boot most before after (halt_exit halt)
-halt_serves machine old address seed boot most before after halts.PortFault is = is
-halt_serves machine old address seed boot most before after halts.SinkFault is = is
-halt_serves machine old address seed boot most before after halts.NoMemory is = is
-halt_serves machine old address seed boot most before after halts.Spent is = is
+halt_serves : {S : Type 0} (machine : Machine S) (file : Option (List ℕ)) (old : S) (address seed : List ℕ) (boot most : ℕ) (before after : Sight) (halt : Halt) →
+    ServedUntil machine file old address seed boot most before after halt → ServesTo machine file old address seed boot most before after (halt_exit halt)
+halt_serves machine file old address seed boot most before after halts.PortFault is = is
+halt_serves machine file old address seed boot most before after halts.FileFault is = is
+halt_serves machine file old address seed boot most before after halts.SinkFault is = is
+halt_serves machine file old address seed boot most before after halts.NoMemory is = is
+halt_serves machine file old address seed boot most before after halts.Spent is = is
 
-result_serves : {T S : Type 0} (machine : Machine S) (old new : S) (address seed : List ℕ) (boot most : ℕ) (before after : Sight) (r : Result T Halt) →
-    OnOk r (Served machine old new address seed boot most before after) →
-    IfErr r (λ halt. ServedUntil machine old address seed boot most before after halt) →
-    ServesTo machine old address seed boot most before after (service_exit r)
-result_serves machine old new address seed boot most before after (Ok x) served halted = (new, served)
-result_serves machine old new address seed boot most before after (Err halt) served halted =
-    halt_serves machine old address seed boot most before after halt halted
+result_serves : {T S : Type 0} (machine : Machine S) (file : Option (List ℕ)) (old new : S) (address seed : List ℕ) (boot most : ℕ) (before after : Sight) (r : Result T Halt) →
+    OnOk r (Served machine file old new address seed boot most before after) →
+    IfErr r (λ halt. ServedUntil machine file old address seed boot most before after halt) →
+    ServesTo machine file old address seed boot most before after (service_exit r)
+result_serves machine file old new address seed boot most before after (Ok x) served halted = (new, served)
+result_serves machine file old new address seed boot most before after (Err halt) served halted =
+    halt_serves machine file old address seed boot most before after halt halted
 
-pub service_serves : {T S : Type 0} (machine : Machine S) (old new : S) (address seed : List ℕ) (boot most : ℕ) (before after : Sight) (r : Result T Halt) (exit : Exit) →
-    exit ≡ service_exit r → OnOk r (Served machine old new address seed boot most before after) →
-    IfErr r (λ halt. ServedUntil machine old address seed boot most before after halt) →
-    ServesTo machine old address seed boot most before after exit
-service_serves machine old new address seed boot most before after r exit is served halted =
-    subst (λ e. ServesTo machine old address seed boot most before after e) (sym is)
-    (result_serves machine old new address seed boot most before after r served halted)
+pub service_serves : {T S : Type 0} (machine : Machine S) (file : Option (List ℕ)) (old new : S) (address seed : List ℕ) (boot most : ℕ) (before after : Sight) (r : Result T Halt) (exit : Exit) →
+    exit ≡ service_exit r → OnOk r (Served machine file old new address seed boot most before after) →
+    IfErr r (λ halt. ServedUntil machine file old address seed boot most before after halt) →
+    ServesTo machine file old address seed boot most before after exit
+service_serves machine file old new address seed boot most before after r exit is served halted =
+    subst (λ e. ServesTo machine file old address seed boot most before after e) (sym is)
+    (result_serves machine file old new address seed boot most before after r served halted)
 
 -- the same service, said of equal parts
-pub same_service : {S : Type 0} (machine : Machine S) (old other : S) (address place seed key : List ℕ) (boot number most events : ℕ) (before after : Sight) (exit : Exit) →
-    old ≡ other → address ≡ place → seed ≡ key → boot ≡ number → most ≡ events →
-    ServesTo machine old address seed boot most before after exit → ServesTo machine other place key number events before after exit
-same_service machine old other address place seed key boot number most events before after exit p q r x y serves =
-    subst (λ z. ServesTo machine z place key number events before after exit) p
-    (subst (λ z. ServesTo machine old z key number events before after exit) q
-    (subst (λ z. ServesTo machine old address z number events before after exit) r
-    (subst (λ z. ServesTo machine old address seed z events before after exit) x
-    (subst (λ z. ServesTo machine old address seed boot z before after exit) y serves))))
+pub same_service : {S : Type 0} (machine : Machine S) (file named : Option (List ℕ)) (old other : S) (address place seed key : List ℕ) (boot number most events : ℕ) (before after : Sight) (exit : Exit) →
+    file ≡ named → old ≡ other → address ≡ place → seed ≡ key → boot ≡ number → most ≡ events →
+    ServesTo machine file old address seed boot most before after exit → ServesTo machine named other place key number events before after exit
+same_service machine file named old other address place seed key boot number most events before after exit f p q r x y serves =
+    subst (λ z. ServesTo machine z other place key number events before after exit) f
+    (subst (λ z. ServesTo machine file z place key number events before after exit) p
+    (subst (λ z. ServesTo machine file old z key number events before after exit) q
+    (subst (λ z. ServesTo machine file old address z number events before after exit) r
+    (subst (λ z. ServesTo machine file old address seed z events before after exit) x
+    (subst (λ z. ServesTo machine file old address seed boot z before after exit) y serves)))))
 
 -- what follows the files, by their result
 pub follows_ok : (read : Result Setup FilesRefused) (setup : Setup) (before after : Sight) (exit : Exit) →
@@ -137,39 +139,38 @@ files_no_words (files.BadTable cause) number e = cc
 files_no_words (files.BadInput other) number e = cc
 files_no_words files.NoMemory number e = cc
 
--- an exit that only words and files have
+-- an exit that only words and what files hold have
 abbrev IsOfInputs : Exit → Type 0
 IsOfInputs (exits.BadWords number) = Unit {0}
-IsOfInputs exits.FileFault = Unit {0}
 IsOfInputs (exits.BadTable cause) = Unit {0}
 IsOfInputs (exits.BadInput number) = Unit {0}
 IsOfInputs _ = ⊥
 
-serves_inputs : {S : Type 0} (machine : Machine S) (old : S) (address seed : List ℕ) (boot most : ℕ) (before after : Sight) (exit : Exit) →
-    IsOfInputs exit → ServesTo machine old address seed boot most before after exit → ⊥
-serves_inputs machine old address seed boot most before after exits.Done is serves = is
-serves_inputs machine old address seed boot most before after (exits.Refused cause) is serves = is
-serves_inputs machine old address seed boot most before after (exits.BadWords number) is serves = serves
-serves_inputs machine old address seed boot most before after exits.FileFault is serves = serves
-serves_inputs machine old address seed boot most before after (exits.BadTable cause) is serves = serves
-serves_inputs machine old address seed boot most before after (exits.BadInput number) is serves = serves
-serves_inputs machine old address seed boot most before after exits.PortFault is serves = is
-serves_inputs machine old address seed boot most before after exits.SinkFault is serves = is
-serves_inputs machine old address seed boot most before after exits.NoMemory is serves = is
-serves_inputs machine old address seed boot most before after (exits.NoAnswer cause) is serves = is
-serves_inputs machine old address seed boot most before after (exits.BadPeer fault) is serves = is
-serves_inputs machine old address seed boot most before after exits.Spent is serves = is
+serves_inputs : {S : Type 0} (machine : Machine S) (file : Option (List ℕ)) (old : S) (address seed : List ℕ) (boot most : ℕ) (before after : Sight) (exit : Exit) →
+    IsOfInputs exit → ServesTo machine file old address seed boot most before after exit → ⊥
+serves_inputs machine file old address seed boot most before after exits.Done is serves = is
+serves_inputs machine file old address seed boot most before after (exits.Refused cause) is serves = is
+serves_inputs machine file old address seed boot most before after (exits.BadWords number) is serves = serves
+serves_inputs machine file old address seed boot most before after exits.FileFault is serves = is
+serves_inputs machine file old address seed boot most before after (exits.BadTable cause) is serves = serves
+serves_inputs machine file old address seed boot most before after (exits.BadInput number) is serves = serves
+serves_inputs machine file old address seed boot most before after exits.PortFault is serves = is
+serves_inputs machine file old address seed boot most before after exits.SinkFault is serves = is
+serves_inputs machine file old address seed boot most before after exits.NoMemory is serves = is
+serves_inputs machine file old address seed boot most before after (exits.NoAnswer cause) is serves = is
+serves_inputs machine file old address seed boot most before after (exits.BadPeer fault) is serves = is
+serves_inputs machine file old address seed boot most before after exits.Spent is serves = is
 
-may_inputs : {S : Type 0} (machine : Machine S) (old : S) (address seed : List ℕ) (boot most : ℕ) (before after : Sight) (exit : Exit) →
-    IsOfInputs exit → MayServe machine old address seed boot most before after exit → ⊥
-may_inputs machine old address seed boot most before after exit is (inl left) = subst IsOfInputs left.0 is
-may_inputs machine old address seed boot most before after exit is (inr serves) = serves_inputs machine old address seed boot most before after exit is serves
+may_inputs : {S : Type 0} (machine : Machine S) (file : Option (List ℕ)) (old : S) (address seed : List ℕ) (boot most : ℕ) (before after : Sight) (exit : Exit) →
+    IsOfInputs exit → MayServe machine file old address seed boot most before after exit → ⊥
+may_inputs machine file old address seed boot most before after exit is (inl left) = subst IsOfInputs left.0 is
+may_inputs machine file old address seed boot most before after exit is (inr serves) = serves_inputs machine file old address seed boot most before after exit is serves
 
 client_inputs : (exit : Exit) → IsOfInputs exit → IsOfClients exit → ⊥
 client_inputs exits.Done is of = is
 client_inputs (exits.Refused cause) is of = is
 client_inputs (exits.BadWords number) is of = of
-client_inputs exits.FileFault is of = of
+client_inputs exits.FileFault is of = is
 client_inputs (exits.BadTable cause) is of = of
 client_inputs (exits.BadInput number) is of = of
 client_inputs exits.PortFault is of = is
@@ -180,8 +181,8 @@ client_inputs (exits.BadPeer fault) is of = is
 client_inputs exits.Spent is of = is
 
 by_inputs : (setup : Setup) (before after : Sight) (exit : Exit) → IsOfInputs exit → ServiceBy setup before after exit → ⊥
-by_inputs (setups.Controller job files) before after exit is serves = may_inputs _ _ _ _ _ _ before after exit is serves
-by_inputs (setups.Member job files) before after exit is serves = may_inputs _ _ _ _ _ _ before after exit is serves
+by_inputs (setups.Controller job files) before after exit is serves = may_inputs _ _ _ _ _ _ _ before after exit is serves
+by_inputs (setups.Member job files) before after exit is serves = may_inputs _ _ _ _ _ _ _ before after exit is serves
 by_inputs (setups.Logon job files) before after exit is ends = client_inputs exit is (logon_laws.exits (plan_of job files) files.seed job.boot before after exit ends)
 
 follows_no_words : (read : Result Setup FilesRefused) (before after : Sight) (number : ℕ) → ServiceFollows read before after (exits.BadWords number) → ⊥
@@ -191,7 +192,7 @@ follows_no_words (Ok setup) before after number serves = by_inputs setup before 
 only_by : (asked due : Result Job WordsRefused) (number : ℕ) (shelf shelf_after : Shelf) (before after : Sight) →
     UpToMemory Memory asked due → ServiceAsked asked shelf shelf_after before after (exits.BadWords number) → due ≡ Err (BadWords number)
 only_by (Ok (jobs.Command command)) due number shelf shelf_after before after is runs = absurd runs
-only_by (Ok (jobs.Service service)) due number shelf shelf_after before after is runs = absurd (follows_no_words runs.setup before after number runs.follows)
+only_by (Ok (jobs.Service service)) due number shelf shelf_after before after is runs = absurd (follows_no_words runs.setup _ after number runs.follows)
 only_by (Err refused) due number shelf shelf_after before after (inl memory) runs =
     let same = words_is refused number (sym runs.1.0) in absurd cc
 only_by (Err refused) due number shelf shelf_after before after (inr is) runs =
@@ -225,7 +226,7 @@ asked_files_come (Ok (jobs.Service other)) due service told refused shelf shelf_
     let same : other ≡ service = cc in
     let there = subst (λ z. IfSome z (λ contents. UpToFaults runs.setup (setup_due other contents))) tells runs.reads.exact in
     let due_is = subst (λ (z : Service). setup_due z told ≡ Err refused) (sym same) of in
-    files_come_by runs.setup (setup_due other told) refused before after exit due_is there file runs.follows
+    files_come_by runs.setup (setup_due other told) refused _ after exit due_is there file runs.follows
 
 -- files that are refused come to the exit of their refusal, where no read fails
 pub files_come : (role : Role) (words : List (List ℕ)) (refused : FilesRefused) (shelf shelf_after : Shelf) (before after : Sight) (exit : Exit) →
@@ -286,7 +287,7 @@ asked_only role words (Ok (jobs.Service service)) told refused shelf shelf_after
       job_is = up;
       told = told;
       told_is = tells;
-      due = follows_only runs.setup (setup_due service told) refused before after exit is e there runs.follows;
+      due = follows_only runs.setup (setup_due service told) refused _ after exit is e there runs.follows;
     }
 
 -- the exit of what a file holds comes only where files are refused so
@@ -298,25 +299,25 @@ files_only role words told refused shelf shelf_after before after exit uses runs
 
 -- ---- completeness
 
-service_served : {S : Type 0} (machine : Machine S) (old : S) (address seed : List ℕ) (boot most : ℕ) (before after : Sight) (exit : Exit) →
-    (exit ≡ exits.PortFault → ⊥) → (exit ≡ exits.SinkFault → ⊥) → ServesTo machine old address seed boot most before after exit → IsServed exit
-service_served machine old address seed boot most before after exits.Done port sink serves = _
-service_served machine old address seed boot most before after exits.Spent port sink serves = _
-service_served machine old address seed boot most before after exits.NoMemory port sink serves = _
-service_served machine old address seed boot most before after exits.PortFault port sink serves = absurd (port refl)
-service_served machine old address seed boot most before after exits.SinkFault port sink serves = absurd (sink refl)
-service_served machine old address seed boot most before after (exits.Refused cause) port sink serves = absurd serves
-service_served machine old address seed boot most before after (exits.BadWords number) port sink serves = absurd serves
-service_served machine old address seed boot most before after exits.FileFault port sink serves = absurd serves
-service_served machine old address seed boot most before after (exits.BadTable cause) port sink serves = absurd serves
-service_served machine old address seed boot most before after (exits.BadInput number) port sink serves = absurd serves
-service_served machine old address seed boot most before after (exits.NoAnswer cause) port sink serves = absurd serves
-service_served machine old address seed boot most before after (exits.BadPeer fault) port sink serves = absurd serves
+service_served : {S : Type 0} (machine : Machine S) (file : Option (List ℕ)) (old : S) (address seed : List ℕ) (boot most : ℕ) (before after : Sight) (exit : Exit) →
+    (exit ≡ exits.FileFault → ⊥) → (exit ≡ exits.PortFault → ⊥) → (exit ≡ exits.SinkFault → ⊥) → ServesTo machine file old address seed boot most before after exit → IsServed exit
+service_served machine file old address seed boot most before after exits.Done fault port sink serves = _
+service_served machine file old address seed boot most before after exits.Spent fault port sink serves = _
+service_served machine file old address seed boot most before after exits.NoMemory fault port sink serves = _
+service_served machine file old address seed boot most before after exits.PortFault fault port sink serves = absurd (port refl)
+service_served machine file old address seed boot most before after exits.SinkFault fault port sink serves = absurd (sink refl)
+service_served machine file old address seed boot most before after (exits.Refused cause) fault port sink serves = absurd serves
+service_served machine file old address seed boot most before after (exits.BadWords number) fault port sink serves = absurd serves
+service_served machine file old address seed boot most before after exits.FileFault fault port sink serves = absurd (fault refl)
+service_served machine file old address seed boot most before after (exits.BadTable cause) fault port sink serves = absurd serves
+service_served machine file old address seed boot most before after (exits.BadInput number) fault port sink serves = absurd serves
+service_served machine file old address seed boot most before after (exits.NoAnswer cause) fault port sink serves = absurd serves
+service_served machine file old address seed boot most before after (exits.BadPeer peer) fault port sink serves = absurd serves
 
-may_served : {S : Type 0} (machine : Machine S) (old : S) (address seed : List ℕ) (boot most : ℕ) (before after : Sight) (exit : Exit) →
-    (exit ≡ exits.PortFault → ⊥) → (exit ≡ exits.SinkFault → ⊥) → MayServe machine old address seed boot most before after exit → IsServed exit
-may_served machine old address seed boot most before after exit port sink (inl left) = subst IsServed (sym left.0) tt
-may_served machine old address seed boot most before after exit port sink (inr serves) = service_served machine old address seed boot most before after exit port sink serves
+may_served : {S : Type 0} (machine : Machine S) (file : Option (List ℕ)) (old : S) (address seed : List ℕ) (boot most : ℕ) (before after : Sight) (exit : Exit) →
+    (exit ≡ exits.FileFault → ⊥) → (exit ≡ exits.PortFault → ⊥) → (exit ≡ exits.SinkFault → ⊥) → MayServe machine file old address seed boot most before after exit → IsServed exit
+may_served machine file old address seed boot most before after exit fault port sink (inl left) = subst IsServed (sym left.0) tt
+may_served machine file old address seed boot most before after exit fault port sink (inr serves) = service_served machine file old address seed boot most before after exit fault port sink serves
 
 client_answered : (exit : Exit) → IsOfClients exit → (exit ≡ exits.PortFault → ⊥) → (exit ≡ exits.SinkFault → ⊥) → IsAnswered exit
 client_answered exits.Done is port sink = _
@@ -338,10 +339,10 @@ memory_served (setups.Controller job files) exit is = subst IsServed (sym is) tt
 memory_served (setups.Member job files) exit is = subst IsServed (sym is) tt
 memory_served (setups.Logon job files) exit is = subst IsAnswered (sym is) tt
 
-by_served : (setup : Setup) (before after : Sight) (exit : Exit) → (exit ≡ exits.PortFault → ⊥) → (exit ≡ exits.SinkFault → ⊥) → ServiceBy setup before after exit → IsServedBy setup exit
-by_served (setups.Controller job files) before after exit port sink serves = may_served _ _ _ _ _ _ before after exit port sink serves
-by_served (setups.Member job files) before after exit port sink serves = may_served _ _ _ _ _ _ before after exit port sink serves
-by_served (setups.Logon job files) before after exit port sink ends =
+by_served : (setup : Setup) (before after : Sight) (exit : Exit) → (exit ≡ exits.FileFault → ⊥) → (exit ≡ exits.PortFault → ⊥) → (exit ≡ exits.SinkFault → ⊥) → ServiceBy setup before after exit → IsServedBy setup exit
+by_served (setups.Controller job files) before after exit fault port sink serves = may_served _ _ _ _ _ _ _ before after exit fault port sink serves
+by_served (setups.Member job files) before after exit fault port sink serves = may_served _ _ _ _ _ _ _ before after exit fault port sink serves
+by_served (setups.Logon job files) before after exit fault port sink ends =
     client_answered exit (logon_laws.exits (plan_of job files) files.seed job.boot before after exit ends) port sink
 
 files_served : (read due : Result Setup FilesRefused) (setup : Setup) (before after : Sight) (exit : Exit) →
@@ -352,7 +353,7 @@ files_served (Err files.NoMemory) due setup before after exit is up file port si
 files_served (Err (files.BadTable cause)) due setup before after exit is up file port sink left = absurd cc
 files_served (Err (files.BadInput number)) due setup before after exit is up file port sink left = absurd cc
 files_served (Ok read) due setup before after exit is up file port sink serves =
-    let same : read ≡ setup = cc in subst (λ z. IsServedBy z exit) same (by_served read before after exit port sink serves)
+    let same : read ≡ setup = cc in subst (λ z. IsServedBy z exit) same (by_served read before after exit file port sink serves)
 
 asked_served : (asked due : Result Job WordsRefused) (service : Service) (told : List (List ℕ × List ℕ)) (setup : Setup) (shelf shelf_after : Shelf) (before after : Sight) (exit : Exit) →
     UpToMemory Memory asked due → due ≡ Ok (jobs.Service service) → shelf.contents ≡ Some told → setup_due service told ≡ Ok setup →
@@ -365,7 +366,7 @@ asked_served (Ok (jobs.Service other)) due service told setup shelf shelf_after 
     let same : other ≡ service = cc in
     let there = subst (λ z. IfSome z (λ contents. UpToFaults runs.setup (setup_due other contents))) tells runs.reads.exact in
     let due_is = subst (λ (z : Service). setup_due z told ≡ Ok setup) (sym same) of in
-    files_served runs.setup (setup_due other told) setup before after exit due_is there file port sink runs.follows
+    files_served runs.setup (setup_due other told) setup _ after exit due_is there file port sink runs.follows
 
 pub serve_done : (role : Role) (words : List (List ℕ)) (shelf shelf_after : Shelf) (before after : Sight) (exit : Exit) →
     ServiceRuns role words shelf shelf_after before after exit → (form : IsServiceOfForm role words shelf.contents) →
@@ -397,11 +398,20 @@ follows_cause (Err (files.BadTable why)) cause before after left = absurd (let i
 follows_cause (Err (files.BadInput number)) cause before after left = absurd (let is = left.0 in cc)
 follows_cause (Ok setup) cause before after ends = by_cause setup cause before after ends
 
+-- what was read before shows nothing else
+cause_since : (cause : NoAnswerCause) (before after : Sight) (shelf : Shelf) → ShowsCause cause (record before { files = files_on shelf }) after → ShowsCause cause before after
+cause_since DialFailed before after shelf shows = shows
+cause_since NoController before after shelf shows = tt
+cause_since LinkClosed before after shelf (Gone happened told gone) = Gone happened told gone
+cause_since LinkClosed before after shelf (SendFailed happened told sends rose) = SendFailed happened told sends rose
+cause_since LinkClosed before after shelf (Stopped happened told stops) = Stopped happened told stops
+cause_since LinkClosed before after shelf (TookAll happened told all) = TookAll happened told all
+
 asked_cause : (job : Result Job WordsRefused) (cause : NoAnswerCause) (shelf shelf_after : Shelf) (before after : Sight) → ServiceAsked job shelf shelf_after before after (exits.NoAnswer cause) → ShowsCause cause before after
 asked_cause (Err Memory) cause shelf shelf_after before after runs = absurd (let is = runs.1.0 in cc)
 asked_cause (Err (BadWords number)) cause shelf shelf_after before after runs = absurd (let is = runs.1.0 in cc)
 asked_cause (Ok (jobs.Command command)) cause shelf shelf_after before after runs = absurd runs
-asked_cause (Ok (jobs.Service service)) cause shelf shelf_after before after runs = follows_cause runs.setup cause before after runs.follows
+asked_cause (Ok (jobs.Service service)) cause shelf shelf_after before after runs = cause_since cause before after runs.shelf_read (follows_cause runs.setup cause _ after runs.follows)
 
 service_cause : (role : Role) (words : List (List ℕ)) (cause : NoAnswerCause) (shelf shelf_after : Shelf) (before after : Sight) →
     ServiceRuns role words shelf shelf_after before after (exits.NoAnswer cause) → ShowsCause cause before after

@@ -12,15 +12,15 @@ use Rattle.outside.specs.declared.event.Happening.TheVariants as happening
 use Rattle.outside.proofs.TellingLaws.{Appends-trans}
 use Rattle.end_loop.specs.Runs.{RunState, Step, AreSteps, Chooses, Closes, asked_by, drawn_of, moments_of, step_story, story_of, idle_at}
 use Rattle.end_loop.specs.Seen.{Sight, Shows}
+use Rattle.end_loop.specs.Writing.{Write}
 use Rattle.end_loop.specs.Serving.{Opens, Served, ServedHalf, ServedUntil}
 use Rattle.end_loop.specs.declared.halt.Halt.TheVariants as halts
 use Rattle.end_loop.proofs.AskingLaws.{asks_for}
 use Rattle.end_loop.proofs.RunLaws.{Shows-none, Shows-trans}
 use Rattle.nt_top.specs.declared.exit.Exit.{Exit}
 use Rattle.nt_top.specs.declared.exit.Exit.TheVariants.{Done, Refused, BadWords, FileFault, BadTable, BadInput, PortFault, SinkFault, NoMemory, NoAnswer, BadPeer, Spent}
-use Rattle.nt_top.specs.LogonExits.{IsExcuse}
 use Rattle.nt_top.specs.Serve.{GivesFewer, MayServe, ServesTo}
-use Rattle.nt_top.specs.ServeExits.{ServiceLaws, TellsEnd, TellsService, TellsSpent, rest_at}
+use Rattle.nt_top.specs.ServeExits.{Replaces, ServiceLaws, TellsEnd, TellsService, TellsSpent, rest_at}
 use Rattle.nt_top.proofs.LogonLaws.{told_items}
 use Rattle.nt_top.proofs.PairLaws.{both_whole, spent_not_whole}
 
@@ -39,12 +39,12 @@ whole_left opened ended draws none all =
     all.left ∙ ap (λ (d : List (List ℕ)). d ++ ended.left) (sym drawn)
 
 told_by : {S : Type 0} (machine : Machine S) (old : S) (address seed : List ℕ) (boot : ℕ) (before opened ran ended : Sight) (steps : List Step) (last : RunState S)
-    (later : List Happening) (moments_later : List ℕ) (drawn_later : List (List ℕ)) (put put2 : List ℕ) →
+    (later : List Happening) (moments_later : List ℕ) (drawn_later : List (List ℕ)) (put put2 : List ℕ) (writes writes2 : List Write) →
     Opens seed boot before opened (happening.Listened address ∷ []) → AreSteps machine (idle_at old opened) steps last →
-    Shows opened ran (story_of steps) (moments_of steps) (drawn_of steps) put → Shows ran ended later moments_later drawn_later put2 →
+    Shows opened ran (story_of steps) (moments_of steps) (drawn_of steps) put writes → Shows ran ended later moments_later drawn_later put2 writes2 →
     Told machine old address before ended steps last later moments_later
-told_by {S} machine old address seed boot before opened ran ended steps last later moments_later drawn_later put put2 opens are run more =
-    let all = Shows-trans opened ran ended (story_of steps) later (moments_of steps) moments_later (drawn_of steps) drawn_later put put2 run more in
+told_by {S} machine old address seed boot before opened ran ended steps last later moments_later drawn_later put put2 writes writes2 opens are run more =
+    let all = Shows-trans opened ran ended (story_of steps) later (moments_of steps) moments_later (drawn_of steps) drawn_later put put2 writes writes2 run more in
     let left = whole_left opened.drawing ended.drawing (drawn_of steps ++ drawn_later) opens.none_drawn all.drawing in
     record {
       are = subst (λ (l : List (List ℕ)). AreSteps machine (rest_at old l) steps last) left are;
@@ -53,25 +53,25 @@ told_by {S} machine old address seed boot before opened ran ended steps last lat
     }
 
 -- a run to its end
-told_whole : {S : Type 0} (machine : Machine S) (old new : S) (address seed : List ℕ) (boot most : ℕ) (before after : Sight) (served : Served machine old new address seed boot most before after) →
+told_whole : {S : Type 0} (machine : Machine S) (file : Option (List ℕ)) (old new : S) (address seed : List ℕ) (boot most : ℕ) (before after : Sight) (served : Served machine file old new address seed boot most before after) →
     Told machine old address before after served.run.ran.steps (rest_at new served.run.left) served.run.stop []
-told_whole machine old new address seed boot most before after served =
-    told_by machine old address seed boot before served.opened served.run.middle after served.run.ran.steps (rest_at new served.run.left) served.run.stop [] [] _ []
+told_whole machine file old new address seed boot most before after served =
+    told_by machine old address seed boot before served.opened served.run.middle after served.run.ran.steps (rest_at new served.run.left) served.run.stop [] [] _ [] _ []
     served.opens served.run.ran.are served.run.ran.shows served.run.shows
 
 -- a run that would ask for one more event
-told_asking : {S : Type 0} (machine : Machine S) (old : S) (address seed : List ℕ) (boot most : ℕ) (before after : Sight)
-    (half : ServedHalf machine old address seed boot most before after halts.PortFault) → Told machine old address before after half.run.ran.steps half.run.last [] []
-told_asking machine old address seed boot most before after half =
-    told_by machine old address seed boot before half.opened after after half.run.ran.steps half.run.last [] [] [] _ []
+told_asking : {S : Type 0} (machine : Machine S) (file : Option (List ℕ)) (old : S) (address seed : List ℕ) (boot most : ℕ) (before after : Sight)
+    (half : ServedHalf machine file old address seed boot most before after halts.PortFault) → Told machine old address before after half.run.ran.steps half.run.last [] []
+told_asking machine file old address seed boot most before after half =
+    told_by machine old address seed boot before half.opened after after half.run.ran.steps half.run.last [] [] [] _ [] _ []
     half.opens half.run.ran.are half.run.ran.shows (Shows-none after)
 
 -- a run into a step that draws more than were left
-told_spent : {S : Type 0} (machine : Machine S) (old : S) (address seed : List ℕ) (boot most : ℕ) (before after : Sight)
-    (half : ServedHalf machine old address seed boot most before after halts.Spent) →
+told_spent : {S : Type 0} (machine : Machine S) (file : Option (List ℕ)) (old : S) (address seed : List ℕ) (boot most : ℕ) (before after : Sight)
+    (half : ServedHalf machine file old address seed boot most before after halts.Spent) →
     Told machine old address before after half.run.ran.steps half.run.last (step_story half.run.step) (half.run.step.moment ∷ [])
-told_spent machine old address seed boot most before after half =
-    told_by machine old address seed boot before half.opened half.run.middle after half.run.ran.steps half.run.last (step_story half.run.step) (half.run.step.moment ∷ []) half.run.step.drawn _ _
+told_spent machine file old address seed boot most before after half =
+    told_by machine old address seed boot before half.opened half.run.middle after half.run.ran.steps half.run.last (step_story half.run.step) (half.run.step.moment ∷ []) half.run.step.drawn _ _ _ _
     half.opens half.run.ran.are half.run.ran.shows half.run.shows
 
 -- ---- two runs that the same outside shows
@@ -118,12 +118,12 @@ asks_not_closed machine most steps others state left last stop start are others_
 asks_not_closed machine most steps others state left last stop start are others_are story same none more open_still (inr (inr stopped)) =
     let wrong : [] ≡ happening.Given event.Stop (machine.want state) ∷ [] = none ∙ stopped.2 in cc
 
-port_not_end : {S : Type 0} (machine : Machine S) (old : S) (address seed : List ℕ) (boot most : ℕ) (before after : Sight) →
-    ServedUntil machine old address seed boot most before after halts.PortFault → TellsEnd machine old address most before after → ⊥
-port_not_end machine old address seed boot most before after (inl failed) tells =
+port_not_end : {S : Type 0} (machine : Machine S) (file : Option (List ℕ)) (old : S) (address seed : List ℕ) (boot most : ℕ) (before after : Sight) →
+    ServedUntil machine file old address seed boot most before after halts.PortFault → TellsEnd machine old address most before after → ⊥
+port_not_end machine file old address seed boot most before after (inl failed) tells =
     nothing_told machine old address before after tells.steps (rest_at tells.state tells.left) tells.stop [] failed.1.story tells.tells
-port_not_end machine old address seed boot most before after (inr half) tells =
-    let told = told_asking machine old address seed boot most before after half in
+port_not_end machine file old address seed boot most before after (inr half) tells =
+    let told = told_asking machine file old address seed boot most before after half in
     let same = compare machine old address before after half.run.ran.steps tells.steps half.run.last (rest_at tells.state tells.left) [] tells.stop [] [] told tells.tells in
     let start = rest_at old (after.drawing.drawn ++ after.drawing.left) in
     let whole = both_whole machine start half.run.last (rest_at tells.state tells.left) half.run.ran.steps tells.steps [] tells.stop same.are same.others_are
@@ -131,36 +131,42 @@ port_not_end machine old address seed boot most before after (inr half) tells =
     let more = subst (λ (n : ℕ). n < most) half.run.ran.count half.run.more in
     asks_not_closed machine most half.run.ran.steps tells.steps tells.state tells.left half.run.last tells.stop start same.are same.others_are same.story whole.0 whole.1 more half.run.open_still tells.closes
 
-spent_not_end : {S : Type 0} (machine : Machine S) (old : S) (address seed : List ℕ) (boot most : ℕ) (before after : Sight) →
-    ServedUntil machine old address seed boot most before after halts.Spent → TellsEnd machine old address most before after → ⊥
-spent_not_end machine old address seed boot most before after (inl failed) tells = let is = failed.0 in cc
-spent_not_end machine old address seed boot most before after (inr half) tells =
-    let told = told_spent machine old address seed boot most before after half in
+spent_not_end : {S : Type 0} (machine : Machine S) (file : Option (List ℕ)) (old : S) (address seed : List ℕ) (boot most : ℕ) (before after : Sight) →
+    ServedUntil machine file old address seed boot most before after halts.Spent → TellsEnd machine old address most before after → ⊥
+spent_not_end machine file old address seed boot most before after (inl failed) tells = let is = failed.0 in cc
+spent_not_end machine file old address seed boot most before after (inr half) tells =
+    let told = told_spent machine file old address seed boot most before after half in
     let same = compare machine old address before after half.run.ran.steps tells.steps half.run.last (rest_at tells.state tells.left) (step_story half.run.step) tells.stop (half.run.step.moment ∷ []) [] told tells.tells in
     let story : story_of half.run.ran.steps ++ (step_story half.run.step ++ []) ≡ story_of tells.steps ++ tells.stop =
     ap (λ (h : List Happening). story_of half.run.ran.steps ++ h) (append-nil (step_story half.run.step)) ∙ same.story in
     spent_not_whole machine (rest_at old (after.drawing.drawn ++ after.drawing.left)) half.run.last (rest_at tells.state tells.left) half.run.ran.steps tells.steps half.run.step half.run.begins.waiting [] tells.stop
     same.are half.run.begins.chooses half.run.begins.breaks.0 same.others_are story (same.moments ∙ append-nil (moments_of tells.steps))
 
-done_to : {S : Type 0} (machine : Machine S) (old : S) (address seed : List ℕ) (boot most : ℕ) (before after : Sight) (exit : Exit) →
-    ServesTo machine old address seed boot most before after exit → TellsEnd machine old address most before after → (exit ≡ Done) ⊎ IsExcuse exit
-done_to machine old address seed boot most before after Done serves tells = inl refl
-done_to machine old address seed boot most before after PortFault serves tells = absurd (port_not_end machine old address seed boot most before after serves tells)
-done_to machine old address seed boot most before after SinkFault serves tells = inr tt
-done_to machine old address seed boot most before after NoMemory serves tells = inr tt
-done_to machine old address seed boot most before after Spent serves tells = absurd (spent_not_end machine old address seed boot most before after serves tells)
-done_to machine old address seed boot most before after (Refused cause) serves tells = absurd serves
-done_to machine old address seed boot most before after (BadWords number) serves tells = absurd serves
-done_to machine old address seed boot most before after FileFault serves tells = absurd serves
-done_to machine old address seed boot most before after (BadTable cause) serves tells = absurd serves
-done_to machine old address seed boot most before after (BadInput number) serves tells = absurd serves
-done_to machine old address seed boot most before after (NoAnswer cause) serves tells = absurd serves
-done_to machine old address seed boot most before after (BadPeer fault) serves tells = absurd serves
+-- a fault of the files comes only where one is named
+file_named : {S : Type 0} (machine : Machine S) (file : Option (List ℕ)) (old : S) (address seed : List ℕ) (boot most : ℕ) (before after : Sight) →
+    ServedUntil machine file old address seed boot most before after halts.FileFault → Replaces FileFault file
+file_named machine file old address seed boot most before after (inl failed) = absurd (let is = failed.0 in cc)
+file_named machine file old address seed boot most before after (inr half) = (half.run.begins.loses.name, half.run.begins.loses.name_is)
 
-done_law : {S : Type 0} (machine : Machine S) (old : S) (address seed : List ℕ) (boot most : ℕ) (before after : Sight) (exit : Exit) →
-    MayServe machine old address seed boot most before after exit → TellsEnd machine old address most before after → (exit ≡ Done) ⊎ IsExcuse exit
-done_law machine old address seed boot most before after exit (inl left) tells = inr (subst IsExcuse (sym left.0) tt)
-done_law machine old address seed boot most before after exit (inr serves) tells = done_to machine old address seed boot most before after exit serves tells
+done_to : {S : Type 0} (machine : Machine S) (file : Option (List ℕ)) (old : S) (address seed : List ℕ) (boot most : ℕ) (before after : Sight) (exit : Exit) →
+    ServesTo machine file old address seed boot most before after exit → TellsEnd machine old address most before after → (exit ≡ Done) ⊎ Replaces exit file
+done_to machine file old address seed boot most before after Done serves tells = inl refl
+done_to machine file old address seed boot most before after PortFault serves tells = absurd (port_not_end machine file old address seed boot most before after serves tells)
+done_to machine file old address seed boot most before after SinkFault serves tells = inr tt
+done_to machine file old address seed boot most before after NoMemory serves tells = inr tt
+done_to machine file old address seed boot most before after Spent serves tells = absurd (spent_not_end machine file old address seed boot most before after serves tells)
+done_to machine file old address seed boot most before after (Refused cause) serves tells = absurd serves
+done_to machine file old address seed boot most before after (BadWords number) serves tells = absurd serves
+done_to machine file old address seed boot most before after FileFault serves tells = inr (file_named machine file old address seed boot most before after serves)
+done_to machine file old address seed boot most before after (BadTable cause) serves tells = absurd serves
+done_to machine file old address seed boot most before after (BadInput number) serves tells = absurd serves
+done_to machine file old address seed boot most before after (NoAnswer cause) serves tells = absurd serves
+done_to machine file old address seed boot most before after (BadPeer fault) serves tells = absurd serves
+
+done_law : {S : Type 0} (machine : Machine S) (file : Option (List ℕ)) (old : S) (address seed : List ℕ) (boot most : ℕ) (before after : Sight) (exit : Exit) →
+    MayServe machine file old address seed boot most before after exit → TellsEnd machine old address most before after → (exit ≡ Done) ⊎ Replaces exit file
+done_law machine file old address seed boot most before after exit (inl left) tells = inr (subst (λ (e : Exit). Replaces e file) (sym left.0) tt)
+done_law machine file old address seed boot most before after exit (inr serves) tells = done_to machine file old address seed boot most before after exit serves tells
 
 -- ---- `Spent`
 
@@ -181,41 +187,41 @@ spent_not_told machine old address before after steps last stop told comes =
     spent_not_whole machine (rest_at old (after.drawing.drawn ++ after.drawing.left)) comes.last last comes.steps steps quiet comes.waiting [] stop
     same.others_are (quiet_chooses machine comes.last.state comes.last.queue comes.step comes.waiting comes.chooses) comes.spent same.are story (sym same.moments ∙ append-nil (moments_of steps))
 
-port_not_spent : {S : Type 0} (machine : Machine S) (old : S) (address seed : List ℕ) (boot most : ℕ) (before after : Sight) →
-    ServedUntil machine old address seed boot most before after halts.PortFault → TellsSpent machine old address before after → ⊥
-port_not_spent machine old address seed boot most before after (inl failed) tells =
+port_not_spent : {S : Type 0} (machine : Machine S) (file : Option (List ℕ)) (old : S) (address seed : List ℕ) (boot most : ℕ) (before after : Sight) →
+    ServedUntil machine file old address seed boot most before after halts.PortFault → TellsSpent machine old address before after → ⊥
+port_not_spent machine file old address seed boot most before after (inl failed) tells =
     nothing_told machine old address before after tells.steps tells.last tells.step.asked (tells.step.moment ∷ []) failed.1.story tells.tells
-port_not_spent machine old address seed boot most before after (inr half) tells =
-    spent_not_told machine old address before after half.run.ran.steps half.run.last [] (told_asking machine old address seed boot most before after half) tells
+port_not_spent machine file old address seed boot most before after (inr half) tells =
+    spent_not_told machine old address before after half.run.ran.steps half.run.last [] (told_asking machine file old address seed boot most before after half) tells
 
-spent_to : {S : Type 0} (machine : Machine S) (old : S) (address seed : List ℕ) (boot most : ℕ) (before after : Sight) (exit : Exit) →
-    ServesTo machine old address seed boot most before after exit → TellsSpent machine old address before after → (exit ≡ Spent) ⊎ IsExcuse exit
-spent_to machine old address seed boot most before after Done serves tells =
+spent_to : {S : Type 0} (machine : Machine S) (file : Option (List ℕ)) (old : S) (address seed : List ℕ) (boot most : ℕ) (before after : Sight) (exit : Exit) →
+    ServesTo machine file old address seed boot most before after exit → TellsSpent machine old address before after → (exit ≡ Spent) ⊎ Replaces exit file
+spent_to machine file old address seed boot most before after Done serves tells =
     absurd (spent_not_told machine old address before after serves.1.run.ran.steps (rest_at serves.0 serves.1.run.left) serves.1.run.stop
-    (told_whole machine old serves.0 address seed boot most before after serves.1) tells)
-spent_to machine old address seed boot most before after PortFault serves tells = absurd (port_not_spent machine old address seed boot most before after serves tells)
-spent_to machine old address seed boot most before after SinkFault serves tells = inr tt
-spent_to machine old address seed boot most before after NoMemory serves tells = inr tt
-spent_to machine old address seed boot most before after Spent serves tells = inl refl
-spent_to machine old address seed boot most before after (Refused cause) serves tells = absurd serves
-spent_to machine old address seed boot most before after (BadWords number) serves tells = absurd serves
-spent_to machine old address seed boot most before after FileFault serves tells = absurd serves
-spent_to machine old address seed boot most before after (BadTable cause) serves tells = absurd serves
-spent_to machine old address seed boot most before after (BadInput number) serves tells = absurd serves
-spent_to machine old address seed boot most before after (NoAnswer cause) serves tells = absurd serves
-spent_to machine old address seed boot most before after (BadPeer fault) serves tells = absurd serves
+    (told_whole machine file old serves.0 address seed boot most before after serves.1) tells)
+spent_to machine file old address seed boot most before after PortFault serves tells = absurd (port_not_spent machine file old address seed boot most before after serves tells)
+spent_to machine file old address seed boot most before after SinkFault serves tells = inr tt
+spent_to machine file old address seed boot most before after NoMemory serves tells = inr tt
+spent_to machine file old address seed boot most before after Spent serves tells = inl refl
+spent_to machine file old address seed boot most before after (Refused cause) serves tells = absurd serves
+spent_to machine file old address seed boot most before after (BadWords number) serves tells = absurd serves
+spent_to machine file old address seed boot most before after FileFault serves tells = inr (file_named machine file old address seed boot most before after serves)
+spent_to machine file old address seed boot most before after (BadTable cause) serves tells = absurd serves
+spent_to machine file old address seed boot most before after (BadInput number) serves tells = absurd serves
+spent_to machine file old address seed boot most before after (NoAnswer cause) serves tells = absurd serves
+spent_to machine file old address seed boot most before after (BadPeer fault) serves tells = absurd serves
 
-spent_law : {S : Type 0} (machine : Machine S) (old : S) (address seed : List ℕ) (boot most : ℕ) (before after : Sight) (exit : Exit) →
-    MayServe machine old address seed boot most before after exit → TellsSpent machine old address before after → (exit ≡ Spent) ⊎ IsExcuse exit
-spent_law machine old address seed boot most before after exit (inl left) tells = inr (subst IsExcuse (sym left.0) tt)
-spent_law machine old address seed boot most before after exit (inr serves) tells = spent_to machine old address seed boot most before after exit serves tells
+spent_law : {S : Type 0} (machine : Machine S) (file : Option (List ℕ)) (old : S) (address seed : List ℕ) (boot most : ℕ) (before after : Sight) (exit : Exit) →
+    MayServe machine file old address seed boot most before after exit → TellsSpent machine old address before after → (exit ≡ Spent) ⊎ Replaces exit file
+spent_law machine file old address seed boot most before after exit (inl left) tells = inr (subst (λ (e : Exit). Replaces e file) (sym left.0) tt)
+spent_law machine file old address seed boot most before after exit (inr serves) tells = spent_to machine file old address seed boot most before after exit serves tells
 
 -- ---- `PortFault`
 
-gives_fewer : {S : Type 0} (machine : Machine S) (old : S) (address seed : List ℕ) (boot most : ℕ) (before after : Sight) →
-    ServedUntil machine old address seed boot most before after halts.PortFault → GivesFewer most before after
-gives_fewer machine old address seed boot most before after (inl failed) = record { happened = []; told = failed.1.story; no_stop = refl; fewer = inl refl }
-gives_fewer machine old address seed boot most before after (inr half) =
+gives_fewer : {S : Type 0} (machine : Machine S) (file : Option (List ℕ)) (old : S) (address seed : List ℕ) (boot most : ℕ) (before after : Sight) →
+    ServedUntil machine file old address seed boot most before after halts.PortFault → GivesFewer most before after
+gives_fewer machine file old address seed boot most before after (inl failed) = record { happened = []; told = failed.1.story; no_stop = refl; fewer = inl refl }
+gives_fewer machine file old address seed boot most before after (inr half) =
     let asks = asks_for machine (idle_at old half.opened) half.run.last half.run.ran.steps half.run.ran.are in
     record {
       happened = happening.Listened address ∷ story_of half.run.ran.steps;
@@ -224,11 +230,11 @@ gives_fewer machine old address seed boot most before after (inr half) =
       fewer = inr (subst (λ (n : ℕ). n < most) (half.run.ran.count ∙ sym asks.count) half.run.more);
     }
 
-port_law : {S : Type 0} (machine : Machine S) (old : S) (address seed : List ℕ) (boot most : ℕ) (before after : Sight) (exit : Exit) →
-    MayServe machine old address seed boot most before after exit → exit ≡ PortFault → GivesFewer most before after
-port_law machine old address seed boot most before after exit (inl left) is = absurd (let wrong : NoMemory ≡ PortFault = sym left.0 ∙ is in cc)
-port_law machine old address seed boot most before after exit (inr serves) is =
-    gives_fewer machine old address seed boot most before after (subst (λ (e : Exit). ServesTo machine old address seed boot most before after e) is serves)
+port_law : {S : Type 0} (machine : Machine S) (file : Option (List ℕ)) (old : S) (address seed : List ℕ) (boot most : ℕ) (before after : Sight) (exit : Exit) →
+    MayServe machine file old address seed boot most before after exit → exit ≡ PortFault → GivesFewer most before after
+port_law machine file old address seed boot most before after exit (inl left) is = absurd (let wrong : NoMemory ≡ PortFault = sym left.0 ∙ is in cc)
+port_law machine file old address seed boot most before after exit (inr serves) is =
+    gives_fewer machine file old address seed boot most before after (subst (λ (e : Exit). ServesTo machine file old address seed boot most before after e) is serves)
 
 pub service_laws : {S : Type 0} (machine : Machine S) → ServiceLaws machine
 service_laws machine = record { done = done_law machine; spent = spent_law machine; port = port_law machine }

@@ -11,6 +11,7 @@ use Rattle.logon_client.specs.declared.plan.AuthKind.{AuthKind}
 use Rattle.logon_client.specs.declared.plan.AuthKind.TheVariants.{V1, V1Ess, V2}
 use Rattle.logon_client.specs.declared.plan.ClientPlan.{ClientPlan}
 use Rattle.member_server.specs.declared.plan.MemberPlan.{MemberPlan}
+use Rattle.secret_change.specs.Secrets.{alone}
 use Rattle.domain_world.specs.Generator.{moves_of}
 use Rattle.domain_world.specs.Headline.{Proved}
 use Rattle.domain_world.specs.World.{report_of_run}
@@ -53,7 +54,7 @@ drill_table = record {
 -- a member of CORP, whose controller is end 0
 abbrev pub drill_member : List ℕ → ℕ → MemberPlan
 drill_member computer byte =
-    record { computer = computer; domain = codes "CORP"; secret = replicate 16 byte; controller = 0 ∷ [] }
+    record { computer = computer; domain = codes "CORP"; secrets = alone (replicate 16 byte); controller = 0 ∷ [] }
 
 -- a client of CORP at the workstation WS, which dials that end and echoes 16 bytes
 abbrev pub drill_client : ℕ → List ℕ → ℕ → ℕ → AuthKind → ClientPlan

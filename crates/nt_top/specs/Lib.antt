@@ -13,3 +13,4 @@ pub mod Serve
 pub mod ServeExits
 pub mod Service
 pub mod Show
+pub mod Writes

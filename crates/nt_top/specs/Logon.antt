@@ -81,7 +81,7 @@ Says outcome before now exit = (exit ≡ outcome_exit outcome) × Appends before
 pub record Concludes (plan : ClientPlan) (opened after : Sight) (exit : Exit) : Type 0 where
   pub last : State
   pub ended : Sight
-  pub run : Begun client_machine (first_actions plan) (client_that_dials plan) last most_answers opened ended
+  pub run : Begun client_machine None (first_actions plan) (client_that_dials plan) last most_answers opened ended
   pub says : Says last.outcome ended.taken after.taken exit
   pub only : after ≡ record ended { taken = after.taken }
 
@@ -89,7 +89,7 @@ pub record Concludes (plan : ClientPlan) (opened after : Sight) (exit : Exit) : 
 pub record Breaks (plan : ClientPlan) (opened after : Sight) (exit : Exit) : Type 0 where
   pub halt : Halt
   pub exit_is : exit ≡ halt_exit halt
-  pub run : BegunUntil client_machine (first_actions plan) (client_that_dials plan) most_answers opened after halt
+  pub run : BegunUntil client_machine None (first_actions plan) (client_that_dials plan) most_answers opened after halt
 
 -- The client didn't begin, for want of memory; or its run halted; or it ran to its end, and its outcome was said.
 abbrev pub ClientEnds : ClientPlan → Sight → Sight → Exit → Type 0

@@ -96,7 +96,7 @@ pub record RanTo (plan : ClientPlan) (seed : List ℕ) (boot : ℕ) (before afte
   pub opens : Opens seed boot before opened []
   pub last : State
   pub ended : Sight
-  pub run : Begun client_machine (first_actions plan) (client_that_dials plan) last most_answers opened ended
+  pub run : Begun client_machine None (first_actions plan) (client_that_dials plan) last most_answers opened ended
   pub outcome_is : last.outcome ≡ outcome
   pub only : after ≡ record ended { taken = after.taken }
 
@@ -104,7 +104,7 @@ pub record RanTo (plan : ClientPlan) (seed : List ℕ) (boot : ℕ) (before afte
 pub record RanUntil (plan : ClientPlan) (seed : List ℕ) (boot : ℕ) (before after : Sight) (halt : Halt) : Type 0 where
   pub opened : Sight
   pub opens : Opens seed boot before opened []
-  pub run : BegunUntil client_machine (first_actions plan) (client_that_dials plan) most_answers opened after halt
+  pub run : BegunUntil client_machine None (first_actions plan) (client_that_dials plan) most_answers opened after halt
 
 -- the client is in, and its lines were put
 pub record IsIn (plan : ClientPlan) (seed : List ℕ) (boot : ℕ) (before after : Sight) : Type 0 where

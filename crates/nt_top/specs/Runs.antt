@@ -1,11 +1,11 @@
 -- What the top call does, and when each exit comes (this project's own choice). Words are lists of bytes, those behind
 -- the program's name.
-use Rattle.std.specs.Prelude.{◌≡◌, ◌≢◌, ◌≤◌, ◌⊎◌, ℕ, Bool, true, false, List, [], Option, Some, None, IfSome, IfErr, Result, Ok, Err}
+use Rattle.std.specs.Prelude.{◌≡◌, ◌≢◌, ◌≤◌, ◌⊎◌, ℕ, Bool, true, false, List, Option, Some, None, IfSome, IfErr, Result, Ok, Err}
 use Rattle.outside.specs.Causes.{Rose}
 use Rattle.outside.specs.Drawing.{Drawing}
-use Rattle.outside.specs.Telling.{Appends}
 use Rattle.outside.specs.declared.event.Happening.{Happening}
 use Rattle.end_loop.specs.Seen.{Sight, sight_of}
+use Rattle.end_loop.specs.Writing.{files_told}
 use Rattle.logon_client.specs.declared.outcome.NoAnswerCause.TheVariants.{DialFailed, LinkClosed}
 use Rattle.logon_client.specs.declared.outcome.RefusedCause.{RefusedCause}
 use Rattle.nt_words.specs.Files.{Shelf, shelf_of}
@@ -22,6 +22,7 @@ use Rattle.nt_top.specs.LogonExits.{LosesLink}
 use Rattle.nt_top.specs.Refusals.{files_exit}
 use Rattle.nt_top.specs.Service.{ActsByWords, IsBadOfFiles, IsOfContents, IsRefusal, IsServedBy, IsServiceOfForm, ServiceRuns, uses_port}
 use Rattle.nt_top.specs.Show.{AskedShown, shown}
+use Rattle.nt_top.specs.Writes.{WritesInto, kept_file}
 use Rattle.nt_top.specs.declared.exit.Exit.{Exit}
 use Rattle.nt_top.specs.declared.exit.Exit.TheVariants.{Done, Refused, BadWords, FileFault, BadInput, PortFault, SinkFault, NoMemory, NoAnswer}
 
@@ -69,9 +70,9 @@ pub record Outside (P F S C Q : Type 0) : Type 0 where
 abbrev pub outside_of : {P F S C Q : Type 0} → P → F → S → C → Q → Outside P F S C Q
 outside_of port files out clock chances = record { port = port; files = files; out = out; clock = clock; chances = chances }
 
--- what port, clock, challenges and sink tell
+-- what port, clock, challenges, sink and files tell
 abbrev pub sight_in : {P F S C Q : Type 0} → Meanings P F S C Q → Outside P F S C Q → Sight
-sight_in m o = sight_of m.story m.link_faults m.moments m.drawing m.taken o.port o.clock o.chances o.out
+sight_in m o = sight_of m.story m.link_faults m.moments m.drawing m.taken (files_told m.contents m.reads m.writes) o.port o.clock o.chances o.out o.files
 
 -- what the files tell
 abbrev pub shelf_in : {P F S C Q : Type 0} → Meanings P F S C Q → Outside P F S C Q → Shelf
@@ -108,8 +109,8 @@ pub record Acts {P F S C Q : Type 0} (m : Meanings P F S C Q) (role : Role) (ask
   pub files : ActsByWords role asked → new.files ≡ old.files
   pub clock : ActsByWords role asked → new.clock ≡ old.clock
   pub chances : ActsByWords role asked → new.chances ≡ old.chances
-  -- No command writes a file.
-  pub writes : Appends (m.writes old.files) (m.writes new.files) []
+  -- The file is written alone that the words name for what is kept, and none where they name none.
+  pub writes : WritesInto (kept_file role asked) (m.writes old.files) (m.writes new.files)
   -- No count of faults falls.
   pub faults : m.sink_faults old.out ≤ m.sink_faults new.out
   pub file_faults : m.file_faults old.files ≤ m.file_faults new.files

@@ -1,6 +1,6 @@
 -- An end that is served (this project's own choice): the challenges are started, the port listens, and the end's
 -- machine runs.
-use Rattle.std.specs.Prelude.{◌≡◌, ◌⊎◌, ◌<◌, ℕ, false, List, [], length, Result, Ok, Err}
+use Rattle.std.specs.Prelude.{◌≡◌, ◌⊎◌, ◌<◌, ℕ, false, List, [], length, Option, Result, Ok, Err}
 use Rattle.std.specs.List.{list_any}
 use Rattle.outside.specs.Machine.{Machine}
 use Rattle.outside.specs.Stories.{events_in}
@@ -12,11 +12,12 @@ use Rattle.end_loop.specs.Serving.{Served, ServedUntil}
 use Rattle.end_loop.specs.declared.halt.Halt.{Halt}
 use Rattle.end_loop.specs.declared.halt.Halt.TheVariants as halts
 use Rattle.nt_top.specs.declared.exit.Exit.{Exit}
-use Rattle.nt_top.specs.declared.exit.Exit.TheVariants.{Done, PortFault, SinkFault, NoMemory, Spent}
+use Rattle.nt_top.specs.declared.exit.Exit.TheVariants.{Done, FileFault, PortFault, SinkFault, NoMemory, Spent}
 
 -- the exit of a run that halted
 abbrev pub halt_exit : Halt → Exit
 halt_exit halts.PortFault = PortFault
+halt_exit halts.FileFault = FileFault
 halt_exit halts.SinkFault = SinkFault
 halt_exit halts.NoMemory = NoMemory
 halt_exit halts.Spent = Spent
@@ -27,22 +28,23 @@ service_exit (Ok x) = Done
 service_exit (Err halt) = halt_exit halt
 
 -- Where a service ends so, the end's machine, from this state on, ran to its end, with this address, seed, number of
--- the boot and most events; or it halted so.
-abbrev pub ServesTo : {S : Type 0} → Machine S → S → List ℕ → List ℕ → ℕ → ℕ → Sight → Sight → Exit → Type 0
-ServesTo machine old address seed boot most before after Done = (new : _) × Served machine old new address seed boot most before after
-ServesTo machine old address seed boot most before after PortFault = ServedUntil machine old address seed boot most before after halts.PortFault
-ServesTo machine old address seed boot most before after SinkFault = ServedUntil machine old address seed boot most before after halts.SinkFault
-ServesTo machine old address seed boot most before after NoMemory = ServedUntil machine old address seed boot most before after halts.NoMemory
-ServesTo machine old address seed boot most before after Spent = ServedUntil machine old address seed boot most before after halts.Spent
-ServesTo machine old address seed boot most before after _ = ⊥
+-- the boot and most events, and with that file for what it keeps; or it halted so.
+abbrev pub ServesTo : {S : Type 0} → Machine S → Option (List ℕ) → S → List ℕ → List ℕ → ℕ → ℕ → Sight → Sight → Exit → Type 0
+ServesTo machine file old address seed boot most before after Done = (new : _) × Served machine file old new address seed boot most before after
+ServesTo machine file old address seed boot most before after PortFault = ServedUntil machine file old address seed boot most before after halts.PortFault
+ServesTo machine file old address seed boot most before after FileFault = ServedUntil machine file old address seed boot most before after halts.FileFault
+ServesTo machine file old address seed boot most before after SinkFault = ServedUntil machine file old address seed boot most before after halts.SinkFault
+ServesTo machine file old address seed boot most before after NoMemory = ServedUntil machine file old address seed boot most before after halts.NoMemory
+ServesTo machine file old address seed boot most before after Spent = ServedUntil machine file old address seed boot most before after halts.Spent
+ServesTo machine file old address seed boot most before after _ = ⊥
 
 -- nothing was done with the port, the clock, the challenges or the sink, and this is the exit
 abbrev pub IsLeft : Exit → Sight → Sight → Exit → Type 0
 IsLeft due before after exit = (exit ≡ due) × (after ≡ before)
 
 -- The end is served from this state on. Want of memory may come before it.
-abbrev pub MayServe : {S : Type 0} → Machine S → S → List ℕ → List ℕ → ℕ → ℕ → Sight → Sight → Exit → Type 0
-MayServe machine old address seed boot most before after exit = IsLeft NoMemory before after exit ⊎ ServesTo machine old address seed boot most before after exit
+abbrev pub MayServe : {S : Type 0} → Machine S → Option (List ℕ) → S → List ℕ → List ℕ → ℕ → ℕ → Sight → Sight → Exit → Type 0
+MayServe machine file old address seed boot most before after exit = IsLeft NoMemory before after exit ⊎ ServesTo machine file old address seed boot most before after exit
 
 -- it served to its end, the challenges were spent, or memory ran out
 abbrev pub IsServed : Exit → Type 0

@@ -1,5 +1,5 @@
 -- When each exit of a service comes, by what the outside tells (this project's own choice).
-use Rattle.std.specs.Prelude.{ℕ, ◌≡◌, ◌⊎◌, ◌++◌, List, [], ◌∷◌, Some, Err}
+use Rattle.std.specs.Prelude.{ℕ, ◌≡◌, ◌⊎◌, ◌++◌, List, [], ◌∷◌, Option, Some, Err}
 use Rattle.outside.specs.Machine.{Machine}
 use Rattle.outside.specs.declared.action.StepRefused.TheVariants as refusals
 use Rattle.outside.specs.declared.event.Event.{Event}
@@ -8,7 +8,7 @@ use Rattle.outside.specs.declared.event.Happening.TheVariants as happening
 use Rattle.end_loop.specs.Runs.{RunState, Step, AreSteps, Chooses, Closes, asked_by, moments_of, story_of}
 use Rattle.end_loop.specs.Seen.{Sight}
 use Rattle.nt_top.specs.declared.exit.Exit.{Exit}
-use Rattle.nt_top.specs.declared.exit.Exit.TheVariants.{Done, PortFault, Spent}
+use Rattle.nt_top.specs.declared.exit.Exit.TheVariants.{Done, FileFault, PortFault, Spent}
 use Rattle.nt_top.specs.LogonExits.{IsExcuse}
 use Rattle.nt_top.specs.Serve.{GivesFewer, MayServe}
 
@@ -47,12 +47,18 @@ pub record TellsSpent {S : Type 0} (machine : Machine S) (old : S) (address : Li
   pub chooses : Chooses machine last.state last.queue step waiting
   pub spent : (machine.step last.state step.event step.moment last.left).answer ≡ Err refusals.Spent
 
+-- an exit that may come in place of another: a fault of the sink or want of memory, and where a file is named for what
+-- the end keeps, a fault of the files
+abbrev pub Replaces : Exit → Option (List ℕ) → Type 0
+Replaces FileFault file = (name : List ℕ) × (file ≡ Some name)
+Replaces exit file = IsExcuse exit
+
 -- What the outside tells decides the exit of a service; and a failure of the port is the exit only where it gave no
 -- `Stop` and too few events.
 pub record ServiceLaws {S : Type 0} (machine : Machine S) : Type 0 where
-  pub done : (old : S) (address seed : List ℕ) (boot most : ℕ) (before after : Sight) (exit : Exit) →
-      MayServe machine old address seed boot most before after exit → TellsEnd machine old address most before after → (exit ≡ Done) ⊎ IsExcuse exit
-  pub spent : (old : S) (address seed : List ℕ) (boot most : ℕ) (before after : Sight) (exit : Exit) →
-      MayServe machine old address seed boot most before after exit → TellsSpent machine old address before after → (exit ≡ Spent) ⊎ IsExcuse exit
-  pub port : (old : S) (address seed : List ℕ) (boot most : ℕ) (before after : Sight) (exit : Exit) →
-      MayServe machine old address seed boot most before after exit → exit ≡ PortFault → GivesFewer most before after
+  pub done : (file : Option (List ℕ)) (old : S) (address seed : List ℕ) (boot most : ℕ) (before after : Sight) (exit : Exit) →
+      MayServe machine file old address seed boot most before after exit → TellsEnd machine old address most before after → (exit ≡ Done) ⊎ Replaces exit file
+  pub spent : (file : Option (List ℕ)) (old : S) (address seed : List ℕ) (boot most : ℕ) (before after : Sight) (exit : Exit) →
+      MayServe machine file old address seed boot most before after exit → TellsSpent machine old address before after → (exit ≡ Spent) ⊎ Replaces exit file
+  pub port : (file : Option (List ℕ)) (old : S) (address seed : List ℕ) (boot most : ℕ) (before after : Sight) (exit : Exit) →
+      MayServe machine file old address seed boot most before after exit → exit ≡ PortFault → GivesFewer most before after

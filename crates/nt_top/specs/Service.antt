@@ -1,10 +1,12 @@
 -- The commands that use the port (this project's own choice): the words are judged, then the files that they name are
 -- read and judged, and then the end that words and files make is served, or logs on.
-use Rattle.std.specs.Prelude.{ℕ, ◌≡◌, Bool, true, false, List, Option, Some, Result, Ok, Err, IfOk, codes}
+use Rattle.std.specs.Prelude.{ℕ, ◌≡◌, ◌≤◌, Bool, true, false, List, Option, Some, None, Result, Ok, Err, IfOk, codes}
 use Rattle.end_loop.specs.Seen.{Sight}
+use Rattle.end_loop.specs.Writing.{FilesTold}
 use Rattle.domain_controller.specs.Step.{controller_machine, first_state}
 use Rattle.member_server.specs.Machine.{fresh_member, member_machine}
 use Rattle.member_server.specs.declared.plan.MemberPlan.{MemberPlan}
+use Rattle.secret_change.specs.Secrets.{alone}
 use Rattle.nt_words.specs.Files.{ReadsFiles, SecretFiles, Shelf}
 use Rattle.nt_words.specs.Jobs.{MemberJob, is_led_by}
 use Rattle.nt_words.specs.Roles.{job_of}
@@ -49,16 +51,17 @@ IsRefusal asked = (refused : WordsRefused) × (asked ≡ Err refused)
 -- a member server of the words' computer and domain, with the file's secret, whose logons the controller at the words'
 -- address judges
 abbrev pub member_plan : MemberJob → SecretFiles → MemberPlan
-member_plan job files = record { computer = job.computer; domain = job.domain; secret = files.secret; controller = job.controller }
+member_plan job files = record { computer = job.computer; domain = job.domain; secrets = alone files.secret; controller = job.controller }
 
--- The end of the service is served: a controller of the words' name over the file's table, or a member server. It is
--- served at the words' address, with the file's seed and the words' number of the boot, for as many events as they say.
--- A logon client of the words and the file's hash comes to its exit.
+-- The end of the service is served: a controller of the words' name over the files' table, which keeps changed secrets
+-- in the file that the words name for them, or a member server. It is served at the words' address, with the file's
+-- seed and the words' number of the boot, for as many events as they say. A logon client of the words and the file's
+-- hash comes to its exit.
 abbrev pub ServiceBy : Setup → Sight → Sight → Exit → Type 0
 ServiceBy (setups.Controller job files) before after exit =
-    MayServe controller_machine (first_state files.table job.name) job.listen files.seed job.boot job.events before after exit
+    MayServe controller_machine job.secrets (first_state files.table job.name) job.listen files.seed job.boot job.events before after exit
 ServiceBy (setups.Member job files) before after exit =
-    MayServe member_machine (fresh_member (member_plan job files)) job.listen files.seed job.boot job.events before after exit
+    MayServe member_machine None (fresh_member (member_plan job files)) job.listen files.seed job.boot job.events before after exit
 ServiceBy (setups.Logon job files) before after exit = LogonEnds (plan_of job files) files.seed job.boot before after exit
 
 -- ---- a command, from its words on
@@ -68,12 +71,19 @@ abbrev pub ServiceFollows : Result Setup FilesRefused → Sight → Sight → Ex
 ServiceFollows (Err refused) before after exit = IsLeft (files_exit refused) before after exit
 ServiceFollows (Ok setup) before after exit = ServiceBy setup before after exit
 
+-- what files tell that were read
+abbrev pub files_on : Shelf → FilesTold
+files_on shelf = record { contents = shelf.contents; reads = shelf.reads; writes = shelf.writes }
+
 -- The files of the service were read in their order, and then what follows them came.
 pub record ServiceReads (service : Service) (shelf shelf_after : Shelf) (before after : Sight) (exit : Exit) : Type 0 where
   pub setup : Result Setup FilesRefused
-  pub reads : ReadsFiles (file_names service) (setup_due service) setup shelf shelf_after
+  -- the files once they were read
+  pub shelf_read : Shelf
+  pub reads : ReadsFiles (file_names service) (setup_due service) setup shelf shelf_read
+  pub faults : shelf_read.faults ≤ shelf_after.faults
   pub is_of_service : IfOk setup (λ s. service_in s ≡ service)
-  pub follows : ServiceFollows setup before after exit
+  pub follows : ServiceFollows setup (record before { files = files_on shelf_read }) after exit
 
 -- What follows the words: their refusal is the exit, and no file is read; else they ask for a service, whose files are
 -- read.

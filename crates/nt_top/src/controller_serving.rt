@@ -1,8 +1,9 @@
 //! The end of `nt_controller serve`.
 
-ghost use Rattle.std.specs.Prelude.{◌≡◌, ◌≤◌, IfOk};
+ghost use Rattle.std.specs.Prelude.{◌≡◌, ◌≤◌, IfOk, option_copied, option_map};
 ghost use Rattle.outside.specs.Causes.{Rose};
 ghost use Rattle.end_loop.specs.Seen.{Between};
+ghost use Rattle.end_loop.specs.Writing.{files_told};
 ghost use Rattle.domain_controller.specs.Step.{controller_machine, first_state};
 ghost use Rattle.nt_top.specs.Serve.{MayServe};
 ghost use Rattle.nt_top.specs.declared.exit.Exit.{Exit};
@@ -12,29 +13,34 @@ use crate::serve::{name_of, serve_end};
 use account_table::Table;
 use domain_controller::Controller;
 use nt_words::{ControllerSetup, ControllerWords};
-use outside::{Chances, Clock, Port, Sink};
+use outside::{Chances, Clock, Files, Port, Sink};
 use std::alloc::Global;
 use wire_base::NoMemory;
 
-/// Starts the challenges, listens, and serves the controller of the words' name over the table.
+/// Starts the challenges, listens, and serves the controller of the words' name over the table. Changed secrets are
+/// written into the file that the words name for them, where they name one.
 ///
-/// `PortFault`, `SinkFault` and `Spent` are those of the service; `Done` where the port gave `Stop` or as many events
-/// as the words say. `NoMemory` may come at any time.
-pub(crate) fn serve_controller<P: Port, S: Sink, C: Clock, Q: Chances>(
+/// `PortFault`, `FileFault`, `SinkFault` and `Spent` are those of the service; `Done` where the port gave `Stop` or as
+/// many events as the words say. `NoMemory` may come at any time.
+pub(crate) fn serve_controller<P: Port, S: Sink, F: Files, C: Clock, Q: Chances>(
     alloc: Global,
     words: &ControllerWords,
     setup: ControllerSetup,
     port: &mut P,
     out: &mut S,
+    files: &mut F,
     clock: &mut C,
     chances: &mut Q,
 ) -> Exit
     ensures serves { Between
         P.story P.link_faults C.moments Q.drawing S.taken
-        port.old clock.old chances.old out.old port.new clock.new chances.new out.new
-        (λ before after. MayServe controller_machine (first_state setup.table words.now.name)
-        words.now.listen setup.seed words.now.boot words.now.events before after result) }
-    ensures no_file { ¬ (result ≡ Exit.FileFault) }
+        (files_told F.contents F.reads F.writes) port.old clock.old chances.old out.old files.old
+        port.new clock.new chances.new out.new files.new
+        (λ before after. MayServe controller_machine words.now.secrets
+        (first_state setup.table words.now.name) words.now.listen setup.seed words.now.boot
+        words.now.events before after result) }
+    ensures file_cause { result ≡ Exit.FileFault → Rose (F.faults files.old) (F.faults files.new) }
+    ensures files { F.faults files.old ≤ F.faults files.new }
     ensures port_cause { result ≡ Exit.PortFault → Rose (P.faults port.old) (P.faults port.new) }
     ensures sink_cause { result ≡ Exit.SinkFault → Rose (S.faults out.old) (S.faults out.new) }
     ensures port { P.faults port.old ≤ P.faults port.new }
@@ -55,9 +61,21 @@ pub(crate) fn serve_controller<P: Port, S: Sink, C: Clock, Q: Chances>(
         words.events(),
         port,
         out,
+        bytes_of(words.secrets()),
+        files,
         clock,
         chances,
     )
+}
+
+/// The bytes of a file's name, where there is one.
+fn bytes_of(name: Option<&str>) -> Option<&[u8]>
+    ensures { option_copied result ≡ option_map (λ s. s.now) name.entry }
+{
+    match name {
+        Some(name) => Some(name.as_bytes()),
+        None => None,
+    }
 }
 
 /// The controller of that name over the table.

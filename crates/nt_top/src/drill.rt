@@ -12,6 +12,7 @@ use account_table::{Table, TableRefused};
 use domain_world::{ClientPlans, MemberPlans, Plan, Report, Tables, drive_from, moves_from};
 use logon_client::{AuthKind, ClientPlan};
 use member_server::MemberPlan;
+use secret_change::Secrets;
 use std::alloc::{AllocError, Global};
 use wire_base::{Blob, Name, NameRefused, Names, NoMemory, Units};
 
@@ -146,7 +147,7 @@ fn drill_member(alloc: Global, computer: &[u8], byte: u8) -> Result<MemberPlan, 
     Ok(MemberPlan {
         computer: name(alloc, computer)?,
         domain: name(alloc, b"CORP")?,
-        secret: [byte; 16],
+        secrets: Secrets::alone([byte; 16]),
         controller: Blob::copy(alloc, &[0])?,
     })
 }

@@ -18,7 +18,7 @@ pub enum Exit {
     Refused(RefusedCause),
     /// The command line isn't of its form: 0, or the number of the first option whose value isn't.
     BadWords(u32),
-    /// A file wasn't read.
+    /// A file wasn't read or written.
     FileFault,
     /// The account table was refused.
     BadTable(TableRefused),
@@ -99,6 +99,7 @@ impl From<Halt> for Exit {
     fn from(halt: Halt) -> Exit {
         match halt {
             Halt::PortFault => Exit::PortFault,
+            Halt::FileFault => Exit::FileFault,
             Halt::SinkFault => Exit::SinkFault,
             Halt::NoMemory => Exit::NoMemory,
             Halt::Spent => Exit::Spent,

@@ -3,6 +3,7 @@
 ghost use Rattle.std.specs.Prelude.{◌≡◌, ◌≤◌, ◌==◌, ◌++◌, IfOk, OnOk, Some, option_copied};
 ghost use Rattle.outside.specs.Causes.{Rose};
 ghost use Rattle.end_loop.specs.Seen.{Between};
+ghost use Rattle.end_loop.specs.Writing.{files_told};
 ghost use Rattle.logon_client.specs.Plans.{CanLogOn};
 ghost use Rattle.nt_top.specs.Serve.{halt_exit};
 ghost use Rattle.nt_top.specs.Logon.{ClientEnds, LogonEnds, Says, echo_line, in_lines, plan_of};
@@ -11,7 +12,7 @@ use crate::exit::Exit;
 use end_loop::{Halt, begin_with, put_all};
 use logon_client::{Client, ClientOutcome, ClientPlan, NoAnswerCause};
 use nt_words::{LogonWords, SecretSetup};
-use outside::{Chances, Clock, Failed, Port, Sink};
+use outside::{Chances, Clock, Failed, Files, Port, Sink};
 use std::alloc::{AllocError, Global};
 use wire_base::{Blob, NoMemory, Units, put_printable};
 
@@ -21,21 +22,24 @@ use wire_base::{Blob, NoMemory, Units, put_printable};
 /// `Done` where the outcome is In, and then its lines were put; `Refused`, `NoAnswer` and `BadPeer` where it is that;
 /// `NoAnswer(LinkClosed)` also where the port gave no more, or as many events as a logon takes, before there was an
 /// outcome. At these three nothing is put.
-pub(crate) fn logon<P: Port, S: Sink, C: Clock, Q: Chances>(
+pub(crate) fn logon<P: Port, S: Sink, F: Files, C: Clock, Q: Chances>(
     alloc: Global,
     words: &LogonWords,
     setup: &SecretSetup,
     port: &mut P,
     out: &mut S,
+    files: &mut F,
     clock: &mut C,
     chances: &mut Q,
 ) -> Exit
     ensures ends { Between
         P.story P.link_faults C.moments Q.drawing S.taken
-        port.old clock.old chances.old out.old port.new clock.new chances.new out.new
+        (files_told F.contents F.reads F.writes) port.old clock.old chances.old out.old files.old
+        port.new clock.new chances.new out.new files.new
         (λ before after. LogonEnds (plan_of words.now setup.now) setup.now.seed words.now.boot
         before after result) }
-    ensures no_file { ¬ (result ≡ Exit.FileFault) }
+    ensures file_cause { result ≡ Exit.FileFault → Rose (F.faults files.old) (F.faults files.new) }
+    ensures files { F.faults files.old ≤ F.faults files.new }
     ensures sink_cause { result ≡ Exit.SinkFault → Rose (S.faults out.old) (S.faults out.new) }
     ensures port_cause { result ≡ Exit.PortFault → Rose (P.faults port.old) (P.faults port.new) }
     ensures sink { S.faults out.old ≤ S.faults out.new }
@@ -44,7 +48,7 @@ pub(crate) fn logon<P: Port, S: Sink, C: Clock, Q: Chances>(
 {
     chances.start(setup.seed(), words.boot());
     match plan_of(alloc, words, setup) {
-        Ok(plan) => run_client(alloc, plan, port, out, clock, chances),
+        Ok(plan) => run_client(alloc, plan, port, out, files, clock, chances),
         Err(NoMemory) => Exit::NoMemory,
     }
 }
@@ -79,20 +83,23 @@ fn units_of(alloc: Global, text: &str) -> Result<Units, NoMemory>
 }
 
 /// Runs a client of this plan to its outcome, and says it. The challenges were started.
-fn run_client<P: Port, S: Sink, C: Clock, Q: Chances>(
+fn run_client<P: Port, S: Sink, F: Files, C: Clock, Q: Chances>(
     alloc: Global,
     plan: ClientPlan,
     port: &mut P,
     out: &mut S,
+    files: &mut F,
     clock: &mut C,
     chances: &mut Q,
 ) -> Exit
     requires can { CanLogOn plan }
     ensures ends { Between
         P.story P.link_faults C.moments Q.drawing S.taken
-        port.old clock.old chances.old out.old port.new clock.new chances.new out.new
+        (files_told F.contents F.reads F.writes) port.old clock.old chances.old out.old files.old
+        port.new clock.new chances.new out.new files.new
         (λ opened after. ClientEnds plan opened after result) }
-    ensures no_file { ¬ (result ≡ Exit.FileFault) }
+    ensures file_cause { result ≡ Exit.FileFault → Rose (F.faults files.old) (F.faults files.new) }
+    ensures files { F.faults files.old ≤ F.faults files.new }
     ensures sink_cause { result ≡ Exit.SinkFault → Rose (S.faults out.old) (S.faults out.new) }
     ensures port_cause { result ≡ Exit.PortFault → Rose (P.faults port.old) (P.faults port.new) }
     ensures sink { S.faults out.old ≤ S.faults out.new }
@@ -111,6 +118,8 @@ fn run_client<P: Port, S: Sink, C: Clock, Q: Chances>(
         4294967295,
         port,
         out,
+        None,
+        files,
         clock,
         chances,
     ) {
@@ -122,7 +131,7 @@ fn run_client<P: Port, S: Sink, C: Clock, Q: Chances>(
 /// The exit of a run that halted.
 fn exit_of_halt(halt: Halt) -> Exit
     ensures value { result ≡ halt_exit halt }
-    ensures no_file { ¬ (result ≡ Exit.FileFault) }
+    ensures file { result ≡ Exit.FileFault → halt ≡ Halt.FileFault }
     ensures sink { result ≡ Exit.SinkFault → halt ≡ Halt.SinkFault }
     ensures port { result ≡ Exit.PortFault → halt ≡ Halt.PortFault }
 {

@@ -1,20 +1,22 @@
 //! An end that is served.
 
-ghost use Rattle.std.specs.Prelude.{◌≡◌, ◌≤◌, Err, IfOk, false};
+ghost use Rattle.std.specs.Prelude.{◌≡◌, ◌≤◌, Err, IfOk, false, option_copied};
 ghost use Rattle.outside.specs.Causes.{Rose};
 ghost use Rattle.end_loop.specs.Seen.{Between};
+ghost use Rattle.end_loop.specs.Writing.{files_told};
 ghost use Rattle.nt_top.specs.Serve.{ServesTo, service_exit};
 ghost use Rattle.end_loop.specs.declared.halt.Halt.{Halt};
 ghost use Rattle.nt_top.specs.declared.exit.Exit.{Exit};
 
 use crate::exit::Exit;
 use end_loop::{End, Halt, serve_at};
-use outside::{Chances, Clock, Port, Sink};
+use outside::{Chances, Clock, Files, Port, Sink};
 use std::alloc::Global;
 use wire_base::{Name, NoMemory};
 
-/// Starts the challenges, listens at the address and serves the end, for as many events at most.
-pub(crate) fn serve_end<E: End, P: Port, S: Sink, C: Clock, Q: Chances>(
+/// Starts the challenges, listens at the address and serves the end, for as many events at most. What the end keeps is
+/// written into the file of that name, where there is a name.
+pub(crate) fn serve_end<E: End, P: Port, S: Sink, F: Files, C: Clock, Q: Chances>(
     alloc: Global,
     end: &mut E,
     address: &[u8],
@@ -23,16 +25,20 @@ pub(crate) fn serve_end<E: End, P: Port, S: Sink, C: Clock, Q: Chances>(
     most: u32,
     port: &mut P,
     out: &mut S,
+    file: Option<&[u8]>,
+    files: &mut F,
     clock: &mut C,
     chances: &mut Q,
 ) -> Exit
     requires running { E.is_stopped end.old ≡ false }
     ensures serves { Between
         P.story P.link_faults C.moments Q.drawing S.taken
-        port.old clock.old chances.old out.old port.new clock.new chances.new out.new
-        (λ before after. ServesTo E.machine end.old address.now seed boot most
-        before after result) }
-    ensures no_file { ¬ (result ≡ Exit.FileFault) }
+        (files_told F.contents F.reads F.writes) port.old clock.old chances.old out.old files.old
+        port.new clock.new chances.new out.new files.new
+        (λ before after. ServesTo E.machine (option_copied file.entry) end.old address.now
+        seed boot most before after result) }
+    ensures file_cause { result ≡ Exit.FileFault → Rose (F.faults files.old) (F.faults files.new) }
+    ensures files { F.faults files.old ≤ F.faults files.new }
     ensures port_cause { result ≡ Exit.PortFault → Rose (P.faults port.old) (P.faults port.new) }
     ensures sink_cause { result ≡ Exit.SinkFault → Rose (S.faults out.old) (S.faults out.new) }
     ensures port { P.faults port.old ≤ P.faults port.new }
@@ -40,7 +46,7 @@ pub(crate) fn serve_end<E: End, P: Port, S: Sink, C: Clock, Q: Chances>(
     ensures sink { S.faults out.old ≤ S.faults out.new }
 {
     let served = serve_at(
-        alloc, end, address, seed, boot, most, port, out, clock, chances,
+        alloc, end, address, seed, boot, most, port, out, file, files, clock, chances,
     );
     exit_of_service(served)
 }
@@ -48,7 +54,7 @@ pub(crate) fn serve_end<E: End, P: Port, S: Sink, C: Clock, Q: Chances>(
 /// The exit of a service.
 fn exit_of_service(served: Result<(), Halt>) -> Exit
     ensures exit { result ≡ service_exit served }
-    ensures no_file { ¬ (result ≡ Exit.FileFault) }
+    ensures file { result ≡ Exit.FileFault → served ≡ Err Halt.FileFault }
     ensures port { result ≡ Exit.PortFault → served ≡ Err Halt.PortFault }
     ensures sink { result ≡ Exit.SinkFault → served ≡ Err Halt.SinkFault }
 {

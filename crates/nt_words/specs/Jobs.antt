@@ -81,7 +81,8 @@ controller_form = record {
       choice (codes "table") File true ∷
       choice (codes "seed") File true ∷
       choice (codes "boot") (Number 4294967295) true ∷
-      choice (codes "events") (Number 4294967295) false ∷ [];
+      choice (codes "events") (Number 4294967295) false ∷
+      choice (codes "secrets") File false ∷ [];
 }
 
 pub record ControllerJob : Type 0 where
@@ -91,6 +92,8 @@ pub record ControllerJob : Type 0 where
   pub seed : Text
   pub boot : ℕ
   pub events : ℕ
+  -- the file of changed secrets, where one is named
+  pub secrets : Option Text
 
 -- the job of these rows
 abbrev pub controller_of : List Row → ControllerJob
@@ -101,6 +104,7 @@ controller_of rows = record {
   seed = text_at rows (codes "seed");
   boot = number_at rows (codes "boot") 0;
   events = number_at rows (codes "events") 4294967295;
+  secrets = first_of (codes "secrets") rows;
 }
 
 unfoldable pub controller_job : List Text → Result ControllerJob WordsRefused

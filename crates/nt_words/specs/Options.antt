@@ -107,11 +107,16 @@ is_file (Number most) = false
 is_file Level = false
 is_file Auth = false
 
-abbrev pub add_file : Bool → ℕ → Text → List (ℕ × Text) → List (ℕ × Text)
-add_file true number name later = (number, name) ∷ later
-add_file false number name later = later
+abbrev pub add_file : Bool → ℕ → Choice → List (ℕ × Choice) → List (ℕ × Choice)
+add_file true number choice later = (number, choice) ∷ later
+add_file false number choice later = later
 
--- their numbers, where the first option has the number `first`, and their names
-abbrev pub file_options : ℕ → List Choice → List (ℕ × Text)
+-- these options, each with its number, where the first option has the number `first`
+abbrev pub file_options : ℕ → List Choice → List (ℕ × Choice)
 file_options first [] = []
-file_options first (choice ∷ more) = add_file (is_file choice.kind) first choice.name (file_options (first + 1) more)
+file_options first (choice ∷ more) = add_file (is_file choice.kind) first choice (file_options (first + 1) more)
+
+-- the file of an option that may be missing, by the option's number, in front of others
+abbrev pub file_of : ℕ → Option Text → List (ℕ × List ℕ) → List (ℕ × List ℕ)
+file_of number None later = later
+file_of number (Some name) later = (number, name) ∷ later

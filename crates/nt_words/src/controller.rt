@@ -1,13 +1,13 @@
 //! The words of `nt_controller serve`.
 
-ghost use Rattle.std.specs.Prelude.{◌≡◌, codes, map, true};
+ghost use Rattle.std.specs.Prelude.{◌≡◌, codes, map, option_map, true};
 ghost use Rattle.std.specs.String.{string_bytes};
 ghost use Rattle.wire_base.specs.Memory.{UpToMemory};
 ghost use Rattle.wire_base.specs.Names.{IsName};
 ghost use Rattle.nt_words.specs.Forms.{IsAddress};
 ghost use Rattle.nt_words.specs.Jobs.{is_led_by, controller_form, controller_job};
 
-use crate::options::{Kind, OptionForm, WordsRefused, number, text};
+use crate::options::{Kind, OptionForm, WordsRefused, number, text, value};
 use crate::words::read_words;
 use std::alloc::Global;
 use std::marker::Model;
@@ -21,9 +21,11 @@ pub struct ControllerWords<'a> {
     seed: &'a str,
     boot: u32,
     events: u32,
+    secrets: Option<&'a str>,
 }
 
 impl<'a> Model for ControllerWords<'a> {
+    ghost use Rattle.std.specs.Prelude.{option_map};
     ghost use Rattle.nt_words.specs.Forms.{IsControllerForm};
     ghost use Rattle.nt_words.specs.Jobs.{ControllerJob};
 
@@ -36,6 +38,7 @@ impl<'a> Model for ControllerWords<'a> {
       seed = j.seed.now;
       boot = j.boot;
       events = j.events;
+      secrets = option_map (λ s. s.now) j.secrets;
     } };
 
     ghost invariant = { λ j. IsControllerForm (record {
@@ -45,6 +48,7 @@ impl<'a> Model for ControllerWords<'a> {
       seed = j.seed.now;
       boot = j.boot;
       events = j.events;
+      secrets = option_map (λ s. s.now) j.secrets;
     }) };
 }
 
@@ -77,6 +81,13 @@ impl<'a> ControllerWords<'a> {
         ensures { result ≡ self.now.events }
     {
         self.events
+    }
+
+    /// The name of the file of changed secrets, where one is named.
+    pub fn secrets(&self) -> Option<&'a str>
+        ensures { option_map (λ s. s.now) result ≡ self.now.secrets }
+    {
+        self.secrets
     }
 
     /// The name of the table's file.
@@ -113,11 +124,12 @@ pub(crate) fn controller_words<'a>(
         seed: text(&matches, "seed"),
         boot: number(&matches, "boot", 0),
         events: number(&matches, "events", 4294967295),
+        secrets: value(&matches, "secrets"),
     })
 }
 
 /// The options of `nt_controller serve`.
-fn controller_options() -> [OptionForm<'static>; 6]
+fn controller_options() -> [OptionForm<'static>; 7]
     ensures { result ≡ controller_form.choices }
 {
     [
@@ -127,5 +139,6 @@ fn controller_options() -> [OptionForm<'static>; 6]
         OptionForm::new("seed", Kind::File, true),
         OptionForm::new("boot", Kind::Number(4294967295), true),
         OptionForm::new("events", Kind::Number(4294967295), false),
+        OptionForm::new("secrets", Kind::File, false),
     ]
 }

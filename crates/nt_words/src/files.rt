@@ -1,11 +1,13 @@
 //! The files that a job names.
 
-ghost use Rattle.std.specs.Prelude.{◌≡◌, [], ◌∷◌};
+ghost use Rattle.std.specs.Prelude.{◌≡◌, [], ◌∷◌, Some, option_map};
 ghost use Rattle.hex.specs.Hex.{decode_sized};
 ghost use Rattle.nt_words.specs.Files.{shelf_of, ReadsFiles, Judges, content_due, file_due, table_refused, file_refused};
-ghost use Rattle.nt_words.specs.Files.{seed_in, secret_in, table_in, digits_by, is_end, controller_files, secret_files};
+ghost use Rattle.nt_words.specs.Files.{seed_in, secret_in, secrets_in, table_in, digits_by, is_end, controller_files, secret_files};
+ghost use Rattle.nt_words.specs.Files.{apply_refused, controller_rest, secrets_due};
+ghost use Rattle.nt_words.specs.Options.{file_of};
 
-use account_table::{Table, TableRefused};
+use account_table::{ApplyRefused, Table, TableRefused};
 use hex::FromHex;
 use outside::{FileRefused, Files};
 use std::alloc::Global;
@@ -81,23 +83,79 @@ impl SecretSetup {
     }
 }
 
-/// The files of `nt_controller serve`: the table, then the seed.
+/// The files of `nt_controller serve`: the table, then the seed, then the changed secrets, where a file of them is
+/// named. The table is the one with these secrets.
 pub(crate) fn read_controller_files<F: Files>(
     alloc: Global,
     files: &mut F,
     table: &str,
     seed: &str,
+    secrets: Option<&str>,
 ) -> Result<ControllerSetup, FilesRefused>
     ensures { let shelf = shelf_of F.faults F.contents F.reads F.writes in
-        ReadsFiles ((3, table.now) ∷ (4, seed.now) ∷ []) (controller_files table.now seed.now)
+        let named = option_map (λ s. s.now) secrets.entry in
+        ReadsFiles ((3, table.now) ∷ (4, seed.now) ∷ file_of 7 named [])
+        (controller_files table.now seed.now named)
         result (shelf files.old) (shelf files.new) }
 {
-    let table = match read_table(alloc, files, table) {
-        Ok(table) => table,
-        Err(refused) => return Err(refused),
-    };
+    match read_table(alloc, files, table) {
+        Ok(table) => read_controller_rest(alloc, files, table, seed, secrets),
+        Err(refused) => Err(refused),
+    }
+}
+
+/// The seed's file, and then that of changed secrets.
+fn read_controller_rest<F: Files>(
+    alloc: Global,
+    files: &mut F,
+    table: Table,
+    seed: &str,
+    secrets: Option<&str>,
+) -> Result<ControllerSetup, FilesRefused>
+    ensures { let shelf = shelf_of F.faults F.contents F.reads F.writes in
+        let named = option_map (λ s. s.now) secrets.entry in
+        ReadsFiles ((4, seed.now) ∷ file_of 7 named []) (controller_rest seed.now named table)
+        result (shelf files.old) (shelf files.new) }
+{
     match read_seed(alloc, files, 4, seed) {
-        Ok(seed) => Ok(ControllerSetup { table, seed }),
+        Ok(seed) => read_changed(alloc, files, table, seed, secrets),
+        Err(refused) => Err(refused),
+    }
+}
+
+/// The file of changed secrets, where one is named.
+fn read_changed<F: Files>(
+    alloc: Global,
+    files: &mut F,
+    table: Table,
+    seed: [u8; 32],
+    secrets: Option<&str>,
+) -> Result<ControllerSetup, FilesRefused>
+    ensures { let shelf = shelf_of F.faults F.contents F.reads F.writes in
+        let named = option_map (λ s. s.now) secrets.entry in
+        ReadsFiles (file_of 7 named []) (secrets_due named table seed)
+        result (shelf files.old) (shelf files.new) }
+{
+    match secrets {
+        Some(name) => read_setup(alloc, files, table, seed, name),
+        None => Ok(ControllerSetup { table, seed }),
+    }
+}
+
+/// The file of changed secrets.
+fn read_setup<F: Files>(
+    alloc: Global,
+    files: &mut F,
+    table: Table,
+    seed: [u8; 32],
+    name: &str,
+) -> Result<ControllerSetup, FilesRefused>
+    ensures { let shelf = shelf_of F.faults F.contents F.reads F.writes in
+        ReadsFiles ((7, name.now) ∷ []) (secrets_due (Some name.now) table seed)
+        result (shelf files.old) (shelf files.new) }
+{
+    match read_secrets(alloc, files, table, name) {
+        Ok(table) => Ok(ControllerSetup { table, seed }),
         Err(refused) => Err(refused),
     }
 }
@@ -134,6 +192,23 @@ fn read_table<F: Files>(alloc: Global, files: &mut F, name: &str) -> Result<Tabl
 {
     match read_file(alloc, files, 3, name) {
         Ok(content) => table_from(alloc, content.bytes()),
+        Err(refused) => Err(refused),
+    }
+}
+
+/// The account table with the secrets that the file of this name holds.
+fn read_secrets<F: Files>(
+    alloc: Global,
+    files: &mut F,
+    table: Table,
+    name: &str,
+) -> Result<Table, FilesRefused>
+    ensures { let shelf = shelf_of F.faults F.contents F.reads F.writes in
+        ReadsFiles ((7, name.now) ∷ []) (file_due 7 name.now (secrets_in 7 table))
+        result (shelf files.old) (shelf files.new) }
+{
+    match read_file(alloc, files, 7, name) {
+        Ok(content) => table_with(alloc, table, content.bytes()),
         Err(refused) => Err(refused),
     }
 }
@@ -260,5 +335,26 @@ fn table_refused(refused: TableRefused) -> FilesRefused
     match refused {
         TableRefused::Memory => FilesRefused::NoMemory,
         _ => FilesRefused::BadTable(refused),
+    }
+}
+
+/// The account table with the secrets that the bytes write.
+fn table_with(alloc: Global, table: Table, text: &[u8]) -> Result<Table, FilesRefused>
+    ensures { Judges 7 result (secrets_in 7 table text.now) }
+{
+    let mut changed = table;
+    match changed.apply(alloc, text) {
+        Ok(()) => Ok(changed),
+        Err(refused) => Err(apply_refused(refused)),
+    }
+}
+
+/// Why a text of secrets wasn't taken.
+fn apply_refused(refused: ApplyRefused) -> FilesRefused
+    ensures { result ≡ apply_refused 7 refused }
+{
+    match refused {
+        ApplyRefused::NotSecrets => FilesRefused::BadInput(7),
+        ApplyRefused::Memory => FilesRefused::NoMemory,
     }
 }

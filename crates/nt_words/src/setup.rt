@@ -39,7 +39,8 @@ pub fn set_up<'a, F: Files>(
 {
     match service {
         Service::Controller(words) => {
-            match read_controller_files(alloc, files, words.table_file(), words.seed_file()) {
+            let (table, seed) = (words.table_file(), words.seed_file());
+            match read_controller_files(alloc, files, table, seed, words.secrets()) {
                 Ok(setup) => Ok(Setup::Controller(words, setup)),
                 Err(refused) => Err(refused),
             }

@@ -49,11 +49,17 @@ pub(crate) fn files(alloc: Global, word: &str, failing: &str) -> anyhow::Result<
     Ok(MapFiles::new(alloc, texts, failing))
 }
 
-/// The domain of a table, and the seed.
+/// The domain of a table, the seed, and the table's changed secrets.
 fn text_of_table(alloc: Global, files: ControllerSetup) -> anyhow::Result<String> {
     let (table, seed) = files.into_parts();
     let mut text = debug_text(alloc, table.domain())?;
     add_debug(alloc, &mut text, seed.as_slice())?;
+    let secrets = table.secrets(alloc)?;
+    add_debug(
+        alloc,
+        &mut text,
+        str::from_utf8(secrets.bytes()).unwrap_or("no text"),
+    )?;
     Ok(text)
 }
 

@@ -8,7 +8,7 @@ use case_words::{
     add_answer, add_debug, blob, eight_list, no_case, number, number_list, sends_text, told, word,
 };
 use nt_top::{Exit, Role};
-use outside::{Event, Events, ListChances, ScriptPort, Sends, VecSink};
+use outside::{Event, Events, Files, ListChances, ScriptPort, Sends, VecSink};
 use std::alloc::Global;
 
 /// An event of its parts.
@@ -125,10 +125,46 @@ fn run_case(alloc: Global, words: &[&str]) -> anyhow::Result<String> {
     text_of_run(alloc, role(word(words, 7)), &command, &mut memory, &mut out)
 }
 
+/// Adds what the file `c` holds after a run, `none` where there is none.
+fn add_kept(alloc: Global, text: &mut String, memory: &mut Memory) -> anyhow::Result<()> {
+    match memory.files.read(alloc, b"c") {
+        Ok(content) => {
+            let content = case_words::text(alloc, content.bytes())?;
+            add_answer(text, &content)
+        }
+        Err(_) => add_answer(text, "none"),
+    }
+}
+
+/// How a command ends, what it put and sent, whether all that was kept is still told, and what the file `c` holds.
+fn text_of_keeping(
+    alloc: Global,
+    role: Role,
+    command: &[String],
+    memory: &mut Memory,
+    out: &mut VecSink,
+) -> anyhow::Result<String> {
+    let mut answers = text_of_run(alloc, role, command, memory, out)?;
+    add_kept(alloc, &mut answers, memory)?;
+    Ok(answers)
+}
+
+/// `keep EVENTS FAILING FAILING_FILES FAILING_PUTS DRAWS FILES ROLE WORD..`: the same as `run`, and what the file `c`
+/// holds then.
+fn keep_case(alloc: Global, words: &[&str]) -> anyhow::Result<String> {
+    let command = command_line(alloc, words, 8)?;
+    let mut out = sink(alloc, word(words, 4))?;
+    let Some(mut memory) = memory_of(alloc, words)? else {
+        return no_case(alloc);
+    };
+    text_of_keeping(alloc, role(word(words, 7)), &command, &mut memory, &mut out)
+}
+
 /// What an operation gives.
 pub(crate) fn answer(alloc: Global, operation: &str, words: &[&str]) -> anyhow::Result<String> {
     match operation {
         "run" => run_case(alloc, words),
+        "keep" => keep_case(alloc, words),
         _ => no_case(alloc),
     }
 }
