@@ -7,7 +7,7 @@ use Rattle.secret_change.specs.Calls.{written_set_call}
 use Rattle.secret_change.specs.declared.calls.SetCall.{SetCall}
 use Rattle.secret_change.proofs.HideLaws.{hidden_is_secret}
 use Rattle.secret_change.proofs.SetLaws.{call_stub}
-use Rattle.channel_client.specs.Machine.{CanSendSet, change_call}
+use Rattle.channel_client.specs.Machine.{CanSendSet, change_call, stub_limit}
 use Rattle.channel_client.specs.declared.caller.Caller.{Caller}
 use Rattle.wire_base.specs.Numbers.{AreBytes}
 use Rattle.logon_stubs.specs.Parts.{FitsText, IfThere, size_if_there, text_size}
@@ -34,7 +34,7 @@ call_content-le (call.Challenge value) can = omega (arith, content_if_there valu
 call_content-le (call.Authenticate value) can = omega (arith, content_if_there value.primary can.0, can.1, can.2)
 
 pub stub_short : (value : Call) (stub : List ℕ) → AreBytes stub → CanWriteCall value → call_of (opnum_of_call value) stub ≡ Ok value →
-    stub ≡ written_call value → length stub ≤ 459140
+    stub ≡ written_call value → length stub ≤ stub_limit
 stub_short value stub bytes can again is =
     omega (arith, ap length is, written_call-content value can (call_of-InRange (opnum_of_call value) stub value bytes again), call_content-le value can)
 
@@ -44,7 +44,7 @@ text_if_there : (value : Option (List ℕ)) → IfThere FitsText value → size_
 text_if_there None fits = omega arith
 text_if_there (Some value) fits = omega (arith, fits)
 
-pub set_stub_short : (value : SetCall) (stub : List ℕ) → CanSendSet value → stub ≡ written_set_call value → length stub ≤ 459140
+pub set_stub_short : (value : SetCall) (stub : List ℕ) → CanSendSet value → stub ≡ written_set_call value → length stub ≤ stub_limit
 set_stub_short value stub can is =
     omega (arith, ap length is, (call_stub value can.writes can.range).short, text_if_there value.primary can.writes.primary, can.writes.account, can.writes.computer)
 

@@ -1,7 +1,7 @@
 -- The end that asks on a secure channel, step by step (MS-NRPC 3.1.4.1 to 3.1.4.5, 3.5.4.4, 3.5.4.5; C706 12.6.3 for
 -- binds and calls). The queue of logons, the turns, when a secret is changed, and the order of causes are this
 -- project's own choice. Places and numbers of calls are counted modulo 2^32.
-use Rattle.std.specs.Prelude.{ℕ, ◌≡◌, ◌+◌, ◌%◌, ◌^◌, ◌==◌, ◌&&◌, Bool, true, false, List, [], ◌∷◌, ◌++◌, length, nat_le, replicate, Option, Some, None, Result, Ok, Err, bytes_eq}
+use Rattle.std.specs.Prelude.{ℕ, ◌≡◌, ◌+◌, ◌*◌, ◌%◌, ◌^◌, ◌==◌, ◌&&◌, Bool, true, false, List, [], ◌∷◌, ◌++◌, length, nat_le, replicate, Option, Some, None, Result, Ok, Err, bytes_eq}
 use Rattle.std.specs.List.{AllByRecursion}
 use Rattle.channel_keys.specs.Credentials.{cred_of}
 use Rattle.ntlm_flags.specs.Flags.{has_flag}
@@ -447,6 +447,11 @@ lose_of s = record { place = place_of s.turn; state = remove_first standing.Noth
 pub record CanSendSet (c : SetCall) : Type 0 where
   pub writes : CanWriteSet c
   pub range : InRangeSetCall c
+
+-- The most bytes of a call's stub: five names of 32,767 units, two responses of 65,535 bytes, and 400 bytes around
+-- them. So it is short enough for the hint of a request, and for one send.
+abbrev pub stub_limit : ℕ
+stub_limit = 5 * (2 * 32767) + 2 * 65535 + 400
 
 abbrev pub CanWriteStep : Step → Type 0
 CanWriteStep (step.Bind c) = CanWriteCall c

@@ -6,7 +6,7 @@ ghost use Rattle.logon_stubs.specs.Writing.{CanWriteCall, written_call};
 ghost use Rattle.end_links.specs.Binding.{limit_of};
 ghost use Rattle.end_links.specs.Sending.{frames_of, request_of};
 ghost use Rattle.channel_client.specs.Grants.{CanWriteHeard};
-ghost use Rattle.channel_client.specs.Machine.{CanWriteStep, question_of, opnum_asked, is_accepting, hear_ack, hear_stub, hear_body, CanSendSet, hear_set_reply};
+ghost use Rattle.channel_client.specs.Machine.{CanWriteStep, question_of, opnum_asked, is_accepting, hear_ack, hear_stub, hear_body, CanSendSet, hear_set_reply, stub_limit};
 ghost use Rattle.secret_change.specs.Calls.{set_opnum, set_reply_of, written_set_call};
 
 use crate::short_frames::ShortFrames;
@@ -102,31 +102,33 @@ fn hear_ack(
         return Ok(Hearing::Drop(DropCause::Bind));
     }
     match step {
-        Step::Bind(call) => Ok(Hearing::Next(
-            question_of(call),
-            request_frames(alloc, call, receive, next)?,
-        )),
+        Step::Bind(call) => {
+            let stub = call_stub(alloc, call)?;
+            let frames = request_frames(alloc, call.opnum(), stub, receive, next)?;
+            Ok(Hearing::Next(question_of(call), frames))
+        }
         Step::Set(SetStep::Bind(call)) => {
-            let frames = set_frames(alloc, call, receive, next)?;
+            let stub = set_stub(alloc, call)?;
+            let frames = request_frames(alloc, SET_OPNUM, stub, receive, next)?;
             Ok(Hearing::Set(SetHearing::Next(frames)))
         }
         Step::Reply(_) | Step::Set(SetStep::Reply) => Ok(Hearing::Drop(DropCause::BadReply)),
     }
 }
 
-/// The frames of the request that sets a secret, on context 0, for a peer that receives so many bytes.
-fn set_frames(
+/// The frames of the request of this call number and operation, on context 0, for a peer that receives so many bytes.
+fn request_frames(
     alloc: Global,
-    call: &SetCall,
+    opnum: u16,
+    stub: Blob,
     receive: u16,
     number: u32,
 ) -> Result<ShortFrames, NoMemory>
-    requires { CanSendSet call.now }
-    ensures { IfOk result (λ frames. frames ≡ frames_of
-        (request_of number 0 set_opnum (written_set_call call.now)) (limit_of receive)) }
+    requires { length stub ≤ stub_limit }
+    ensures { IfOk result (λ frames. frames
+        ≡ frames_of (request_of number 0 opnum stub) (limit_of receive)) }
 {
-    let stub = set_stub(alloc, call)?;
-    let unit = request(number, 0, SET_OPNUM, stub);
+    let unit = request(number, 0, opnum, stub);
     Ok(ShortFrames::new(call_frames(alloc, &unit, fragment_limit(receive))?))
 }
 
@@ -134,56 +136,39 @@ fn set_frames(
 fn set_stub(alloc: Global, call: &SetCall) -> Result<Blob, NoMemory>
     requires { CanSendSet call.now }
     ensures exact { IfOk result (λ stub. stub ≡ written_set_call call.now) }
-    ensures short { IfOk result (λ stub. length stub ≤ 459140) }
+    ensures short { IfOk result (λ stub. length stub ≤ stub_limit) }
 {
     let stub = write_set(alloc, call)?;
     is_short_stub(call, &stub);
     Ok(stub)
 }
 
-/// The stub of such a call has at most 459,140 bytes.
+/// The stub of such a call is short enough for one send.
 #[tactic(auto, using(crate::proofs::StubLaws::set_stub_short))]
 fn is_short_stub(call: &SetCall, stub: &Blob)
     requires sends { CanSendSet call.now }
     requires exact { stub.now ≡ written_set_call call.now }
-    ensures { length stub.now ≤ 459140 }
+    ensures { length stub.now ≤ stub_limit }
 {}
-
-/// The frames of the request of a call, on context 0, for a peer that receives so many bytes.
-fn request_frames(
-    alloc: Global,
-    call: &Call,
-    receive: u16,
-    number: u32,
-) -> Result<ShortFrames, NoMemory>
-    requires { CanWriteCall call.now }
-    ensures { IfOk result (λ frames. frames ≡ frames_of
-        (request_of number 0 (opnum_of_call call.now) (written_call call.now))
-        (limit_of receive)) }
-{
-    let stub = call_stub(alloc, call)?;
-    let unit = request(number, 0, call.opnum(), stub);
-    Ok(ShortFrames::new(call_frames(alloc, &unit, fragment_limit(receive))?))
-}
 
 /// The stub of a call, which is short enough for the hint of a request, and for one send.
 fn call_stub(alloc: Global, call: &Call) -> Result<Blob, NoMemory>
     requires { CanWriteCall call.now }
     ensures exact { IfOk result (λ stub. stub ≡ written_call call.now) }
-    ensures short { IfOk result (λ stub. length stub ≤ 459140) }
+    ensures short { IfOk result (λ stub. length stub ≤ stub_limit) }
 {
     let stub = write_call(alloc, call)?;
     read_stub(call, stub.bytes());
     Ok(stub)
 }
 
-/// The stub of a call has at most 459,140 bytes. It reads them, so that this is known.
+/// The stub of a call is short enough for one send. It reads the bytes, so that this is known.
 #[tactic(auto, using(crate::proofs::StubLaws::stub_short))]
 fn read_stub(call: &Call, stub: &[u8])
     requires writable { CanWriteCall call.now }
     requires again { call_of (opnum_of_call call.now) stub.now ≡ Ok call.now }
     requires exact { stub.now ≡ written_call call.now }
-    ensures { length stub.now ≤ 459140 }
+    ensures { length stub.now ≤ stub_limit }
 {}
 
 /// What a reply is judged by, of a call.

@@ -184,22 +184,6 @@ fn change_call(
     are_units(caller.computer.units());
     is_short(caller.kind);
     is_long(timestamp);
-    set_call(alloc, caller, channel, timestamp, next)
-}
-
-/// The call.
-fn set_call(
-    alloc: Global,
-    caller: &Caller,
-    channel: &mut SecureChannel,
-    timestamp: u32,
-    next: [u8; 16],
-) -> Result<SetCall, NoMemory>
-    ensures call { IfOk result (λ call. call
-        ≡ change_call caller.now channel.old timestamp next) }
-    ensures channel { OnOk result (channel.new ≡ after_call channel.old timestamp) }
-    ensures unchanged { OnErr result (channel.new ≡ channel.old) }
-{
     let account = caller.account.duplicate(alloc)?;
     let computer = caller.computer.duplicate(alloc)?;
     let hidden = hide(channel.key(), next);
