@@ -50,7 +50,7 @@ impl Dialling {
     /// 5,839 and 65,536.
     pub fn held(&self) -> u64
         ensures count { result ≡ bytes_of self.now }
-        ensures most { result ≤ 71375 }
+        ensures most { result ≤ 5839 + 65536 }
     {
         match self {
             Dialling::On(_, said) => (said.rest_len() + said.talk().joiner.len()) as u64,

@@ -59,7 +59,7 @@ use Rattle.member_server.specs.declared.memo.Answer.{Answer}
 use Rattle.member_server.specs.declared.memo.Answer.TheVariants as answer
 use Rattle.member_server.specs.declared.plan.MemberPlan.{MemberPlan}
 use Rattle.member_server.specs.Binds.{ack_fits, challenge_ack, challenge_message, challenge_trailer, is_enough, offer_at, offer_by, offer_if, offer_in}
-use Rattle.member_server.specs.Memo.{call_answer, memo_answer, echo_answer, who_answer}
+use Rattle.member_server.specs.Memo.{call_answer, memo_answer, echo_answer, stub_limit, who_answer}
 use Rattle.member_server.proofs.BindLaws.{ack_short}
 
 -- ---- units without a stub
@@ -141,17 +141,17 @@ ack_send offer plan call receive contexts challenge small block fits =
 
 -- ---- replies
 
-pub plain_send : (call context limit : ℕ) (stub : List ℕ) → 1432 ≤ limit → length stub ≤ 65558 → AreBytes stub → IsByteSend (bytes_of_call (response_of call context stub) limit)
+pub plain_send : (call context limit : ℕ) (stub : List ℕ) → 1432 ≤ limit → length stub ≤ stub_limit → AreBytes stub → IsByteSend (bytes_of_call (response_of call context stub) limit)
 plain_send call context limit stub least few are = record {
   are = call_bytes (response_of call context stub) limit (are, tt);
   short = omega (arith, call_short (response_of call context stub) limit tt least (omega arith), few);
 }
 
-sends_if : (stub : List ℕ) (secured : Option Secured) → length stub ≤ 65558 → IfSecured (IsSecured stub) secured → IfSecured IsByteSend secured
+sends_if : (stub : List ℕ) (secured : Option Secured) → length stub ≤ stub_limit → IfSecured (IsSecured stub) secured → IfSecured IsByteSend secured
 sends_if stub None few is = tt
 sends_if stub (Some secured) few is = record { are = is.are; short = omega (arith, few, is.few) }
 
-pub secured_send : (session : SessionState) (level context call number : ℕ) (stub : List ℕ) (limit : ℕ) → level < 256 → 1432 ≤ limit → length stub ≤ 65558 → AreBytes stub →
+pub secured_send : (session : SessionState) (level context call number : ℕ) (stub : List ℕ) (limit : ℕ) → level < 256 → 1432 ≤ limit → length stub ≤ stub_limit → AreBytes stub →
     IfSecured IsByteSend (secure_call session level context (response_of call number stub) limit)
 secured_send session level context call number stub limit small least few are =
     sends_if stub (secure_call session level context (response_of call number stub) limit) few (call_secured session level context (response_of call number stub) limit small tt are least)
@@ -160,7 +160,7 @@ secured_send session level context call number stub limit small least few are =
 
 -- bytes, few enough for one send
 abbrev pub FitsAnswer : Answer → Type 0
-FitsAnswer (answer.Stub stub) = AreBytes stub × (length stub ≤ 65558)
+FitsAnswer (answer.Stub stub) = AreBytes stub × (length stub ≤ stub_limit)
 FitsAnswer (answer.Fault status) = Unit {0}
 
 -- a name is written by its units modulo 2^16

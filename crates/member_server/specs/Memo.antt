@@ -1,6 +1,6 @@
 -- The operations that a member serves to those who are logged on, those of the memo interface (this project's own
 -- interface).
-use Rattle.std.specs.Prelude.{ℕ, ◌≤◌, ◌==◌, Bool, true, false, nat_le, List, length, Result, Ok, Err}
+use Rattle.std.specs.Prelude.{ℕ, ◌≤◌, ◌==◌, ◌+◌, ◌*◌, Bool, true, false, nat_le, List, length, Result, Ok, Err}
 use Rattle.memo_stubs.specs.declared.refused.MemoRefused.{MemoRefused}
 use Rattle.memo_stubs.specs.Memo.{echo_request_of, written_who_reply, written_echo_reply}
 use Rattle.rpc_units.specs.Numbers.{nca_op_rng_error, nca_proto_error, rpc_x_bad_stub_data}
@@ -29,8 +29,11 @@ abbrev pub call_answer : (is_accepted : Bool) (opnum : ℕ) (name stub : List �
 call_answer false opnum name stub = answer.Fault nca_proto_error
 call_answer true opnum name stub = memo_answer (opnum == 0) (opnum == 1) name stub
 
--- a stub is short enough for the hint of a reply, and for one send: that of a name of 32,767 units has at most 65,558
--- bytes
+-- The most bytes of a reply's stub: a name of 32,767 units, and 24 bytes around them. So it is short enough for the
+-- hint of a reply, and for one send.
+abbrev pub stub_limit : ℕ
+stub_limit = 2 * 32767 + 24
+
 abbrev pub IsShortAnswer : Answer → Type 0
-IsShortAnswer (answer.Stub stub) = length stub ≤ 65558
+IsShortAnswer (answer.Stub stub) = length stub ≤ stub_limit
 IsShortAnswer (answer.Fault status) = Unit {0}

@@ -1,6 +1,6 @@
 //! The bytes that a member holds.
 
-ghost use Rattle.std.specs.Prelude.{◌≡◌, ◌≤◌, ◌+◌};
+ghost use Rattle.std.specs.Prelude.{◌≡◌, ◌≤◌, ◌+◌, ◌*◌};
 ghost use Rattle.channel_turns.specs.Turning as turning;
 ghost use Rattle.end_links.specs.Links.{held_by};
 ghost use Rattle.member_server.specs.Holding.{bytes_in, held_of, talk_bytes};
@@ -37,7 +37,7 @@ fn bytes_in(phase: &Phase) -> usize
 fn bytes_of(running: &Running) -> u64
     ensures count { result ≡
         held_by talk_bytes running.now.links + turning.bytes_of running.now.dialling }
-    ensures most { result ≤ 35120591 }
+    ensures most { result ≤ 256 * (5839 + 131072) + (5839 + 65536) }
 {
     running.links.held() + running.dialling.held()
 }
@@ -48,7 +48,7 @@ impl Member {
     /// It takes no memory.
     pub fn held(&self) -> u64
         ensures count { result ≡ held_of self.now }
-        ensures most { result ≤ 35120591 }
+        ensures most { result ≤ 256 * (5839 + 131072) + (5839 + 65536) }
     {
         match self.running() {
             Some(running) => bytes_of(running),

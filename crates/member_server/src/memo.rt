@@ -3,7 +3,7 @@
 ghost use Rattle.std.specs.Prelude.{◌≡◌, ◌==◌, ◌≤◌, length, nat_le, IfOk};
 ghost use Rattle.memo_stubs.specs.Memo.{FitsEcho, echo_request_of, written_who_reply, written_echo_reply};
 ghost use Rattle.member_server.specs.declared.memo.Answer.TheVariants as answer;
-ghost use Rattle.member_server.specs.Memo.{IsShortAnswer, who_answer, echo_answer, memo_answer, call_answer};
+ghost use Rattle.member_server.specs.Memo.{IsShortAnswer, who_answer, echo_answer, memo_answer, call_answer, stub_limit};
 ghost use Rattle.ndr_codec.specs.Parts.{FitsText};
 
 use memo_stubs::{MemoRefused, read_echo_request, write_echo_reply, write_who_reply};
@@ -53,12 +53,12 @@ fn who_answer(alloc: Global, name: &Units) -> Result<Answer, NoMemory>
     Ok(Answer::Stub(stub))
 }
 
-/// The stub of a reply of WhoAmI has at most 65,558 bytes. It reads the name's units, so that this is known.
+/// The stub of a reply of WhoAmI has at most 2 * 32,767 + 24 bytes. It reads the name's units, so that this is known.
 #[tactic(auto, using(crate::proofs::MemoLaws::who_stub_short))]
 fn read_who(name: &[u16], stub: &[u8])
     requires fits { FitsText name.now }
     requires exact { stub.now ≡ written_who_reply name.now }
-    ensures { length stub.now ≤ 65558 }
+    ensures { length stub.now ≤ stub_limit }
 {}
 
 /// The answer to Echo: the bytes of the request.
@@ -89,5 +89,5 @@ fn echo(alloc: Global, bytes: &Blob) -> Result<Answer, NoMemory>
 fn read_echo(bytes: &[u8], stub: &[u8])
     requires fits { FitsEcho bytes.now }
     requires exact { stub.now ≡ written_echo_reply bytes.now }
-    ensures { length stub.now ≤ 65558 }
+    ensures { length stub.now ≤ stub_limit }
 {}

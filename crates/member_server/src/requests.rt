@@ -13,7 +13,7 @@ ghost use Rattle.rpc_units.specs.Calls.{bytes_of_call};
 ghost use Rattle.member_server.specs.declared.state.Phase.TheVariants as phase;
 ghost use Rattle.member_server.specs.Held.{held_size, held_limit};
 ghost use Rattle.unit_security.specs.Levels.{is_plain};
-ghost use Rattle.member_server.specs.Memo.{IsShortAnswer, call_answer};
+ghost use Rattle.member_server.specs.Memo.{IsShortAnswer, call_answer, stub_limit};
 ghost use Rattle.member_server.specs.Requests.{talk_in, send_secured, secure_reply, send_reply, reply, answer_call, join_by, join_request, join_unit, cause_by, is_due, signed_cause, join_opened, open_request, signed_unit, unit_in, body_out, unit_out, hold_by, body_asked, unit_asked};
 ghost use Rattle.member_server.specs.Work.{send, send_unit, stay};
 
@@ -184,7 +184,7 @@ fn send_reply(
     joiner: Joiner,
     at: AtLink,
 ) -> Result<(AtLink, Option<Talk>), NoMemory>
-    requires { length stub ≤ 65558 }
+    requires { length stub ≤ stub_limit }
     ensures { IfOk result
         (λ served. served ≡ send_reply (is_plain on.bound.level) call context stub on joiner at) }
 {
@@ -205,7 +205,7 @@ fn plain_reply(
     context: u16,
     bound: &Bound,
 ) -> Result<Blob, NoMemory>
-    requires { length stub ≤ 65558 }
+    requires { length stub ≤ stub_limit }
     ensures value { IfOk result (λ bytes. bytes
         ≡ bytes_of_call (response_of call context stub) bound.now.binding.limit) }
     ensures short { IfOk result (λ bytes. length bytes ≤ send_limit) }
@@ -240,7 +240,7 @@ fn secure_reply(
     joiner: Joiner,
     at: AtLink,
 ) -> Result<(AtLink, Option<Talk>), NoMemory>
-    requires { length stub ≤ 65558 }
+    requires { length stub ≤ stub_limit }
     ensures { IfOk result
         (λ served. served ≡ secure_reply on.session call context stub on joiner at) }
 {
@@ -279,7 +279,7 @@ fn secured_reply(
     bound: &Bound,
     session: Session,
 ) -> Result<Option<Secured>, NoMemory>
-    requires { length stub ≤ 65558 }
+    requires { length stub ≤ stub_limit }
     ensures value { IfOk result (λ sent. sent ≡ secure_call session bound.now.level
         bound.now.context (response_of call context stub) bound.now.binding.limit) }
     ensures short { IfOk result (λ sent. IfSome sent (λ secured.
