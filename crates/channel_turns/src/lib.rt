@@ -6,6 +6,7 @@ mod dials;
 mod hearing;
 mod laws;
 mod state;
+mod taken_verdict;
 mod turning;
 mod turns;
 
@@ -15,5 +16,6 @@ pub use laws::{
     next_turns_are_known, turns_end_once, turns_step_their_channel, what_is_sent_in_turns_is_whole,
 };
 pub use state::{Dialling, TurnEnd, TurnEnded, TurnTalk, TurnWork, Turning};
+pub use taken_verdict::TakenVerdict;
 pub use turning::{link_answers, link_closes, link_hears, next_dial, no_dial};
 pub use turns::serve_turn;

@@ -1,8 +1,8 @@
 //! A turn that is out, and how it ends.
 
+use crate::taken_verdict::TakenVerdict;
 use channel_client::{Channel, ShortFrames, Turn};
 use end_links::{Link, ShortActions};
-use logon_stubs::Verdict;
 use outside::{CloseCause, DropCause};
 use rpc_units::Joiner;
 
@@ -21,7 +21,7 @@ pub enum TurnEnd {
     /// The channel is open.
     Opened,
     /// The verdict on the logon of that place.
-    Answer(u32, Verdict),
+    Answer(u32, TakenVerdict),
     /// The logon of that place gets no answer.
     Dropped(u32, DropCause),
     /// The account has the next secret. The logon that the turn was for waits on.

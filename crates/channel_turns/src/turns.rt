@@ -5,12 +5,16 @@ ghost use Rattle.outside.specs.declared.action.Action.TheVariants as action;
 ghost use Rattle.outside.specs.declared.action.CloseCause.TheVariants as close;
 ghost use Rattle.rpc_units.specs.Reading.{unit_of};
 ghost use Rattle.end_links.specs.Sending.{joined_frames};
+ghost use Rattle.logon_stubs.specs.Ranges.{InRangeSamInfo};
+ghost use Rattle.logon_stubs.specs.Writing.{CanWriteSamInfo};
+ghost use Rattle.channel_client.specs.Grants.{IfTaken};
 ghost use Rattle.channel_client.specs.Machine.{take_of};
 ghost use Rattle.channel_client.specs.declared.answers.Taken.TheVariants as taken;
 ghost use Rattle.channel_turns.specs.Turns.{tell, end_by, break_turn, do_taken, take_by, do_heard, turn_unit, serve_turn};
 
 use crate::hearing::{Heard, hear, let_go};
 use crate::state::{TurnEnd, TurnEnded, TurnTalk, TurnWork};
+use crate::taken_verdict::TakenVerdict;
 use channel_client::{ShortFrames, TakeRefused, Taken, Turn};
 use end_links::{Link, ServesUnits, serve_piece};
 use outside::{Action, Chances, CloseCause, DropCause, StepRefused};
@@ -122,6 +126,8 @@ fn do_taken(
     joiner: Joiner,
     at: TurnWork,
 ) -> Result<(TurnWork, Option<TurnTalk>), NoMemory>
+    requires writable { IfTaken taken CanWriteSamInfo }
+    requires range { IfTaken taken InRangeSamInfo }
     ensures { IfOk result (λ served. served ≡ do_taken taken joiner at) }
 {
     match taken {
@@ -130,6 +136,7 @@ fn do_taken(
         Taken::Half => Ok(end_call(TurnEnd::Half, joiner, at)),
         Taken::Opened => Ok(end_call(TurnEnd::Opened, joiner, at)),
         Taken::Answer(place, verdict) => {
+            let verdict = TakenVerdict::new(verdict);
             Ok(end_call(TurnEnd::Answer(place, verdict), joiner, at))
         }
         Taken::Dropped(place, cause) => Ok(end_call(TurnEnd::Dropped(place, cause), joiner, at)),

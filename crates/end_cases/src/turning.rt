@@ -69,7 +69,9 @@ fn how_text(alloc: Global, how: TurnEnd) -> anyhow::Result<String> {
     match how {
         TurnEnd::Half => Ok("half".to_string(alloc)?),
         TurnEnd::Opened => Ok("opened".to_string(alloc)?),
-        TurnEnd::Answer(place, verdict) => numbered_text(alloc, "answer", place, verdict),
+        TurnEnd::Answer(place, verdict) => {
+            numbered_text(alloc, "answer", place, verdict.into_verdict())
+        }
         TurnEnd::Dropped(place, cause) => numbered_text(alloc, "dropped", place, cause),
         TurnEnd::Set => Ok("set".to_string(alloc)?),
     }

@@ -50,7 +50,10 @@ fn end_turn(alloc: Global, how: TurnEnd, work: Work) -> Result<Work, NoMemory>
 {
     match how {
         TurnEnd::Half | TurnEnd::Opened | TurnEnd::Set => Ok(work),
-        TurnEnd::Answer(place, verdict) => end_by(alloc, place, ending_of(verdict), work),
+        TurnEnd::Answer(place, verdict) => {
+            let verdict = verdict.into_verdict();
+            end_by(alloc, place, ending_of(verdict), work)
+        }
         TurnEnd::Dropped(place, cause) => {
             end_by(alloc, place, Ending::NoController(cause), work)
         }
