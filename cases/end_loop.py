@@ -1,6 +1,8 @@
 """Cases of end_loop, over a small end of the program's own and the outside in memory:
 
-    loop.serve EVENTS FAILING FAILING_PUTS DRAWS MOMENT MOST FILE FAILING_WRITES     `serve_at`
+    loop.serve EVENTS FAILING FAILING_PUTS DRAWS MOMENT MOST FILE FAILING_WRITES     `serve_at` without first actions
+    loop.serve_first EVENTS FAILING FAILING_PUTS DRAWS MOMENT MOST FILE FAILING_WRITES
+                                             `serve_at` a text to keep and a dial
     loop.begin EVENTS FAILING FAILING_PUTS DRAWS MOMENT MOST FILE FAILING_WRITES     `begin_with` a first dial
 
 The answers are worked out here by the rules of the loop (docs/FORMATS.md, "Serving") and of the small end: a link that
@@ -11,6 +13,9 @@ What the file `kept` holds at the end is read last.
 """
 
 from forms import line
+
+# What is done before the first event is asked for: `serve_at` listens before it.
+FIRST = {"serve": [], "serve_first": [("keep", b"first".hex()), ("dial",)], "begin": [("dial",)]}
 
 CHALLENGES = ["1011121314151617", "2021222324252627", "3031323334353637"]
 
@@ -138,13 +143,11 @@ def word(event):
 
 def case(operation, events, failing=(), failing_puts=(), draws=CHALLENGES, most=99, file=None, failing_writes=()):
     """A line and its answer."""
-    run = Run(events, set(failing), set(failing_puts), draws, 1 if operation == "begin" else 0, file, set(failing_writes))
+    run = Run(events, set(failing), set(failing_puts), draws, FIRST[operation].count(("dial",)), file, set(failing_writes))
     try:
-        if operation == "serve":
-            if run.port.fails():
-                raise Halts("PortFault")
-        else:
-            run.perform([("dial",)])
+        if operation != "begin" and run.port.fails():
+            raise Halts("PortFault")
+        run.perform(FIRST[operation])
         run.serve(most)
         done = "Ok(())"
     except Halts as halt:
@@ -181,7 +184,7 @@ def cases():
     out.append(case("serve", [OPENED, ("stop",), TALK]))
     out.append(case("serve", [TALK, ("closed", 1000), OPENED, TALK]))
     out.append(case("begin", [("closed", 1000), OPENED]))
-    return out + of_kept()
+    return out + of_kept() + of_first_actions()
 
 
 def of_kept():
@@ -203,4 +206,20 @@ def of_kept():
     # the write of a text that the queue's events stand behind
     out.append(case("serve", LONG, file="kept", failing_writes=[1]))
     out.append(case("begin", LONG, file="kept", failing_writes=[0]))
+    return out
+
+
+def of_first_actions():
+    """What is done first is done once the port listens, and before an event is asked for: where the port doesn't
+    listen the file stands as it was, and a first write that fails ends the run before the dial."""
+    out = []
+    for file in ["kept", "other", None]:
+        out += [case("serve_first", events, file=file) for events in ([], LONG, [("stop",), OPENED])]
+        # the port doesn't listen, the dial fails, and the first events aren't given
+        out += [case("serve_first", LONG, [number], file=file) for number in range(5)]
+        out += [case("serve_first", LONG, file=file, failing_writes=[number]) for number in range(3)]
+        out += [case("serve_first", LONG, file=file, most=most) for most in range(3)]
+    # the put at the answer of a dial that failed, and a challenge that isn't there
+    out.append(case("serve_first", LONG, [1], [0], file="kept"))
+    out.append(case("serve_first", LONG, draws=[], file="kept"))
     return out

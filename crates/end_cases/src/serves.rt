@@ -152,17 +152,21 @@ fn file<'a>(words: &[&'a str]) -> Option<&'a [u8]> {
     }
 }
 
-/// How the small end is served at an address.
+/// How the small end, where so many dials wait, is served at an address from these actions on.
 fn serve_over(
     alloc: Global,
     memory: &mut Memory,
+    first: &Actions,
+    waiting: u32,
     most: u32,
     file: Option<&[u8]>,
 ) -> anyhow::Result<String> {
     let mut end = small();
+    end.waiting = waiting;
     let done = serve_at(
         alloc,
         &mut end,
+        first,
         b"here",
         [0; 32],
         1,
@@ -184,7 +188,8 @@ fn serve(alloc: Global, words: &[&str]) -> anyhow::Result<String> {
     let Some(mut memory) = memory_of(alloc, words)? else {
         return no_case(alloc);
     };
-    serve_over(alloc, &mut memory, most, file(words))
+    let none = Actions::new(alloc);
+    serve_over(alloc, &mut memory, &none, 0, most, file(words))
 }
 
 /// A first dial.
@@ -193,6 +198,27 @@ fn first_dial(alloc: Global) -> anyhow::Result<Actions> {
     let mut first = Actions::new(alloc);
     first.push(Action::Dial(peer))?;
     Ok(first)
+}
+
+/// A text to keep, and a dial.
+fn first_text(alloc: Global) -> anyhow::Result<Actions> {
+    let text = Blob::copy(alloc, b"first")?;
+    let peer = Blob::copy(alloc, b"peer")?;
+    let mut first = Actions::new(alloc);
+    first.push(Action::Keep(text))?;
+    first.push(Action::Dial(peer))?;
+    Ok(first)
+}
+
+/// `loop.serve_first EVENTS FAILING FAILING_PUTS DRAWS MOMENT MOST FILE FAILING_WRITES`: the small end, where a dial
+/// waits, is served at an address from a text to keep and a dial on, and its texts are kept in that file.
+fn serve_first(alloc: Global, words: &[&str]) -> anyhow::Result<String> {
+    let most = number(word(words, 6))?;
+    let first = first_text(alloc)?;
+    let Some(mut memory) = memory_of(alloc, words)? else {
+        return no_case(alloc);
+    };
+    serve_over(alloc, &mut memory, &first, 1, most, file(words))
 }
 
 /// How the small end, where a dial waits, is served from these actions on.
@@ -235,6 +261,7 @@ fn begin(alloc: Global, words: &[&str]) -> anyhow::Result<String> {
 pub(crate) fn answer(alloc: Global, operation: &str, words: &[&str]) -> anyhow::Result<String> {
     match operation {
         "serve" => serve(alloc, words),
+        "serve_first" => serve_first(alloc, words),
         "begin" => begin(alloc, words),
         _ => no_case(alloc),
     }

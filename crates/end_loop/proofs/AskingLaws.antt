@@ -25,7 +25,7 @@ does_silent failed (Close link cause) now does = ap events_in does
 does_silent failed (Told link outcome) now does = ap events_in does
 does_silent failed (Judged judged) now does = ap events_in does
 
-performs_silent : (failed : List ℕ) (xs : List Action) (hs : List Happening) → Performs failed xs hs → events_in hs ≡ []
+pub performs_silent : (failed : List ℕ) (xs : List Action) (hs : List Happening) → Performs failed xs hs → events_in hs ≡ []
 performs_silent failed [] hs p = ap events_in p
 performs_silent failed (x ∷ xs) hs p =
     ap events_in p.3 ∙ flat_map-append event_of p.0 p.1 ∙ ap (λ (l : List (Event × Option ℕ)). l ++ events_in p.1) (does_silent failed x p.0 p.2)

@@ -2,9 +2,9 @@
 //! each, its actions are performed in order, and what they make (a dial's answer, a link whose send failed) is stepped
 //! before the next event is asked for.
 //!
-//! `serve` is the loop, `serve_at` starts the challenges and listens before it, `begin_with` performs first actions of
-//! the end's own. Their contracts tie what the port, the clock, the maker of challenges and the sink tell to a run of
-//! the end's machine, step by step.
+//! `serve` is the loop. `begin_with` performs first actions of the end's own before it, and `serve_at` starts the
+//! challenges and listens before both. Their contracts tie what the port, the clock, the maker of challenges and the
+//! sink tell to a run of the end's machine, step by step.
 #![tactic(auto)]
 
 mod act;

@@ -6,19 +6,19 @@ ghost use Rattle.end_loop.specs.Seen.{Between};
 ghost use Rattle.end_loop.specs.Writing.{files_told};
 ghost use Rattle.end_loop.specs.Serving.{Served, ServedUntil};
 
+use crate::begun::begin_with;
 use crate::end::End;
 use crate::halt::Halt;
-use crate::serving::serve;
-use outside::{Chances, Clock, Files, Port, Sink};
+use outside::{Actions, Chances, Clock, Files, Port, Sink};
 use std::alloc::Global;
-use std::collections::VecDeque;
 
-/// Starts the challenges, listens at the address and serves the end (this project's own choice). Refuses as `serve`
-/// does, and with `PortFault` also where the port failed to listen; then the challenges stand as started, no moment was
-/// taken and nothing was put.
+/// Starts the challenges, listens at the address, performs the first actions and serves the end (this project's own
+/// choice). Refuses as `serve` does, and with `PortFault` also where the port failed to listen; then the challenges
+/// stand as started, no moment was taken, nothing was put and no file was written.
 pub fn serve_at<E: End, P: Port, S: Sink, F: Files, C: Clock, Q: Chances>(
     alloc: Global,
     end: &mut E,
+    first: &Actions,
     address: &[u8],
     seed: [u8; 32],
     boot: u32,
@@ -35,14 +35,14 @@ pub fn serve_at<E: End, P: Port, S: Sink, F: Files, C: Clock, Q: Chances>(
         P.story P.link_faults C.moments Q.drawing S.taken
         (files_told F.contents F.reads F.writes) port.old clock.old chances.old out.old files.old
         port.new clock.new chances.new out.new files.new
-        (λ before after. Served E.machine (option_copied file.entry) end.old end.new address.now
-        seed boot most before after)) }
+        (λ before after. Served E.machine (option_copied file.entry) first.now end.old end.new
+        address.now seed boot most before after)) }
     ensures halts { IfErr result (λ halt. Between
         P.story P.link_faults C.moments Q.drawing S.taken
         (files_told F.contents F.reads F.writes) port.old clock.old chances.old out.old files.old
         port.new clock.new chances.new out.new files.new
-        (λ before after. ServedUntil E.machine (option_copied file.entry) end.old address.now
-        seed boot most before after halt)) }
+        (λ before after. ServedUntil E.machine (option_copied file.entry) first.now end.old
+        address.now seed boot most before after halt)) }
     ensures sink_cause { result ≡ Err Halt.SinkFault → Rose (S.faults out.old) (S.faults out.new) }
     ensures file_cause { result ≡ Err Halt.FileFault →
         Rose (F.faults files.old) (F.faults files.new) }
@@ -58,8 +58,7 @@ pub fn serve_at<E: End, P: Port, S: Sink, F: Files, C: Clock, Q: Chances>(
         Ok(()) => {}
         Err(_) => return Err(Halt::PortFault),
     }
-    let mut queue = VecDeque::new(alloc);
-    serve(
-        alloc, end, &mut queue, most, port, out, file, files, clock, chances,
+    begin_with(
+        alloc, end, first, most, port, out, file, files, clock, chances,
     )
 }
