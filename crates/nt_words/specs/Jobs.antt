@@ -123,7 +123,8 @@ member_form = record {
       choice (codes "controller") Address true ∷
       choice (codes "seed") File true ∷
       choice (codes "boot") (Number 4294967295) true ∷
-      choice (codes "events") (Number 4294967295) false ∷ [];
+      choice (codes "events") (Number 4294967295) false ∷
+      choice (codes "change") File false ∷ [];
 }
 
 pub record MemberJob : Type 0 where
@@ -135,6 +136,8 @@ pub record MemberJob : Type 0 where
   pub seed : Text
   pub boot : ℕ
   pub events : ℕ
+  -- the file of the secret that the machine is to change to, where one is named
+  pub change : Option Text
 
 -- the job of these rows
 abbrev pub member_of : List Row → MemberJob
@@ -147,6 +150,7 @@ member_of rows = record {
   seed = text_at rows (codes "seed");
   boot = number_at rows (codes "boot") 0;
   events = number_at rows (codes "events") 4294967295;
+  change = first_of (codes "change") rows;
 }
 
 unfoldable pub member_job : List Text → Result MemberJob WordsRefused

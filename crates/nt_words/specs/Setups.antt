@@ -2,7 +2,7 @@
 -- and what is due of what they hold.
 use Rattle.std.specs.Prelude.{◌≡◌, ℕ, Bool, true, false, List, [], ◌∷◌, Option, Result, Ok}
 use Rattle.clap.specs.Words.{Row, Text, first_of}
-use Rattle.nt_words.specs.Files.{and_then, controller_files, secret_files, table_number}
+use Rattle.nt_words.specs.Files.{and_then, controller_files, member_files, secret_files, table_number}
 use Rattle.nt_words.specs.Jobs.{controller_form, controller_of, drill_form, logon_form, logon_of, member_form, member_of, or_else}
 use Rattle.nt_words.specs.Options.{Choice, file_of, file_options}
 use Rattle.nt_words.specs.declared.files.FilesRefused.{FilesRefused}
@@ -14,7 +14,7 @@ use Rattle.nt_words.specs.declared.setup.Setup.TheVariants as setups
 -- the options with files of a service: their numbers, and the files' names
 abbrev pub file_names : Service → List (ℕ × List ℕ)
 file_names (services.Controller job) = (table_number, job.table) ∷ (4, job.seed) ∷ file_of 7 job.secrets []
-file_names (services.Member job) = (4, job.secret) ∷ (6, job.seed) ∷ []
+file_names (services.Member job) = (4, job.secret) ∷ (6, job.seed) ∷ file_of 9 job.change []
 file_names (services.Logon job) = (5, job.hash) ∷ (9, job.seed) ∷ []
 
 -- the service of a set-up
@@ -25,7 +25,7 @@ service_in (setups.Logon job setup) = services.Logon job
 
 abbrev pub setup_due : Service → List (List ℕ × List ℕ) → Result Setup FilesRefused
 setup_due (services.Controller job) files = and_then (controller_files job.table job.seed job.secrets files) (λ setup. Ok (setups.Controller job setup))
-setup_due (services.Member job) files = and_then (secret_files 4 job.secret 6 job.seed files) (λ setup. Ok (setups.Member job setup))
+setup_due (services.Member job) files = and_then (member_files job.secret job.seed job.change files) (λ setup. Ok (setups.Member job setup))
 setup_due (services.Logon job) files = and_then (secret_files 5 job.hash 9 job.seed files) (λ setup. Ok (setups.Logon job setup))
 
 -- ---- which options name files

@@ -4,12 +4,13 @@ ghost use Rattle.std.specs.Prelude.{◌≡◌, [], ◌∷◌, Some, option_map};
 ghost use Rattle.hex.specs.Hex.{decode_sized};
 ghost use Rattle.nt_words.specs.Files.{shelf_of, ReadsFiles, Judges, content_due, file_due, table_refused, file_refused};
 ghost use Rattle.nt_words.specs.Files.{seed_in, secret_in, secrets_in, table_in, digits_by, is_end, controller_files, secret_files};
-ghost use Rattle.nt_words.specs.Files.{apply_refused, controller_rest, secrets_due};
+ghost use Rattle.nt_words.specs.Files.{apply_refused, change_due, controller_rest, kept_in, member_files, member_rest, secrets_due};
 ghost use Rattle.nt_words.specs.Options.{file_of};
 
 use account_table::{ApplyRefused, Table, TableRefused};
 use hex::FromHex;
 use outside::{FileRefused, Files};
+use secret_change::{NotSecrets, Secrets};
 use std::alloc::Global;
 use std::marker::Model;
 use wire_base::Blob;
@@ -49,6 +50,36 @@ impl ControllerSetup {
     {
         let ControllerSetup { table, seed } = self;
         (table, seed)
+    }
+}
+
+/// What `nt_member serve` starts from.
+#[derive(Drop)]
+pub struct MemberSetup {
+    secrets: Secrets,
+    seed: [u8; 32],
+    change: Option<[u8; 16]>,
+}
+
+impl Model for MemberSetup {
+    ghost use Rattle.nt_words.specs.Files.{MemberFiles};
+
+    ghost Value = { MemberFiles };
+
+    ghost view = { λ s. record { secrets = s.secrets; seed = s.seed; change = s.change } };
+}
+
+impl MemberSetup {
+    /// The secrets, the seed and the secret to change to.
+    pub fn into_parts(self) -> (Secrets, [u8; 32], Option<[u8; 16]>)
+        ensures { result ≡ (self.secrets, self.seed, self.change) }
+    {
+        let MemberSetup {
+            secrets,
+            seed,
+            change,
+        } = self;
+        (secrets, seed, change)
     }
 }
 
@@ -160,6 +191,91 @@ fn read_setup<F: Files>(
     }
 }
 
+/// The files of `nt_member serve`: the secrets that the machine keeps, then the seed, then the secret to change to,
+/// where a file of it is named.
+pub(crate) fn read_member_files<F: Files>(
+    alloc: Global,
+    files: &mut F,
+    secret: &str,
+    seed: &str,
+    change: Option<&str>,
+) -> Result<MemberSetup, FilesRefused>
+    ensures { let shelf = shelf_of F.faults F.contents F.reads F.writes in
+        let named = option_map (λ s. s.now) change.entry in
+        ReadsFiles ((4, secret.now) ∷ (6, seed.now) ∷ file_of 9 named [])
+        (member_files secret.now seed.now named)
+        result (shelf files.old) (shelf files.new) }
+{
+    match read_kept(alloc, files, secret) {
+        Ok(secrets) => read_member_rest(alloc, files, secrets, seed, change),
+        Err(refused) => Err(refused),
+    }
+}
+
+/// The seed's file, and then that of the secret to change to.
+fn read_member_rest<F: Files>(
+    alloc: Global,
+    files: &mut F,
+    secrets: Secrets,
+    seed: &str,
+    change: Option<&str>,
+) -> Result<MemberSetup, FilesRefused>
+    ensures { let shelf = shelf_of F.faults F.contents F.reads F.writes in
+        let named = option_map (λ s. s.now) change.entry in
+        ReadsFiles ((6, seed.now) ∷ file_of 9 named []) (member_rest seed.now named secrets)
+        result (shelf files.old) (shelf files.new) }
+{
+    match read_seed(alloc, files, 6, seed) {
+        Ok(seed) => read_change(alloc, files, secrets, seed, change),
+        Err(refused) => Err(refused),
+    }
+}
+
+/// The file of the secret to change to, where one is named.
+fn read_change<F: Files>(
+    alloc: Global,
+    files: &mut F,
+    secrets: Secrets,
+    seed: [u8; 32],
+    change: Option<&str>,
+) -> Result<MemberSetup, FilesRefused>
+    ensures { let shelf = shelf_of F.faults F.contents F.reads F.writes in
+        let named = option_map (λ s. s.now) change.entry in
+        ReadsFiles (file_of 9 named []) (change_due named secrets seed)
+        result (shelf files.old) (shelf files.new) }
+{
+    match change {
+        Some(name) => read_member_setup(alloc, files, secrets, seed, name),
+        None => Ok(MemberSetup {
+            secrets,
+            seed,
+            change: None,
+        }),
+    }
+}
+
+/// The file of the secret to change to.
+fn read_member_setup<F: Files>(
+    alloc: Global,
+    files: &mut F,
+    secrets: Secrets,
+    seed: [u8; 32],
+    name: &str,
+) -> Result<MemberSetup, FilesRefused>
+    ensures { let shelf = shelf_of F.faults F.contents F.reads F.writes in
+        ReadsFiles ((9, name.now) ∷ []) (change_due (Some name.now) secrets seed)
+        result (shelf files.old) (shelf files.new) }
+{
+    match read_secret(alloc, files, 9, name) {
+        Ok(secret) => Ok(MemberSetup {
+            secrets,
+            seed,
+            change: Some(secret),
+        }),
+        Err(refused) => Err(refused),
+    }
+}
+
 /// A file with a secret, then one with a seed.
 pub(crate) fn read_secret_files<F: Files>(
     alloc: Global,
@@ -209,6 +325,18 @@ fn read_secrets<F: Files>(
 {
     match read_file(alloc, files, 7, name) {
         Ok(content) => table_with(alloc, table, content.bytes()),
+        Err(refused) => Err(refused),
+    }
+}
+
+/// The secrets that the file of this name holds.
+fn read_kept<F: Files>(alloc: Global, files: &mut F, name: &str) -> Result<Secrets, FilesRefused>
+    ensures { let shelf = shelf_of F.faults F.contents F.reads F.writes in
+        ReadsFiles ((4, name.now) ∷ []) (file_due 4 name.now (kept_in 4))
+        result (shelf files.old) (shelf files.new) }
+{
+    match read_file(alloc, files, 4, name) {
+        Ok(content) => kept_from(content.bytes()),
         Err(refused) => Err(refused),
     }
 }
@@ -282,6 +410,16 @@ fn seed_from(number: u32, content: &[u8]) -> Result<[u8; 32], FilesRefused>
     match <[u8; 32]>::try_from(content) {
         Ok(seed) => Ok(seed),
         Err(_) => Err(FilesRefused::BadInput(number)),
+    }
+}
+
+/// The secrets that the bytes write. No memory is looked for.
+fn kept_from(content: &[u8]) -> Result<Secrets, FilesRefused>
+    ensures { result ≡ kept_in 4 content.now }
+{
+    match Secrets::read(content) {
+        Ok(secrets) => Ok(secrets),
+        Err(NotSecrets) => Err(FilesRefused::BadInput(4)),
     }
 }
 

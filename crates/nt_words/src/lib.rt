@@ -19,7 +19,7 @@ mod words;
 
 pub use controller::ControllerWords;
 pub use drill::DrillWords;
-pub use files::{ControllerSetup, FilesRefused, SecretSetup};
+pub use files::{ControllerSetup, FilesRefused, MemberSetup, SecretSetup};
 pub use job::{CheckWords, Command, Job, Role, Service, ShowWords, job_of};
 pub use laws::{files_are_of_their_options, number_is_of_the_first_misfit, what_files_hold};
 pub use logon::LogonWords;

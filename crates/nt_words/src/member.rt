@@ -1,13 +1,13 @@
 //! The words of `nt_member serve`.
 
-ghost use Rattle.std.specs.Prelude.{◌≡◌, codes, map, true};
+ghost use Rattle.std.specs.Prelude.{◌≡◌, codes, map, option_map, true};
 ghost use Rattle.std.specs.String.{string_bytes};
 ghost use Rattle.wire_base.specs.Memory.{UpToMemory};
 ghost use Rattle.wire_base.specs.Names.{IsName};
 ghost use Rattle.nt_words.specs.Forms.{IsAddress};
 ghost use Rattle.nt_words.specs.Jobs.{is_led_by, member_form, member_job};
 
-use crate::options::{Kind, OptionForm, WordsRefused, number, text};
+use crate::options::{Kind, OptionForm, WordsRefused, number, text, value};
 use crate::words::read_words;
 use std::alloc::Global;
 use std::marker::Model;
@@ -23,9 +23,11 @@ pub struct MemberWords<'a> {
     seed: &'a str,
     boot: u32,
     events: u32,
+    change: Option<&'a str>,
 }
 
 impl<'a> Model for MemberWords<'a> {
+    ghost use Rattle.std.specs.Prelude.{option_map};
     ghost use Rattle.nt_words.specs.Forms.{IsMemberForm};
     ghost use Rattle.nt_words.specs.Jobs.{MemberJob};
 
@@ -40,6 +42,7 @@ impl<'a> Model for MemberWords<'a> {
       seed = j.seed.now;
       boot = j.boot;
       events = j.events;
+      change = option_map (λ s. s.now) j.change;
     } };
 
     ghost invariant = { λ j. IsMemberForm (record {
@@ -51,6 +54,7 @@ impl<'a> Model for MemberWords<'a> {
       seed = j.seed.now;
       boot = j.boot;
       events = j.events;
+      change = option_map (λ s. s.now) j.change;
     }) };
 }
 
@@ -101,8 +105,15 @@ impl<'a> MemberWords<'a> {
         self.events
     }
 
-    /// The name of the secret's file.
-    pub(crate) fn secret_file(&self) -> &'a str
+    /// The name of the file of the secret to change to, where one is named.
+    pub(crate) fn change_file(&self) -> Option<&'a str>
+        ensures { option_map (λ s. s.now) result ≡ self.now.change }
+    {
+        self.change
+    }
+
+    /// The name of the file of the secrets.
+    pub fn secret_file(&self) -> &'a str
         ensures { result.now ≡ self.now.secret }
     {
         self.secret
@@ -137,11 +148,12 @@ pub(crate) fn member_words<'a>(
         seed: text(&matches, "seed"),
         boot: number(&matches, "boot", 0),
         events: number(&matches, "events", 4294967295),
+        change: value(&matches, "change"),
     })
 }
 
 /// The options of `nt_member serve`.
-fn member_options() -> [OptionForm<'static>; 8]
+fn member_options() -> [OptionForm<'static>; 9]
     ensures { result ≡ member_form.choices }
 {
     [
@@ -153,5 +165,6 @@ fn member_options() -> [OptionForm<'static>; 8]
         OptionForm::new("seed", Kind::File, true),
         OptionForm::new("boot", Kind::Number(4294967295), true),
         OptionForm::new("events", Kind::Number(4294967295), false),
+        OptionForm::new("change", Kind::File, false),
     ]
 }

@@ -6,7 +6,8 @@ ghost use Rattle.nt_words.specs.Setups.{file_names, service_in, setup_due};
 
 use crate::controller::ControllerWords;
 use crate::files::{
-    ControllerSetup, FilesRefused, SecretSetup, read_controller_files, read_secret_files,
+    ControllerSetup, FilesRefused, MemberSetup, SecretSetup, read_controller_files,
+    read_member_files, read_secret_files,
 };
 use crate::job::Service;
 use crate::logon::LogonWords;
@@ -20,7 +21,7 @@ pub enum Setup<'a> {
     /// `nt_controller serve`.
     Controller(ControllerWords<'a>, ControllerSetup),
     /// `nt_member serve`.
-    Member(MemberWords<'a>, SecretSetup),
+    Member(MemberWords<'a>, MemberSetup),
     /// `nt_logon logon`.
     Logon(LogonWords<'a>, SecretSetup),
 }
@@ -46,7 +47,8 @@ pub fn set_up<'a, F: Files>(
             }
         }
         Service::Member(words) => {
-            match read_secret_files(alloc, files, 4, words.secret_file(), 6, words.seed_file()) {
+            let (secret, seed) = (words.secret_file(), words.seed_file());
+            match read_member_files(alloc, files, secret, seed, words.change_file()) {
                 Ok(setup) => Ok(Setup::Member(words, setup)),
                 Err(refused) => Err(refused),
             }
