@@ -3,7 +3,8 @@
 `jobs.job ROLE WORD..` (what the words ask for, or why they aren't of the form; `-` is an empty word, and `COUNT*TEXT`
 so many times the text), `jobs.files ROLE FAILING FILES WORD..` (what the files of the words' job come to, over files in
 memory of `NAME=BYTES` between commas, of which the calls FAILING fail: a controller's domain, seed and changed secrets,
-a secret and a seed, or the exit, its status and its line; and that all that was kept is still told).
+a member's secrets, seed and secret to change to, a hash and a seed, or the exit, its status and its line; and that all
+that was kept is still told).
 
 The commands, their options and the forms of files are this project's own choice (docs/FORMATS.md, "Commands, exits and
 what is printed").
@@ -49,7 +50,7 @@ COMMANDS = {
         MEMBER,
         "serve",
         SERVE_MEMBER,
-        ["listen", "computer", "domain", "secret", "controller", "seed", "boot", "events"],
+        ["listen", "computer", "domain", "secret", "controller", "seed", "boot", "events", "change"],
     ),
     "Logon": (
         LOGON,
@@ -62,11 +63,11 @@ COMMANDS = {
 
 ADDRESSES = ["listen", "controller", "server"]
 NAMES = ["name", "computer", "domain", "user", "workstation"]
-FILES = ["table", "seed", "secret", "hash", "secrets"]
+FILES = ["table", "seed", "secret", "hash", "secrets", "change"]
 NUMBERS = ["boot", "events", "number"]
 MOSTS = {"echo": 4096, "moves": 100000}
 TEXTS = ADDRESSES + NAMES + FILES
-DEFAULTS = {"events": MOST, "echo": 0, "level": "privacy", "auth": "v2", "secrets": None}
+DEFAULTS = {"events": MOST, "echo": 0, "level": "privacy", "auth": "v2", "secrets": None, "change": None}
 LEVELS = {"connect": 2, "integrity": 5, "privacy": 6}
 AUTHS = {"v1": "V1", "v1ess": "V1Ess", "v2": "V2"}
 
@@ -84,7 +85,7 @@ def expanded(value):
 
 def field(option, value):
     """A field of a job as `{:?}` prints it."""
-    if option == "secrets":
+    if option in ["secrets", "change"]:
         return "None" if value is None else 'Some("' + expanded(value) + '")'
     if option == "level":
         return str(LEVELS[value])
@@ -211,6 +212,11 @@ def of_lines():
         asks(CONTROLLER, usual[:5] + ["--secrets=c"] + usual[5:] + ["--events", "3"], job("Controller", {**SERVE, "secrets": "c", "events": "3"})),
         asks(CONTROLLER, usual + ["--secrets", "c"], job("Controller", {**SERVE, "secrets": "c"})),
     ]
+    member = words_of("serve", SERVE_MEMBER)
+    out += [
+        asks(MEMBER, member[:1] + ["--change", "c"] + member[1:], job("Member", {**SERVE_MEMBER, "change": "c"})),
+        asks(MEMBER, member + ["--change=c", "--events", "3"], job("Member", {**SERVE_MEMBER, "change": "c", "events": "3"})),
+    ]
     for words in [
         [],
         [""],
@@ -244,7 +250,12 @@ def of_lines():
     for role, words in [
         (MEMBER, words_of("serve", SERVE)),
         (MEMBER, words_of("serve", {**SERVE_MEMBER, "secrets": "c"})),
+        (MEMBER, member + ["--change"]),
+        (MEMBER, member + ["--change", "c", "--change", "c"]),
+        (MEMBER, member + ["--changes", "c"]),
+        (CONTROLLER, usual + ["--change", "c"]),
         (LOGON, words_of("logon", {**ASK, "secrets": "c"})),
+        (LOGON, words_of("logon", {**ASK, "change": "c"})),
         (CONTROLLER, words_of("serve", SERVE_MEMBER)),
         (MEMBER, words_of("logon", ASK)),
         (LOGON, words_of("serve", SERVE)),
@@ -400,50 +411,98 @@ def of_changed_secrets():
     return out
 
 
-def of_secret_files():
-    """A secret or a hash, and then the seed."""
+def of_hash_files():
+    """A hash, and then the seed."""
+    good = f"{array(SECRET.lower())};{array(SEED)}"
+    fault = ending("FileFault")
+
+    def case(answer, secret=None, seed=SEED, failing=""):
+        contents = {} if secret is None else {"h": ascii_hex(secret)}
+        if seed is not None:
+            contents["s"] = seed
+        return comes("Logon", answer, failing, **contents)
+
+    out = [case(good, text) for text in (SECRET, SECRET + "\n", SECRET.lower(), SECRET.upper())]
+    out += [case(fault), case(fault, SECRET, None), case(fault, SECRET, failing="0"), case(fault, SECRET, failing="1")]
+    # The hash is judged before the seed is read: no second read fails.
+    out += [case(ending("BadInput", 5), text, failing="1") for text in NO_SECRETS + [f"{SECRET}\n{OTHER}"]]
+    out += [case(ending("BadInput", 9), SECRET, seed) for seed in ["", "00" * 31, "00" * 33]]
+    out.append(case(ending("BadInput", 5), "x", "00"))
+    out.append(comes("Logon", ending("BadInput", 5), "1", h=MOST_BYTES + "+20", s=SEED))
+    return out
+
+
+OTHER = "fe" * 16
+# Texts that are neither one line of 32 hex digits nor two.
+NO_SECRETS = [
+    "",
+    "\n",
+    SECRET[:-1],
+    SECRET[:-1] + "\n",
+    SECRET + "0",
+    SECRET + "\n\n",
+    SECRET + "\r\n",
+    SECRET + " ",
+    SECRET + "00",
+    "g" + SECRET[1:],
+    " " + SECRET,
+    "0x" + SECRET[2:],
+    SECRET + OTHER,
+    f"{SECRET}\n{OTHER[:-1]}",
+    f"{SECRET}\n{OTHER[:-1]}\n",
+    f"{SECRET}\n{OTHER}0",
+    f"{SECRET}\n{OTHER}\n\n",
+    f"{SECRET}\n{OTHER}\n{SECRET}\n",
+    f"{SECRET}\n\n{OTHER}\n",
+    f"{SECRET}\r\n{OTHER}\r\n",
+    f"{SECRET}\n g{OTHER[1:]}",
+    f"{SECRET}\ng{OTHER[1:]}\n",
+    f"\n{SECRET}\n{OTHER}\n",
+]
+
+
+def of_member_files():
+    """The secrets that a machine keeps, the seed, and then the secret to change to, where a file of it is named."""
+    fault = ending("FileFault")
+
+    def case(answer, secrets=None, seed=SEED, change=None, failing="", named=True):
+        contents = {key: ascii_hex(text) for key, text in (("k", secrets), ("c", change)) if text is not None}
+        if seed is not None:
+            contents["s"] = seed
+        words = words_of("serve", {**SERVE_MEMBER, **({"change": "c"} if named else {})})
+        return (line("jobs.files", MEMBER, failing, files_of(**contents), *words), answer + ";told")
+
+    def good(lines, change=None):
+        """What is printed of these secrets, the seed and the secret to change to."""
+        text = "".join(each.lower() + "\\n" for each in lines)
+        return f'"{text}";{array(SEED)};' + ("None" if change is None else f"Some({array(change.lower())})")
+
     out = []
-    bytes_of = array(SECRET.lower())
-    for command, key, number, later in [("Member", "k", 4, 6), ("Logon", "h", 5, 9)]:
-        good = f"{bytes_of};{array(SEED)}"
-        fault = ending("FileFault")
-
-        def case(answer, secret=None, seed=SEED, failing="", command=command, key=key):
-            contents = {} if secret is None else {key: ascii_hex(secret)}
-            if seed is not None:
-                contents["s"] = seed
-            return comes(command, answer, failing, **contents)
-
-        out += [
-            case(good, SECRET),
-            case(good, SECRET + "\n"),
-            case(good, SECRET.lower()),
-            case(good, SECRET.upper()),
-            case(fault),
-            case(fault, SECRET, None),
-            case(fault, SECRET, failing="0"),
-            case(fault, SECRET, failing="1"),
-        ]
-        for text in [
-            "",
-            "\n",
-            SECRET[:-1],
-            SECRET[:-1] + "\n",
-            SECRET + "0",
-            SECRET + "\n\n",
-            SECRET + "\r\n",
-            SECRET + " ",
-            SECRET + "00",
-            "g" + SECRET[1:],
-            " " + SECRET,
-            "0x" + SECRET[2:],
-        ]:
-            # The secret is judged before the seed is read: no second read fails.
-            out.append(case(ending("BadInput", number), text, failing="1"))
-        for seed in ["", "00" * 31, "00" * 33]:
-            out.append(case(ending("BadInput", later), SECRET, seed))
-        out.append(case(ending("BadInput", number), "x", "00"))
-        out.append(comes(command, ending("BadInput", number), "1", **{key: MOST_BYTES + "+20", "s": SEED}))
+    for lines in ([SECRET], [SECRET, OTHER], [SECRET.upper(), SECRET.lower()]):
+        text = "\n".join(lines)
+        for held in (text, text + "\n"):
+            out.append(case(good(lines), held, named=False))
+            # of the change's file nothing is read where none is named, and it is judged also where two secrets are kept
+            out.append(case(good(lines), held, change="x", failing="2", named=False))
+            out += [case(good(lines, OTHER), held, change=change) for change in (OTHER, OTHER + "\n", OTHER.upper())]
+            out.append(case(ending("BadInput", 9), held, change="x"))
+    # a file that isn't there, and a read that fails
+    out += [case(fault, named=False), case(fault, SECRET, None, named=False), case(fault, SECRET), case(fault, None, change=OTHER)]
+    out += [case(fault, SECRET, change=OTHER, failing=failing) for failing in "012"]
+    out.append(case(good([SECRET], OTHER), SECRET, change=OTHER, failing="3"))
+    # The secrets are judged before the seed is read, and the seed before the change.
+    out += [case(ending("BadInput", 4), text, change="x", failing="1") for text in NO_SECRETS]
+    out += [case(ending("BadInput", 6), SECRET, seed, "x", failing="2") for seed in ["", "00" * 31, "00" * 33]]
+    out.append(case(ending("BadInput", 4), "x", "00", "x"))
+    # The change is one secret alone.
+    out += [case(ending("BadInput", 9), SECRET, change=text) for text in NO_SECRETS + [f"{OTHER}\n{SECRET}", f"{OTHER}\n{SECRET}\n"]]
+    # Too long, and as long as a file may be.
+    for long in (MOST_BYTES + "+20", MOST_BYTES):
+        words = words_of("serve", {**SERVE_MEMBER, "change": "c"})
+        held = files_of(k=long, s=SEED, c=ascii_hex(OTHER))
+        out.append((line("jobs.files", MEMBER, "1", held, *words), ending("BadInput", 4) + ";told"))
+        held = files_of(k=ascii_hex(SECRET), s=SEED, c=long)
+        out.append((line("jobs.files", MEMBER, "", held, *words), ending("BadInput", 9) + ";told"))
     return out
 
 
@@ -460,6 +519,7 @@ def of_no_files():
         (CONTROLLER, ["serve"], 0),
         (CONTROLLER, words_of("serve", {**SERVE, "seed": ""}), 4),
         (CONTROLLER, words_of("serve", {**SERVE, "secrets": ""}), 7),
+        (MEMBER, words_of("serve", {**SERVE_MEMBER, "change": ""}), 9),
         (LOGON, words_of("logon", {**ASK, "echo": "4097"}), 8),
     ]:
         out.append((line("jobs.files", role, "0", "", *words), ending("BadWords", number) + ";told"))
@@ -483,4 +543,4 @@ def of_runs():
 
 def cases():
     """Each line and its answer."""
-    return of_runs() + of_values() + of_levels() + of_lines() + of_controller_files() + of_changed_secrets() + of_secret_files() + of_no_files()
+    return of_runs() + of_values() + of_levels() + of_lines() + of_controller_files() + of_changed_secrets() + of_hash_files() + of_member_files() + of_no_files()

@@ -288,6 +288,12 @@ class Served(Member):
         self.done += self.last
         return self
 
+    def begins(self, secret):
+        """It begins with a change to that secret, once the port listens; nothing is done where one is under way."""
+        self.change(secret)
+        self.done += [(0, action) for action in self.actions]
+        return self
+
     def failed(self):
         """The dial of the last step fails."""
         self.failing += [call for call, action in self.last if action[0] == "dial"]
@@ -496,9 +502,101 @@ def of_member_files():
     return out
 
 
+NEW_SECRET = "61" * 16
+
+
+def member_keeps(member, held, new=None, exit_text=DONE, done=None, failing=None, reads="", puts="", **options):
+    """A case of a served member whose file of secrets holds HELD, and that is to change to NEW, where there is one. The
+    calls READS of the files fail: secrets, seed and new secret are read first, and what is held at the end last. It is
+    the text of the last `keep` of the actions done, else HELD."""
+    kept = [ascii_hex(held)] + [action[1].hex() for _, action in member.done[:done] if action[0] == "keep"]
+    files = {"c": ascii_hex(held), "s": SEED, **({} if new is None else {"n": ascii_hex(new)})}
+    words = words_of("serve", {**SERVE_MEMBER, "controller": "there", "secret": "c", **({} if new is None else {"change": "n"}), **options})
+    put = text(member.puts(done).replace("\\", "\\\\"))
+    failing = ",".join(map(str, member.failing)) if failing is None else failing
+    draws = "" if member.words[4] == "-" else member.words[4]
+    return (
+        line("serves.keep", ",".join(member.given + ["stop"]), failing, reads, puts, draws, files_of(**files), MEMBER, *words),
+        ";".join([exit_text, put, member.sends(done), "told", kept[-1] or "-"]),
+    )
+
+
+def changed_member(**plan):
+    """A member that begins with a change; a client logs on, and the secret is set in front of its logon."""
+    member, controller = Served(**plan).begins(NEW_SECRET), controller_of()
+    logs_on(member, controller, secret=ANN["hash"])
+    assert member.kept() == (NEW_SECRET + "\n").encode() and controller.secrets() == f"FILE1$ {NEW_SECRET}\n".encode().hex()
+    return member
+
+
+def of_member_changes():
+    """The text of both secrets is in the file once the port listens and before an event is asked for, and that of the
+    new one alone once the controller has it. A write that fails ends the service before what comes behind it."""
+    fault, old = ending("FileFault"), MEMBER_SECRET
+    out = [member_keeps(changed_member(), old + end, new) for end, new in [("", NEW_SECRET), ("\n", NEW_SECRET + "\n")]]
+    writes = [place for place, (_, action) in enumerate(changed_member().done) if action[0] == "keep"]
+    assert len(writes) == 2 and writes[0] == 0, writes
+    # calls 0 to 2 of the files are the reads; the first write that fails leaves the file, the second one the first
+    out += [member_keeps(changed_member(), old, NEW_SECRET, fault, done=place, reads=str(3 + number)) for number, place in enumerate(writes)]
+    # the sink fails behind the writes, which stand
+    told = [place for place, (_, action) in enumerate(changed_member().done) if action[0] == "told"]
+    out += [member_keeps(changed_member(), old, NEW_SECRET, ending("SinkFault"), done=place, puts=str(number)) for number, place in enumerate(told)]
+    # a port that is taken leaves the file; where it listens the text is there, though no event comes
+    still, port = Served(), ending("PortFault")
+    out.append(member_keeps(still, old, NEW_SECRET, port, failing="0"))
+    begun = lambda: Served().begins(NEW_SECRET)
+    out += [member_keeps(begun(), old, NEW_SECRET, port, failing="1"), member_keeps(begun(), old, NEW_SECRET), member_keeps(begun(), old, NEW_SECRET, events="0")]
+    out.append(member_keeps(Served(), old, NEW_SECRET, fault, failing="1", reads="3"))
+    # to the secret that is there: it is kept twice
+    out.append(member_keeps(Served().begins(old), old, old))
+    # the challenges are spent after the first write
+    bind = Client().dialled(1).sent()
+    out.append(member_keeps(Served(draws=[]).begins(NEW_SECRET).opened(1).bytes(bind, 1), old, NEW_SECRET, ending("Spent")))
+    return out + of_kept_members()
+
+
+def of_kept_members():
+    """Where two secrets are kept a change that is asked for is passed over, and the one under way goes on. Without a
+    change, and where none ends, the file stays as it is, byte by byte."""
+    old, both = MEMBER_SECRET.upper(), MEMBER_SECRET.upper() + "\n" + NEW_SECRET
+    out = [member_keeps(Served(), old), member_keeps(Served(), both)]
+    for new in (None, "62" * 16):
+        # nothing is written first
+        for end in ("", "\n"):
+            member = Served(following=NEW_SECRET).begins("62" * 16)
+            assert member.done == []
+            out.append(member_keeps(member, both + end, new))
+        member = Served(following=NEW_SECRET)
+        logs_on(member, controller_of(), secret=ANN["hash"])
+        assert member.kept() == (NEW_SECRET + "\n").encode()
+        out.append(member_keeps(member, both, new))
+    # a logon changes nothing of one secret
+    member = Served()
+    logs_on(member, controller_of(), secret=ANN["hash"])
+    out.append(member_keeps(member, old))
+    # the controller has the next one already: the current one is denied, and then the next one opens the channel
+    member, machine = Served(following=NEW_SECRET, draws=MEMBER_DRAWS + ["7071727374757677"]), {**FILE1, "hash": NEW_SECRET}
+    for link in (1, 2):
+        logs_on(member, controller_of(machines=(machine,)), link, 998 + 2 * link, secret=ANN["hash"])
+    assert member.kept() == (NEW_SECRET + "\n").encode()
+    out.append(member_keeps(member, both))
+    # files that are refused: the port doesn't listen, and nothing is written
+    still = Served()
+    for held, new, exit_text in [
+        (old + "\n\n", NEW_SECRET, ending("BadInput", 4)),
+        (both + "\n" + old, NEW_SECRET, ending("BadInput", 4)),
+        (old, NEW_SECRET[:-1], ending("BadInput", 9)),
+        (both, "x", ending("BadInput", 9)),
+        (old, both, ending("BadInput", 9)),
+    ]:
+        out.append(member_keeps(still, held, new, exit_text, failing="0"))
+    out.append(member_keeps(still, old, NEW_SECRET, ending("FileFault"), failing="0", reads="2"))
+    return out
+
+
 def of_members():
     """A member server that serves."""
-    return of_member_logons() + of_member_turns() + of_member_challenges() + of_member_sinks() + of_member_ports() + of_member_files()
+    return of_member_logons() + of_member_turns() + of_member_challenges() + of_member_sinks() + of_member_ports() + of_member_files() + of_member_changes()
 
 
 def cases():

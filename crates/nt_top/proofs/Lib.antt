@@ -1,6 +1,8 @@
+pub mod ChangeLaws
 pub mod NeedsLaws
 pub mod CheckLaws
 pub mod ShownLaws
+pub mod ToldLaws
 pub mod DrillLaws
 pub mod JobLaws
 pub mod EndLaws

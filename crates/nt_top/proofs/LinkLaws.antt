@@ -150,7 +150,7 @@ dial_asks : (plan : ClientPlan) (happened : List Happening) → Performs [] (fir
 dial_asks plan happened performs = ap events_in (dials_once plan happened performs).1
 
 -- the events that are given then are those given later
-pub later_events : (plan : ClientPlan) (happened later : List Happening) → Performs [] (first_actions plan) happened → events_in (happened ++ later) ≡ events_in later
+later_events : (plan : ClientPlan) (happened later : List Happening) → Performs [] (first_actions plan) happened → events_in (happened ++ later) ≡ events_in later
 later_events plan happened later performs =
     stories_add_up.events happened later ∙ ap (λ (e : List (Event × Option ℕ)). e ++ events_in later) (dial_asks plan happened performs)
 

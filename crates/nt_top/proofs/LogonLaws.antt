@@ -1,31 +1,27 @@
 -- How a logon begins and ends.
-use Rattle.std.proofs.Common.{ℕ, ◌≡◌, ◌⊎◌, inl, inr, ◌<◌, List, [], ◌∷◌, ◌++◌, length, Option, Some, None, true, false, Err, refl, sym, ap, subst, ◌∙◌, arith, append-nil}
-use Rattle.std.specs.List.{flat_map, list_any}
-use Rattle.std.proofs.lemmas.List.{append_cancel_left, append_cancel_right}
+use Rattle.std.proofs.Common.{ℕ, ◌≡◌, ◌⊎◌, inl, inr, ◌<◌, List, [], ◌∷◌, ◌++◌, Option, Some, None, true, false, Err, refl, sym, ap, subst, ◌∙◌, append-nil}
+use Rattle.std.specs.List.{flat_map}
+use Rattle.std.proofs.lemmas.List.{append_cancel_right}
 use Rattle.outside.specs.Causes.{Rose}
-use Rattle.outside.specs.Drawing.{Drawing, DrawsAll}
+use Rattle.outside.specs.Drawing.{Drawing}
 use Rattle.outside.specs.Telling.{Appends, AppendsFront}
 use Rattle.outside.specs.declared.action.Action.{Action}
 use Rattle.outside.specs.declared.action.Action.TheVariants as action
 use Rattle.outside.specs.declared.action.StepRefused.TheVariants as refusals
-use Rattle.outside.specs.Stories.{events_in}
 use Rattle.outside.specs.declared.event.Event.{Event}
 use Rattle.outside.specs.declared.event.Event.TheVariants as event
 use Rattle.outside.specs.declared.event.Happening.{Happening}
 use Rattle.outside.specs.declared.event.Happening.TheVariants as happening
 use Rattle.outside.proofs.TellingLaws.{Appends-trans, Appends-nothing, AppendsFront-append, AppendsFront-part}
-use Rattle.end_loop.specs.Acts.{Performs, made_events, next_line, puts}
-use Rattle.end_loop.specs.Asking.{gives_stop as is_stop_given}
+use Rattle.end_loop.specs.Acts.{next_line, puts}
 use Rattle.end_loop.specs.Begun.{Begun, BegunUntil}
-use Rattle.end_loop.specs.Runs.{RunState, Step, AreSteps, Chooses, Closes, Halts, RanInto, asked_by, drawn_of, lines_of, moments_of, step_story, story_of, run_state_at}
+use Rattle.end_loop.specs.Runs.{RunState, Step, Chooses, Halts, RanInto, asked_by, lines_of, moments_of, step_story, story_of}
 use Rattle.end_loop.specs.Seen.{Sight, Shows}
 use Rattle.end_loop.specs.Writing.{FilesTold, Write}
 use Rattle.end_loop.specs.Serving.{Opens}
 use Rattle.end_loop.specs.declared.halt.Halt.{Halt}
 use Rattle.end_loop.specs.declared.halt.Halt.TheVariants as halts
-use Rattle.end_loop.proofs.AskingLaws.{asks_for}
-use Rattle.end_loop.proofs.RunLaws.{Shows-none, Shows-trans}
-use Rattle.end_loop.proofs.UniqueLaws.{performs_same}
+use Rattle.end_loop.proofs.RunLaws.{Shows-none}
 use Rattle.logon_client.specs.declared.outcome.ClientOutcome.{ClientOutcome}
 use Rattle.logon_client.specs.declared.outcome.ClientOutcome.TheVariants as outcomes
 use Rattle.logon_client.specs.declared.outcome.NoAnswerCause.TheVariants.{DialFailed, LinkClosed, NoController}
@@ -39,10 +35,12 @@ use Rattle.nt_top.specs.declared.exit.Exit.{Exit}
 use Rattle.nt_top.specs.declared.exit.Exit.TheVariants.{Done, Refused, BadWords, FileFault, BadTable, BadInput, PortFault, SinkFault, NoMemory, NoAnswer, BadPeer, Spent}
 use Rattle.nt_top.specs.Logon.{Concludes, LogonEnds, Says, client_that_dials, first_actions, in_lines, most_answers, outcome_exit, outcome_lines}
 use Rattle.nt_top.specs.Serve.{GivesFewer, halt_exit}
-use Rattle.nt_top.specs.LogonExits.{ComesBy, FailsToDial, IsIn, RanTo, RanUntil, ComesTo, ComesToSpent, IsExcuse, IsOfClients, LogonLaws, LosesLink, Gone, SendFailed, Stopped, TookAll, Puts, TellsRun, end_at, start_of}
+use Rattle.nt_top.specs.LogonExits.{ComesBy, FailsToDial, IsIn, RanTo, RanUntil, ComesTo, ComesToSpent, IsExcuse, IsOfClients, LogonLaws, LosesLink, Gone, SendFailed, Stopped, TookAll, Puts}
 use Rattle.nt_top.proofs.DialLaws.{dial_cause}
-use Rattle.nt_top.proofs.LinkLaws.{later_events, loses_link}
+use Rattle.nt_top.proofs.LinkLaws.{loses_link}
+use Rattle.nt_top.specs.Told.{begun_at, rest_at}
 use Rattle.nt_top.proofs.PairLaws.{both_whole, spent_not_whole}
+use Rattle.nt_top.proofs.ToldLaws.{Compared, Told, asks_not_closed, compare, fewer_begun, quiet_chooses, told_by}
 
 -- the challenges were started, and nothing else was done
 pub started : (story : Option (List Happening)) (faults : ℕ) (moments : Option (List ℕ)) (old new : Drawing) (taken : Option (List ℕ)) (files : FilesTold) (seed : List ℕ) (boot : ℕ) →
@@ -53,72 +51,16 @@ started story faults moments old new taken files seed boot seed_is boot_is drawn
 
 -- ---- what a run shows, from the first actions on
 
-record Told (plan : ClientPlan) (before after : Sight) (steps : List Step) (last : RunState State) (later : List Happening) (moments_later : List ℕ) : Type 0 where
-  happened : List Happening
-  performs : Performs [] (first_actions plan) happened
-  are : AreSteps client_machine (start_of plan happened after.drawing) steps last
-  story : Appends before.story after.story (happened ++ (story_of steps ++ later))
-  moments : Appends before.moments after.moments (moments_of steps ++ moments_later)
-
--- what was left at first is what was drawn and what is left
-left_is : (opened middle ended : Drawing) (draws : List (List ℕ)) → opened.drawn ≡ [] → DrawsAll opened middle [] → DrawsAll opened ended draws → middle.left ≡ ended.drawn ++ ended.left
-left_is opened middle ended draws none first all =
-    let drawn : ended.drawn ≡ draws = all.drawn ∙ ap (λ (d : List (List ℕ)). d ++ draws) none in
-    sym first.left ∙ all.left ∙ ap (λ (d : List (List ℕ)). d ++ ended.left) (sym drawn)
-
-told_by : (plan : ClientPlan) (seed : List ℕ) (boot : ℕ) (before opened middle ran ended : Sight) (happened : List Happening) (steps : List Step) (last : RunState State)
-    (later : List Happening) (moments_later : List ℕ) (drawn_later : List (List ℕ)) (put put2 put3 : List ℕ) (writes writes2 writes3 : List Write) →
-    Opens seed boot before opened [] → Performs [] (first_actions plan) happened → Shows opened middle happened [] [] put writes →
-    AreSteps client_machine (run_state_at (client_that_dials plan) (made_events happened) middle) steps last → Shows middle ran (story_of steps) (moments_of steps) (drawn_of steps) put2 writes2 →
-    Shows ran ended later moments_later drawn_later put3 writes3 → Told plan before ended steps last later moments_later
-told_by plan seed boot before opened middle ran ended happened steps last later moments_later drawn_later put put2 put3 writes writes2 writes3 opens performs first are run more =
-    let rest = Shows-trans middle ran ended (story_of steps) later (moments_of steps) moments_later (drawn_of steps) drawn_later put2 put3 writes2 writes3 run more in
-    let all = Shows-trans opened middle ended happened (story_of steps ++ later) [] (moments_of steps ++ moments_later) [] (drawn_of steps ++ drawn_later) put (put2 ++ put3) writes (writes2 ++ writes3) first rest in
-    let left = left_is opened.drawing middle.drawing ended.drawing (drawn_of steps ++ drawn_later) opens.none_drawn first.drawing all.drawing in
-    record {
-      happened = happened;
-      performs = performs;
-      are = subst (λ (l : List (List ℕ)). AreSteps client_machine (record { state = client_that_dials plan; queue = made_events happened; left = l }) steps last) left are;
-      story = Appends-trans before.story opened.story ended.story [] (happened ++ (story_of steps ++ later)) opens.story all.story;
-      moments = subst (λ (m : Option (List ℕ)). Appends m ended.moments (moments_of steps ++ moments_later)) opens.moments all.moments;
-    }
-
--- ---- two runs that the same outside shows
-
-pub told_items : {X : Type 0} (old new : Option (List X)) (all items more : List X) → old ≡ Some all → new ≡ Some (all ++ more) → Appends old new items → items ≡ more
-told_items {X} old new all items more is now told =
-    let here : Appends old (Some (all ++ more)) items = subst (λ (n : Option (List X)). Appends old n items) now told in
-    let there : all ++ more ≡ all ++ items = subst (λ (o : Option (List X)). Appends o (Some (all ++ more)) items) is here in
-    append_cancel_left all items more (sym there)
-
-record Compared (plan : ClientPlan) (drawing : Drawing) (steps others : List Step) (last other : RunState State) (later later2 : List Happening) (given given2 : List ℕ) : Type 0 where
-  happened : List Happening
-  are : AreSteps client_machine (start_of plan happened drawing) steps last
-  others_are : AreSteps client_machine (start_of plan happened drawing) others other
-  story : story_of steps ++ later ≡ story_of others ++ later2
-  moments : moments_of steps ++ given ≡ moments_of others ++ given2
-
-compare : (plan : ClientPlan) (before after : Sight) (steps others : List Step) (last other : RunState State) (later later2 : List Happening) (moments moments2 : List ℕ) →
-    Told plan before after steps last later moments → TellsRun plan before after others other later2 moments2 → Compared plan after.drawing steps others last other later later2 moments moments2
-compare plan before after steps others last other later later2 moments moments2 one two =
-    let story = told_items before.story after.story two.story (one.happened ++ (story_of steps ++ later)) (two.happened ++ (story_of others ++ later2)) two.story_before two.story_after one.story in
-    let times = told_items before.moments after.moments two.moments (moments_of steps ++ moments) (moments_of others ++ moments2) two.moments_before two.moments_after one.moments in
-    let same = performs_same [] (first_actions plan) one.happened two.happened (story_of steps ++ later) (story_of others ++ later2) one.performs two.performs story in
-    record {
-      happened = one.happened;
-      are = one.are;
-      others_are = subst (λ (h : List Happening). AreSteps client_machine (start_of plan h after.drawing) others other) (sym same.0) two.are;
-      story = same.1;
-      moments = times;
-    }
+abbrev ToldClient : ClientPlan → Sight → Sight → List Step → RunState State → List Happening → List ℕ → Type 0
+ToldClient plan before after steps last later moments_later = Told client_machine (first_actions plan) (client_that_dials plan) [] before after steps last later moments_later
 
 -- the one was spent, the other is whole
 spent_is_none : (plan : ClientPlan) (drawing : Drawing) (steps others : List Step) (last other : RunState State) (step : Step) (waiting : List Event) (stop : List Happening) →
-    Compared plan drawing steps others last other (step_story step) stop (step.moment ∷ []) [] → Chooses client_machine last.state last.queue step waiting →
+    Compared client_machine (client_that_dials plan) drawing steps others last other (step_story step) stop (step.moment ∷ []) [] → Chooses client_machine last.state last.queue step waiting →
     (step_of last.state step.event step.moment last.left).answer ≡ Err refusals.Spent → ⊥
 spent_is_none plan drawing steps others last other step waiting stop same chooses spent =
     let story : story_of steps ++ (step_story step ++ []) ≡ story_of others ++ stop = ap (λ (h : List Happening). story_of steps ++ h) (append-nil (step_story step)) ∙ same.story in
-    spent_not_whole client_machine (start_of plan same.happened drawing) last other steps others step waiting [] stop same.are chooses spent same.others_are story
+    spent_not_whole client_machine (begun_at (client_that_dials plan) same.happened drawing) last other steps others step waiting [] stop same.are chooses spent same.others_are story
     (same.moments ∙ append-nil (moments_of others))
 
 -- ---- the exit
@@ -138,10 +80,10 @@ says_exit outcome before now (BadPeer fault) says = inl says.0
 says_exit outcome before now Spent says = inl says.0
 
 concluded : (plan : ClientPlan) (seed : List ℕ) (boot : ℕ) (before opened after : Sight) (exit : Exit) (opens : Opens seed boot before opened []) (ends : Concludes plan opened after exit) →
-    Told plan before after ends.run.run.ran.steps (end_at ends.last ends.run.run.left) ends.run.run.stop []
+    ToldClient plan before after ends.run.run.ran.steps (rest_at ends.last ends.run.run.left) ends.run.run.stop []
 concluded plan seed boot before opened after exit opens ends =
-    subst (λ (s : Sight). Told plan before s ends.run.run.ran.steps (end_at ends.last ends.run.run.left) ends.run.run.stop []) (sym ends.only)
-    (let told = told_by plan seed boot before opened ends.run.middle ends.run.run.middle ends.ended ends.run.happened ends.run.run.ran.steps (end_at ends.last ends.run.run.left) ends.run.run.stop [] [] _ _ [] _ _ [] opens
+    subst (λ (s : Sight). ToldClient plan before s ends.run.run.ran.steps (rest_at ends.last ends.run.run.left) ends.run.run.stop []) (sym ends.only)
+    (let told = told_by client_machine (first_actions plan) (client_that_dials plan) [] seed boot before opened ends.run.middle ends.run.run.middle ends.ended ends.run.happened ends.run.run.ran.steps (rest_at ends.last ends.run.run.left) ends.run.run.stop [] [] _ _ [] _ _ [] opens
     ends.run.performs ends.run.shows ends.run.run.ran.are ends.run.run.ran.shows ends.run.run.shows in
     record { happened = told.happened; performs = told.performs; are = told.are; story = told.story; moments = told.moments })
 
@@ -150,7 +92,7 @@ record Spends (plan : ClientPlan) (before after : Sight) : Type 0 where
   last : RunState State
   step : Step
   waiting : List Event
-  told : Told plan before after steps last (step_story step) (step.moment ∷ [])
+  told : ToldClient plan before after steps last (step_story step) (step.moment ∷ [])
   chooses : Chooses client_machine last.state last.queue step waiting
   spent : (step_of last.state step.event step.moment last.left).answer ≡ Err refusals.Spent
 
@@ -162,7 +104,7 @@ spends plan seed boot before opened after opens (inr half) = record {
   last = half.run.last;
   step = half.run.step;
   waiting = half.run.begins.waiting;
-  told = told_by plan seed boot before opened half.middle half.run.middle after half.happened half.run.ran.steps half.run.last (step_story half.run.step) (half.run.step.moment ∷ []) half.run.step.drawn _ _ _ _ _ _ opens
+  told = told_by client_machine (first_actions plan) (client_that_dials plan) [] seed boot before opened half.middle half.run.middle after half.happened half.run.ran.steps half.run.last (step_story half.run.step) (half.run.step.moment ∷ []) half.run.step.drawn _ _ _ _ _ _ opens
       half.performs half.shows half.run.ran.are half.run.ran.shows half.run.shows;
   chooses = half.run.begins.chooses;
   spent = half.run.begins.breaks.0;
@@ -172,7 +114,7 @@ spends plan seed boot before opened after opens (inr half) = record {
 record AsksStill (plan : ClientPlan) (before after : Sight) : Type 0 where
   steps : List Step
   last : RunState State
-  told : Told plan before after steps last [] []
+  told : ToldClient plan before after steps last [] []
   more : asked_by steps < most_answers
   open_still : client_machine.is_over last.state ≡ false
 
@@ -182,24 +124,11 @@ asks_still plan seed boot before opened after opens (inl cut) = absurd cut.0
 asks_still plan seed boot before opened after opens (inr half) = record {
   steps = half.run.ran.steps;
   last = half.run.last;
-  told = told_by plan seed boot before opened half.middle after after half.happened half.run.ran.steps half.run.last [] [] [] _ _ _ _ _ _ opens
+  told = told_by client_machine (first_actions plan) (client_that_dials plan) [] seed boot before opened half.middle after after half.happened half.run.ran.steps half.run.last [] [] [] _ _ _ _ _ _ opens
       half.performs half.shows half.run.ran.are half.run.ran.shows (Shows-none after);
   more = subst (λ (n : ℕ). n < most_answers) half.run.ran.count half.run.more;
   open_still = half.run.open_still;
 }
-
--- a run that would ask for one more event isn't at its end
-asks_not_closed : (steps others : List Step) (state : State) (left : List (List ℕ)) (last : RunState State) (stop : List Happening) (start : RunState State) → AreSteps client_machine start steps last →
-    AreSteps client_machine start others (end_at state left) → story_of steps ++ [] ≡ story_of others ++ stop → last ≡ end_at state left → [] ≡ stop →
-    asked_by steps < most_answers → client_machine.is_over last.state ≡ false → Closes client_machine (end_at state left) (asked_by others) most_answers stop → ⊥
-asks_not_closed steps others state left last stop start are others_are story same none more open_still (inl over) =
-    let wrong : false ≡ true = sym open_still ∙ ap (λ (s : RunState State). client_machine.is_over s.state) same ∙ over.0 in cc
-asks_not_closed steps others state left last stop start are others_are story same none more open_still (inr (inl took)) =
-    let alike : story_of steps ≡ story_of others = sym (append-nil (story_of steps)) ∙ story ∙ ap (λ (h : List Happening). story_of others ++ h) took.1 ∙ append-nil (story_of others) in
-    let count : asked_by steps ≡ asked_by others = sym (asks_for client_machine start last steps are).count ∙ ap (λ (h : List Happening). length (events_in h)) alike ∙ (asks_for client_machine start (end_at state left) others others_are).count in
-    omega (arith, more, count, took.0)
-asks_not_closed steps others state left last stop start are others_are story same none more open_still (inr (inr stopped)) =
-    let wrong : [] ≡ happening.Given event.Stop (client_machine.want state) ∷ [] = none ∙ stopped.2 in cc
 
 -- a client keeps nothing, so that no write fails
 never_file : (plan : ClientPlan) (opened after : Sight) → BegunUntil client_machine None (first_actions plan) (client_that_dials plan) most_answers opened after halts.FileFault → ⊥
@@ -210,17 +139,17 @@ outcome_by : (plan : ClientPlan) (seed : List ℕ) (boot : ℕ) (before opened a
     (halt : Halt) → exit ≡ halt_exit halt → BegunUntil client_machine None (first_actions plan) (client_that_dials plan) most_answers opened after halt → (exit ≡ outcome_exit outcome) ⊎ IsExcuse exit
 outcome_by plan seed boot before opened after exit outcome opens comes halts.PortFault is run =
     let asks = asks_still plan seed boot before opened after opens run in
-    let same = compare plan before after asks.steps comes.steps asks.last (end_at comes.state comes.left) [] comes.stop [] [] asks.told comes.tells in
-    let whole = both_whole client_machine (start_of plan same.happened after.drawing) asks.last (end_at comes.state comes.left) asks.steps comes.steps [] comes.stop same.are same.others_are
+    let same = compare client_machine (first_actions plan) (client_that_dials plan) [] before after asks.steps comes.steps asks.last (rest_at comes.state comes.left) [] comes.stop [] [] asks.told comes.tells in
+    let whole = both_whole client_machine (begun_at (client_that_dials plan) same.happened after.drawing) asks.last (rest_at comes.state comes.left) asks.steps comes.steps [] comes.stop same.are same.others_are
     same.story (append_cancel_right (moments_of asks.steps) (moments_of comes.steps) [] same.moments) in
-    absurd (asks_not_closed asks.steps comes.steps comes.state comes.left asks.last comes.stop (start_of plan same.happened after.drawing) same.are same.others_are same.story whole.0 whole.1 asks.more asks.open_still comes.closes)
+    absurd (asks_not_closed client_machine most_answers asks.steps comes.steps comes.state comes.left asks.last comes.stop (begun_at (client_that_dials plan) same.happened after.drawing) same.are same.others_are same.story whole.0 whole.1 asks.more asks.open_still comes.closes)
 outcome_by plan seed boot before opened after exit outcome opens comes halts.FileFault is run = absurd (never_file plan opened after run)
 outcome_by plan seed boot before opened after exit outcome opens comes halts.SinkFault is run = inr (subst IsExcuse (sym is) tt)
 outcome_by plan seed boot before opened after exit outcome opens comes halts.NoMemory is run = inr (subst IsExcuse (sym is) tt)
 outcome_by plan seed boot before opened after exit outcome opens comes halts.Spent is run =
     let spent = spends plan seed boot before opened after opens run in
-    absurd (spent_is_none plan after.drawing spent.steps comes.steps spent.last (end_at comes.state comes.left) spent.step spent.waiting comes.stop
-    (compare plan before after spent.steps comes.steps spent.last (end_at comes.state comes.left) (step_story spent.step) comes.stop (spent.step.moment ∷ []) [] spent.told comes.tells) spent.chooses spent.spent)
+    absurd (spent_is_none plan after.drawing spent.steps comes.steps spent.last (rest_at comes.state comes.left) spent.step spent.waiting comes.stop
+    (compare client_machine (first_actions plan) (client_that_dials plan) [] before after spent.steps comes.steps spent.last (rest_at comes.state comes.left) (step_story spent.step) comes.stop (spent.step.moment ∷ []) [] spent.told comes.tells) spent.chooses spent.spent)
 
 outcome_law : (plan : ClientPlan) (seed : List ℕ) (boot : ℕ) (before after : Sight) (exit : Exit) (outcome : Option ClientOutcome) →
     LogonEnds plan seed boot before after exit → ComesTo plan before after outcome → (exit ≡ outcome_exit outcome) ⊎ IsExcuse exit
@@ -231,28 +160,23 @@ outcome_law plan seed boot before after exit outcome logon comes =
         | inl breaks ↦ outcome_by plan seed boot before logon.opened after exit outcome logon.opens comes breaks.halt breaks.exit_is breaks.run
         | inr ends ↦
             let told = concluded plan seed boot before logon.opened after exit logon.opens ends in
-            let same = compare plan before after ends.run.run.ran.steps comes.steps (end_at ends.last ends.run.run.left) (end_at comes.state comes.left) ends.run.run.stop comes.stop [] [] told comes.tells in
-            let whole = both_whole client_machine (start_of plan same.happened after.drawing) (end_at ends.last ends.run.run.left) (end_at comes.state comes.left) ends.run.run.ran.steps comes.steps ends.run.run.stop comes.stop same.are same.others_are
+            let same = compare client_machine (first_actions plan) (client_that_dials plan) [] before after ends.run.run.ran.steps comes.steps (rest_at ends.last ends.run.run.left) (rest_at comes.state comes.left) ends.run.run.stop comes.stop [] [] told comes.tells in
+            let whole = both_whole client_machine (begun_at (client_that_dials plan) same.happened after.drawing) (rest_at ends.last ends.run.run.left) (rest_at comes.state comes.left) ends.run.run.ran.steps comes.steps ends.run.run.stop comes.stop same.are same.others_are
             same.story (append_cancel_right (moments_of ends.run.run.ran.steps) (moments_of comes.steps) [] same.moments) in
             let outcome_is : ends.last.outcome ≡ outcome = ap (λ (s : RunState State). s.state.outcome) whole.0 ∙ comes.outcome_is in
             subst (λ (o : Option ClientOutcome). (exit ≡ outcome_exit o) ⊎ IsExcuse exit) outcome_is (says_exit ends.last.outcome ends.ended.taken after.taken exit ends.says)
       ]
     ]
 
--- which event is stepped doesn't depend on what happens then
-quiet_chooses : (state : State) (queue : List Event) (step : Step) (waiting : List Event) → Chooses client_machine state queue step waiting → Chooses client_machine state queue (record step { happened = [] }) waiting
-quiet_chooses state [] step waiting chooses = chooses
-quiet_chooses state (first ∷ later) step waiting chooses = chooses
-
 -- a run that is told to come to a step that draws too many isn't whole
-spent_not_told : (plan : ClientPlan) (before after : Sight) (steps : List Step) (last : RunState State) (stop : List Happening) → Told plan before after steps last stop [] → ComesToSpent plan before after → ⊥
+spent_not_told : (plan : ClientPlan) (before after : Sight) (steps : List Step) (last : RunState State) (stop : List Happening) → ToldClient plan before after steps last stop [] → ComesToSpent plan before after → ⊥
 spent_not_told plan before after steps last stop told comes =
-    let same = compare plan before after steps comes.steps last comes.last stop comes.step.asked [] (comes.step.moment ∷ []) told comes.tells in
+    let same = compare client_machine (first_actions plan) (client_that_dials plan) [] before after steps comes.steps last comes.last stop comes.step.asked [] (comes.step.moment ∷ []) told comes.tells in
     let quiet : Step = record comes.step { happened = [] } in
     let story : story_of comes.steps ++ (step_story quiet ++ []) ≡ story_of steps ++ stop =
     ap (λ (h : List Happening). story_of comes.steps ++ h) (append-nil (step_story quiet) ∙ append-nil comes.step.asked) ∙ sym same.story in
-    spent_not_whole client_machine (start_of plan same.happened after.drawing) comes.last last comes.steps steps quiet comes.waiting [] stop
-    same.others_are (quiet_chooses comes.last.state comes.last.queue comes.step comes.waiting comes.chooses) comes.spent same.are story (sym same.moments ∙ append-nil (moments_of steps))
+    spent_not_whole client_machine (begun_at (client_that_dials plan) same.happened after.drawing) comes.last last comes.steps steps quiet comes.waiting [] stop
+    same.others_are (quiet_chooses client_machine comes.last.state comes.last.queue comes.step comes.waiting comes.chooses) comes.spent same.are story (sym same.moments ∙ append-nil (moments_of steps))
 
 spent_by : (plan : ClientPlan) (seed : List ℕ) (boot : ℕ) (before opened after : Sight) (exit : Exit) → Opens seed boot before opened [] → ComesToSpent plan before after →
     (halt : Halt) → exit ≡ halt_exit halt → BegunUntil client_machine None (first_actions plan) (client_that_dials plan) most_answers opened after halt → (exit ≡ Spent) ⊎ IsExcuse exit
@@ -271,7 +195,7 @@ spent_law plan seed boot before after exit logon comes =
       | inl none ↦ inr (subst IsExcuse (sym none.0) tt)
       | inr begun ↦ elim begun [
         | inl breaks ↦ spent_by plan seed boot before logon.opened after exit logon.opens comes breaks.halt breaks.exit_is breaks.run
-        | inr ends ↦ absurd (spent_not_told plan before after ends.run.run.ran.steps (end_at ends.last ends.run.run.left) ends.run.run.stop (concluded plan seed boot before logon.opened after exit logon.opens ends) comes)
+        | inr ends ↦ absurd (spent_not_told plan before after ends.run.run.ran.steps (rest_at ends.last ends.run.run.left) ends.run.run.stop (concluded plan seed boot before logon.opened after exit logon.opens ends) comes)
       ]
     ]
 
@@ -592,16 +516,7 @@ gives_fewer : (plan : ClientPlan) (seed : List ℕ) (boot : ℕ) (before opened 
     BegunUntil client_machine None (first_actions plan) (client_that_dials plan) most_answers opened after halts.PortFault → GivesFewer most_answers before after
 gives_fewer plan seed boot before opened after opens (inl cut) = absurd cut.0
 gives_fewer plan seed boot before opened after opens (inr half) =
-    let story = story_of half.run.ran.steps in
-    let asks = asks_for client_machine _ half.run.last half.run.ran.steps half.run.ran.are in
-    let events : events_in (half.happened ++ story) ≡ events_in story = later_events plan half.happened story half.performs in
-    record {
-      happened = half.happened ++ story;
-      told = Appends-trans before.story opened.story after.story [] (half.happened ++ story) opens.story
-          (Appends-trans opened.story half.middle.story after.story half.happened story half.shows.story half.run.ran.shows.story);
-      no_stop = ap (λ (e : List (Event × Option ℕ)). list_any is_stop_given e) events ∙ asks.no_stop;
-      fewer = inr (subst (λ (n : ℕ). n < most_answers) (half.run.ran.count ∙ sym asks.count ∙ sym (ap length events)) half.run.more);
-    }
+    fewer_begun client_machine None (first_actions plan) (client_that_dials plan) [] seed boot most_answers before opened after opens refl half
 
 port_law : (plan : ClientPlan) (seed : List ℕ) (boot : ℕ) (before after : Sight) (exit : Exit) → LogonEnds plan seed boot before after exit → exit ≡ PortFault → GivesFewer most_answers before after
 port_law plan seed boot before after exit logon is =

@@ -2,6 +2,7 @@
 use Rattle.std.proofs.Common.{◌≡◌, inl, inr, ℕ, true, false, List, ◌∷◌, codes, Option, Some, IfSome, Result, Ok, Err, OnOk, IfErr, refl, sym, ap, subst, ◌∙◌}
 use Rattle.outside.specs.Causes.{Rose}
 use Rattle.outside.specs.Machine.{Machine}
+use Rattle.outside.specs.declared.action.Action.{Action}
 use Rattle.end_loop.specs.Seen.{Sight}
 use Rattle.end_loop.specs.Serving.{Served, ServedUntil}
 use Rattle.end_loop.specs.declared.halt.Halt.{Halt}
@@ -37,41 +38,42 @@ use Rattle.nt_top.specs.Service.{IsBadOfFiles, IsOfContents, IsServedBy, IsServi
 use Rattle.nt_top.proofs.JobLaws.{acts_by_words}
 use Rattle.nt_top.proofs.LogonLaws.{logon_laws}
 
-halt_serves : {S : Type 0} (machine : Machine S) (file : Option (List ℕ)) (old : S) (address seed : List ℕ) (boot most : ℕ) (before after : Sight) (halt : Halt) →
-    ServedUntil machine file old address seed boot most before after halt → ServesTo machine file old address seed boot most before after (halt_exit halt)
-halt_serves machine file old address seed boot most before after halts.PortFault is = is
-halt_serves machine file old address seed boot most before after halts.FileFault is = is
-halt_serves machine file old address seed boot most before after halts.SinkFault is = is
-halt_serves machine file old address seed boot most before after halts.NoMemory is = is
-halt_serves machine file old address seed boot most before after halts.Spent is = is
+halt_serves : {S : Type 0} (machine : Machine S) (file : Option (List ℕ)) (first : List Action) (old : S) (address seed : List ℕ) (boot most : ℕ) (before after : Sight) (halt : Halt) →
+    ServedUntil machine file first old address seed boot most before after halt → ServesTo machine file first old address seed boot most before after (halt_exit halt)
+halt_serves machine file first old address seed boot most before after halts.PortFault is = is
+halt_serves machine file first old address seed boot most before after halts.FileFault is = is
+halt_serves machine file first old address seed boot most before after halts.SinkFault is = is
+halt_serves machine file first old address seed boot most before after halts.NoMemory is = is
+halt_serves machine file first old address seed boot most before after halts.Spent is = is
 
-result_serves : {T S : Type 0} (machine : Machine S) (file : Option (List ℕ)) (old new : S) (address seed : List ℕ) (boot most : ℕ) (before after : Sight) (r : Result T Halt) →
-    OnOk r (Served machine file old new address seed boot most before after) →
-    IfErr r (λ halt. ServedUntil machine file old address seed boot most before after halt) →
-    ServesTo machine file old address seed boot most before after (service_exit r)
-result_serves machine file old new address seed boot most before after (Ok x) served halted = (new, served)
-result_serves machine file old new address seed boot most before after (Err halt) served halted =
-    halt_serves machine file old address seed boot most before after halt halted
+result_serves : {T S : Type 0} (machine : Machine S) (file : Option (List ℕ)) (first : List Action) (old new : S) (address seed : List ℕ) (boot most : ℕ) (before after : Sight) (r : Result T Halt) →
+    OnOk r (Served machine file first old new address seed boot most before after) →
+    IfErr r (λ halt. ServedUntil machine file first old address seed boot most before after halt) →
+    ServesTo machine file first old address seed boot most before after (service_exit r)
+result_serves machine file first old new address seed boot most before after (Ok x) served halted = (new, served)
+result_serves machine file first old new address seed boot most before after (Err halt) served halted =
+    halt_serves machine file first old address seed boot most before after halt halted
 
-pub service_serves : {T S : Type 0} (machine : Machine S) (file : Option (List ℕ)) (old new : S) (address seed : List ℕ) (boot most : ℕ) (before after : Sight) (r : Result T Halt) (exit : Exit) →
-    exit ≡ service_exit r → OnOk r (Served machine file old new address seed boot most before after) →
-    IfErr r (λ halt. ServedUntil machine file old address seed boot most before after halt) →
-    ServesTo machine file old address seed boot most before after exit
-service_serves machine file old new address seed boot most before after r exit is served halted =
-    subst (λ e. ServesTo machine file old address seed boot most before after e) (sym is)
-    (result_serves machine file old new address seed boot most before after r served halted)
+pub service_serves : {T S : Type 0} (machine : Machine S) (file : Option (List ℕ)) (first : List Action) (old new : S) (address seed : List ℕ) (boot most : ℕ) (before after : Sight) (r : Result T Halt) (exit : Exit) →
+    exit ≡ service_exit r → OnOk r (Served machine file first old new address seed boot most before after) →
+    IfErr r (λ halt. ServedUntil machine file first old address seed boot most before after halt) →
+    ServesTo machine file first old address seed boot most before after exit
+service_serves machine file first old new address seed boot most before after r exit is served halted =
+    subst (λ e. ServesTo machine file first old address seed boot most before after e) (sym is)
+    (result_serves machine file first old new address seed boot most before after r served halted)
 
 -- the same service, said of equal parts
-pub same_service : {S : Type 0} (machine : Machine S) (file named : Option (List ℕ)) (old other : S) (address place seed key : List ℕ) (boot number most events : ℕ) (before after : Sight) (exit : Exit) →
-    file ≡ named → old ≡ other → address ≡ place → seed ≡ key → boot ≡ number → most ≡ events →
-    ServesTo machine file old address seed boot most before after exit → ServesTo machine named other place key number events before after exit
-same_service machine file named old other address place seed key boot number most events before after exit f p q r x y serves =
-    subst (λ z. ServesTo machine z other place key number events before after exit) f
-    (subst (λ z. ServesTo machine file z place key number events before after exit) p
-    (subst (λ z. ServesTo machine file old z key number events before after exit) q
-    (subst (λ z. ServesTo machine file old address z number events before after exit) r
-    (subst (λ z. ServesTo machine file old address seed z events before after exit) x
-    (subst (λ z. ServesTo machine file old address seed boot z before after exit) y serves)))))
+pub same_service : {S : Type 0} (machine : Machine S) (file named : Option (List ℕ)) (first actions : List Action) (old other : S) (address place seed key : List ℕ) (boot number most events : ℕ) (before after : Sight)
+    (exit : Exit) → file ≡ named → first ≡ actions → old ≡ other → address ≡ place → seed ≡ key → boot ≡ number → most ≡ events →
+    ServesTo machine file first old address seed boot most before after exit → ServesTo machine named actions other place key number events before after exit
+same_service machine file named first actions old other address place seed key boot number most events before after exit f d p q r x y serves =
+    subst (λ z. ServesTo machine z actions other place key number events before after exit) f
+    (subst (λ z. ServesTo machine file z other place key number events before after exit) d
+    (subst (λ z. ServesTo machine file first z place key number events before after exit) p
+    (subst (λ z. ServesTo machine file first old z key number events before after exit) q
+    (subst (λ z. ServesTo machine file first old address z number events before after exit) r
+    (subst (λ z. ServesTo machine file first old address seed z events before after exit) x
+    (subst (λ z. ServesTo machine file first old address seed boot z before after exit) y serves))))))
 
 -- what follows the files, by their result
 pub follows_ok : (read : Result Setup FilesRefused) (setup : Setup) (before after : Sight) (exit : Exit) →
@@ -146,25 +148,25 @@ IsOfInputs (exits.BadTable cause) = Unit {0}
 IsOfInputs (exits.BadInput number) = Unit {0}
 IsOfInputs _ = ⊥
 
-serves_inputs : {S : Type 0} (machine : Machine S) (file : Option (List ℕ)) (old : S) (address seed : List ℕ) (boot most : ℕ) (before after : Sight) (exit : Exit) →
-    IsOfInputs exit → ServesTo machine file old address seed boot most before after exit → ⊥
-serves_inputs machine file old address seed boot most before after exits.Done is serves = is
-serves_inputs machine file old address seed boot most before after (exits.Refused cause) is serves = is
-serves_inputs machine file old address seed boot most before after (exits.BadWords number) is serves = serves
-serves_inputs machine file old address seed boot most before after exits.FileFault is serves = is
-serves_inputs machine file old address seed boot most before after (exits.BadTable cause) is serves = serves
-serves_inputs machine file old address seed boot most before after (exits.BadInput number) is serves = serves
-serves_inputs machine file old address seed boot most before after exits.PortFault is serves = is
-serves_inputs machine file old address seed boot most before after exits.SinkFault is serves = is
-serves_inputs machine file old address seed boot most before after exits.NoMemory is serves = is
-serves_inputs machine file old address seed boot most before after (exits.NoAnswer cause) is serves = is
-serves_inputs machine file old address seed boot most before after (exits.BadPeer fault) is serves = is
-serves_inputs machine file old address seed boot most before after exits.Spent is serves = is
+serves_inputs : {S : Type 0} (machine : Machine S) (file : Option (List ℕ)) (first : List Action) (old : S) (address seed : List ℕ) (boot most : ℕ) (before after : Sight) (exit : Exit) →
+    IsOfInputs exit → ServesTo machine file first old address seed boot most before after exit → ⊥
+serves_inputs machine file first old address seed boot most before after exits.Done is serves = is
+serves_inputs machine file first old address seed boot most before after (exits.Refused cause) is serves = is
+serves_inputs machine file first old address seed boot most before after (exits.BadWords number) is serves = serves
+serves_inputs machine file first old address seed boot most before after exits.FileFault is serves = is
+serves_inputs machine file first old address seed boot most before after (exits.BadTable cause) is serves = serves
+serves_inputs machine file first old address seed boot most before after (exits.BadInput number) is serves = serves
+serves_inputs machine file first old address seed boot most before after exits.PortFault is serves = is
+serves_inputs machine file first old address seed boot most before after exits.SinkFault is serves = is
+serves_inputs machine file first old address seed boot most before after exits.NoMemory is serves = is
+serves_inputs machine file first old address seed boot most before after (exits.NoAnswer cause) is serves = is
+serves_inputs machine file first old address seed boot most before after (exits.BadPeer fault) is serves = is
+serves_inputs machine file first old address seed boot most before after exits.Spent is serves = is
 
-may_inputs : {S : Type 0} (machine : Machine S) (file : Option (List ℕ)) (old : S) (address seed : List ℕ) (boot most : ℕ) (before after : Sight) (exit : Exit) →
-    IsOfInputs exit → MayServe machine file old address seed boot most before after exit → ⊥
-may_inputs machine file old address seed boot most before after exit is (inl left) = subst IsOfInputs left.0 is
-may_inputs machine file old address seed boot most before after exit is (inr serves) = serves_inputs machine file old address seed boot most before after exit is serves
+may_inputs : {S : Type 0} (machine : Machine S) (file : Option (List ℕ)) (first : List Action) (old : S) (address seed : List ℕ) (boot most : ℕ) (before after : Sight) (exit : Exit) →
+    IsOfInputs exit → MayServe machine file first old address seed boot most before after exit → ⊥
+may_inputs machine file first old address seed boot most before after exit is (inl left) = subst IsOfInputs left.0 is
+may_inputs machine file first old address seed boot most before after exit is (inr serves) = serves_inputs machine file first old address seed boot most before after exit is serves
 
 client_inputs : (exit : Exit) → IsOfInputs exit → IsOfClients exit → ⊥
 client_inputs exits.Done is of = is
@@ -181,8 +183,8 @@ client_inputs (exits.BadPeer fault) is of = is
 client_inputs exits.Spent is of = is
 
 by_inputs : (setup : Setup) (before after : Sight) (exit : Exit) → IsOfInputs exit → ServiceBy setup before after exit → ⊥
-by_inputs (setups.Controller job files) before after exit is serves = may_inputs _ _ _ _ _ _ _ before after exit is serves
-by_inputs (setups.Member job files) before after exit is serves = may_inputs _ _ _ _ _ _ _ before after exit is serves
+by_inputs (setups.Controller job files) before after exit is serves = may_inputs _ _ _ _ _ _ _ _ before after exit is serves
+by_inputs (setups.Member job files) before after exit is serves = may_inputs _ _ _ _ _ _ _ _ before after exit is serves
 by_inputs (setups.Logon job files) before after exit is ends = client_inputs exit is (logon_laws.exits (plan_of job files) files.seed job.boot before after exit ends)
 
 follows_no_words : (read : Result Setup FilesRefused) (before after : Sight) (number : ℕ) → ServiceFollows read before after (exits.BadWords number) → ⊥
@@ -299,25 +301,25 @@ files_only role words told refused shelf shelf_after before after exit uses runs
 
 -- ---- completeness
 
-service_served : {S : Type 0} (machine : Machine S) (file : Option (List ℕ)) (old : S) (address seed : List ℕ) (boot most : ℕ) (before after : Sight) (exit : Exit) →
-    (exit ≡ exits.FileFault → ⊥) → (exit ≡ exits.PortFault → ⊥) → (exit ≡ exits.SinkFault → ⊥) → ServesTo machine file old address seed boot most before after exit → IsServed exit
-service_served machine file old address seed boot most before after exits.Done fault port sink serves = _
-service_served machine file old address seed boot most before after exits.Spent fault port sink serves = _
-service_served machine file old address seed boot most before after exits.NoMemory fault port sink serves = _
-service_served machine file old address seed boot most before after exits.PortFault fault port sink serves = absurd (port refl)
-service_served machine file old address seed boot most before after exits.SinkFault fault port sink serves = absurd (sink refl)
-service_served machine file old address seed boot most before after (exits.Refused cause) fault port sink serves = absurd serves
-service_served machine file old address seed boot most before after (exits.BadWords number) fault port sink serves = absurd serves
-service_served machine file old address seed boot most before after exits.FileFault fault port sink serves = absurd (fault refl)
-service_served machine file old address seed boot most before after (exits.BadTable cause) fault port sink serves = absurd serves
-service_served machine file old address seed boot most before after (exits.BadInput number) fault port sink serves = absurd serves
-service_served machine file old address seed boot most before after (exits.NoAnswer cause) fault port sink serves = absurd serves
-service_served machine file old address seed boot most before after (exits.BadPeer peer) fault port sink serves = absurd serves
+service_served : {S : Type 0} (machine : Machine S) (file : Option (List ℕ)) (first : List Action) (old : S) (address seed : List ℕ) (boot most : ℕ) (before after : Sight) (exit : Exit) →
+    (exit ≡ exits.FileFault → ⊥) → (exit ≡ exits.PortFault → ⊥) → (exit ≡ exits.SinkFault → ⊥) → ServesTo machine file first old address seed boot most before after exit → IsServed exit
+service_served machine file first old address seed boot most before after exits.Done fault port sink serves = _
+service_served machine file first old address seed boot most before after exits.Spent fault port sink serves = _
+service_served machine file first old address seed boot most before after exits.NoMemory fault port sink serves = _
+service_served machine file first old address seed boot most before after exits.PortFault fault port sink serves = absurd (port refl)
+service_served machine file first old address seed boot most before after exits.SinkFault fault port sink serves = absurd (sink refl)
+service_served machine file first old address seed boot most before after (exits.Refused cause) fault port sink serves = absurd serves
+service_served machine file first old address seed boot most before after (exits.BadWords number) fault port sink serves = absurd serves
+service_served machine file first old address seed boot most before after exits.FileFault fault port sink serves = absurd (fault refl)
+service_served machine file first old address seed boot most before after (exits.BadTable cause) fault port sink serves = absurd serves
+service_served machine file first old address seed boot most before after (exits.BadInput number) fault port sink serves = absurd serves
+service_served machine file first old address seed boot most before after (exits.NoAnswer cause) fault port sink serves = absurd serves
+service_served machine file first old address seed boot most before after (exits.BadPeer peer) fault port sink serves = absurd serves
 
-may_served : {S : Type 0} (machine : Machine S) (file : Option (List ℕ)) (old : S) (address seed : List ℕ) (boot most : ℕ) (before after : Sight) (exit : Exit) →
-    (exit ≡ exits.FileFault → ⊥) → (exit ≡ exits.PortFault → ⊥) → (exit ≡ exits.SinkFault → ⊥) → MayServe machine file old address seed boot most before after exit → IsServed exit
-may_served machine file old address seed boot most before after exit fault port sink (inl left) = subst IsServed (sym left.0) tt
-may_served machine file old address seed boot most before after exit fault port sink (inr serves) = service_served machine file old address seed boot most before after exit fault port sink serves
+may_served : {S : Type 0} (machine : Machine S) (file : Option (List ℕ)) (first : List Action) (old : S) (address seed : List ℕ) (boot most : ℕ) (before after : Sight) (exit : Exit) →
+    (exit ≡ exits.FileFault → ⊥) → (exit ≡ exits.PortFault → ⊥) → (exit ≡ exits.SinkFault → ⊥) → MayServe machine file first old address seed boot most before after exit → IsServed exit
+may_served machine file first old address seed boot most before after exit fault port sink (inl left) = subst IsServed (sym left.0) tt
+may_served machine file first old address seed boot most before after exit fault port sink (inr serves) = service_served machine file first old address seed boot most before after exit fault port sink serves
 
 client_answered : (exit : Exit) → IsOfClients exit → (exit ≡ exits.PortFault → ⊥) → (exit ≡ exits.SinkFault → ⊥) → IsAnswered exit
 client_answered exits.Done is port sink = _
@@ -340,8 +342,8 @@ memory_served (setups.Member job files) exit is = subst IsServed (sym is) tt
 memory_served (setups.Logon job files) exit is = subst IsAnswered (sym is) tt
 
 by_served : (setup : Setup) (before after : Sight) (exit : Exit) → (exit ≡ exits.FileFault → ⊥) → (exit ≡ exits.PortFault → ⊥) → (exit ≡ exits.SinkFault → ⊥) → ServiceBy setup before after exit → IsServedBy setup exit
-by_served (setups.Controller job files) before after exit fault port sink serves = may_served _ _ _ _ _ _ _ before after exit fault port sink serves
-by_served (setups.Member job files) before after exit fault port sink serves = may_served _ _ _ _ _ _ _ before after exit fault port sink serves
+by_served (setups.Controller job files) before after exit fault port sink serves = may_served _ _ _ _ _ _ _ _ before after exit fault port sink serves
+by_served (setups.Member job files) before after exit fault port sink serves = may_served _ _ _ _ _ _ _ _ before after exit fault port sink serves
 by_served (setups.Logon job files) before after exit fault port sink ends =
     client_answered exit (logon_laws.exits (plan_of job files) files.seed job.boot before after exit ends) port sink
 

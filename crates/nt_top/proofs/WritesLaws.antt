@@ -16,7 +16,6 @@ use Rattle.end_loop.specs.Writing.{FilesTold, Write}
 use Rattle.end_loop.specs.declared.halt.Halt.{Halt}
 use Rattle.end_loop.specs.declared.halt.Halt.TheVariants as halts
 use Rattle.logon_client.specs.Machine.{client_machine}
-use Rattle.logon_client.specs.State.{State}
 use Rattle.logon_client.specs.declared.plan.ClientPlan.{ClientPlan}
 use Rattle.nt_words.specs.Files.{Shelf}
 use Rattle.nt_words.specs.Setups.{service_in}
@@ -109,55 +108,59 @@ run_halts machine file start most before after halts.NoMemory (inl ran) = shown 
 run_halts machine file start most before after halts.NoMemory (inr ran) = run_into machine file start most before after halts.NoMemory ran
 run_halts machine file start most before after halts.Spent ran = run_into machine file start most before after halts.Spent ran
 
+-- ---- runs that begin with actions of their own
+
+begun_until : {S : Type 0} (machine : Machine S) (file : Option (List ℕ)) (first : List Action) (old : S) (most : ℕ) (before after : Sight) (halt : Halt) →
+    BegunUntil machine file first old most before after halt → Into file before after
+begun_until machine file first old most before after halt (inl cut) =
+    shown file before after _ _ _ _ _ cut.1.shows (into_both file (flat_map (writes_for file) cut.1.done) cut.1.lost (into_actions file cut.1.done) (into_lost halt file cut.1.rest cut.1.lost cut.1.loses))
+begun_until machine file first old most before after halt (inr half) =
+    both file before.files.writes half.middle.files.writes after.files.writes (shown file before half.middle _ _ _ _ _ half.shows (into_actions file first))
+    (run_halts machine file _ most half.middle after halt half.run)
+
+begun_out : {S : Type 0} (machine : Machine S) (file : Option (List ℕ)) (first : List Action) (old new : S) (most : ℕ) (before after : Sight) →
+    Begun machine file first old new most before after → Into file before after
+begun_out machine file first old new most before after begun =
+    both file before.files.writes begun.middle.files.writes after.files.writes (shown file before begun.middle _ _ _ _ _ begun.shows (into_actions file first))
+    (run_out machine file _ new most begun.middle after begun.run)
+
 -- ---- an end that is served
 
 -- the files stood so while the port was opened
 opened_into : (file : Option (List ℕ)) (before opened after : Sight) → opened.files ≡ before.files → Into file opened after → Into file before after
 opened_into file before opened after same into = subst (λ (f : FilesTold). WritesInto file f.writes after.files.writes) same into
 
-served_until : {S : Type 0} (machine : Machine S) (file : Option (List ℕ)) (old : S) (address seed : List ℕ) (boot most : ℕ) (before after : Sight) (halt : Halt) →
-    ServedUntil machine file old address seed boot most before after halt → Into file before after
-served_until machine file old address seed boot most before after halt (inl failed) = opened_into file before after after failed.1.files (still file after)
-served_until machine file old address seed boot most before after halt (inr half) =
-    opened_into file before half.opened after half.opens.files (run_halts machine file _ most half.opened after halt half.run)
+served_until : {S : Type 0} (machine : Machine S) (file : Option (List ℕ)) (first : List Action) (old : S) (address seed : List ℕ) (boot most : ℕ) (before after : Sight) (halt : Halt) →
+    ServedUntil machine file first old address seed boot most before after halt → Into file before after
+served_until machine file first old address seed boot most before after halt (inl failed) = opened_into file before after after failed.1.files (still file after)
+served_until machine file first old address seed boot most before after halt (inr half) =
+    opened_into file before half.opened after half.opens.files (begun_until machine file first old most half.opened after halt half.run)
 
-serves_to : {S : Type 0} (machine : Machine S) (file : Option (List ℕ)) (old : S) (address seed : List ℕ) (boot most : ℕ) (before after : Sight) (exit : Exit) →
-    ServesTo machine file old address seed boot most before after exit → Into file before after
-serves_to machine file old address seed boot most before after exits.Done serves =
-    opened_into file before serves.1.opened after serves.1.opens.files (run_out machine file _ serves.0 most serves.1.opened after serves.1.run)
-serves_to machine file old address seed boot most before after exits.PortFault serves = served_until machine file old address seed boot most before after halts.PortFault serves
-serves_to machine file old address seed boot most before after exits.FileFault serves = served_until machine file old address seed boot most before after halts.FileFault serves
-serves_to machine file old address seed boot most before after exits.SinkFault serves = served_until machine file old address seed boot most before after halts.SinkFault serves
-serves_to machine file old address seed boot most before after exits.NoMemory serves = served_until machine file old address seed boot most before after halts.NoMemory serves
-serves_to machine file old address seed boot most before after exits.Spent serves = served_until machine file old address seed boot most before after halts.Spent serves
-serves_to machine file old address seed boot most before after (exits.Refused cause) serves = absurd serves
-serves_to machine file old address seed boot most before after (exits.BadWords number) serves = absurd serves
-serves_to machine file old address seed boot most before after (exits.BadTable cause) serves = absurd serves
-serves_to machine file old address seed boot most before after (exits.BadInput number) serves = absurd serves
-serves_to machine file old address seed boot most before after (exits.NoAnswer cause) serves = absurd serves
-serves_to machine file old address seed boot most before after (exits.BadPeer fault) serves = absurd serves
+serves_to : {S : Type 0} (machine : Machine S) (file : Option (List ℕ)) (first : List Action) (old : S) (address seed : List ℕ) (boot most : ℕ) (before after : Sight) (exit : Exit) →
+    ServesTo machine file first old address seed boot most before after exit → Into file before after
+serves_to machine file first old address seed boot most before after exits.Done serves =
+    opened_into file before serves.1.opened after serves.1.opens.files (begun_out machine file first old serves.0 most serves.1.opened after serves.1.run)
+serves_to machine file first old address seed boot most before after exits.PortFault serves = served_until machine file first old address seed boot most before after halts.PortFault serves
+serves_to machine file first old address seed boot most before after exits.FileFault serves = served_until machine file first old address seed boot most before after halts.FileFault serves
+serves_to machine file first old address seed boot most before after exits.SinkFault serves = served_until machine file first old address seed boot most before after halts.SinkFault serves
+serves_to machine file first old address seed boot most before after exits.NoMemory serves = served_until machine file first old address seed boot most before after halts.NoMemory serves
+serves_to machine file first old address seed boot most before after exits.Spent serves = served_until machine file first old address seed boot most before after halts.Spent serves
+serves_to machine file first old address seed boot most before after (exits.Refused cause) serves = absurd serves
+serves_to machine file first old address seed boot most before after (exits.BadWords number) serves = absurd serves
+serves_to machine file first old address seed boot most before after (exits.BadTable cause) serves = absurd serves
+serves_to machine file first old address seed boot most before after (exits.BadInput number) serves = absurd serves
+serves_to machine file first old address seed boot most before after (exits.NoAnswer cause) serves = absurd serves
+serves_to machine file first old address seed boot most before after (exits.BadPeer fault) serves = absurd serves
 
 left_into : (file : Option (List ℕ)) (before after : Sight) → after ≡ before → Into file before after
 left_into file before after same = subst (λ (s : Sight). Into file before s) (sym same) (still file before)
 
-may_serve : {S : Type 0} (machine : Machine S) (file : Option (List ℕ)) (old : S) (address seed : List ℕ) (boot most : ℕ) (before after : Sight) (exit : Exit) →
-    MayServe machine file old address seed boot most before after exit → Into file before after
-may_serve machine file old address seed boot most before after exit (inl left) = left_into file before after left.1
-may_serve machine file old address seed boot most before after exit (inr serves) = serves_to machine file old address seed boot most before after exit serves
+may_serve : {S : Type 0} (machine : Machine S) (file : Option (List ℕ)) (first : List Action) (old : S) (address seed : List ℕ) (boot most : ℕ) (before after : Sight) (exit : Exit) →
+    MayServe machine file first old address seed boot most before after exit → Into file before after
+may_serve machine file first old address seed boot most before after exit (inl left) = left_into file before after left.1
+may_serve machine file first old address seed boot most before after exit (inr serves) = serves_to machine file first old address seed boot most before after exit serves
 
 -- ---- a client
-
-begun_until : (first : List Action) (old : State) (most : ℕ) (before after : Sight) (halt : Halt) → BegunUntil client_machine None first old most before after halt → Into None before after
-begun_until first old most before after halt (inl cut) =
-    shown None before after _ _ _ _ _ cut.1.shows (into_both None (flat_map (writes_for None) cut.1.done) cut.1.lost (into_actions None cut.1.done) (into_lost halt None cut.1.rest cut.1.lost cut.1.loses))
-begun_until first old most before after halt (inr half) =
-    both None before.files.writes half.middle.files.writes after.files.writes (shown None before half.middle _ _ _ _ _ half.shows (into_actions None first))
-    (run_halts client_machine None _ most half.middle after halt half.run)
-
-begun_out : (first : List Action) (old new : State) (most : ℕ) (before after : Sight) → Begun client_machine None first old new most before after → Into None before after
-begun_out first old new most before after begun =
-    both None before.files.writes begun.middle.files.writes after.files.writes (shown None before begun.middle _ _ _ _ _ begun.shows (into_actions None first))
-    (run_out client_machine None _ new most begun.middle after begun.run)
 
 logon_into : (plan : ClientPlan) (seed : List ℕ) (boot : ℕ) (before after : Sight) (exit : Exit) → LogonEnds plan seed boot before after exit → Into None before after
 logon_into plan seed boot before after exit logon =
@@ -165,16 +168,16 @@ logon_into plan seed boot before after exit logon =
     (elim logon.ends [
       | inl none ↦ left_into None logon.opened after none.1
       | inr begun ↦ elim begun [
-        | inl breaks ↦ begun_until _ _ _ logon.opened after breaks.halt breaks.run
-        | inr ends ↦ subst (λ (s : Sight). Into None logon.opened s) (sym ends.only) (begun_out _ _ ends.last _ logon.opened ends.ended ends.run)
+        | inl breaks ↦ begun_until client_machine None _ _ _ logon.opened after breaks.halt breaks.run
+        | inr ends ↦ subst (λ (s : Sight). Into None logon.opened s) (sym ends.only) (begun_out client_machine None _ _ ends.last _ logon.opened ends.ended ends.run)
       ]
     ])
 
 -- ---- a service
 
 by_into : (setup : Setup) (before after : Sight) (exit : Exit) → ServiceBy setup before after exit → Into (file_of_service (service_in setup)) before after
-by_into (setups.Controller job files) before after exit serves = may_serve _ _ _ _ _ _ _ before after exit serves
-by_into (setups.Member job files) before after exit serves = may_serve _ _ _ _ _ _ _ before after exit serves
+by_into (setups.Controller job files) before after exit serves = may_serve _ _ _ _ _ _ _ _ before after exit serves
+by_into (setups.Member job files) before after exit serves = may_serve _ _ _ _ _ _ _ _ before after exit serves
 by_into (setups.Logon job files) before after exit ends = logon_into _ _ _ before after exit ends
 
 follows_into : (read : Result Setup FilesRefused) (service : Service) (before after : Sight) (exit : Exit) → IfOk read (λ s. service_in s ≡ service) → ServiceFollows read before after exit →

@@ -13,4 +13,5 @@ pub mod Serve
 pub mod ServeExits
 pub mod Service
 pub mod Show
+pub mod Told
 pub mod Writes

@@ -1,8 +1,7 @@
 -- When each exit of `logon` comes, by what the outside tells, and what is put then (this project's own choice).
-use Rattle.std.specs.Prelude.{ℕ, ◌≡◌, ◌⊎◌, ◌==◌, ◌++◌, Bool, true, false, List, [], ◌∷◌, length, Option, Some, None, Err}
+use Rattle.std.specs.Prelude.{ℕ, ◌≡◌, ◌⊎◌, ◌==◌, Bool, true, false, List, [], ◌∷◌, length, Option, Some, None, Err}
 use Rattle.std.specs.List.{list_any}
 use Rattle.outside.specs.Causes.{Rose}
-use Rattle.outside.specs.Drawing.{Drawing}
 use Rattle.outside.specs.Telling.{Appends, AppendsFront}
 use Rattle.outside.specs.declared.action.StepRefused.TheVariants as refusals
 use Rattle.outside.specs.declared.event.Event.{Event}
@@ -10,8 +9,7 @@ use Rattle.outside.specs.declared.event.Event.TheVariants as event
 use Rattle.outside.specs.declared.event.Happening.{Happening}
 use Rattle.outside.specs.declared.event.Happening.TheVariants as happening
 use Rattle.outside.specs.Stories.{events_in}
-use Rattle.end_loop.specs.Acts.{Performs, made_events}
-use Rattle.end_loop.specs.Runs.{RunState, Step, AreSteps, Chooses, Closes, asked_by, moments_of, story_of}
+use Rattle.end_loop.specs.Runs.{RunState, Step, Chooses, Closes, asked_by}
 use Rattle.end_loop.specs.Begun.{Begun, BegunUntil}
 use Rattle.end_loop.specs.Seen.{Sight}
 use Rattle.end_loop.specs.Serving.{Opens}
@@ -28,30 +26,15 @@ use Rattle.nt_top.specs.declared.exit.Exit.{Exit}
 use Rattle.nt_top.specs.declared.exit.Exit.TheVariants.{Done, Refused, BadWords, FileFault, BadTable, BadInput, SinkFault, NoMemory, NoAnswer, BadPeer, Spent, PortFault}
 use Rattle.nt_top.specs.Logon.{LogonEnds, client_that_dials, first_actions, in_lines, most_answers, outcome_exit}
 use Rattle.nt_top.specs.Serve.{GivesFewer}
+use Rattle.nt_top.specs.Told.{TellsBegun, rest_at}
 
 -- ---- the runs that the outside tells
 
--- where a client stands once its first actions were performed: what they made waits, and the challenges are left that
--- were drawn later and those that still are
-abbrev pub start_of : ClientPlan → List Happening → Drawing → RunState State
-start_of plan happened drawing = record { state = client_that_dials plan; queue = made_events happened; left = drawing.drawn ++ drawing.left }
-
 -- The outside tells that the client's first actions were performed, that it made these steps, and that this happened at
 -- the port and these moments were given after them.
-pub record TellsRun (plan : ClientPlan) (before after : Sight) (steps : List Step) (last : RunState State) (later : List Happening)
-    (moments_later : List ℕ) : Type 0 where
-  pub story : List Happening
-  pub story_before : before.story ≡ Some story
-  pub moments : List ℕ
-  pub moments_before : before.moments ≡ Some moments
-  pub happened : List Happening
-  pub performs : Performs [] (first_actions plan) happened
-  pub are : AreSteps client_machine (start_of plan happened after.drawing) steps last
-  pub story_after : after.story ≡ Some (story ++ (happened ++ (story_of steps ++ later)))
-  pub moments_after : after.moments ≡ Some (moments ++ (moments_of steps ++ moments_later))
-
-abbrev pub end_at : State → List (List ℕ) → RunState State
-end_at state left = record { state = state; queue = []; left = left }
+abbrev pub TellsRun : ClientPlan → Sight → Sight → List Step → RunState State → List Happening → List ℕ → Type 0
+TellsRun plan before after steps last later moments_later =
+    TellsBegun client_machine (first_actions plan) (client_that_dials plan) [] before after steps last later moments_later
 
 -- It tells that the client ran to its end, with that outcome or none.
 pub record ComesTo (plan : ClientPlan) (before after : Sight) (outcome : Option ClientOutcome) : Type 0 where
@@ -59,8 +42,8 @@ pub record ComesTo (plan : ClientPlan) (before after : Sight) (outcome : Option 
   pub left : List (List ℕ)
   pub steps : List Step
   pub stop : List Happening
-  pub tells : TellsRun plan before after steps (end_at state left) stop []
-  pub closes : Closes client_machine (end_at state left) (asked_by steps) most_answers stop
+  pub tells : TellsRun plan before after steps (rest_at state left) stop []
+  pub closes : Closes client_machine (rest_at state left) (asked_by steps) most_answers stop
   pub outcome_is : state.outcome ≡ outcome
 
 -- It tells that the client came to a step that draws more challenges than were left.

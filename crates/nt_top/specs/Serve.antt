@@ -1,10 +1,11 @@
--- An end that is served (this project's own choice): the challenges are started, the port listens, and the end's
--- machine runs.
+-- An end that is served (this project's own choice): the challenges are started, the port listens, and the end begins
+-- with actions of its own and runs.
 use Rattle.std.specs.Prelude.{◌≡◌, ◌⊎◌, ◌<◌, ℕ, false, List, [], length, Option, Result, Ok, Err}
 use Rattle.std.specs.List.{list_any}
 use Rattle.outside.specs.Machine.{Machine}
 use Rattle.outside.specs.Stories.{events_in}
 use Rattle.outside.specs.Telling.{Appends}
+use Rattle.outside.specs.declared.action.Action.{Action}
 use Rattle.outside.specs.declared.event.Happening.{Happening}
 use Rattle.end_loop.specs.Asking.{gives_stop}
 use Rattle.end_loop.specs.Seen.{Sight}
@@ -27,24 +28,24 @@ abbrev pub service_exit : {T : Type 0} → Result T Halt → Exit
 service_exit (Ok x) = Done
 service_exit (Err halt) = halt_exit halt
 
--- Where a service ends so, the end's machine, from this state on, ran to its end, with this address, seed, number of
--- the boot and most events, and with that file for what it keeps; or it halted so.
-abbrev pub ServesTo : {S : Type 0} → Machine S → Option (List ℕ) → S → List ℕ → List ℕ → ℕ → ℕ → Sight → Sight → Exit → Type 0
-ServesTo machine file old address seed boot most before after Done = (new : _) × Served machine file old new address seed boot most before after
-ServesTo machine file old address seed boot most before after PortFault = ServedUntil machine file old address seed boot most before after halts.PortFault
-ServesTo machine file old address seed boot most before after FileFault = ServedUntil machine file old address seed boot most before after halts.FileFault
-ServesTo machine file old address seed boot most before after SinkFault = ServedUntil machine file old address seed boot most before after halts.SinkFault
-ServesTo machine file old address seed boot most before after NoMemory = ServedUntil machine file old address seed boot most before after halts.NoMemory
-ServesTo machine file old address seed boot most before after Spent = ServedUntil machine file old address seed boot most before after halts.Spent
-ServesTo machine file old address seed boot most before after _ = ⊥
+-- Where a service ends so, the end's machine, from this state and these first actions on, ran to its end, with this
+-- address, seed, number of the boot and most events, and with that file for what it keeps; or it halted so.
+abbrev pub ServesTo : {S : Type 0} → Machine S → Option (List ℕ) → List Action → S → List ℕ → List ℕ → ℕ → ℕ → Sight → Sight → Exit → Type 0
+ServesTo machine file first old address seed boot most before after Done = (new : _) × Served machine file first old new address seed boot most before after
+ServesTo machine file first old address seed boot most before after PortFault = ServedUntil machine file first old address seed boot most before after halts.PortFault
+ServesTo machine file first old address seed boot most before after FileFault = ServedUntil machine file first old address seed boot most before after halts.FileFault
+ServesTo machine file first old address seed boot most before after SinkFault = ServedUntil machine file first old address seed boot most before after halts.SinkFault
+ServesTo machine file first old address seed boot most before after NoMemory = ServedUntil machine file first old address seed boot most before after halts.NoMemory
+ServesTo machine file first old address seed boot most before after Spent = ServedUntil machine file first old address seed boot most before after halts.Spent
+ServesTo machine file first old address seed boot most before after _ = ⊥
 
 -- nothing was done with the port, the clock, the challenges or the sink, and this is the exit
 abbrev pub IsLeft : Exit → Sight → Sight → Exit → Type 0
 IsLeft due before after exit = (exit ≡ due) × (after ≡ before)
 
--- The end is served from this state on. Want of memory may come before it.
-abbrev pub MayServe : {S : Type 0} → Machine S → Option (List ℕ) → S → List ℕ → List ℕ → ℕ → ℕ → Sight → Sight → Exit → Type 0
-MayServe machine file old address seed boot most before after exit = IsLeft NoMemory before after exit ⊎ ServesTo machine file old address seed boot most before after exit
+-- The end is served from this state and these first actions on. Want of memory may come before it.
+abbrev pub MayServe : {S : Type 0} → Machine S → Option (List ℕ) → List Action → S → List ℕ → List ℕ → ℕ → ℕ → Sight → Sight → Exit → Type 0
+MayServe machine file first old address seed boot most before after exit = IsLeft NoMemory before after exit ⊎ ServesTo machine file first old address seed boot most before after exit
 
 -- it served to its end, the challenges were spent, or memory ran out
 abbrev pub IsServed : Exit → Type 0

@@ -1,49 +1,41 @@
 -- When each exit of a service comes, by what the outside tells (this project's own choice).
-use Rattle.std.specs.Prelude.{ℕ, ◌≡◌, ◌⊎◌, ◌++◌, List, [], ◌∷◌, Option, Some, Err}
+use Rattle.std.specs.Prelude.{ℕ, ◌≡◌, ◌⊎◌, List, [], ◌∷◌, Option, Some, Err}
 use Rattle.outside.specs.Machine.{Machine}
+use Rattle.outside.specs.declared.action.Action.{Action}
 use Rattle.outside.specs.declared.action.StepRefused.TheVariants as refusals
 use Rattle.outside.specs.declared.event.Event.{Event}
 use Rattle.outside.specs.declared.event.Happening.{Happening}
 use Rattle.outside.specs.declared.event.Happening.TheVariants as happening
-use Rattle.end_loop.specs.Runs.{RunState, Step, AreSteps, Chooses, Closes, asked_by, moments_of, story_of}
+use Rattle.end_loop.specs.Runs.{RunState, Step, Chooses, Closes, asked_by}
 use Rattle.end_loop.specs.Seen.{Sight}
 use Rattle.nt_top.specs.declared.exit.Exit.{Exit}
 use Rattle.nt_top.specs.declared.exit.Exit.TheVariants.{Done, FileFault, PortFault, Spent}
 use Rattle.nt_top.specs.LogonExits.{IsExcuse}
 use Rattle.nt_top.specs.Serve.{GivesFewer, MayServe}
+use Rattle.nt_top.specs.Told.{TellsBegun, rest_at}
 
--- an end of that state, where no event waits and these challenges are left
-abbrev pub rest_at : {S : Type 0} → S → List (List ℕ) → RunState S
-rest_at state left = record { state = state; queue = []; left = left }
-
--- The outside tells that the port listened at the address, that the end made these steps, and that this happened at the
--- port and these moments were given after them.
-pub record TellsService {S : Type 0} (machine : Machine S) (old : S) (address : List ℕ) (before after : Sight) (steps : List Step)
-    (last : RunState S) (later : List Happening) (moments_later : List ℕ) : Type 0 where
-  pub story : List Happening
-  pub story_before : before.story ≡ Some story
-  pub moments : List ℕ
-  pub moments_before : before.moments ≡ Some moments
-  pub are : AreSteps machine (rest_at old (after.drawing.drawn ++ after.drawing.left)) steps last
-  pub story_after : after.story ≡ Some (story ++ (happening.Listened address ∷ (story_of steps ++ later)))
-  pub moments_after : after.moments ≡ Some (moments ++ (moments_of steps ++ moments_later))
+-- The outside tells that the port listened at the address, that the end's first actions were performed, that it made
+-- these steps, and that this happened at the port and these moments were given after them.
+abbrev pub TellsService : {S : Type 0} → Machine S → List Action → S → List ℕ → Sight → Sight → List Step → RunState S → List Happening → List ℕ → Type 0
+TellsService machine first old address before after steps last later moments_later =
+    TellsBegun machine first old (happening.Listened address ∷ []) before after steps last later moments_later
 
 -- It tells that the end ran to where `Stop` was given, or as many events as are taken.
-pub record TellsEnd {S : Type 0} (machine : Machine S) (old : S) (address : List ℕ) (most : ℕ) (before after : Sight) : Type 0 where
+pub record TellsEnd {S : Type 0} (machine : Machine S) (first : List Action) (old : S) (address : List ℕ) (most : ℕ) (before after : Sight) : Type 0 where
   pub state : S
   pub left : List (List ℕ)
   pub steps : List Step
   pub stop : List Happening
-  pub tells : TellsService machine old address before after steps (rest_at state left) stop []
+  pub tells : TellsService machine first old address before after steps (rest_at state left) stop []
   pub closes : Closes machine (rest_at state left) (asked_by steps) most stop
 
 -- It tells that the end came to a step that draws more challenges than were left.
-pub record TellsSpent {S : Type 0} (machine : Machine S) (old : S) (address : List ℕ) (before after : Sight) : Type 0 where
+pub record TellsSpent {S : Type 0} (machine : Machine S) (first : List Action) (old : S) (address : List ℕ) (before after : Sight) : Type 0 where
   pub last : RunState S
   pub steps : List Step
   pub step : Step
   pub waiting : List Event
-  pub tells : TellsService machine old address before after steps last step.asked (step.moment ∷ [])
+  pub tells : TellsService machine first old address before after steps last step.asked (step.moment ∷ [])
   pub chooses : Chooses machine last.state last.queue step waiting
   pub spent : (machine.step last.state step.event step.moment last.left).answer ≡ Err refusals.Spent
 
@@ -56,9 +48,9 @@ Replaces exit file = IsExcuse exit
 -- What the outside tells decides the exit of a service; and a failure of the port is the exit only where it gave no
 -- `Stop` and too few events.
 pub record ServiceLaws {S : Type 0} (machine : Machine S) : Type 0 where
-  pub done : (file : Option (List ℕ)) (old : S) (address seed : List ℕ) (boot most : ℕ) (before after : Sight) (exit : Exit) →
-      MayServe machine file old address seed boot most before after exit → TellsEnd machine old address most before after → (exit ≡ Done) ⊎ Replaces exit file
-  pub spent : (file : Option (List ℕ)) (old : S) (address seed : List ℕ) (boot most : ℕ) (before after : Sight) (exit : Exit) →
-      MayServe machine file old address seed boot most before after exit → TellsSpent machine old address before after → (exit ≡ Spent) ⊎ Replaces exit file
-  pub port : (file : Option (List ℕ)) (old : S) (address seed : List ℕ) (boot most : ℕ) (before after : Sight) (exit : Exit) →
-      MayServe machine file old address seed boot most before after exit → exit ≡ PortFault → GivesFewer most before after
+  pub done : (file : Option (List ℕ)) (first : List Action) (old : S) (address seed : List ℕ) (boot most : ℕ) (before after : Sight) (exit : Exit) →
+      MayServe machine file first old address seed boot most before after exit → TellsEnd machine first old address most before after → (exit ≡ Done) ⊎ Replaces exit file
+  pub spent : (file : Option (List ℕ)) (first : List Action) (old : S) (address seed : List ℕ) (boot most : ℕ) (before after : Sight) (exit : Exit) →
+      MayServe machine file first old address seed boot most before after exit → TellsSpent machine first old address before after → (exit ≡ Spent) ⊎ Replaces exit file
+  pub port : (file : Option (List ℕ)) (first : List Action) (old : S) (address seed : List ℕ) (boot most : ℕ) (before after : Sight) (exit : Exit) →
+      MayServe machine file first old address seed boot most before after exit → exit ≡ PortFault → GivesFewer most before after

@@ -1,13 +1,17 @@
 -- The commands that use the port (this project's own choice): the words are judged, then the files that they name are
 -- read and judged, and then the end that words and files make is served, or logs on.
-use Rattle.std.specs.Prelude.{ℕ, ◌≡◌, ◌≤◌, Bool, true, false, List, Option, Some, None, Result, Ok, Err, IfOk, codes}
+use Rattle.std.specs.Prelude.{ℕ, ◌≡◌, ◌≤◌, Bool, true, false, List, [], ◌∷◌, ◌++◌, Option, Some, None, IsSome, Result, Ok, Err, IfOk, codes}
+use Rattle.outside.specs.declared.action.Action.{Action}
+use Rattle.outside.specs.declared.action.Action.TheVariants.{Keep}
 use Rattle.end_loop.specs.Seen.{Sight}
 use Rattle.end_loop.specs.Writing.{FilesTold}
 use Rattle.domain_controller.specs.Step.{controller_machine, first_state}
-use Rattle.member_server.specs.Machine.{fresh_member, member_machine}
+use Rattle.member_server.specs.Machine.{Changing, change_of, fresh_member, member_machine}
+use Rattle.member_server.specs.State.{State}
+use Rattle.member_server.specs.declared.change.ChangeRefused.{ChangeRefused}
 use Rattle.member_server.specs.declared.plan.MemberPlan.{MemberPlan}
-use Rattle.secret_change.specs.Secrets.{alone}
-use Rattle.nt_words.specs.Files.{ReadsFiles, SecretFiles, Shelf}
+use Rattle.secret_change.specs.Secrets.{SecretsState, alone, line_of, untried_next}
+use Rattle.nt_words.specs.Files.{MemberFiles, ReadsFiles, Shelf}
 use Rattle.nt_words.specs.Jobs.{MemberJob, is_led_by}
 use Rattle.nt_words.specs.Roles.{job_of}
 use Rattle.nt_words.specs.Setups.{file_names, service_in, setup_due}
@@ -48,10 +52,45 @@ IsRefusal asked = (refused : WordsRefused) × (asked ≡ Err refused)
 
 -- ---- the ends
 
--- a member server of the words' computer and domain, with the file's secret, whose logons the controller at the words'
--- address judges
-abbrev pub member_plan : MemberJob → SecretFiles → MemberPlan
-member_plan job files = record { computer = job.computer; domain = job.domain; secrets = alone files.secret; controller = job.controller }
+-- a member server of the words' computer and domain, with these secrets, whose logons the controller at the
+-- words' address judges
+abbrev pub member_plan : MemberJob → SecretsState → MemberPlan
+member_plan job secrets = record { computer = job.computer; domain = job.domain; secrets = secrets; controller = job.controller }
+
+-- How a member changes its secret as it begins: to that of the file that the words name, where they name one.
+abbrev pub changing : Option (List ℕ) → State → Changing
+changing None member = record { answer = Ok []; state = member }
+changing (Some secret) member = change_of member secret
+
+-- the member of the words and the files, as it begins
+abbrev pub member_begins : MemberJob → MemberFiles → Changing
+member_begins job files = changing files.change (fresh_member (member_plan job files.secrets))
+
+-- what it does first: it keeps the text of its secrets, where a change begins; a change that is under way, of which the
+-- file has two secrets, goes on, and nothing is done
+abbrev pub first_of : Result (List Action) ChangeRefused → List Action
+first_of (Ok actions) = actions
+first_of (Err refused) = []
+
+-- A member server is served, from where it begins to change its secret on. It keeps its secrets in the file that they
+-- were read from.
+abbrev pub MemberServes : MemberJob → MemberFiles → Sight → Sight → Exit → Type 0
+MemberServes job files before after exit =
+    MayServe member_machine (Some job.secret) (first_of (member_begins job files).answer) (member_begins job files).state
+    job.listen files.seed job.boot job.events before after exit
+
+-- A member of one secret that is to change it begins so: the next secret is the new one, and the text of both is kept.
+-- Where two are kept, or no change is asked for, it is the member of the file's secrets, and does nothing first.
+pub record BeginsOneChange : Type 0 where
+  pub begins : (job : MemberJob) (seed current new : List ℕ) →
+      member_begins job (record { secrets = alone current; seed = seed; change = Some new }) ≡ record {
+        answer = Ok (Keep (line_of current ++ line_of new) ∷ []);
+        state = fresh_member (member_plan job (record { current = current; next = Some (untried_next new) }));
+      }
+  pub passed_over : (job : MemberJob) (files : MemberFiles) → IsSome files.secrets.next →
+      (first_of (member_begins job files).answer ≡ []) × ((member_begins job files).state ≡ fresh_member (member_plan job files.secrets))
+  pub not_asked : (job : MemberJob) (files : MemberFiles) → files.change ≡ None →
+      (first_of (member_begins job files).answer ≡ []) × ((member_begins job files).state ≡ fresh_member (member_plan job files.secrets))
 
 -- The end of the service is served: a controller of the words' name over the files' table, which keeps changed secrets
 -- in the file that the words name for them, or a member server. It is served at the words' address, with the file's
@@ -59,9 +98,8 @@ member_plan job files = record { computer = job.computer; domain = job.domain; s
 -- hash comes to its exit.
 abbrev pub ServiceBy : Setup → Sight → Sight → Exit → Type 0
 ServiceBy (setups.Controller job files) before after exit =
-    MayServe controller_machine job.secrets (first_state files.table job.name) job.listen files.seed job.boot job.events before after exit
-ServiceBy (setups.Member job files) before after exit =
-    MayServe member_machine None (fresh_member (member_plan job files)) job.listen files.seed job.boot job.events before after exit
+    MayServe controller_machine job.secrets [] (first_state files.table job.name) job.listen files.seed job.boot job.events before after exit
+ServiceBy (setups.Member job files) before after exit = MemberServes job files before after exit
 ServiceBy (setups.Logon job files) before after exit = LogonEnds (plan_of job files) files.seed job.boot before after exit
 
 -- ---- a command, from its words on

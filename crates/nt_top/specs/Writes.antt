@@ -11,10 +11,10 @@ use Rattle.nt_words.specs.declared.job.Service.TheVariants as services
 use Rattle.nt_words.specs.declared.options.WordsRefused.{WordsRefused}
 
 -- The file that a service names for what its end keeps: a controller's file of changed secrets, where its words name
--- one.
+-- one, and a member's file of secrets.
 abbrev pub file_of_service : Service → Option (List ℕ)
 file_of_service (services.Controller job) = job.secrets
-file_of_service (services.Member job) = None
+file_of_service (services.Member job) = Some job.secret
 file_of_service (services.Logon job) = None
 
 abbrev pub file_of_job : Result Job WordsRefused → Option (List ℕ)

@@ -1,6 +1,6 @@
 //! The end of `nt_controller serve`.
 
-ghost use Rattle.std.specs.Prelude.{◌≡◌, ◌≤◌, IfOk, option_copied, option_map};
+ghost use Rattle.std.specs.Prelude.{◌≡◌, ◌≤◌, [], IfOk, option_copied, option_map};
 ghost use Rattle.outside.specs.Causes.{Rose};
 ghost use Rattle.end_loop.specs.Seen.{Between};
 ghost use Rattle.end_loop.specs.Writing.{files_told};
@@ -13,7 +13,7 @@ use crate::serve::{name_of, serve_end};
 use account_table::Table;
 use domain_controller::Controller;
 use nt_words::{ControllerSetup, ControllerWords};
-use outside::{Chances, Clock, Files, Port, Sink};
+use outside::{Actions, Chances, Clock, Files, Port, Sink};
 use std::alloc::Global;
 use wire_base::NoMemory;
 
@@ -36,7 +36,7 @@ pub(crate) fn serve_controller<P: Port, S: Sink, F: Files, C: Clock, Q: Chances>
         P.story P.link_faults C.moments Q.drawing S.taken
         (files_told F.contents F.reads F.writes) port.old clock.old chances.old out.old files.old
         port.new clock.new chances.new out.new files.new
-        (λ before after. MayServe controller_machine words.now.secrets
+        (λ before after. MayServe controller_machine words.now.secrets []
         (first_state setup.table words.now.name) words.now.listen setup.seed words.now.boot
         words.now.events before after result) }
     ensures file_cause { result ≡ Exit.FileFault → Rose (F.faults files.old) (F.faults files.new) }
@@ -52,9 +52,11 @@ pub(crate) fn serve_controller<P: Port, S: Sink, F: Files, C: Clock, Q: Chances>
         Ok(controller) => controller,
         Err(_) => return Exit::NoMemory,
     };
+    let first = Actions::new(alloc);
     serve_end(
         alloc,
         &mut controller,
+        &first,
         words.listen().as_bytes(),
         seed,
         words.boot(),

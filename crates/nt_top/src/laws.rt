@@ -1,6 +1,7 @@
 //! Laws of how commands end. Each function does nothing, and its clause is the law.
 
 ghost use Rattle.nt_top.specs.LogonExits.{LogonLaws};
+ghost use Rattle.nt_top.specs.Service.{BeginsOneChange};
 ghost use Rattle.nt_top.specs.ServeExits.{ServiceLaws};
 
 use end_loop::End;
@@ -21,4 +22,10 @@ pub fn what_is_told_decides_the_exit()
 /// fewer than are taken.
 pub fn what_is_told_decides_how_a_service_ends<E: End>(_end: &E)
     ensures { ServiceLaws E.machine }
+{}
+
+/// A member server that has one secret, and is to change it, begins with that: the new secret is the next one, and its
+/// first action keeps the text of both. Where it has two, or isn't to change them, it does nothing first.
+pub fn a_member_begins_one_change()
+    ensures { BeginsOneChange }
 {}

@@ -20,7 +20,10 @@ mod words;
 pub use drill::drill_lines;
 pub use exit::Exit;
 pub use launch::{run_and_report, start};
-pub use laws::{what_is_told_decides_how_a_service_ends, what_is_told_decides_the_exit};
+pub use laws::{
+    a_member_begins_one_change, what_is_told_decides_how_a_service_ends,
+    what_is_told_decides_the_exit,
+};
 pub use nt_words::Role;
 pub use texts::{exit_line, exit_text, report};
 pub use top::run;

@@ -10,15 +10,16 @@ ghost use Rattle.nt_top.specs.declared.exit.Exit.{Exit};
 
 use crate::exit::Exit;
 use end_loop::{End, Halt, serve_at};
-use outside::{Chances, Clock, Files, Port, Sink};
+use outside::{Actions, Chances, Clock, Files, Port, Sink};
 use std::alloc::Global;
 use wire_base::{Name, NoMemory};
 
-/// Starts the challenges, listens at the address and serves the end, for as many events at most. What the end keeps is
-/// written into the file of that name, where there is a name.
+/// Starts the challenges, listens at the address, performs the first actions and serves the end, for as many events at
+/// most. What the end keeps is written into the file of that name, where there is a name.
 pub(crate) fn serve_end<E: End, P: Port, S: Sink, F: Files, C: Clock, Q: Chances>(
     alloc: Global,
     end: &mut E,
+    first: &Actions,
     address: &[u8],
     seed: [u8; 32],
     boot: u32,
@@ -35,8 +36,8 @@ pub(crate) fn serve_end<E: End, P: Port, S: Sink, F: Files, C: Clock, Q: Chances
         P.story P.link_faults C.moments Q.drawing S.taken
         (files_told F.contents F.reads F.writes) port.old clock.old chances.old out.old files.old
         port.new clock.new chances.new out.new files.new
-        (λ before after. ServesTo E.machine (option_copied file.entry) end.old address.now
-        seed boot most before after result) }
+        (λ before after. ServesTo E.machine (option_copied file.entry) first.now end.old
+        address.now seed boot most before after result) }
     ensures file_cause { result ≡ Exit.FileFault → Rose (F.faults files.old) (F.faults files.new) }
     ensures files { F.faults files.old ≤ F.faults files.new }
     ensures port_cause { result ≡ Exit.PortFault → Rose (P.faults port.old) (P.faults port.new) }
@@ -46,7 +47,7 @@ pub(crate) fn serve_end<E: End, P: Port, S: Sink, F: Files, C: Clock, Q: Chances
     ensures sink { S.faults out.old ≤ S.faults out.new }
 {
     let served = serve_at(
-        alloc, end, address, seed, boot, most, port, out, file, files, clock, chances,
+        alloc, end, first, address, seed, boot, most, port, out, file, files, clock, chances,
     );
     exit_of_service(served)
 }

@@ -90,7 +90,7 @@ fn serve_by<P: Port, S: Sink, F: Files, C: Clock, Q: Chances>(
             serve_controller(alloc, &words, setup, port, out, files, clock, chances)
         }
         Setup::Member(words, setup) => {
-            serve_member(alloc, &words, &setup, port, out, files, clock, chances)
+            serve_member(alloc, &words, setup, port, out, files, clock, chances)
         }
         Setup::Logon(words, setup) => {
             logon(alloc, &words, &setup, port, out, files, clock, chances)

@@ -7,7 +7,9 @@ use case_words::{
     word,
 };
 use nt_top::{Exit, Role};
-use nt_words::{ControllerSetup, FilesRefused, Job, SecretSetup, Setup, job_of, set_up};
+use nt_words::{
+    ControllerSetup, FilesRefused, Job, MemberSetup, SecretSetup, Setup, job_of, set_up,
+};
 use outside::{MapFiles, Texts};
 use std::alloc::Global;
 use wire_base::Blob;
@@ -63,6 +65,16 @@ fn text_of_table(alloc: Global, files: ControllerSetup) -> anyhow::Result<String
     Ok(text)
 }
 
+/// The secrets that a member keeps, the seed, and the secret to change to.
+fn text_of_secrets(alloc: Global, files: MemberSetup) -> anyhow::Result<String> {
+    let (secrets, seed, change) = files.into_parts();
+    let kept = secrets.text(alloc)?;
+    let mut text = debug_text(alloc, str::from_utf8(kept.bytes()).unwrap_or("no text"))?;
+    add_debug(alloc, &mut text, seed.as_slice())?;
+    add_debug(alloc, &mut text, change)?;
+    Ok(text)
+}
+
 /// The secret, and the seed.
 fn text_of_secret(alloc: Global, files: &SecretSetup) -> anyhow::Result<String> {
     let (secret, seed) = (files.secret(), files.seed());
@@ -75,7 +87,8 @@ fn text_of_secret(alloc: Global, files: &SecretSetup) -> anyhow::Result<String> 
 fn text_of_setup(alloc: Global, setup: Setup) -> anyhow::Result<String> {
     match setup {
         Setup::Controller(_, files) => text_of_table(alloc, files),
-        Setup::Member(_, files) | Setup::Logon(_, files) => text_of_secret(alloc, &files),
+        Setup::Member(_, files) => text_of_secrets(alloc, files),
+        Setup::Logon(_, files) => text_of_secret(alloc, &files),
     }
 }
 

@@ -3,4 +3,4 @@ use Rattle.nt_top.proofs.ServeLaws.{same_service}
 use Rattle.nt_top.proofs.controller_serving.serve_controller.Goals as goal
 
 pub returns-clause-serves : goal.returns-clause-serves
-returns-clause-serves g c = inr (same_service _ _ _ _ _ _ _ _ _ _ _ _ _ _ _ _ (search rules) (search rules) (search rules) (search rules) (search rules) (search rules) c.serve_end.ensures.serves)
+returns-clause-serves g c = inr (same_service _ _ _ _ _ _ _ _ _ _ _ _ _ _ _ _ _ _ (search rules) (search rules) (search rules) (search rules) (search rules) (search rules) (search rules) c.serve_end.ensures.serves)
