@@ -8,7 +8,7 @@ use Rattle.outside.specs.declared.event.Event.TheVariants as event
 use Rattle.logon_client.specs.declared.plan.ClientPlan.{ClientPlan}
 use Rattle.world_moves.specs.declared.bag.BagUnit.{BagUnit}
 use Rattle.world_moves.specs.declared.links.EndId.{EndId}
-use Rattle.world_moves.specs.declared.links.EndId.TheVariants.{Client}
+use Rattle.world_moves.specs.declared.links.EndId.TheVariants.{Client, Member}
 use Rattle.world_moves.specs.declared.links.OpenLink.{OpenLink}
 use Rattle.world_moves.specs.declared.links.Route.{Route}
 use Rattle.world_moves.specs.declared.links.Route.TheVariants.{Stranger}
@@ -21,7 +21,7 @@ use Rattle.world_moves.specs.Bag.{first_waiting, pieces_of}
 use Rattle.world_moves.specs.Choosing.{chosen_in, chosen_place}
 use Rattle.world_moves.specs.Ends.{acceptors_in, count_of, end_at}
 use Rattle.world_moves.specs.Links.{acceptor_of, handed_links, hearer_of, hearer_on, links_of}
-use Rattle.world_moves.specs.Moving.{act, answer_by, answered_link, begun, come, come_by, come_on_own, connect_by, connect_first, deliver_by, deliver_on, deliver_unit, end_of_peer, fail_first, hand_on, lose_by, onward_by, open_link, restart_at, restart_by, route_to, settle, shut_at, shut_by, start_at, start_by, stranger_at, stranger_by, with_link, without_first}
+use Rattle.world_moves.specs.Moving.{act, answer_by, answered_link, begun, change_at, changed, come, come_by, come_on_own, connect_by, connect_first, deliver_by, deliver_on, deliver_unit, end_of_peer, fail_first, hand_on, lose_by, onward_by, open_link, restart_at, restart_by, route_to, settle, shut_at, shut_by, start_at, start_by, stranger_at, stranger_by, with_link, without_first}
 use Rattle.world_moves.proofs.StateFrameLaws.{HoldsActing, StateFact, actions_so, closed_so, hears_if_so, hears_so, pieces_so}
 
 -- the links are the same
@@ -108,6 +108,10 @@ shut_at_links : (at : Option ℕ) (s : State) → (shut_at at s).state.links ≡
 shut_at_links None s = refl
 shut_at_links (Some at) s = shut_links (slice_get s.open_links at) s
 
+change_links : (at : Option ℕ) (secret : List ℕ) (s : State) → (change_at at secret s).state.links ≡ s.links
+change_links None secret s = refl
+change_links (Some at) secret s = all_links (Member at) (changed at secret s).actions (changed at secret s).state
+
 restart_by_links : (end : Option EndId) (s : State) → (restart_by end s).links ≡ s.links
 restart_by_links None s = refl
 restart_by_links (Some end) s = refl
@@ -157,6 +161,8 @@ act_count s (move.Deliver unit link) = same_count s (act s (move.Deliver unit li
 act_count s (move.Hand link back bytes) = same_count s (act s (move.Hand link back bytes)).state (hand_links (chosen_in link (handed_links s.links)) back bytes s)
 act_count s (move.Shut number) = same_count s (act s (move.Shut number)).state (shut_at_links (chosen_place number (length s.open_links)) s)
 act_count s (move.Restart number) = same_count s (act s (move.Restart number)).state (restart_links (chosen_place number (count_of s.ends)) s)
+act_count s (move.Change member secret) =
+    same_count s (act s (move.Change member secret)).state (change_links (chosen_place member (length s.ends.members)) secret s)
 act_count s (move.Tick more) = same_count s (act s (move.Tick more)).state refl
 
 -- a move keeps the bound

@@ -26,10 +26,11 @@ use Rattle.world_moves.specs.Acting.{Acted, Given, Heard, close_open, closed_at,
 use Rattle.world_moves.specs.Bag.{first_waiting, pieces_of}
 use Rattle.world_moves.specs.Choosing.{chosen_in, chosen_place}
 use Rattle.world_moves.specs.Counting.{add_counts, clipped, counted_of, counts_of, is_barred, is_counted, is_in, is_out, is_unanswered, judges, no_counts, tells}
-use Rattle.world_moves.specs.Ends.{EndStep, acceptors_in, count_of, end_at, end_step}
+use Rattle.world_moves.specs.Ends.{EndStates, EndStep, acceptors_in, count_of, end_at, end_step}
 use Rattle.world_moves.specs.Links.{acceptor_of, handed_links, hearer_of, hearer_on, links_of, other_hearer}
-use Rattle.world_moves.specs.Moving.{act, answer_by, answered_link, begun, come, come_by, come_on_own, connect_by, connect_first, deliver_by, deliver_on, deliver_unit, end_of_peer, fail_first, hand_on, lose_by, onward_by, open_link, restart_at, restart_by, route_to, settle, shut_at, shut_by, start_at, start_by, stranger_at, stranger_by, with_link, without_first}
+use Rattle.world_moves.specs.Moving.{act, answer_by, answered_link, begun, change_at, changed, come, come_by, come_on_own, connect_by, connect_first, deliver_by, deliver_on, deliver_unit, end_of_peer, fail_first, hand_on, lose_by, onward_by, open_link, restart_at, restart_by, route_to, settle, shut_at, shut_by, start_at, start_by, stranger_at, stranger_by, with_link, without_first}
 use Rattle.world_moves.specs.World.{Passed, World, actions_in, actions_of_run, counted_given, counted_of_run, first_world, happens, report_by, report_of, report_of_run, run, run_of}
+use Rattle.world_moves.proofs.ChangeLaws.{by_change}
 use Rattle.world_moves.proofs.EndKindLaws.{step_by}
 
 -- ---- counts
@@ -299,6 +300,16 @@ shut_at_right : (at : Option ℕ) (s : State) → Still s.counts → Right s (sh
 shut_at_right None s still = unchanged s s refl still
 shut_at_right (Some at) s still = shut_right (slice_get s.open_links at) s still
 
+-- a change of a secret tells nothing, so nothing is counted
+change_counts : (at : ℕ) (secret : List ℕ) (s : State) → Still s.counts → s.counts ≡ add_counts s.counts (counts_of (changed at secret s).actions)
+unfolding Still
+change_counts at secret s still =
+    by_change (λ (ends : EndStates) (actions : List Action). s.counts ≡ add_counts s.counts (counts_of actions)) at secret s.ends (sym still) (λ running is none. sym still)
+
+change_right : (at : Option ℕ) (secret : List ℕ) (s : State) → Still s.counts → Right s (change_at at secret s)
+change_right None secret s still = unchanged s s refl still
+change_right (Some at) secret s still = done_right (Member at) (changed at secret s) s (change_counts at secret s still)
+
 restart_by_counts : (end : Option EndId) (s : State) → (restart_by end s).counts ≡ s.counts
 restart_by_counts None s = refl
 restart_by_counts (Some end) s = refl
@@ -318,6 +329,7 @@ act_right s (move.Deliver unit link) still = deliver_right (chosen_place unit (l
 act_right s (move.Hand link back bytes) still = hand_right (chosen_in link (handed_links s.links)) back bytes s still
 act_right s (move.Shut number) still = shut_at_right (chosen_place number (length s.open_links)) s still
 act_right s (move.Restart number) still = unchanged s _ (restart_counts (chosen_place number (count_of s.ends)) s) still
+act_right s (move.Change member secret) still = change_right (chosen_place member (length s.ends.members)) secret s still
 act_right s (move.Tick more) still = unchanged s _ refl still
 
 -- ---- a run

@@ -28,7 +28,7 @@ use Rattle.world_moves.specs.declared.bag.BagUnit.{BagUnit}
 use Rattle.world_moves.specs.declared.counting.Counts.{Counts}
 use Rattle.world_moves.specs.declared.counting.Report.{Report}
 use Rattle.world_moves.specs.declared.links.EndId.{EndId}
-use Rattle.world_moves.specs.declared.links.EndId.TheVariants.{Client}
+use Rattle.world_moves.specs.declared.links.EndId.TheVariants.{Client, Member}
 use Rattle.world_moves.specs.declared.links.OpenLink.{OpenLink}
 use Rattle.world_moves.specs.declared.links.Route.{Route}
 use Rattle.world_moves.specs.declared.links.Route.TheVariants.{Stranger}
@@ -43,11 +43,12 @@ use Rattle.world_moves.specs.Choosing.{chosen_in, chosen_place}
 use Rattle.world_moves.specs.Counting.{AreCounted, add_counts, clipped, counts_of, is_barred, is_in, is_out, is_unanswered, judges, tells}
 use Rattle.world_moves.specs.Ends.{EndStates, EndStep, acceptors_in, actions_by, client_done, controller_done, count_of, end_at, end_step, member_done, no_step}
 use Rattle.world_moves.specs.Links.{acceptor_of, handed_links, hearer_of, hearer_on, links_of, other_hearer}
-use Rattle.world_moves.specs.Moving.{act, answer_by, answered_link, begun, come_by, come_on_own, connect_by, connect_first, deliver_by, deliver_on, deliver_unit, end_of_peer, fail_first, hand_on, lose_by, onward_by, open_link, renewed, restart_at, restart_by, route_to, settle, shut_at, shut_by, start_at, start_by, stranger_at, stranger_by, with_link, without_first}
+use Rattle.world_moves.specs.Moving.{act, answer_by, answered_link, begun, change_at, changed, come_by, come_on_own, connect_by, connect_first, deliver_by, deliver_on, deliver_unit, end_of_peer, fail_first, hand_on, lose_by, onward_by, open_link, renewed, restart_at, restart_by, route_to, settle, shut_at, shut_by, start_at, start_by, stranger_at, stranger_by, with_link, without_first}
 use Rattle.world_moves.specs.Telling.{IsWithin, adds_at, bytes_left, bytes_of, counted_in, level_limit, level_of, opens_at, outcomes_left, outcomes_of, tells_one, told_by}
 use Rattle.world_moves.specs.World.{IsMove, World, actions_of_run, first_controllers, first_world, happens, move_limit, report_of, report_of_run, run, run_of}
 use Rattle.world_moves.proofs.AskingLaws.{member_tells}
 use Rattle.world_moves.proofs.BagLaws.{units_settle}
+use Rattle.world_moves.proofs.ChangeLaws.{by_change, member_begun}
 use Rattle.world_moves.proofs.CountLaws.{counts_are_of_actions}
 use Rattle.world_moves.proofs.MuteLaws.{client_tells}
 use Rattle.world_moves.proofs.TellingLaws.{controller_tells}
@@ -318,6 +319,16 @@ module _ (most : ℕ) where
       (λ at c is. omega (arith, few, bytes_anew s.ends.controllers at (first_state c.table c.name) refl))
       (λ at plan is. omega (arith, few, outcomes_anew s.ends.members at (fresh_member plan) refl)) (λ at plan is. few) end
 
+  changed_level : (at : ℕ) (secret : List ℕ) (s : State) → level s ≤ most → level (changed at secret s).state ≤ most
+  unfolding level_of
+  changed_level at secret s few =
+      by_change (λ (ends : EndStates) (actions : List Action). level_of s.counts ends ≤ most) at secret s.ends few
+      (λ running is none. omega (arith, few, outcomes_put s.ends.members at (record { running = Some running }) (member_begun secret running) is))
+
+  change_level : (at : Option ℕ) (secret : List ℕ) (s : State) → level s ≤ most → level (change_at at secret s).state ≤ most
+  change_level None secret s few = few
+  change_level (Some at) secret s few = done_level most (Member at) (changed at secret s) (changed_level at secret s few)
+
   restart_by_level : (end : Option EndId) (s : State) → level s ≤ most → level (restart_by end s) ≤ most
   restart_by_level None s few = few
   restart_by_level (Some end) s few = renewed_level end (forget end s) few
@@ -368,6 +379,7 @@ module _ (most : ℕ) where
   act_level (move.Hand link back bytes) s is short few = hand_level (chosen_in link (handed_links s.links)) back bytes s is few
   act_level (move.Shut number) s is short few = shut_at_level (chosen_place number (length s.open_links)) s (omega (arith, few))
   act_level (move.Restart number) s is short few = restart_level (chosen_place number (count_of s.ends)) s (omega (arith, few))
+  act_level (move.Change member secret) s is short few = change_level (chosen_place member (length s.ends.members)) secret s (omega (arith, few))
   act_level (move.Tick more) s is short few = omega (arith, few)
 
 -- ---- what a world keeps

@@ -1,11 +1,13 @@
 pub mod AskingLaws
 pub mod BagLaws
 pub mod BoundLaws
+pub mod ChangeLaws
 pub mod CountLaws
 pub mod DrawBlockLaws
 pub mod EndKindLaws
 pub mod EndLaws
 pub mod GeneratorLaws
+pub mod KeptLaws
 pub mod LevelLaws
 pub mod LinkFrameLaws
 pub mod MakingLaws

@@ -94,5 +94,6 @@ move_stays Fits stays = move_so (Holds Fits) (record {
   settles = λ number s holds. stays.settles number s.links s.open_links s.bag holds;
   dials = λ s holds. holds;
   renews = λ end s holds. holds;
+  changes = λ at secret s holds. holds;
   ticks = λ more s holds. holds;
 })

@@ -3,12 +3,13 @@
 use Rattle.std.proofs.Common.{◌≡◌, ℕ, Bool, true, false, List, [], ◌∷◌, Option, Some, None, slice_get, refl, ◌++◌, ap, ◌∙◌, append-nil, subst, ap₂}
 use Rattle.outside.specs.declared.action.Action.{Action}
 use Rattle.outside.specs.declared.action.Action.TheVariants as action
+use Rattle.member_server.specs.declared.plan.MemberPlan.{MemberPlan}
 use Rattle.world_moves.specs.declared.bag.BagUnit.{BagUnit}
 use Rattle.world_moves.specs.declared.links.EndId.{EndId}
 use Rattle.world_moves.specs.declared.links.Route.{Route}
 use Rattle.world_moves.specs.declared.state.State.{State}
 use Rattle.world_moves.specs.declared.state.WaitingDial.{WaitingDial}
-use Rattle.world_moves.specs.Acting.{dials_of_action, link_closed, perform_quietly, sent_if, unit_if, unit_on, units_of_action}
+use Rattle.world_moves.specs.Acting.{dials_of_action, link_closed, perform_quietly, plans_after, sent_if, unit_if, unit_on, units_of_action}
 use Rattle.world_moves.specs.Links.{is_own, kind_of}
 
 module _ (P : List BagUnit → Type 0) (links : List Route) (end : EndId) where
@@ -33,10 +34,12 @@ module _ (P : List BagUnit → Type 0) (links : List Route) (end : EndId) where
   units_by (action.Told link outcome) none one = none
   units_by (action.Judged how) none one = none
 
--- an action that neither sends nor dials changes nothing
-pub idle_quiet : (end : EndId) (what : Action) (s : State) → units_of_action s.links end what ≡ [] → dials_of_action end what ≡ [] → perform_quietly end what s ≡ s
-idle_quiet end what s sends dials =
-    ap₂ (λ (units : List BagUnit) (more : List WaitingDial). record s { bag = s.bag ++ units; dials = s.dials ++ more }) sends dials
+-- an action that neither keeps a text nor sends nor dials changes nothing
+pub idle_quiet : (end : EndId) (what : Action) (s : State) → plans_after end what s.member_plans ≡ s.member_plans → units_of_action s.links end what ≡ [] → dials_of_action end what ≡ [] →
+    perform_quietly end what s ≡ s
+idle_quiet end what s keeps sends dials =
+    ap (λ (plans : List MemberPlan). record s { member_plans = plans; bag = s.bag ++ units_of_action s.links end what; dials = s.dials ++ dials_of_action end what }) keeps
+    ∙ ap₂ (λ (units : List BagUnit) (more : List WaitingDial). record s { bag = s.bag ++ units; dials = s.dials ++ more }) sends dials
     ∙ ap₂ (λ (bag : List BagUnit) (all : List WaitingDial). record s { bag = bag; dials = all }) (append-nil s.bag) (append-nil s.dials)
 
 -- on a link of ends of this world a unit is sent, and nothing else changes

@@ -8,7 +8,7 @@ use Rattle.outside.specs.declared.event.Event.TheVariants as event
 use Rattle.logon_client.specs.declared.plan.ClientPlan.{ClientPlan}
 use Rattle.world_moves.specs.declared.bag.BagUnit.{BagUnit}
 use Rattle.world_moves.specs.declared.links.EndId.{EndId}
-use Rattle.world_moves.specs.declared.links.EndId.TheVariants.{Client}
+use Rattle.world_moves.specs.declared.links.EndId.TheVariants.{Client, Member}
 use Rattle.world_moves.specs.declared.links.OpenLink.{OpenLink}
 use Rattle.world_moves.specs.declared.links.Route.{Route}
 use Rattle.world_moves.specs.declared.links.Route.TheVariants.{Stranger}
@@ -21,7 +21,7 @@ use Rattle.world_moves.specs.Bag.{first_waiting, pieces_of}
 use Rattle.world_moves.specs.Choosing.{chosen_in, chosen_place}
 use Rattle.world_moves.specs.Ends.{acceptors_in, count_of, end_at}
 use Rattle.world_moves.specs.Links.{acceptor_of, handed_links, hearer_of, hearer_on, links_of, other_hearer}
-use Rattle.world_moves.specs.Moving.{act, answer_by, answered_link, begun, come_by, come_on_own, connect_by, connect_first, deliver_by, deliver_on, deliver_unit, end_of_peer, fail_first, hand_on, lose_by, onward_by, open_link, renewed, restart_at, restart_by, route_to, settle, shut_at, shut_by, start_at, start_by, stranger_at, stranger_by, tick, with_link, without_first}
+use Rattle.world_moves.specs.Moving.{act, answer_by, answered_link, begun, come_by, come_on_own, connect_by, connect_first, deliver_by, deliver_on, deliver_unit, end_of_peer, fail_first, hand_on, lose_by, onward_by, open_link, renewed, restart_at, restart_by, route_to, settle, shut_at, shut_by, start_at, start_by, stranger_at, stranger_by, tick, with_link, without_first, change_at, changed}
 
 -- ---- what is to hold
 
@@ -47,6 +47,8 @@ pub record HoldsMoving (Rel : StateFact) : Type 0 where
   pub settles : (number : ℕ) (s : State) → Rel s (settle number s)
   pub dials : (s : State) → Rel s (without_first s)
   pub renews : (end : EndId) (s : State) → Rel s (renewed end s)
+  -- a member begins to change its secret; that its text is kept is an action
+  pub changes : (at : ℕ) (secret : List ℕ) (s : State) → Rel s (changed at secret s).state
   pub ticks : (more : ℕ) (s : State) → Rel s (tick more s)
 
 module _ (Rel : StateFact) (holds : HoldsActing Rel) where
@@ -213,6 +215,12 @@ module _ (Rel : StateFact) (holds : HoldsMoving Rel) where
   restart_so None s = holds.acting.none s
   restart_so (Some number) s = restart_by_so (end_at number s.ends) s
 
+  change_so : (at : Option ℕ) (secret : List ℕ) (s : State) → Rel s (change_at at secret s).state
+  change_so None secret s = holds.acting.none s
+  change_so (Some at) secret s =
+      let heard : Heard = changed at secret s in
+      holds.acting.both s heard.state (perform_all (Member at) heard.actions heard.state).state (holds.changes at secret s) (actions_so Rel holds.acting (Member at) heard.actions heard.state)
+
   -- a move that takes the first dial
   dials_so : (s after : State) → Rel (without_first s) after → Rel s after
   dials_so s after rest = holds.acting.both s (without_first s) after (holds.dials s) rest
@@ -230,4 +238,5 @@ module _ (Rel : StateFact) (holds : HoldsMoving Rel) where
   move_so (move.Hand link back bytes) s = hand_so (chosen_in link (handed_links s.links)) back bytes s
   move_so (move.Shut number) s = shut_at_so (chosen_place number (length s.open_links)) s
   move_so (move.Restart number) s = restart_so (chosen_place number (count_of s.ends)) s
+  move_so (move.Change member secret) s = change_so (chosen_place member (length s.ends.members)) secret s
   move_so (move.Tick more) s = holds.ticks more s

@@ -1,12 +1,15 @@
 -- What an end's actions do in a world (this project's own choice).
-use Rattle.std.specs.Prelude.{ℕ, Bool, true, false, List, [], ◌∷◌, ◌++◌, map, not, filter, Option, Some, None, slice_get}
+use Rattle.std.specs.Prelude.{ℕ, Bool, true, false, List, [], ◌∷◌, ◌++◌, map, not, filter, Option, Some, None, slice_get, slice_set}
 use Rattle.wire_base.specs.Maps.{lookup, take_out, same_number}
 use Rattle.outside.specs.declared.action.Action.{Action}
-use Rattle.outside.specs.declared.action.Action.TheVariants.{Send, Dial, Close}
+use Rattle.outside.specs.declared.action.Action.TheVariants.{Keep, Send, Dial, Close}
 use Rattle.outside.specs.declared.event.Event.{Event}
 use Rattle.outside.specs.declared.event.Event.TheVariants as event
+use Rattle.secret_change.specs.Secrets.{SecretsState, secrets_of}
+use Rattle.member_server.specs.declared.plan.MemberPlan.{MemberPlan}
 use Rattle.world_moves.specs.declared.bag.BagUnit.{BagUnit}
 use Rattle.world_moves.specs.declared.links.EndId.{EndId}
+use Rattle.world_moves.specs.declared.links.EndId.TheVariants.{Controller, Member, Client}
 use Rattle.world_moves.specs.declared.links.OpenLink.{OpenLink}
 use Rattle.world_moves.specs.declared.links.Route.{Route}
 use Rattle.world_moves.specs.declared.state.State.{State}
@@ -50,7 +53,7 @@ heard_by step s = record {
 abbrev pub hear : EndId → Event → State → Heard
 hear end what s = heard_by (end_step end what s.moment s.ends s.chances) s
 
--- ---- what an action changes that closes nothing: a unit goes into the bag, or a dial waits
+-- ---- what an action changes that closes nothing: a unit goes into the bag, a dial waits, or a text is kept
 
 -- a unit that an end sends on a link
 abbrev pub unit_on : Route → EndId → ℕ → List ℕ → BagUnit
@@ -76,9 +79,30 @@ abbrev pub dials_of_action : EndId → Action → List WaitingDial
 dials_of_action end (Dial peer) = record { end = end; peer = peer } ∷ []
 dials_of_action end _ = []
 
+-- a text that an end keeps: a member's plan has the secrets of the text from then on, which the member is made from
+-- when it begins anew. A controller begins anew with its accounts as they stand, so its text changes nothing here
+abbrev pub put_secrets : Option MemberPlan → SecretsState → ℕ → List MemberPlan → List MemberPlan
+put_secrets None secrets at plans = plans
+put_secrets (Some plan) secrets at plans = slice_set plans at (record plan { secrets = secrets })
+
+abbrev pub keep_by : Option SecretsState → ℕ → List MemberPlan → List MemberPlan
+keep_by None at plans = plans
+keep_by (Some secrets) at plans = put_secrets (slice_get plans at) secrets at plans
+
+abbrev pub keep_at : EndId → List ℕ → List MemberPlan → List MemberPlan
+keep_at (Controller at) text plans = plans
+keep_at (Member at) text plans = keep_by (secrets_of text) at plans
+keep_at (Client at) text plans = plans
+
+-- the plans of members after an action
+abbrev pub plans_after : EndId → Action → List MemberPlan → List MemberPlan
+plans_after end (Keep text) plans = keep_at end text plans
+plans_after end _ plans = plans
+
 -- they go behind the others; `Close` is passed over here
 abbrev pub perform_quietly : EndId → Action → State → State
 perform_quietly end what s = record s {
+  member_plans = plans_after end what s.member_plans;
   bag = s.bag ++ units_of_action s.links end what;
   dials = s.dials ++ dials_of_action end what;
 }

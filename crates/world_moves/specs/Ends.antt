@@ -1,6 +1,6 @@
 -- The ends of a world, and one step of one of them (this project's own choice). Ends are numbered from 0: controllers,
 -- then members, then clients.
-use Rattle.std.specs.Prelude.{ℕ, ◌+◌, ◌-◌, ◌++◌, nat_lt, List, [], length, Option, Some, None, Result, Ok, Err, slice_get, slice_set, if◌then◌else◌}
+use Rattle.std.specs.Prelude.{ℕ, ◌≡◌, ◌+◌, ◌-◌, ◌++◌, nat_lt, List, [], length, Option, Some, None, Result, Ok, Err, slice_get, slice_set, if◌then◌else◌}
 use Rattle.outside.specs.Drawing.{Drawing}
 use Rattle.outside.specs.Machine.{Stepped}
 use Rattle.outside.specs.declared.action.Action.{Action}
@@ -12,7 +12,8 @@ use Rattle.logon_client.specs.State.{State as ClientState}
 use Rattle.logon_client.specs.Machine.{fresh_client, step_of as client_step_of}
 use Rattle.logon_client.specs.declared.plan.ClientPlan.{ClientPlan}
 use Rattle.member_server.specs.State.{State as MemberState}
-use Rattle.member_server.specs.Machine.{fresh_member, step_of as member_step_of}
+use Rattle.member_server.specs.Machine.{Changing, change_of, fresh_member, step_of as member_step_of}
+use Rattle.member_server.specs.declared.change.ChangeRefused.{ChangeRefused}
 use Rattle.member_server.specs.declared.plan.MemberPlan.{MemberPlan}
 use Rattle.world_moves.specs.declared.links.EndId.{EndId}
 use Rattle.world_moves.specs.declared.links.EndId.TheVariants.{Controller, Member, Client}
@@ -128,3 +129,32 @@ with_client at client ends = record ends { clients = slice_set ends.clients at c
 abbrev pub renew_client : Option ClientPlan → ℕ → EndStates → EndStates
 renew_client None at ends = ends
 renew_client (Some plan) at ends = with_client at (fresh_client plan) ends
+
+-- ---- a member begins to change its secret
+
+-- what that comes to: all ends, and its actions
+pub record EndChange : Type 0 where
+  pub ends : EndStates
+  pub actions : List Action
+
+-- the actions of a change that begins; a member that changes to another secret already begins none
+abbrev pub actions_begun : Result (List Action) ChangeRefused → List Action
+actions_begun (Ok actions) = actions
+actions_begun (Err why) = []
+
+-- a member has been told so: its actions, and the member afterwards
+pub record HasChanged (given : List Action) (before : MemberState) (secret : List ℕ) (after : MemberState) : Type 0 where
+  pub member : after ≡ (change_of before secret).state
+  pub actions : given ≡ actions_begun (change_of before secret).answer
+
+abbrev pub change_done : Changing → ℕ → EndStates → EndChange
+change_done changing at ends =
+    record { ends = with_member at changing.state ends; actions = actions_begun changing.answer }
+
+abbrev pub change_by : Option MemberState → ℕ → List ℕ → EndStates → EndChange
+change_by None at secret ends = record { ends = ends; actions = [] }
+change_by (Some member) at secret ends = change_done (change_of member secret) at ends
+
+-- the member of that number is told to change to the secret
+abbrev pub end_change : ℕ → List ℕ → EndStates → EndChange
+end_change at secret ends = change_by (slice_get ends.members at) at secret ends

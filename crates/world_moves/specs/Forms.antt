@@ -74,6 +74,7 @@ HasMoveForm (move.Deliver unit link) = (unit < 2 ^ 32) × (link < 2 ^ 32)
 HasMoveForm (move.Hand link back bytes) = (link < 2 ^ 32) × All IsByte bytes
 HasMoveForm (move.Shut number) = number < 2 ^ 32
 HasMoveForm (move.Restart number) = number < 2 ^ 32
+HasMoveForm (move.Change member secret) = (member < 2 ^ 32) × IsBlock 16 secret
 HasMoveForm (move.Tick more) = more < 2 ^ 64
 
 -- A schedule: a world can be made from the plan, which has its types' forms; and it can make the moves, of which there

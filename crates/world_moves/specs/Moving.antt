@@ -18,7 +18,7 @@ use Rattle.world_moves.specs.Acting.{Acted, Heard, closed_at, done, forget, hear
 use Rattle.world_moves.specs.Bag.{first_waiting, pieces_of, settle_at}
 use Rattle.world_moves.specs.Choosing.{chosen_in, chosen_place}
 use Rattle.world_moves.specs.Counting.{add_counts, counted_of, counts_of}
-use Rattle.world_moves.specs.Ends.{EndStates, acceptors_in, count_of, end_at, renew_client, renew_controller, renew_member, with_client}
+use Rattle.world_moves.specs.Ends.{EndChange, EndStates, acceptors_in, count_of, end_at, end_change, renew_client, renew_controller, renew_member, with_client}
 use Rattle.world_moves.specs.Links.{accepted, acceptor_of, answered, handed_links, hearer_on, links_of}
 
 -- ---- a client starts: it is made anew from its plan, and begins
@@ -208,6 +208,21 @@ restart_at (Some number) s = restart_by (end_at number s.ends) s
 abbrev pub restart : ℕ → State → State
 restart number s = restart_at (chosen_place number (count_of s.ends)) s
 
+-- ---- a member begins to change its secret, and keeps its text
+
+abbrev pub changed_by : EndChange → State → Heard
+changed_by change s = record { state = record s { ends = change.ends }; actions = change.actions }
+
+abbrev pub changed : ℕ → List ℕ → State → Heard
+changed at secret s = changed_by (end_change at secret s.ends) s
+
+abbrev pub change_at : Option ℕ → List ℕ → State → Acted
+change_at None secret s = nothing_done s
+change_at (Some at) secret s = done (Member at) (changed at secret s)
+
+abbrev pub change : ℕ → List ℕ → State → Acted
+change number secret s = change_at (chosen_place number (length s.ends.members)) secret s
+
 -- ---- time passes, up to 2^63
 
 abbrev pub moment_after : ℕ → ℕ → ℕ
@@ -229,4 +244,5 @@ act s (move.Deliver unit link) = deliver unit link s
 act s (move.Hand link back bytes) = hand link back bytes s
 act s (move.Shut number) = shut number s
 act s (move.Restart number) = nothing_done (restart number s)
+act s (move.Change member secret) = change member secret s
 act s (move.Tick more) = nothing_done (tick more s)

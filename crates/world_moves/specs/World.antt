@@ -11,6 +11,8 @@ use Rattle.logon_client.specs.Machine.{fresh_client}
 use Rattle.logon_client.specs.Plans.{CanLogOn}
 use Rattle.logon_client.specs.declared.outcome.ClientOutcome.{ClientOutcome}
 use Rattle.member_server.specs.Machine.{fresh_member}
+use Rattle.member_server.specs.declared.plan.MemberPlan.{MemberPlan}
+use Rattle.secret_change.specs.Secrets.{SecretsState}
 use Rattle.world_moves.specs.declared.counting.Counts.{Counts}
 use Rattle.world_moves.specs.declared.counting.Report.{Report}
 use Rattle.world_moves.specs.declared.links.EndId.{EndId}
@@ -140,6 +142,16 @@ report_of w = report_by w.state.counts w.moves
 -- the counts of the actions of a run from a plan
 abbrev pub report_of_run : Plan → List Move → Report
 report_of_run plan moves = report_by (counts_of (actions_of_run (run_of moves (first_world plan)))) (length moves)
+
+-- ---- secrets
+
+-- the secrets that a member keeps: those of the text that it kept last, and before that those of its plan
+abbrev pub kept_by : Option MemberPlan → Option SecretsState
+kept_by None = None
+kept_by (Some plan) = Some plan.secrets
+
+abbrev pub kept_of : World → ℕ → Option SecretsState
+kept_of w member = kept_by (slice_get w.state.member_plans member)
 
 -- ---- outcomes
 

@@ -4,7 +4,7 @@ ghost use Rattle.std.specs.Prelude.{◌≡◌, ◌≢◌, ◌≤◌, ◌+◌, �
 ghost use Rattle.wire_base.specs.Maps.{lookup, same_number};
 ghost use Rattle.outside.specs.declared.action.Action.TheVariants as action;
 ghost use Rattle.end_links.specs.Bounds.{AreShortSends, IsShortSend, send_limit};
-ghost use Rattle.world_moves.specs.Acting.{hear, unit_on, perform_quietly, perform_all_quietly, hear_closed, closed_at, close, perform, perform_all, hear_and_act, piece_comes, pieces_come, forget, shut_link, is_of_other};
+ghost use Rattle.world_moves.specs.Acting.{hear, unit_on, keep_at, put_secrets, perform_quietly, perform_all_quietly, hear_closed, closed_at, close, perform, perform_all, hear_and_act, piece_comes, pieces_come, forget, shut_link, is_of_other};
 ghost use Rattle.world_moves.specs.Bag.{AreShortPieces, piece_limit};
 ghost use Rattle.world_moves.specs.Bounds.{DrawsWithin, draws_at, piece_draws};
 ghost use Rattle.world_moves.specs.Links.{hearer_of};
@@ -12,8 +12,10 @@ ghost use Rattle.world_moves.specs.Outcomes.{KeepsOutcomes};
 
 use crate::bag::{Bag, BagUnit};
 use crate::links::{EndId, OpenLink, OpenLinks, Route, forget_end, same_end};
+use crate::plan::MemberPlans;
 use crate::state::{State, WaitingDial};
 use outside::{Action, Actions, Event, StepRefused};
+use secret_change::Secrets;
 use std::alloc::Global;
 use std::mem;
 use wire_base::{Blob, Frames, List, NoMemory, find_number, take_number};
@@ -80,6 +82,17 @@ impl State {
         }
     }
 
+    /// An end keeps a text.
+    fn keep(&mut self, alloc: Global, end: EndId, text: &[u8])
+        ensures state { self.new
+            ≡ record self.old { member_plans = keep_at end text.now self.old.member_plans } }
+        ensures few { DrawsWithin 0 self.old self.new }
+        ensures ends { self.new.ends ≡ self.old.ends }
+    {
+        let plans = mem::replace(&mut self.member_plans, MemberPlans::new(alloc));
+        self.member_plans = keep_at(plans, end, text);
+    }
+
     /// An action is done, but for a close.
     fn perform_quietly(&mut self, alloc: Global, end: EndId, action: Action) -> Result<(), NoMemory>
         requires { IsShortSend action }
@@ -90,9 +103,11 @@ impl State {
         match action {
             Action::Send(link, bytes) => self.send_on(alloc, end, link, bytes),
             Action::Dial(peer) => self.dials.push(WaitingDial { end, peer }),
-            Action::Keep(_) | Action::Close(_, _) | Action::Told(_, _) | Action::Judged(_) => {
+            Action::Keep(text) => {
+                self.keep(alloc, end, text.bytes());
                 Ok(())
             }
+            Action::Close(_, _) | Action::Told(_, _) | Action::Judged(_) => Ok(()),
         }
     }
 
@@ -336,4 +351,29 @@ fn dials_of_others(end: EndId, dials: List<WaitingDial>) -> List<WaitingDial>
     let mut dials = dials.into_vec();
     dials.retain(|waiting| !same_end(waiting.end, end));
     List::from_vec(dials)
+}
+
+/// The plans of members where an end keeps a text: that of a member has the secrets of the text. It takes no memory.
+fn keep_at(plans: MemberPlans, end: EndId, text: &[u8]) -> MemberPlans
+    ensures { result ≡ keep_at end text.now plans }
+{
+    match end {
+        EndId::Member(at) => match Secrets::read(text) {
+            Ok(secrets) => put_secrets(plans, at, secrets),
+            Err(_) => plans,
+        },
+        EndId::Controller(_) | EndId::Client(_) => plans,
+    }
+}
+
+/// The plans, of which the one at the place has these secrets.
+#[tactic(auto, using(crate::proofs::KeptLaws::secrets_put, crate::proofs::KeptLaws::none_put))]
+fn put_secrets(plans: MemberPlans, at: usize, secrets: Secrets) -> MemberPlans
+    ensures { result ≡ put_secrets (slice_get plans at) secrets at plans }
+{
+    let mut plans = plans.into_vec();
+    if at < plans.len() {
+        plans[at].secrets = secrets;
+    }
+    List::from_vec(plans)
 }

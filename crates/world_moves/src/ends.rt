@@ -6,7 +6,7 @@ ghost use Rattle.domain_controller.specs.Step.{first_state};
 ghost use Rattle.member_server.specs.Machine.{is_stopped as member_is_stopped};
 ghost use Rattle.end_links.specs.Bounds.{AreShortSends};
 ghost use Rattle.world_moves.specs.Bounds.{draws_at};
-ghost use Rattle.world_moves.specs.Ends.{end_at, acceptors_in, count_of, end_done, end_step, controller_step, member_step, client_step, renew_controller, with_member, with_client};
+ghost use Rattle.world_moves.specs.Ends.{HasChanged, end_at, acceptors_in, count_of, end_change, end_done, end_step, controller_step, member_step, client_step, renew_controller, with_member, with_client};
 ghost use Rattle.world_moves.specs.Outcomes.{OutcomesFall, OutcomesStay, has_its_outcome, is_told};
 ghost use Rattle.world_moves.specs.Running.{AreRunning};
 
@@ -14,7 +14,7 @@ use crate::links::EndId;
 use crate::maker::Maker;
 use domain_controller::Controller;
 use logon_client::{AuthKind, Client, ClientPlan};
-use member_server::Member;
+use member_server::{ChangeRefused, Member};
 use outside::{Actions, Event, StepRefused};
 use rpc_units::CONNECT_LEVEL;
 use std::alloc::Global;
@@ -81,6 +81,13 @@ impl Ends {
         ensures { result ≡ count_of self.now }
     {
         self.controllers.len() + self.members.len() + self.clients.len()
+    }
+
+    /// How many members there are.
+    pub(crate) fn member_count(&self) -> usize
+        ensures { result ≡ length self.now.members }
+    {
+        self.members.len()
     }
 
     /// How many clients there are.
@@ -207,6 +214,35 @@ impl Ends {
         }
     }
 
+    /// The member of that number is told to change to the secret: its actions. It stays as it is where it changes to
+    /// another one already. Want of memory stops it, and no end takes a step.
+    #[tactic(auto, using(crate::proofs::ChangeLaws::member_changes, crate::proofs::OutcomeLaws::stays_same))]
+    pub(crate) fn change(
+        &mut self,
+        alloc: Global,
+        at: usize,
+        secret: [u8; 16],
+    ) -> Result<Actions, NoMemory>
+        ensures answer { IfOk result (λ actions. end_change at secret self.old
+            ≡ record { ends = self.new; actions = actions }) }
+        ensures short { IfOk result (λ actions. AreShortSends actions) }
+        ensures outcomes { OutcomesStay self.old.clients self.new.clients }
+    {
+        if self.gave_up {
+            return Err(NoMemory);
+        }
+        if at >= self.members.len() {
+            return Ok(Actions::new(alloc));
+        }
+        match change_member(alloc, &mut self.members[at], secret) {
+            Ok(actions) => Ok(actions),
+            Err(why) => {
+                self.gave_up = true;
+                Err(why)
+            }
+        }
+    }
+
     /// The step of a client.
     #[tactic(auto, using(crate::proofs::EndLaws::client_took, crate::proofs::EndLaws::spent_all, crate::proofs::OutcomeLaws::stays_set, crate::proofs::OutcomeLaws::stays_same))]
     fn step_client(
@@ -294,6 +330,22 @@ impl Ends {
         if at < self.clients.len() {
             self.clients[at] = client;
         }
+    }
+}
+
+/// A member is told to change to the secret: its actions, of which there are none where it changes to another one
+/// already. It runs on, but for want of memory.
+#[tactic(auto, using(crate::proofs::ChangeLaws::changes_so, crate::proofs::ChangeLaws::change_runs, crate::proofs::ChangeLaws::change_short))]
+fn change_member(alloc: Global, member: &mut Member, secret: [u8; 16]) -> Result<Actions, NoMemory>
+    requires { member_is_stopped member.old ≡ false }
+    ensures answer { IfOk result (λ actions. HasChanged actions member.old secret member.new) }
+    ensures runs { OnOk result (member_is_stopped member.new ≡ false) }
+    ensures short { IfOk result (λ actions. AreShortSends actions) }
+{
+    match member.change(alloc, secret) {
+        Ok(actions) => Ok(actions),
+        Err(ChangeRefused::Memory) => Err(NoMemory),
+        Err(ChangeRefused::Stopped | ChangeRefused::Busy { .. }) => Ok(Actions::new(alloc)),
     }
 }
 

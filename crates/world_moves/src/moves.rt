@@ -5,7 +5,7 @@ ghost use Rattle.world_moves.specs.Forms.{HasMoveForm};
 ghost use Rattle.world_moves.specs.Generator.{next_seed, value_of, rare_by, made, moves_of};
 
 use crate::forms::{is_hyper, is_long};
-use account_table::are_bytes;
+use account_table::{are_bytes, is_hash};
 use std::alloc::Global;
 use wire_base::{Blob, List, NoMemory};
 
@@ -33,8 +33,11 @@ pub enum Move {
     Hand { link: u32, back: bool, bytes: Blob },
     /// A link that is open at a side is closed at both.
     Shut(u32),
-    /// The end is made anew and forgets its links; a controller keeps its accounts.
+    /// The end is made anew and forgets its links. A controller keeps its accounts; a member has the secrets whose text
+    /// it kept last.
     Restart(u32),
+    /// A member begins to change its secret to this one, where it changes to none yet.
+    Change { member: u32, secret: [u8; 16] },
     /// So many units of 100 ns pass.
     Tick(u64),
 }
@@ -145,6 +148,10 @@ impl Move {
             Move::Hand { link, bytes, .. } => {
                 is_long(*link);
                 are_bytes(bytes.bytes());
+            }
+            Move::Change { member, secret } => {
+                is_long(*member);
+                is_hash(*secret);
             }
             Move::Tick(more) => is_hyper(*more),
         }

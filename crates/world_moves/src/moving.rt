@@ -1,8 +1,9 @@
 //! The moves of a world.
 
-ghost use Rattle.std.specs.Prelude.{◌≡◌, ◌≢◌, [], Err, ◌<◌, ◌≤◌, ◌+◌, ◌*◌, ◌^◌, length, OnOk, OnErr, slice_get};
+ghost use Rattle.std.specs.Prelude.{◌≡◌, ◌≢◌, [], Err, ◌<◌, ◌≤◌, ◌+◌, ◌*◌, ◌^◌, length, IfOk, OnOk, OnErr, slice_get};
+ghost use Rattle.end_links.specs.Bounds.{AreShortSends};
 ghost use Rattle.world_moves.specs.Bounds.{DrawsWithin, draw_limit, piece_draws, unit_draws};
-ghost use Rattle.world_moves.specs.Moving.{act, start, open_link, stranger, end_of_peer, route_to, answered_link, answer, connect_by, without_first, connect, fail_dial, come, onward, lose, deliver, hand, shut, renewed, restart, moment_after, tick};
+ghost use Rattle.world_moves.specs.Moving.{act, start, open_link, stranger, end_of_peer, route_to, answered_link, answer, connect_by, without_first, connect, fail_dial, come, onward, lose, deliver, hand, shut, renewed, restart, change, changed, moment_after, tick};
 ghost use Rattle.world_moves.specs.Outcomes.{KeepsOutcomes};
 ghost use Rattle.world_moves.specs.World.{IsMove};
 
@@ -12,7 +13,7 @@ use crate::links::{EndId, OpenLink, OpenLinks, Route, WorldLinks};
 use crate::moves::Move;
 use crate::state::{State, WaitingDial};
 use member_server::Member;
-use outside::{Event, StepRefused};
+use outside::{Actions, Event, StepRefused};
 use std::alloc::Global;
 use std::mem;
 use wire_base::{Blob, List, NoMemory, put_number};
@@ -367,6 +368,38 @@ impl State {
         }
     }
 
+    /// The member of that number is told to change to the secret: its actions, which aren't done yet.
+    fn begin_change(
+        &mut self,
+        alloc: Global,
+        at: usize,
+        secret: [u8; 16],
+    ) -> Result<Actions, NoMemory>
+        ensures answer { IfOk result (λ actions. changed at secret self.old
+            ≡ record { state = self.new; actions = actions }) }
+        ensures short { IfOk result (λ actions. AreShortSends actions) }
+        ensures few { DrawsWithin 0 self.old self.new }
+        ensures outcomes { KeepsOutcomes self.old self.new }
+    {
+        self.ends.change(alloc, at, secret)
+    }
+
+    /// A member is told to change to a secret, and keeps its text.
+    #[tactic(auto, using(crate::proofs::OutcomeLaws::stays_same, crate::proofs::OutcomeLaws::stays_on))]
+    fn change(&mut self, alloc: Global, number: u32, secret: [u8; 16]) -> Result<(), StepRefused>
+        ensures state { OnOk result (self.new ≡ (change number secret self.old).state) }
+        ensures spent { result ≡ Err StepRefused.Spent → self.new.chances.left ≡ [] }
+        ensures few { DrawsWithin 0 self.old self.new }
+        ensures runs { result ≢ Err StepRefused.Stopped }
+        ensures outcomes { OnErr result (KeepsOutcomes self.old self.new) }
+    {
+        let Some(at) = chosen_place(number, self.ends.member_count()) else {
+            return Ok(());
+        };
+        let actions = self.begin_change(alloc, at, secret)?;
+        self.perform_all(alloc, EndId::Member(at), actions)
+    }
+
     /// Time passes.
     fn tick(&mut self, more: u64)
         ensures { self.new ≡ tick more self.old }
@@ -399,6 +432,7 @@ impl State {
             Move::Hand { link, back, bytes } => self.hand(alloc, *link, *back, bytes.bytes()),
             Move::Shut(number) => self.shut(alloc, *number),
             Move::Restart(number) => Ok(self.restart(alloc, *number)?),
+            Move::Change { member, secret } => self.change(alloc, *member, *secret),
             Move::Tick(more) => {
                 self.tick(*more);
                 Ok(())

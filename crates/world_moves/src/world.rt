@@ -8,7 +8,7 @@ ghost use Rattle.world_moves.specs.Bounds.{HasChallengesFor};
 ghost use Rattle.world_moves.specs.Counting.{AreCounted};
 ghost use Rattle.world_moves.specs.Draws.{DrawsAreBlocks, DrawsDiffer};
 ghost use Rattle.world_moves.specs.Outcomes.{HasOutcomesOf};
-ghost use Rattle.world_moves.specs.World.{IsPlan, IsMove, move_limit, actions_of_run, first_world, happens, run, run_of, report_of, report_of_run, outcome_of};
+ghost use Rattle.world_moves.specs.World.{IsPlan, IsMove, move_limit, actions_of_run, first_world, happens, kept_of, run, run_of, report_of, report_of_run, outcome_of};
 
 use crate::counting::Report;
 use crate::making::first_state;
@@ -17,6 +17,7 @@ use crate::plan::Plan;
 use crate::state::State;
 use logon_client::ClientOutcome;
 use outside::StepRefused;
+use secret_change::Secrets;
 use std::alloc::Global;
 use std::marker::Model;
 use thiserror::Error;
@@ -184,6 +185,18 @@ impl World {
     {
         match self.state.ends.client(client as usize) {
             Some(client) => client.outcome(),
+            None => None,
+        }
+    }
+
+    /// The secrets that the member at that place of the plan's list keeps, from which it is made anew at a restart:
+    /// those of the text that it kept last, and before that those of its plan. None exactly where there is no such
+    /// member. It takes no memory.
+    pub fn kept(&self, member: u32) -> Option<&Secrets>
+        ensures { option_copied result ≡ kept_of self.now member }
+    {
+        match self.state.member_plans.get(member as usize) {
+            Some(plan) => Some(&plan.secrets),
             None => None,
         }
     }
