@@ -1,7 +1,7 @@
 -- What a member asks for in a Logon call (MS-NRPC 3.5.4.5.3): the logon that it keeps under the place of the turn.
 -- What it sets by a NetrServerPasswordSet (3.5.4.4.6): the next secret that it keeps. How it keeps logons and secrets
 -- is this project's own choice.
-use Rattle.std.specs.Prelude.{ℕ, ◌≡◌, Bool, true, false, List, [], ◌∷◌, ◌++◌, map, replicate, Option, Some, None, Ok}
+use Rattle.std.specs.Prelude.{ℕ, ◌≡◌, Bool, true, false, List, [], ◌∷◌, ◌++◌, map, replicate, Option, Some, None, Ok, IsSome}
 use Rattle.std.specs.List.{AllByRecursion}
 use Rattle.wire_base.specs.Maps.{lookup, same_number}
 use Rattle.wire_base.specs.declared.authenticator.Authenticator.{Authenticator}
@@ -33,7 +33,7 @@ use Rattle.channel_client.specs.declared.state.Step.TheVariants as step
 use Rattle.channel_client.specs.declared.state.SetStep.TheVariants as set_step
 use Rattle.channel_client.specs.declared.state.Waiting.{Waiting}
 use Rattle.member_server.specs.Laws.{is_dialled}
-use Rattle.member_server.specs.Machine.{account_of, caller_of, fresh_member, step_of}
+use Rattle.member_server.specs.Machine.{account_of, caller_of, fresh_member, step_of, running_with}
 use Rattle.member_server.specs.Messages.{info_of}
 use Rattle.member_server.specs.Secrets.{SecretsState, next_of, tried_of}
 use Rattle.member_server.specs.State.{State as MemberState}
@@ -47,6 +47,7 @@ use Rattle.channel_events.specs.Marks.{Calling, Mark}
 use Rattle.step_notes.specs.ChannelNames.{AreFramesOf, AreFramesOfSet}
 use Rattle.step_notes.specs.MemberNotes.{TurnNote, turn_note, turn_units}
 use Rattle.step_notes.specs.Served.{work_after}
+use Rattle.secret_change.specs.Secrets.{begin_by}
 
 -- ---- what a member keeps
 
@@ -111,9 +112,9 @@ OpensByTried standing.Nothing out secret tried = TriesIf out secret tried
 OpensByTried (standing.Half client server) out secret tried = secret ≡ tried
 OpensByTried (standing.Open o) out secret tried = Unit {0}
 
--- what a turn sets is the next secret that is kept
+-- what a turn sets is the next secret that is kept, where a turn sets one
 abbrev pub SetsKept : Requester → SecretsState → Type 0
-SetsKept s secrets = sets_in_turn s.turn ≡ true → s.next ≡ next_of secrets
+SetsKept s secrets = sets_in_turn s.turn ≡ true → (s.next ≡ next_of secrets) × IsSome (next_of secrets)
 
 -- What waits for its turn is what is asked for the logons that are kept, in their order; the turn is for the first of
 -- them. Who asks has the names of the plan, and of its secrets the one that is tried while it opens a channel.
@@ -247,6 +248,10 @@ pub record CallsCarryTheirLogon : Type 0 where
       AsksByOneUnlessStopped (step_of m what now left).state.running
   pub keeps : (m : MemberState) (what : Event) (now : ℕ) (left : List (List ℕ)) → AsksUnlessStopped m.running →
       AsksUnlessStopped (step_of m what now left).state.running
+  -- and as it begins to change its secret
+  pub changes : (secret : List ℕ) (running : Running) → running.logons.plan.secrets.next ≡ None →
+      AsksUnlessStopped (Some running) →
+      AsksUnlessStopped (Some (running_with (begin_by None running.logons.plan.secrets secret).secrets running))
   pub carries : (controller : ℕ) (m : MemberState) (number : ℕ) (piece : List ℕ) (now : ℕ) (left : List (List ℕ)) →
       AsksUnlessStopped m.running → AllByRecursion (CarriesItsLogon controller) (turn_units m number piece now left)
 

@@ -1,7 +1,7 @@
 -- What waits for its turn at a member is what is asked for the logons that it keeps, through its steps; and a member
 -- with one secret asks by that.
 -- It serves `calls_carry_their_logon`, `requests_come_first`.
-use Rattle.std.proofs.Common.{◌≡◌, ◌≢◌, ℕ, Bool, true, false, List, [], ◌∷◌, ◌++◌, map, Option, Some, None, is_some, Result, Ok, Err, refl, sym, ap, subst, ◌∙◌, nat_le, length, if◌then◌else◌}
+use Rattle.std.proofs.Common.{◌≡◌, ◌≢◌, ℕ, Bool, true, false, List, [], ◌∷◌, ◌++◌, map, Option, Some, None, is_some, Result, Ok, Err, refl, sym, ap, subst, ◌∙◌, nat_le, length, if◌then◌else◌, IsSome}
 use Rattle.std.specs.List.{AllByRecursion}
 use Rattle.std.proofs.lemmas.Bool.{eqb-true}
 use Rattle.wire_base.specs.Maps.{put, take_out, same_number}
@@ -49,11 +49,11 @@ use Rattle.member_server.specs.declared.state.Logons.{Logons}
 use Rattle.channel_turns.specs.declared.state.TurnTalk.{TurnTalk}
 use Rattle.member_server.specs.declared.state.Work.{Work}
 use Rattle.member_server.specs.Laws.{is_dialled}
-use Rattle.member_server.specs.Machine.{caller_of, fresh_member, step_of}
+use Rattle.member_server.specs.Machine.{caller_of, fresh_member, step_of, running_with}
 use Rattle.member_server.specs.Messages.{info_of, with_channel, with_logon}
 use Rattle.member_server.specs.Outcomes.{end_logon, without_link}
 use Rattle.member_server.specs.Secrets.{SecretsState, next_of, secret_for, secrets_after, secrets_dropped, is_denied, tried_of}
-use Rattle.secret_change.specs.Secrets.{confirmed_by, denied_by, opened_by, tried_of_next}
+use Rattle.secret_change.specs.Secrets.{confirmed_by, denied_by, opened_by, tried_of_next, alone, begin_by}
 use Rattle.secret_change.specs.declared.secrets.Next.{Next}
 use Rattle.channel_turns.specs.declared.state.TurnEnd.{TurnEnd}
 use Rattle.channel_turns.specs.declared.state.TurnEnd.TheVariants as turn_end
@@ -65,6 +65,8 @@ use Rattle.step_notes.proofs.Channels.EffectNoteLaws.{AsksFirst, judged_first}
 use Rattle.member_server.proofs.LogonFrame.{KeepsLogons, logons_keep}
 use Rattle.member_server.proofs.StepFrame.{KeepsEvent, KeepsNext, TakesTurn, TurnHolds, WorkFact, dialled_keeps, each_taken, given_channel, lost_dialled, part_keeps, step_keeps, turn_ended, turn_keeps}
 use Rattle.step_notes.proofs.Members.SameLogonLaws.{logon_ended}
+use Rattle.std.specs.Option.{option_map}
+use Rattle.member_server.specs.declared.state.Running.{Running}
 
 -- ---- the channel's own steps
 
@@ -100,6 +102,20 @@ started_next : (turn : Option Pending) (logons : List Waiting) (s : Requester) (
 started_next (Some p) logons s timestamp challenge = refl
 started_next None [] s timestamp challenge = refl
 started_next None (logon ∷ logons) s timestamp challenge = refl
+
+-- a turn that sets a secret has one to set
+begun_some : (how : Standing) (next : Option (List ℕ)) (caller : Caller) (info : NetworkInfo) (timestamp : ℕ) (challenge : List ℕ) →
+    sets_in (begin_with how next caller info timestamp challenge).step ≡ true → IsSome next
+begun_some standing.Nothing next caller info timestamp challenge sets = absurd (let x = sets in cc)
+begun_some (standing.Half client server) next caller info timestamp challenge sets = absurd (let x = sets in cc)
+begun_some (standing.Open o) None caller info timestamp challenge sets = absurd (let x = sets in cc)
+begun_some (standing.Open o) (Some next) caller info timestamp challenge sets = refl
+
+started_some : (turn : Option Pending) (logons : List Waiting) (s : Requester) (timestamp : ℕ) (challenge : List ℕ) → can_start turn logons ≡ true →
+    sets_in_turn (start_by turn logons s timestamp challenge).state.turn ≡ true → IsSome s.next
+started_some (Some p) logons s timestamp challenge can sets = absurd (let x = can in cc)
+started_some None [] s timestamp challenge can sets = absurd (let x = can in cc)
+started_some None (logon ∷ logons) s timestamp challenge can sets = begun_some s.standing s.next s.caller logon.info timestamp challenge sets
 
 -- a turn that starts leaves what waits
 started_waits : (turn : Option Pending) (logons : List Waiting) (s : Requester) (timestamp : ℕ) (challenge : List ℕ) → (start_by turn logons s timestamp challenge).state.waiting ≡ s.waiting
@@ -434,7 +450,7 @@ next_asks now = record {
         caller = subst (λ (c : Caller). IsNamedBy c w.logons.plan) (sym same) (ap (λ (c : Caller). record c { secret = s.caller.secret }) kept.caller);
         tried = subst (λ (c : Caller). OpensByTried (start_by s.turn s.waiting s timestamp challenge).state.standing true c.secret (tried_of secrets)) (sym same)
             (started_tried s.turn s.waiting s (is_dialled how) timestamp challenge (tried_of secrets) before.caller.secret can kept.tried);
-        sets = λ sets. started_next s.turn s.waiting s timestamp challenge;
+        sets = λ sets. (started_next s.turn s.waiting s timestamp challenge, started_some s.turn s.waiting s timestamp challenge can sets);
         coherent = (steps_have_effects.start 0 s timestamp challenge
             (steps_have_effects.set_next 0 _ _ (steps_have_effects.use_secret 0 before s.caller.secret kept.coherent).1).1).1;
         waits = started_waits s.turn s.waiting s timestamp challenge ∙ kept.waits;
@@ -459,6 +475,27 @@ fresh_asks plan = record {
   own = record { secret = tt; stamped = tt; set = tt };
 }
 
+-- ---- a member begins to change its secret: no turn sets one then
+
+tried_alone : (s : SecretsState) → s.next ≡ None → tried_of s ≡ s.current
+tried_alone s one = ap (λ (next : Option Next). tried_of_next next s.current) one
+
+none_set : (secrets : SecretsState) → secrets.next ≡ None → IsSome (next_of secrets) → ⊥
+none_set secrets none some = absurd (let x : is_some (next_of secrets) ≡ is_some (next_of (alone [])) = ap (λ (next : Option Next). is_some (option_map (λ n. n.secret) next)) none in cc)
+
+pub change_asks : (secret : List ℕ) (running : Running) → running.logons.plan.secrets.next ≡ None → AsksUnlessStopped (Some running) →
+    AsksUnlessStopped (Some (running_with (begin_by None running.logons.plan.secrets secret).secrets running))
+change_asks secret running none kept = record {
+  caller = kept.caller;
+  tried = subst (λ (tried : List ℕ). OpensByTried running.logons.channel.standing (is_dialled running.dialling) running.logons.channel.caller.secret tried)
+      (tried_alone running.logons.plan.secrets none) kept.tried;
+  sets = λ sets. absurd (none_set running.logons.plan.secrets none (kept.sets sets).1);
+  coherent = kept.coherent;
+  waits = kept.waits;
+  out = kept.out;
+  own = kept.own;
+}
+
 -- ---- a member with one secret
 
 -- no turn's end makes another of it
@@ -472,9 +509,6 @@ after_alone turn_end.Opened s one = ap (λ (next : Option Next). opened_by next 
 after_alone (turn_end.Answer place verdict) s one = refl
 after_alone (turn_end.Dropped place cause) s one = dropped_alone (is_denied cause) s one
 after_alone turn_end.Set s one = ap (λ (next : Option Next). confirmed_by next s) one
-
-tried_alone : (s : SecretsState) → s.next ≡ None → tried_of s ≡ s.current
-tried_alone s one = ap (λ (next : Option Next). tried_of_next next s.current) one
 
 for_alone : (needs : Bool) (tried secret current : List ℕ) → tried ≡ current → secret ≡ current → secret_for needs tried secret ≡ current
 for_alone true tried secret current one other = one

@@ -46,7 +46,7 @@ use Rattle.step_notes.specs.ChannelNames.{AreFramesOf, AreFramesOfSet}
 use Rattle.step_notes.specs.MemberNotes.{asked_note, taken_note, taking_note, taking_read, timestamp_bound}
 use Rattle.step_notes.proofs.Channels.ChannelNameLaws.{bound_at, set_bound_at}
 use Rattle.step_notes.proofs.Members.TurnRequestLaws.{HasLogon, IsOfTurn, asked_after, first_logon, of_turn, set_after}
-use Rattle.step_notes.proofs.Members.CallKeptLaws.{TurnPartAsks, at_channel, fresh_alone, fresh_asks, step_alone, step_asks, turn_asks}
+use Rattle.step_notes.proofs.Members.CallKeptLaws.{change_asks, TurnPartAsks, at_channel, fresh_alone, fresh_asks, step_alone, step_asks, turn_asks}
 use Rattle.step_notes.proofs.ServedLaws.{served_such}
 use Rattle.step_notes.proofs.Members.TurnUnitLaws.{taking_by, turn_units_such}
 
@@ -139,7 +139,7 @@ module _ (controller : ℕ) (at : AtTurn) (joiner : Option RpcUnit) (kept : Asks
         frames = frames;
         asks = record {
           next = stamped.secret;
-          kept = sym (kept.sets (ap sets_in_turn turn)) ∙ stamped.is_next;
+          kept = sym (kept.sets (ap sets_in_turn turn)).0 ∙ stamped.is_next;
           with_controller = refl;
           computer = ap (λ (caller : Caller). caller.computer) kept.caller;
           secret = subst (λ (how : Standing). HasSecret s.caller.secret how) stands kept.own.secret;
@@ -220,6 +220,7 @@ calls_carry = record {
   alone = fresh_alone;
   stays_alone = step_alone;
   keeps = step_asks;
+  changes = change_asks;
   carries = λ controller m number piece now left kept.
       turn_units_such (CarriesItsLogon controller) (λ how running. AsksForKept (is_dialled how) running.logons) number piece left
       (λ other said running asks. units_carry controller said number piece running left asks) m now (λ running is. subst AsksUnlessStopped is kept);
