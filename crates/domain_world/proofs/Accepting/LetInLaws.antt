@@ -47,7 +47,7 @@ use Rattle.domain_world.specs.Past.{Coming, at_member, note_at, note_client, not
 use Rattle.step_notes.proofs.Members.KeptLogonLaws.{HasFor, IfDialled, IsFor, KeptIn, bytes_keep, each_found, kept_so, one_before}
 use Rattle.step_notes.proofs.Members.TurnAnswerLaws.{HasAnswer, link_answers, none_whole}
 use Rattle.step_notes.proofs.Members.UnservedLaws.{LinksIn, bytes_took, took_known}
-use Rattle.domain_world.proofs.Accepting.LetInStepLaws.{IfLetIn, IsAcceptedBy, IsDialledBy, Keeps, KeepsIn, Meets, NotLate, OfLetIn, calm_meets, end_silent, given_append, given_so, hear_keeps, last_accepted, link_made, member_put, messages_so, nobody_so, others_tell, renewed_keeps, side_meets, step_told}
+use Rattle.domain_world.proofs.Accepting.LetInStepLaws.{change_silent, changed_keeps, IfLetIn, IsAcceptedBy, IsDialledBy, Keeps, KeepsIn, Meets, NotLate, OfLetIn, calm_meets, end_silent, given_append, given_so, hear_keeps, last_accepted, link_made, member_put, messages_so, nobody_so, others_tell, renewed_keeps, side_meets, step_told}
 use Rattle.domain_world.proofs.Frames.ComingLaws.{CameFrom}
 use Rattle.domain_world.proofs.Accepting.Messages.MessageNoteLaws.{AreCarried, IsAnsweredFor, for_stable, let_in_stable, notes_grow, one_so, turns_answer}
 use Rattle.domain_world.proofs.Frames.TurnFrameLaws.{turns_told}
@@ -326,6 +326,8 @@ kept_on = record {
   begins = λ at client plan s b is kept. record { keeps = kept.keeps; known = kept.known; let_in = others_tell (IsKnown at b.messages) (Client client) refl (begun client plan s).actions };
   comes = λ end w piece s given b side came kept. end_goes end w piece s (hear_and_act end (event.Bytes w.link piece) s).state given b (carried_from w.source s w piece came) kept;
   renews = λ at end s b kept. record { keeps = renewed_keeps NotLate at b.messages end s kept.keeps; known = kept.known; let_in = kept.let_in };
+  changes = λ at member secret s b kept.
+      record { keeps = changed_keeps NotLate at b.messages member secret s kept.keeps; known = kept.known; let_in = change_silent (IsKnown at b.messages) member secret s };
   over = λ at on next s given b kept. record {
     keeps = later_keeps (Late on) (Late next) at b.messages s.ends.members s.links kept.keeps;
     known = known_append b.messages b.told (told_in given at) kept.known (given_known b.messages at given kept.let_in);

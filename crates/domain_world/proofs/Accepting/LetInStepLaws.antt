@@ -24,7 +24,7 @@ use Rattle.world_moves.specs.declared.state.State.{State}
 use Rattle.world_moves.specs.Acting.{Given, given_by, hear}
 use Rattle.world_moves.specs.Ends.{EndStates, EndStep, actions_by}
 use Rattle.world_moves.specs.Links.{acceptor_of, dialler_of}
-use Rattle.world_moves.specs.Moving.{renewed}
+use Rattle.world_moves.specs.Moving.{renewed, changed}
 use Rattle.world_moves.specs.Counting.{is_in}
 use Rattle.world_moves.proofs.EndKindLaws.{IfMember, is_member, members_by, renew_by, step_by}
 use Rattle.channel_events.proofs.ListLaws.{got_append, got_last}
@@ -36,6 +36,7 @@ use Rattle.domain_world.proofs.Frames.NoBytesLaws.{IsNoBytes}
 use Rattle.domain_world.proofs.Frames.EndFrameLaws.{IsCalm, by_calm}
 use Rattle.domain_world.proofs.Frames.OpenMadeLaws.{IsAtSide}
 use Rattle.domain_world.proofs.Frames.EventLaws.{by_no_bytes}
+use Rattle.world_moves.proofs.ChangeLaws.{by_change, member_begun}
 
 -- ---- whom members let in
 
@@ -219,3 +220,17 @@ pub renewed_keeps : (Late : List Route → ℕ → Type 0) (most : ℕ) (message
 renewed_keeps Late most messages end s kept =
     renew_by (λ (one : EndId) (ends : EndStates). Keeps Late most messages ends.members s.links) s (λ one. kept) (λ at c is. kept)
     (λ at plan is. member_put Late most messages s.ends.members s.links at (fresh_member plan) kept (tt, tt) tt) (λ at plan is. kept) end
+
+-- ---- a member begins to change its secret
+
+pub changed_keeps : (Late : List Route → ℕ → Type 0) (most : ℕ) (messages : List MessageTaken) (at : ℕ) (secret : List ℕ) (s : State) → KeepsIn Late most messages s →
+    KeepsIn Late most messages (changed at secret s).state
+changed_keeps Late most messages at secret s kept =
+    by_change (λ (ends : EndStates) (actions : List Action). Keeps Late most messages ends.members s.links) at secret s.ends kept
+    (λ running is none.
+    member_put Late most messages s.ends.members s.links at (member_begun secret running) kept (kept.each at (record { running = Some running }) is)
+    (kept.accepts at (record { running = Some running }) is))
+
+pub change_silent : (Fact : ℕ → ℕ → Outcome → Type 0) (at : ℕ) (secret : List ℕ) (s : State) → OfLetIn Fact (given_by (Member at) (changed at secret s).actions)
+change_silent Fact at secret s = by_change (λ (ends : EndStates) (actions : List Action). OfLetIn Fact (given_by (Member at) actions)) at secret s.ends tt
+    (λ running is none. ((λ member link how same tells is_in. absurd (let never = tells in cc)), tt))

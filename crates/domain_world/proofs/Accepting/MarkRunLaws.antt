@@ -35,7 +35,7 @@ use Rattle.world_moves.specs.Acting.{Given, Heard, done, hear, hear_and_act, hea
 use Rattle.world_moves.specs.Ends.{EndStates, EndStep, controller_step, member_step}
 use Rattle.world_moves.specs.Links.{acceptor_of, is_own, kind_of}
 use Rattle.world_moves.specs.MemberPlans.{AreAlikeButSecrets}
-use Rattle.world_moves.specs.Moving.{begun, renewed, with_link}
+use Rattle.world_moves.specs.Moving.{begun, renewed, with_link, changed}
 use Rattle.world_moves.specs.World.{first_world}
 use Rattle.domain_world.specs.Claims.{IsLinkOf}
 use Rattle.domain_world.specs.Claims.MarkedUnits.{AnswersHaveCalls, CallsAreMarked, IsMarkedAsCall, IsMarkedAsReply, RepliesAreMarked}
@@ -51,7 +51,7 @@ use Rattle.domain_world.proofs.Accepting.ListPlaceLaws.{Placed, all_at, all_by_p
 use Rattle.domain_world.proofs.Accepting.Quiet.QuietRunLaws.{has_bytes, quiet_first}
 use Rattle.domain_world.proofs.Accepting.Quiet.QuietStepLaws.{QuietFact, QuietState}
 use Rattle.domain_world.proofs.Accepting.Turns.TurnFactLaws.{SameEnds}
-use Rattle.domain_world.proofs.Accepting.Turns.TurnQuietLaws.{renew_same, same_ends, step_same}
+use Rattle.domain_world.proofs.Accepting.Turns.TurnQuietLaws.{change_same, renew_same, same_ends, step_same}
 use Rattle.domain_world.proofs.Accepting.Turns.TurnRunLaws.{Known, KnownAction, drawn_differ, known_keep}
 use Rattle.domain_world.proofs.Challenges.MessageApartLaws.{messages_apart}
 use Rattle.domain_world.proofs.Challenges.OwnChallengeLaws.{messages_own}
@@ -79,6 +79,7 @@ use Rattle.domain_world.proofs.Requests.CalledUnitLaws.{AllGood, IsGood, good_so
 use Rattle.domain_world.proofs.Requests.OutStepLaws.{HasOne, IsOf}
 use Rattle.domain_world.proofs.Requests.WholeOutLaws.{AreAccepted, one_acceptor}
 use Rattle.domain_world.proofs.Frames.RequesterLaws.{asked_stays}
+use Rattle.world_moves.proofs.KeptLaws.{plans_alike}
 
 -- ---- what is to hold
 
@@ -309,13 +310,17 @@ module _ (plan : Plan) where
       );
       fine = all_any (hear end (event.Bytes w.link piece) s).actions;
     };
-    acts = λ n end what s given b fine side holds. holds;
+    acts = λ n end what s given b fine side holds. (plans_alike end what s.member_plans ∙ holds.0, holds.1, holds.2);
     shuts = λ n link s given b side holds. holds;
     answers = λ n link there s given b is side holds. holds;
     forgets = λ n end s given b side holds. holds;
     settles = λ n number s given b side holds. holds;
     dials = λ n s given b side holds. holds;
     renews = λ n end s given b side holds. (holds.0, ends_on (first_world plan).state.ends s.ends (renewed end s).ends holds.1 (renew_same end s), holds.2);
+    changes = λ n member secret s given b side holds. record {
+      holds = (holds.0, ends_on (first_world plan).state.ends s.ends (changed member secret s).state.ends holds.1 (change_same member secret s), holds.2);
+      fine = all_any (changed member secret s).actions;
+    };
     ticks = λ n more s given b side holds. holds;
     over = λ n at s given b side holds. (
       holds.0,

@@ -29,6 +29,7 @@ use Rattle.domain_world.proofs.Frames.TurnFrameLaws.{turns_taken}
 use Rattle.domain_world.proofs.Frames.MemberFrameLaws.{AmongMembers, KeepsMembers, MembersFact, members_written}
 use Rattle.domain_world.proofs.Frames.EndNoteLaws.{taken_so, takings_of}
 use Rattle.domain_world.proofs.Frames.EventLaws.{by_quiet}
+use Rattle.world_moves.proofs.ChangeLaws.{member_begun}
 
 -- ---- places of a list
 
@@ -179,6 +180,7 @@ keeps_on = record {
       hear_keeps taken m at (event.Opened (length links)) now members chances.left (links ++ route ∷ []) is (last_may taken links route at accepts kept.below)
       (link_made taken members links route kept);
   comes = λ m at w piece s after b is kept. member_bytes m at w piece s after b is kept;
+  changes = λ taken secret running at members chances links is none kept. member_put taken members links at (member_begun secret running) kept (kept.each at (record { running = Some running }) is);
   anew = λ taken plan at members chances links kept. member_put taken members links at (fresh_member plan) kept tt;
 }
 

@@ -43,6 +43,7 @@ use Rattle.domain_world.proofs.Frames.FrameLaws.{run_stays}
 use Rattle.domain_world.proofs.Frames.AllLaws.{all_join}
 use Rattle.domain_world.proofs.Frames.MemberFrameLaws.{AmongMembers, KeepsMembers, MembersFact, members_written}
 use Rattle.domain_world.proofs.Frames.TurnFrameLaws.{asked_leave}
+use Rattle.world_moves.proofs.ChangeLaws.{member_begun}
 
 -- ---- lists
 
@@ -301,6 +302,7 @@ owns_on = record {
       hear_owns notes m at (event.Opened (length links)) now members chances (links ++ route ∷ []) is (last_own notes.challenges links route at accepts)
       (own_linked notes members chances.drawn links route kept);
   comes = λ m at w piece s after b is kept. member_heard m at w piece s after b is kept;
+  changes = λ notes secret running at members chances links is none kept. own_put notes members chances.drawn links at (member_begun secret running) kept (kept.each at (record { running = Some running }) is);
   anew = λ notes plan at members chances links kept. own_put notes members chances.drawn links at (fresh_member plan) kept tt;
 }
 

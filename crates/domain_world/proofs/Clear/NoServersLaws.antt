@@ -33,7 +33,7 @@ use Rattle.world_moves.specs.Acting.{Given, Heard, close_open, dials_of_action, 
 use Rattle.world_moves.specs.Bag.{first_waiting, pieces_of}
 use Rattle.world_moves.specs.Forms.{IsSchedule}
 use Rattle.world_moves.specs.Links.{OpenMap, acceptor_of, forget_end}
-use Rattle.world_moves.specs.Moving.{act, answer_by, answered_link, begun, come_by, come_on_own, connect_by, connect_first, end_of_peer, onward_by, route_to, settle, start_at, start_by, with_link, without_first}
+use Rattle.world_moves.specs.Moving.{act, answer_by, answered_link, begun, come_by, come_on_own, connect_by, connect_first, end_of_peer, onward_by, route_to, settle, start_at, start_by, with_link, without_first, changed}
 use Rattle.world_moves.specs.World.{World, first_world, happens, run}
 use Rattle.world_moves.proofs.StateFrameLaws.{HoldsActing, actions_so, closed_so, hears_so, pieces_so}
 use Rattle.logon_runs.specs.Seen.Others.{IsStepOn}
@@ -139,6 +139,7 @@ clear_keeps = record {
   settles = λ n number s given b quiet clear. clear;
   dials = λ n s given b quiet clear. clear;
   renews = λ n end s given b quiet clear. clear;
+  changes = λ n member secret s given b quiet clear. so_heard n (Member member) (changed member secret s) given b clear;
   ticks = λ n more s given b quiet clear. clear;
   over = λ n at s given b quiet clear. clear;
 }

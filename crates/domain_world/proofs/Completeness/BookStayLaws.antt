@@ -54,6 +54,7 @@ link_is number route = record {
     opens = λ added now ends chances links is. got_append links (added ∷ []) number route is;
     controllers = λ c at ends chances links there is. is;
     members = λ plan at ends chances links is. is;
+    changes = λ secret running at ends chances links there none is. is;
     clients = λ client at ends chances links is. is;
   };
   bytes = λ end w piece s after b is. is;

@@ -43,6 +43,7 @@ stays_below = record {
   settles = λ number s below. below;
   dials = λ s below. below;
   renews = λ end s below. below;
+  changes = λ at secret s below. below;
   ticks = λ more s below. later_below (nat_le s.moment (2 ^ 63)) more s.moment below;
 }
 

@@ -19,6 +19,7 @@ by_plain P starts steps (move.Deliver unit link) plain = absurd plain
 by_plain P starts steps (move.Hand link back bytes) plain = absurd plain
 by_plain P starts steps (move.Shut number) plain = absurd plain
 by_plain P starts steps (move.Restart number) plain = absurd plain
+by_plain P starts steps (move.Change member secret) plain = absurd plain
 
 -- between starts no client is started
 none_start : (what : Move) (count : ℕ) → IsStepOn what → started_by what count ≡ []

@@ -332,6 +332,7 @@ module _ {X : Type 0} (part : Book → X) (Side : X → Fact) (P : UnitFact X) (
     };
     dials = λ n at dial s b is side marks. marks;
     renews = λ n at end s b side marks. marks;
+    changes = λ n at member secret s b side marks. marks;
     ticks = λ n at more s b side marks. marks;
     over = λ n at on next s given b side marks.
         let now : Book = note_given at given s b in
@@ -394,6 +395,7 @@ nothing_written = record {
     opens = λ route now ends chances links holds. tt;
     controllers = λ c at ends chances links is holds. tt;
     members = λ plan at ends chances links holds. tt;
+    changes = λ secret running at ends chances links is none holds. tt;
     clients = λ client at ends chances links holds. tt;
   };
   bytes = λ end w piece s after b holds. tt;

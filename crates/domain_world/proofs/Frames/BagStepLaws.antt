@@ -88,6 +88,7 @@ module _ {X : Type 0} (Holds : RunFact) (Fine : ActionFact) (keeps : Keeps NoFac
     settles = λ n at on number s b side fits. bag_keeps.still s.bag (settle number s).bag b (kept_settled number s.bag) fits;
     dials = λ n at dial s b is side fits. fits;
     renews = λ n at end s b side fits. fits;
+    changes = λ n at member secret s b side fits. fits;
     ticks = λ n at more s b side fits. fits;
     over = λ n at on next s given b side fits. bag_keeps.over at given s b fits;
   }

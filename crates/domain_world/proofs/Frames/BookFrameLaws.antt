@@ -28,6 +28,7 @@ module _ (Holds : Book → Type 0)
     begins = λ at client plan s b is holds. holds;
     comes = λ end w piece s given b side came holds. bytes end w piece s (hear_and_act end (event.Bytes w.link piece) s).state b holds;
     renews = λ at end s b holds. holds;
+    changes = λ at member secret s b holds. holds;
     over = λ at on next s given b holds. gives at given s b holds;
   }
 

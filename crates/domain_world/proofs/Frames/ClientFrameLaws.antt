@@ -20,7 +20,7 @@ use Rattle.world_moves.specs.declared.state.State.{State}
 use Rattle.world_moves.specs.Acting.{hear_and_act}
 use Rattle.world_moves.specs.Ends.{EndStates, EndStep, client_step, end_step}
 use Rattle.world_moves.specs.Links.{acceptor_of}
-use Rattle.world_moves.specs.Moving.{renewed}
+use Rattle.world_moves.specs.Moving.{renewed, changed}
 use Rattle.world_moves.proofs.EndKindLaws.{IfClient, clients_by, renew_by}
 use Rattle.domain_world.specs.Past.{Coming, note_at, note_client, past}
 use Rattle.domain_world.proofs.Challenges.MessageOnceLaws.{each_put}
@@ -28,6 +28,8 @@ use Rattle.domain_world.proofs.Frames.EndFrameLaws.{EndFact, IsCalm, KeepsEnds, 
 use Rattle.domain_world.proofs.Frames.MarkPlaceLaws.{got_map}
 use Rattle.domain_world.proofs.Frames.OpenMadeLaws.{IsAtSide}
 use Rattle.domain_world.proofs.Frames.EndNoteLaws.{made_so, noted_by}
+use Rattle.world_moves.proofs.ChangeLaws.{by_change}
+use Rattle.outside.specs.declared.action.Action.{Action}
 
 -- ---- what is to hold
 
@@ -130,6 +132,10 @@ module _ (plans : List ClientPlan) (Fits : ClientFact) (Made : MadeFact) (keeps 
       client_put s.ends.clients s.links made at (fresh_client plan) kept
       (keeps.anew s.links made at plan (subst (λ (all : List ClientPlan). slice_get all at ≡ Some plan) same is))) end
 
+  change_keeps : (member : ℕ) (secret : List ℕ) (s : State) (made : List MessageMade) → AreKept s.ends.clients s.links made → AreKept (changed member secret s).state.ends.clients s.links made
+  change_keeps member secret s made kept =
+      by_change (λ (ends : EndStates) (actions : List Action). AreKept ends.clients s.links made) member secret s.ends kept (λ running is none. kept)
+
   -- ---- a run
 
   -- the clients' plans are these
@@ -165,6 +171,7 @@ module _ (plans : List ClientPlan) (Fits : ClientFact) (Made : MadeFact) (keeps 
       kept = end_comes end w piece s (hear_and_act end (event.Bytes w.link piece) s).state b holds.kept;
     };
     renews = λ at end s b holds. record { same = holds.same; kept = end_anew end s b.made holds.same holds.kept };
+    changes = λ at member secret s b holds. record { same = holds.same; kept = change_keeps member secret s b.made holds.kept };
     over = λ at on next s given b holds. holds;
   }
 

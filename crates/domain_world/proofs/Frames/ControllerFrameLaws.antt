@@ -81,6 +81,7 @@ module _ {X : Type 0} (part : Book → X) (Fits : X → ControllersFact) (keeps 
       opens = λ route now ends chances links fits. hear_keeps x (acceptor_of route) (event.Opened (length links)) now ends chances tt fits;
       controllers = λ c at ends chances links is fits. keeps.anew x c at ends.controllers chances is fits;
       members = λ plan at ends chances links fits. fits;
+      changes = λ secret running at ends chances links is none fits. fits;
       clients = λ client at ends chances links fits. fits;
     };
     bytes = bytes_keep;

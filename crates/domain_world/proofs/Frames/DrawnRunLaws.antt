@@ -98,6 +98,7 @@ of_stays all = record {
     opens = λ route now ends chances links is. end_all _ _ now ends chances ∙ is;
     controllers = λ c at ends chances links there is. is;
     members = λ plan at ends chances links is. is;
+    changes = λ secret running at ends chances links there none is. is;
     clients = λ client at ends chances links is. is;
   };
   bytes = λ end w piece s after b is. end_all end _ s.moment s.ends s.chances ∙ is;

@@ -1,5 +1,6 @@
--- What holds through the moves of a world of its ends, its plans, its maker of challenges and its links, of what ends
--- gave in the move, and of the book: whatever holds through each step of an end, since actions change none of them.
+-- What holds through the moves of a world of its ends, its clients' plans, its maker of challenges and its links, of
+-- what ends gave in the move, and of the book: whatever holds through each step of an end, since actions change none of
+-- them.
 -- It is an instance of `MoveFrameLaws`. It serves `Proved.credentials`, `Proved.let_in`, `runs_are_heard` and others.
 use Rattle.std.proofs.Common.{◌≡◌, ℕ, ◌+◌, List, [], ◌++◌, length, Option, Some, None, slice_get}
 use Rattle.std.specs.Prelude.{true}
@@ -7,10 +8,9 @@ use Rattle.outside.specs.Drawing.{Drawing}
 use Rattle.outside.specs.declared.event.Event.{Event}
 use Rattle.outside.specs.declared.event.Event.TheVariants as event
 use Rattle.logon_client.specs.declared.plan.ClientPlan.{ClientPlan}
-use Rattle.member_server.specs.declared.plan.MemberPlan.{MemberPlan}
 use Rattle.step_notes.specs.Records.{Book, blank}
 use Rattle.world_moves.specs.declared.links.EndId.{EndId}
-use Rattle.world_moves.specs.declared.links.EndId.TheVariants.{Client}
+use Rattle.world_moves.specs.declared.links.EndId.TheVariants.{Client, Member}
 use Rattle.world_moves.specs.declared.links.Route.{Route}
 use Rattle.world_moves.specs.declared.moves.Move.{Move}
 use Rattle.world_moves.specs.declared.plan.Plan.{Plan}
@@ -18,7 +18,7 @@ use Rattle.world_moves.specs.declared.state.State.{State}
 use Rattle.world_moves.specs.Acting.{Given, forget, Heard, given_by, hear, hear_and_act}
 use Rattle.world_moves.specs.Ends.{EndStates}
 use Rattle.world_moves.specs.Links.{acceptor_of}
-use Rattle.world_moves.specs.Moving.{begun, renewed, with_link}
+use Rattle.world_moves.specs.Moving.{begun, changed, renewed, with_link}
 use Rattle.world_moves.specs.World.{World, first_world, happens, run}
 use Rattle.domain_world.specs.Claims.Sessions.{restarted}
 use Rattle.domain_world.specs.Past.{Coming, book, note, note_at, note_given, past}
@@ -32,13 +32,12 @@ use Rattle.domain_world.proofs.Frames.OpenMadeLaws.{IsAtSide}
 -- what actions leave of a state
 pub record Ends : Type 0 where
   pub client_plans : List ClientPlan
-  pub member_plans : List MemberPlan
   pub ends : EndStates
   pub chances : Drawing
   pub links : List Route
 
 abbrev pub ends_in : State → Ends
-ends_in s = record { client_plans = s.client_plans; member_plans = s.member_plans; ends = s.ends; chances = s.chances; links = s.links }
+ends_in s = record { client_plans = s.client_plans; ends = s.ends; chances = s.chances; links = s.links }
 
 -- after so many moves, where that comes in this one, if bytes come: of the ends, what ends gave in this move, the book
 abbrev pub EndFact : Type 1
@@ -78,6 +77,8 @@ pub record KeepsEnds (Holds : EndFact) : Type 0 where
       Holds w.at (Some w) (ends_in s) given b →
       HasHeard Holds w.at (Some w) end (hear end (event.Bytes w.link piece) s) given (note_at (Some end) w piece s (hear_and_act end (event.Bytes w.link piece) s).state b)
   pub renews : (at : ℕ) (end : EndId) (s : State) (b : Book) → Holds at None (ends_in s) [] b → Holds at None (ends_in (renewed end s)) [] b
+  -- a member begins to change its secret
+  pub changes : (at member : ℕ) (secret : List ℕ) (s : State) (b : Book) → Holds at None (ends_in s) [] b → HasHeard Holds at None (Member member) (changed member secret s) [] b
   -- the move is over, whatever comes in the next one
   pub over : (at : ℕ) (on next : Option Coming) (s : State) (given : Given) (b : Book) → Holds at on (ends_in s) given b → Holds (at + 1) next (ends_in s) [] (note_given at given s b)
 
@@ -94,6 +95,7 @@ pub record KeepsCalmEnds (Holds : EndFact) : Type 0 where
   pub comes : (end : EndId) (w : Coming) (piece : List ℕ) (s : State) (given : Given) (b : Book) → IsAtSide s.links w.link w.back end → CameFrom w.source s w piece →
       Holds w.at (Some w) (ends_in s) given b →
       HasHeard Holds w.at (Some w) end (hear end (event.Bytes w.link piece) s) given (note_at (Some end) w piece s (hear_and_act end (event.Bytes w.link piece) s).state b)
+  pub changes : (at member : ℕ) (secret : List ℕ) (s : State) (b : Book) → Holds at None (ends_in s) [] b → HasHeard Holds at None (Member member) (changed member secret s) [] b
   pub over : (at : ℕ) (on next : Option Coming) (s : State) (given : Given) (b : Book) → Holds at on (ends_in s) given b → Holds (at + 1) next (ends_in s) [] (note_given at given s b)
 
 -- ---- a run
@@ -117,6 +119,7 @@ module _ (Holds : EndFact) (keeps : KeepsCalmEnds Holds) where
     forgets = λ n at end s b none holds. holds;
     settles = λ n at on number s b none holds. holds;
     dials = λ n at dial s b is none holds. holds;
+    changes = λ n at member secret s b none holds. keeps.changes at member secret s b holds;
     ticks = λ n at more s b none holds. holds;
     over = λ n at on next s given b none holds. keeps.over at on next s given b holds;
   }
@@ -146,6 +149,7 @@ module _ (Holds : EndFact) (keeps : KeepsEnds Holds) where
     settles = λ n at on number s b none holds. holds;
     dials = λ n at dial s b is none holds. holds;
     renews = λ n at end s b none holds. keeps.renews at end (forget end s) b holds;
+    changes = λ n at member secret s b none holds. keeps.changes at member secret s b holds;
     ticks = λ n at more s b none holds. holds;
     over = λ n at on next s given b none holds. keeps.over at on next s given b holds;
   }

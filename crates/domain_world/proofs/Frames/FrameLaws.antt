@@ -1,8 +1,9 @@
 -- What holds through the moves of a world, of its ends, its maker of challenges, its links and of what is written down:
 -- whatever holds through each step of an end, also where it speaks of the plans from which clients are made. It is an
 -- instance of `EndFrameLaws`. It serves `Proved.grants`, `Proved.marked`, `Proved.challenges` and 14 more.
-use Rattle.std.proofs.Common.{◌≡◌, ℕ, List, [], ◌∷◌, ◌++◌, length, Some, slice_get, slice_set, sym, subst}
+use Rattle.std.proofs.Common.{◌≡◌, ℕ, List, [], ◌∷◌, ◌++◌, length, Some, None, slice_get, slice_set, sym, subst}
 use Rattle.outside.specs.Drawing.{Drawing}
+use Rattle.outside.specs.declared.action.Action.{Action}
 use Rattle.outside.specs.declared.event.Event.{Event}
 use Rattle.outside.specs.declared.event.Event.TheVariants as event
 use Rattle.domain_controller.specs.State.{State as ControllerState}
@@ -12,6 +13,7 @@ use Rattle.logon_client.specs.State.{State as ClientState}
 use Rattle.logon_client.specs.declared.plan.ClientPlan.{ClientPlan}
 use Rattle.member_server.specs.Machine.{fresh_member}
 use Rattle.member_server.specs.declared.plan.MemberPlan.{MemberPlan}
+use Rattle.member_server.specs.declared.state.Running.{Running}
 use Rattle.step_notes.specs.Records.{Book, blank}
 use Rattle.world_moves.specs.declared.links.EndId.{EndId}
 use Rattle.world_moves.specs.declared.links.Route.{Route}
@@ -20,13 +22,14 @@ use Rattle.world_moves.specs.declared.state.State.{State}
 use Rattle.world_moves.specs.Acting.{Given, hear_and_act}
 use Rattle.world_moves.specs.Ends.{EndStates, EndStep, end_step, with_client, with_member}
 use Rattle.world_moves.specs.Links.{acceptor_of}
-use Rattle.world_moves.specs.Moving.{renewed}
+use Rattle.world_moves.specs.Moving.{changed, renewed}
 use Rattle.world_moves.specs.World.{World, first_world, run}
 use Rattle.domain_world.specs.Past.{Coming, book, note_at, note_given, past}
 use Rattle.domain_world.proofs.Frames.EndFrameLaws.{EndFact, IsCalm, KeepsEnds, by_calm, ends_after, ends_keep, ends_later}
 use Rattle.domain_world.proofs.Frames.MoveFrameLaws.{KeepsMoves, MoveFact, NoSide}
 use Rattle.domain_world.proofs.Frames.PlacedLaws.{IsPlaced}
 use Rattle.world_moves.specs.declared.plan.Plan.{Plan}
+use Rattle.world_moves.proofs.ChangeLaws.{by_change, member_begun}
 use Rattle.world_moves.proofs.EndKindLaws.{renew_by}
 
 -- ---- what is to hold
@@ -57,8 +60,8 @@ IsQuiet (event.Dialled link) = Unit {0}
 IsQuiet event.DialFailed = Unit {0}
 IsQuiet event.Stop = Unit {0}
 
--- It holds on where an end takes such a step, where a link is made and the end that accepts it hears of that, and where
--- an end is made anew.
+-- It holds on where an end takes such a step, where a link is made and the end that accepts it hears of that, where an
+-- end is made anew, and where a member begins to change its secret.
 pub record Stays (Fits : Fact) : Type 0 where
   pub hears : (end : EndId) (what : Event) (now : ℕ) (ends : EndStates) (chances : Drawing) (links : List Route) → IsQuiet what → Fits ends chances links →
       HoldsAfter Fits (end_step end what now ends chances) links
@@ -68,6 +71,9 @@ pub record Stays (Fits : Fact) : Type 0 where
       Fits (record ends { controllers = slice_set ends.controllers at (first_state c.table c.name) }) chances links
   pub members : (plan : MemberPlan) (at : ℕ) (ends : EndStates) (chances : Drawing) (links : List Route) → Fits ends chances links →
       Fits (with_member at (fresh_member plan) ends) chances links
+  -- a member begins to change its secret
+  pub changes : (secret : List ℕ) (running : Running) (at : ℕ) (ends : EndStates) (chances : Drawing) (links : List Route) → slice_get ends.members at ≡ Some (record { running = Some running }) →
+      running.logons.plan.secrets.next ≡ None → Fits ends chances links → Fits (with_member at (member_begun secret running) ends) chances links
   pub clients : (client : ClientState) (at : ℕ) (ends : EndStates) (chances : Drawing) (links : List Route) → Fits ends chances links →
       Fits (with_client at client ends) chances links
 
@@ -81,6 +87,8 @@ pub record StaysByPlans (Fits : PlannedFact) : Type 0 where
       Fits plans ends chances links → Fits plans (record ends { controllers = slice_set ends.controllers at (first_state c.table c.name) }) chances links
   pub members : (plan : MemberPlan) (at : ℕ) (plans : List ClientPlan) (ends : EndStates) (chances : Drawing) (links : List Route) → Fits plans ends chances links →
       Fits plans (with_member at (fresh_member plan) ends) chances links
+  pub changes : (secret : List ℕ) (running : Running) (at : ℕ) (plans : List ClientPlan) (ends : EndStates) (chances : Drawing) (links : List Route) →
+      slice_get ends.members at ≡ Some (record { running = Some running }) → running.logons.plan.secrets.next ≡ None → Fits plans ends chances links → Fits plans (with_member at (member_begun secret running) ends) chances links
   pub begins : (plan : ClientPlan) (at : ℕ) (plans : List ClientPlan) (ends : EndStates) (chances : Drawing) (links : List Route) → slice_get plans at ≡ Some plan →
       Fits plans ends chances links → Fits plans (with_client at (begin_of (fresh_client plan)).state ends) chances links
   pub clients : (plan : ClientPlan) (at : ℕ) (plans : List ClientPlan) (ends : EndStates) (chances : Drawing) (links : List Route) → slice_get plans at ≡ Some plan →
@@ -92,6 +100,7 @@ stays_by_plans Fits stays = record {
   opens = λ route now plans ends chances links holds. stays.opens route now ends chances links holds;
   controllers = λ c at plans ends chances links is holds. stays.controllers c at ends chances links is holds;
   members = λ plan at plans ends chances links holds. stays.members plan at ends chances links holds;
+  changes = λ secret running at plans ends chances links is none holds. stays.changes secret running at ends chances links is none holds;
   begins = λ plan at plans ends chances links is holds. stays.clients (begin_of (fresh_client plan)).state at ends chances links holds;
   clients = λ plan at plans ends chances links is holds. stays.clients (fresh_client plan) at ends chances links holds;
 }
@@ -102,6 +111,11 @@ module _ (Fits : PlannedFact) (stays : StaysByPlans Fits) where
       renew_by (λ (one : EndId) (ends : EndStates). Fits s.client_plans ends s.chances s.links) s (λ one. holds)
       (λ at c is. stays.controllers c at s.client_plans s.ends s.chances s.links is holds) (λ at plan is. stays.members plan at s.client_plans s.ends s.chances s.links holds)
       (λ at plan is. stays.clients plan at s.client_plans s.ends s.chances s.links is holds) end
+
+  pub changed_stays : (at : ℕ) (secret : List ℕ) (s : State) → HoldsByPlans Fits s → HoldsByPlans Fits (changed at secret s).state
+  changed_stays at secret s holds =
+      by_change (λ (ends : EndStates) (actions : List Action). Fits s.client_plans ends s.chances s.links) at secret s.ends holds
+      (λ running is none. stays.changes secret running at s.client_plans s.ends s.chances s.links is none holds)
 
 calm_quiet : (what : Event) → IsCalm what → IsQuiet what
 calm_quiet = by_calm IsQuiet (λ link. tt) tt tt
@@ -138,6 +152,7 @@ module _ {X : Type 0} (part : Book → X) (Fits : X → PlannedFact) (written : 
     begins = λ at client plan s b is holds. (written.stays (part b)).begins plan client s.client_plans s.ends s.chances s.links is holds;
     comes = λ end w piece s given b side came holds. written.bytes end w piece s (hear_and_act end (event.Bytes w.link piece) s).state b holds;
     renews = λ at end s b holds. renewed_stays (Fits (part b)) (written.stays (part b)) end s holds;
+    changes = λ at member secret s b holds. changed_stays (Fits (part b)) (written.stays (part b)) member secret s holds;
     over = λ at on next s given b holds. subst (λ (x : X). HoldsByPlans (Fits x) s) (sym (written.given at given s b)) holds;
   }
 

@@ -1,7 +1,7 @@
 -- What holds through the moves of a world of its members, of what was drawn and is left, of the links, and of a part of
 -- the book that members' bytes change alone: whatever holds through each step of a member, and as others draw. It is an
 -- instance of `FrameLaws`. It serves `messages_are_made`, `Proved.messages`, `Proved.kept` and others.
-use Rattle.std.proofs.Common.{◌≡◌, ℕ, List, [], ◌∷◌, ◌++◌, length, Some, slice_get, slice_set, refl, sym, subst}
+use Rattle.std.proofs.Common.{◌≡◌, ℕ, List, [], ◌∷◌, ◌++◌, length, Some, None, slice_get, slice_set, refl, sym, subst}
 use Rattle.outside.specs.Drawing.{Drawing}
 use Rattle.outside.specs.declared.event.Event.{Event}
 use Rattle.outside.specs.declared.event.Event.TheVariants as event
@@ -21,6 +21,8 @@ use Rattle.world_moves.proofs.EndKindLaws.{step_by}
 use Rattle.domain_world.proofs.Frames.EndNoteLaws.{OfMembers, noted_by}
 use Rattle.domain_world.proofs.Frames.FrameLaws.{Fact, HoldsAfter, HoldsIn, IsQuiet, StaysWritten}
 use Rattle.domain_world.proofs.Frames.LeftLaws.{DrawsOn, end_draws}
+use Rattle.world_moves.proofs.ChangeLaws.{member_begun}
+use Rattle.member_server.specs.declared.state.Running.{Running}
 
 -- of the members, what was drawn and is left, and the links
 abbrev pub MembersFact : Type 1
@@ -50,6 +52,10 @@ pub record KeepsMembers {X : Type 0} (part : Book → X) (Fits : X → MembersFa
   -- a member is made anew
   pub anew : (x : X) (plan : MemberPlan) (at : ℕ) (members : List MemberState) (chances : Drawing) (links : List Route) → Fits x members chances links →
       Fits x (slice_set members at (fresh_member plan)) chances links
+  -- it begins to change its secret
+  pub changes : (x : X) (secret : List ℕ) (running : Running) (at : ℕ) (members : List MemberState) (chances : Drawing) (links : List Route) →
+      slice_get members at ≡ Some (record { running = Some running }) → running.logons.plan.secrets.next ≡ None → Fits x members chances links →
+      Fits x (slice_set members at (member_begun secret running)) chances links
 
 module _ {X : Type 0} (part : Book → X) (Fits : X → MembersFact) (keeps : KeepsMembers part Fits) where
   -- as a fact of all ends
@@ -94,6 +100,7 @@ module _ {X : Type 0} (part : Book → X) (Fits : X → MembersFact) (keeps : Ke
       hears = λ end what now ends chances links quiet fits. hear_keeps x end what now ends chances links quiet fits;
       opens = λ route now ends chances links fits. open_keeps x route now ends chances links fits;
       controllers = λ c at ends chances links is fits. fits;
+      changes = λ secret running at ends chances links is none fits. keeps.changes x secret running at ends.members chances links is none fits;
       members = λ plan at ends chances links fits. keeps.anew x plan at ends.members chances links fits;
       clients = λ client at ends chances links fits. fits;
     };

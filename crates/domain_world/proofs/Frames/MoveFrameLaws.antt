@@ -15,7 +15,7 @@ use Rattle.channel_events.specs.Marks.{OneOf}
 use Rattle.step_notes.specs.Records.{Book, InUnit, Outside, blank}
 use Rattle.world_moves.specs.declared.bag.BagUnit.{BagUnit}
 use Rattle.world_moves.specs.declared.links.EndId.{EndId}
-use Rattle.world_moves.specs.declared.links.EndId.TheVariants.{Client}
+use Rattle.world_moves.specs.declared.links.EndId.TheVariants.{Client, Member}
 use Rattle.world_moves.specs.declared.links.OpenLink.{OpenLink}
 use Rattle.world_moves.specs.declared.links.Route.{Route}
 use Rattle.world_moves.specs.declared.links.Route.TheVariants.{Stranger}
@@ -29,7 +29,7 @@ use Rattle.world_moves.specs.Bag.{first_waiting, pieces_of}
 use Rattle.world_moves.specs.Choosing.{chosen_in, chosen_place}
 use Rattle.world_moves.specs.Ends.{acceptors_in, count_of, end_at}
 use Rattle.world_moves.specs.Links.{accepted, acceptor_of, answered, dialler_of, handed_links, hearer_of, hearer_on, links_of, other_hearer}
-use Rattle.world_moves.specs.Moving.{act, answer_by, answered_link, begun, come_by, come_on_own, connect_by, connect_first, deliver_by, deliver_on, deliver_unit, end_of_peer, fail_first, hand_on, lose_by, onward_by, open_link, renewed, restart_at, restart_by, route_to, settle, shut_at, shut_by, start_at, start_by, stranger_at, stranger_by, tick, with_link, without_first}
+use Rattle.world_moves.specs.Moving.{act, answer_by, answered_link, begun, change_at, changed, come_by, come_on_own, connect_by, connect_first, deliver_by, deliver_on, deliver_unit, end_of_peer, fail_first, hand_on, lose_by, onward_by, open_link, renewed, restart_at, restart_by, route_to, settle, shut_at, shut_by, start_at, start_by, stranger_at, stranger_by, tick, with_link, without_first}
 use Rattle.world_moves.specs.World.{World, first_world, happens, run}
 use Rattle.domain_world.specs.Claims.Sessions.{end_by, restarted}
 use Rattle.domain_world.specs.Past.{Coming, book, note, note_at, note_chosen, note_coming, note_deliver, note_given, note_hand, note_on, note_onward, note_own, note_pieces, note_unit, past}
@@ -110,7 +110,7 @@ pub record KeepsMoves (Known : Type 0) (Side Holds : MoveFact) : Type 0 where
   -- the step at bytes is done
   pub reaches : (n : ℕ) (w : Coming) (s : State) (given : Given) (b : Book) → Side n (record (coming w) { to = Some s }) s given b → Holds n (record (coming w) { to = Some s }) s given b →
       Holds n (coming w) s given b
-  -- an action is done: a unit goes into the bag, or a dial waits
+  -- an action is done: a unit goes into the bag, a dial waits, or a text is kept
   pub acts : (n : ℕ) (p : Progress) (end : EndId) (what : Action) (s : State) (given : Given) (b : Book) → AtWork p.on p.to → Side n (with_rest ((end, what) ∷ []) p) s given b →
       Holds n (with_rest ((end, what) ∷ []) p) s given b → Holds n p (perform_quietly end what s) given b
   -- one thing changes
@@ -124,6 +124,9 @@ pub record KeepsMoves (Known : Type 0) (Side Holds : MoveFact) : Type 0 where
   pub dials : (n at : ℕ) (dial : WaitingDial) (s : State) (b : Book) → slice_get s.dials 0 ≡ Some dial → Side n (waiting at None) s [] b → Holds n (waiting at None) s [] b →
       Holds n (waiting at (Some dial.end)) (without_first s) [] b
   pub renews : (n at : ℕ) (end : EndId) (s : State) (b : Book) → Side n (waiting at None) s [] b → Holds n (waiting at None) s [] b → Holds n (waiting at None) (renewed end (forget end s)) [] b
+  -- a member begins to change its secret
+  pub changes : (n at member : ℕ) (secret : List ℕ) (s : State) (b : Book) → Side n (waiting at None) s [] b → Holds n (waiting at None) s [] b →
+      IsHeard Holds n (waiting at None) (Member member) (changed member secret s) [] b
   pub ticks : (n at more : ℕ) (s : State) (b : Book) → Side n (waiting at None) s [] b → Holds n (waiting at None) s [] b → Holds n (waiting at None) (tick more s) [] b
   -- the move is over, and what ends gave is written down; whatever comes in the next one
   pub over : (n at : ℕ) (on next : Option Coming) (s : State) (given : Given) (b : Book) → Side n (started at on) s given b → Holds n (started at on) s given b →
@@ -149,7 +152,7 @@ pub record KeepsCalmMoves (Known : Type 0) (Side Holds : MoveFact) : Type 0 wher
   -- the step at bytes is done
   pub reaches : (n : ℕ) (w : Coming) (s : State) (given : Given) (b : Book) → Side n (record (coming w) { to = Some s }) s given b → Holds n (record (coming w) { to = Some s }) s given b →
       Holds n (coming w) s given b
-  -- an action is done: a unit goes into the bag, or a dial waits
+  -- an action is done: a unit goes into the bag, a dial waits, or a text is kept
   pub acts : (n : ℕ) (p : Progress) (end : EndId) (what : Action) (s : State) (given : Given) (b : Book) → AtWork p.on p.to → Side n (with_rest ((end, what) ∷ []) p) s given b →
       Holds n (with_rest ((end, what) ∷ []) p) s given b → Holds n p (perform_quietly end what s) given b
   -- one thing changes
@@ -162,6 +165,9 @@ pub record KeepsCalmMoves (Known : Type 0) (Side Holds : MoveFact) : Type 0 wher
   -- the first dial waits no more
   pub dials : (n at : ℕ) (dial : WaitingDial) (s : State) (b : Book) → slice_get s.dials 0 ≡ Some dial → Side n (waiting at None) s [] b → Holds n (waiting at None) s [] b →
       Holds n (waiting at (Some dial.end)) (without_first s) [] b
+  -- a member begins to change its secret
+  pub changes : (n at member : ℕ) (secret : List ℕ) (s : State) (b : Book) → Side n (waiting at None) s [] b → Holds n (waiting at None) s [] b →
+      IsHeard Holds n (waiting at None) (Member member) (changed member secret s) [] b
   pub ticks : (n at more : ℕ) (s : State) (b : Book) → Side n (waiting at None) s [] b → Holds n (waiting at None) s [] b → Holds n (waiting at None) (tick more s) [] b
   -- the move is over, and what ends gave is written down; whatever comes in the next one
   pub over : (n at : ℕ) (on next : Option Coming) (s : State) (given : Given) (b : Book) → Side n (started at on) s given b → Holds n (started at on) s given b →
@@ -186,6 +192,7 @@ but_renewed Known Holds keeps = record {
   forgets = keeps.forgets;
   settles = keeps.settles;
   dials = keeps.dials;
+  changes = keeps.changes;
   ticks = keeps.ticks;
   over = keeps.over;
 }
@@ -210,6 +217,7 @@ join_moves Known A B one other = record {
   settles = λ n at on number s b none holds. (one.settles n at on number s b tt holds.0, other.settles n at on number s b holds.0 holds.1);
   dials = λ n at dial s b is none holds. (one.dials n at dial s b is tt holds.0, other.dials n at dial s b is holds.0 holds.1);
   renews = λ n at end s b none holds. (one.renews n at end s b tt holds.0, other.renews n at end s b holds.0 holds.1);
+  changes = λ n at member secret s b none holds. (one.changes n at member secret s b tt holds.0, other.changes n at member secret s b holds.0 holds.1);
   ticks = λ n at more s b none holds. (one.ticks n at more s b tt holds.0, other.ticks n at more s b holds.0 holds.1);
   over = λ n at on next s given b none holds. (one.over n at on next s given b tt holds.0, other.over n at on next s given b holds.0 holds.1);
 }
@@ -231,6 +239,7 @@ beside Known Side Holds keeps = record {
   settles = λ n at on number s b side holds. keeps.settles n at on number s b tt holds;
   dials = λ n at dial s b is side holds. keeps.dials n at dial s b is tt holds;
   renews = λ n at end s b side holds. keeps.renews n at end s b tt holds;
+  changes = λ n at member secret s b side holds. keeps.changes n at member secret s b tt holds;
   ticks = λ n at more s b side holds. keeps.ticks n at more s b tt holds;
   over = λ n at on next s given b side holds. keeps.over n at on next s given b tt holds;
 }
@@ -456,6 +465,11 @@ module _ (Known : Type 0) (Holds : MoveFact) (keeps : KeepsCalmMoves Known NoSid
   restart_part None n at s b anew holds = nothing (waiting at None) (n + 2 * length s.open_links) n s [] b holds (omega arith)
   restart_part (Some number) n at s b anew holds = restart_by_part (end_at number s.ends) n at s b anew holds
 
+  change_part : (member : Option ℕ) (secret : List ℕ) (n at : ℕ) (s : State) (b : Book) → Holds n (waiting at None) s [] b → Quietly at (n + 1 + 2 * length s.open_links) (change_at member secret s) [] b
+  change_part None secret n at s b holds = nothing (waiting at None) (n + 1 + 2 * length s.open_links) n s [] b holds (omega arith)
+  change_part (Some member) secret n at s b holds =
+      done_part (waiting at None) tt n (Member member) (changed member secret s) [] b (keeps.changes n at member secret s b tt holds)
+
   -- ---- bytes come
 
   piece_part : (end : Option EndId) (w : Coming) (piece : List ℕ) (n : ℕ) (s : State) (given : Given) (b : Book) → hearer_of w.back (lookup same_number w.link s.open_links) ≡ end →
@@ -617,6 +631,8 @@ module _ (Known : Type 0) (Holds : MoveFact) (keeps : KeepsCalmMoves Known NoSid
       quiet_part (move.Shut number) (n + 2 + 2 * length s.open_links) n at s b placed (omega arith) (shut_part (chosen_place number (length s.open_links)) n at s b (holds None))
   act_part (move.Restart number) n at s b placed have handed anew holds =
       quiet_part (move.Restart number) (n + 2 * length s.open_links) n at s b placed (omega arith) (restart_part (chosen_place number (count_of s.ends)) n at s b anew (holds None))
+  act_part (move.Change member secret) n at s b placed have handed anew holds =
+      quiet_part (move.Change member secret) (n + 1 + 2 * length s.open_links) n at s b placed (omega arith) (change_part (chosen_place member (length s.ends.members)) secret n at s b (holds None))
   act_part (move.Tick more) n at s b placed have handed anew holds =
       quiet_part (move.Tick more) (n + 2 * length s.open_links) n at s b placed (omega arith)
       (nothing (waiting at None) (n + 2 * length s.open_links) n (tick more s) [] b (keeps.ticks n at more s b tt (holds None)) (omega arith))
@@ -716,6 +732,7 @@ any_keeps = record {
   settles = λ n at on number s b none holds. tt;
   dials = λ n at dial s b is none holds. tt;
   renews = λ n at end s b none holds. tt;
+  changes = λ n at member secret s b none holds. tt;
   ticks = λ n at more s b none holds. tt;
   over = λ n at on next s given b none holds. tt;
 }

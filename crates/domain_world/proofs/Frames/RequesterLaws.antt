@@ -39,6 +39,10 @@ asked_in (OfMember k) plans ends = controller_of_plan (slice_get plans k) ends
 pub asked_now : (who : RequesterId) (s : State) → asked_in who s.member_plans s.ends ≡ controller_asked who s
 asked_now (OfMember k) s = refl
 
+-- it asks the same one by plans that are alike but for secrets
+pub asked_alike : (who : RequesterId) (plans later : List MemberPlan) (ends : EndStates) → AreAlikeButSecrets plans later → asked_in who later ends ≡ asked_in who plans ends
+asked_alike (OfMember k) plans later ends alike = controllers_alike plans later k ends alike
+
 -- a requester asks the same controller while there are as many ends, and plans stay but for their secrets
 pub asked_same : (who : RequesterId) (plans : List MemberPlan) (ends later : EndStates) → SameNumbers ends later → asked_in who plans later ≡ asked_in who plans ends
 asked_same (OfMember k) plans ends later same = controller_same (slice_get plans k) ends later same

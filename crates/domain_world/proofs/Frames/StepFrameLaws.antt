@@ -12,7 +12,7 @@ use Rattle.outside.specs.declared.event.Event.TheVariants as event
 use Rattle.logon_client.specs.declared.plan.ClientPlan.{ClientPlan}
 use Rattle.step_notes.specs.Records.{Book, blank}
 use Rattle.world_moves.specs.declared.links.EndId.{EndId}
-use Rattle.world_moves.specs.declared.links.EndId.TheVariants.{Client}
+use Rattle.world_moves.specs.declared.links.EndId.TheVariants.{Client, Member}
 use Rattle.world_moves.specs.declared.links.OpenLink.{OpenLink}
 use Rattle.world_moves.specs.declared.links.Route.{Route}
 use Rattle.world_moves.specs.declared.moves.Move.{Move}
@@ -20,7 +20,7 @@ use Rattle.world_moves.specs.declared.plan.Plan.{Plan}
 use Rattle.world_moves.specs.declared.state.State.{State}
 use Rattle.world_moves.specs.Acting.{Given, Heard, forget, given_by, hear, hear_and_act, perform_quietly, shut_link}
 use Rattle.world_moves.specs.Links.{acceptor_of}
-use Rattle.world_moves.specs.Moving.{answered_link, begun, renewed, settle, tick, with_link, without_first}
+use Rattle.world_moves.specs.Moving.{answered_link, begun, changed, renewed, settle, tick, with_link, without_first}
 use Rattle.world_moves.specs.World.{first_world}
 use Rattle.domain_world.specs.Past.{Coming, note_at, note_given, past}
 use Rattle.domain_world.proofs.Frames.BagFrameLaws.{IsServer, no_more_of, no_part, no_side, nothing_marked, nothing_written, AllFor, MarkFact, first_marked, marked_keep}
@@ -63,7 +63,7 @@ pub record KeepsWith (Over : Type 0) (Side Holds : RunFact) (Fine : ActionFact) 
   pub comes : (n : ℕ) (end : EndId) (w : Coming) (piece : List ℕ) (s : State) (given : Given) (b : Book) → IsAtSide s.links w.link w.back end → CameFrom w.source s w piece → AreBytes piece →
       (IsServer end → length b.sent ≡ length s.bag) → Side n s given b → Holds n s given b →
       HasHeard Holds Fine (n + 1) end (hear end (event.Bytes w.link piece) s) given (note_at (Some end) w piece s (hear_and_act end (event.Bytes w.link piece) s).state b)
-  -- an action is done: a unit goes into the bag, or a dial waits
+  -- an action is done: a unit goes into the bag, a dial waits, or a text is kept
   pub acts : (n : ℕ) (end : EndId) (what : Action) (s : State) (given : Given) (b : Book) → Fine end s.links what → Side n s given b → Holds n s given b →
       Holds n (perform_quietly end what s) given b
   -- one thing changes
@@ -74,6 +74,9 @@ pub record KeepsWith (Over : Type 0) (Side Holds : RunFact) (Fine : ActionFact) 
   pub settles : (n number : ℕ) (s : State) (given : Given) (b : Book) → Side n s given b → Holds n s given b → Holds n (settle number s) given b
   pub dials : (n : ℕ) (s : State) (given : Given) (b : Book) → Side n s given b → Holds n s given b → Holds n (without_first s) given b
   pub renews : (n : ℕ) (end : EndId) (s : State) (given : Given) (b : Book) → Side n s given b → Holds n s given b → Holds n (renewed end s) given b
+  -- a member begins to change its secret
+  pub changes : (n member : ℕ) (secret : List ℕ) (s : State) (given : Given) (b : Book) → Side n s given b → Holds n s given b →
+      HasHeard Holds Fine (n + 1) (Member member) (changed member secret s) given b
   pub ticks : (n more : ℕ) (s : State) (given : Given) (b : Book) → Side n s given b → Holds n s given b → Holds n (tick more s) given b
   -- the move is over
   pub over : Over
@@ -131,6 +134,8 @@ module _ (A B : RunFact) (F G : ActionFact) where
     settles = λ n number s given b none holds. (one.settles n number s given b tt holds.0, other.settles n number s given b holds.0 holds.1);
     dials = λ n s given b none holds. (one.dials n s given b tt holds.0, other.dials n s given b holds.0 holds.1);
     renews = λ n end s given b none holds. (one.renews n end s given b tt holds.0, other.renews n end s given b holds.0 holds.1);
+    changes = λ n member secret s given b none holds.
+        both_heard (n + 1) (Member member) (changed member secret s) given b (one.changes n member secret s given b tt holds.0) (other.changes n member secret s given b holds.0 holds.1);
     ticks = λ n more s given b none holds. (one.ticks n more s given b tt holds.0, other.ticks n more s given b holds.0 holds.1);
     over = ends;
   }
@@ -155,6 +160,7 @@ with_side Side More Holds Fine so keeps = record {
   settles = λ n number s given b more holds. keeps.settles n number s given b (so n s given b more) holds;
   dials = λ n s given b more holds. keeps.dials n s given b (so n s given b more) holds;
   renews = λ n end s given b more holds. keeps.renews n end s given b (so n s given b more) holds;
+  changes = λ n member secret s given b more holds. keeps.changes n member secret s given b (so n s given b more) holds;
   ticks = λ n more_time s given b more holds. keeps.ticks n more_time s given b (so n s given b more) holds;
   over = λ n at s given b more holds. keeps.over n at s given b (so n s given b more) holds;
 }
@@ -197,6 +203,8 @@ module _ (most : ℕ) (Side Holds : RunFact) (keeps : Keeps Side Holds AnyAction
     settles = λ n number s given b side holds few. keeps.settles n number s given b (side few) (holds few);
     dials = λ n s given b side holds few. keeps.dials n s given b (side few) (holds few);
     renews = λ n end s given b side holds few. keeps.renews n end s given b (side few) (holds few);
+    changes = λ n member secret s given b side holds.
+        few_heard n (Member member) (changed member secret s) given b (λ few. keeps.changes n member secret s given b (side (omega (arith, few))) (holds (omega (arith, few))));
     ticks = λ n more s given b side holds few. keeps.ticks n more s given b (side few) (holds few);
     over = λ n at s given b side holds few. keeps.over n at s given b (side few) (holds few);
   }
@@ -243,6 +251,7 @@ module _ {Over : Type 0} (Holds : RunFact) (Fine : ActionFact) (keeps : KeepsWit
     settles = λ n at on number s b side holds. (keeps.settles n number s [] b tt holds.0, tt);
     dials = λ n at dial s b is side holds. (keeps.dials n s [] b tt holds.0, tt);
     renews = λ n at end s b side holds. (keeps.renews n end (forget end s) [] b tt (keeps.forgets n end s [] b tt holds.0), tt);
+    changes = λ n at member secret s b side holds. so_heard n (waiting at None) (Member member) (changed member secret s) [] b (keeps.changes n member secret s [] b tt holds.0) tt;
     ticks = λ n at more s b side holds. (keeps.ticks n more s [] b tt holds.0, tt);
     over = λ n at on next s given b side holds. (over n at on s given b side holds.0, tt);
   }

@@ -41,6 +41,8 @@ use Rattle.domain_world.proofs.Frames.PlacedLaws.{IsPlaced}
 use Rattle.domain_world.proofs.Judgements.OpeningRunLaws.{each_fresh}
 use Rattle.domain_world.proofs.Judgements.ChainLaws.{AreChained, IsBy, left_behind, left_of}
 use Rattle.domain_world.proofs.Judgements.SessionStepLaws.{RunningChains, RunsWith, kept_sessions, step_chains}
+use Rattle.world_moves.proofs.ChangeLaws.{by_change}
+use Rattle.outside.specs.declared.action.Action.{Action}
 
 -- ---- since when
 
@@ -288,6 +290,8 @@ stands_on starts = record {
   opens = λ at route s given b stands. hear_stands starts at b.judged (acceptor_of route) (event.Opened (length s.links)) s.moment s.ends s.chances tt stands;
   begins = λ at client plan s b is stands. stands;
   comes = λ end w piece s given b side came stands. bytes_stand starts end w piece s (hear_and_act end (event.Bytes w.link piece) s).state b stands;
+  changes = λ at member secret s b stands.
+      by_change (λ (ends : EndStates) (actions : List Action). Stand starts at b.judged ends.controllers) member secret s.ends stands (λ running is none. stands);
   over = λ at on next s given b stands. later_stands starts at b.judged s.ends.controllers stands;
 }
 
@@ -387,6 +391,7 @@ restarts move.Connect at s b end is = absurd (no_some end is)
 restarts move.FailDial at s b end is = absurd (no_some end is)
 restarts move.Lose at s b end is = absurd (no_some end is)
 restarts (move.Shut number) at s b end is = absurd (no_some end is)
+restarts (move.Change member secret) at s b end is = absurd (no_some end is)
 restarts (move.Tick more) at s b end is = absurd (no_some end is)
 
 -- ---- a run

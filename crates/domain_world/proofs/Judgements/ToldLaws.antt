@@ -25,7 +25,7 @@ use Rattle.world_moves.specs.declared.state.State.{State}
 use Rattle.world_moves.specs.Acting.{Given, given_by, hear_and_act}
 use Rattle.world_moves.specs.Ends.{EndStep, actions_by, client_step, member_step}
 use Rattle.world_moves.specs.Links.{acceptor_of}
-use Rattle.world_moves.specs.Moving.{begun, with_link}
+use Rattle.world_moves.specs.Moving.{begun, with_link, changed}
 use Rattle.domain_world.specs.Claims.{AreRightlyTold, AreTheirJudgements, PassesTheNextCredential, judgements_of_calls}
 use Rattle.domain_world.specs.Past.{Coming, answers_of, at_controller, first_of, judged_of, judgement_by, judgements_in, later_of, note_at, note_client, note_controller, note_member, note_messages, numbers_on, onto, past, with_reply}
 use Rattle.step_notes.proofs.Controllers.JudgedStepLaws.{Told, how_is, told_call}
@@ -255,6 +255,8 @@ told_keeps = record {
       none_told at [] (given_by (Client client) (begun client plan s).actions) b b told (others_quiet (Client client) refl (begun client plan s).actions at) refl refl;
   comes = λ end w piece s given b side came told. end_told end w piece s (hear_and_act end (event.Bytes w.link piece) s).state given b told;
   renews = λ at end s b told. told;
+  changes = λ at member secret s b told.
+      none_told at [] (given_by (Member member) (changed member secret s).actions) b b told (others_quiet (Member member) refl (changed member secret s).actions at) refl refl;
   over = λ at on next s given b told. told;
 }
 

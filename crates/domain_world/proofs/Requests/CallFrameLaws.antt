@@ -34,12 +34,12 @@ use Rattle.world_moves.specs.declared.links.Route.TheVariants.{ToController}
 use Rattle.world_moves.specs.declared.moves.Move.{Move}
 use Rattle.world_moves.specs.declared.plan.Plan.{Plan}
 use Rattle.world_moves.specs.declared.state.State.{State}
-use Rattle.world_moves.specs.Acting.{Given, hear, hear_and_act}
+use Rattle.world_moves.specs.Acting.{Given, hear, hear_and_act, plans_after}
 use Rattle.world_moves.specs.Draws.{DrawsDiffer}
 use Rattle.world_moves.specs.Ends.{EndStates, EndStep, controller_step, member_step}
 use Rattle.world_moves.specs.Forms.{IsSchedule}
 use Rattle.world_moves.specs.Links.{acceptor_of, kind_of}
-use Rattle.world_moves.specs.Moving.{begun, renewed, with_link}
+use Rattle.world_moves.specs.Moving.{begun, renewed, with_link, changed}
 use Rattle.world_moves.specs.World.{first_world}
 use Rattle.world_moves.proofs.EndKindLaws.{IfMember, renew_by, step_by}
 use Rattle.domain_world.specs.Accepting.Carried.{IsWholeUnit}
@@ -57,14 +57,16 @@ use Rattle.domain_world.proofs.Frames.StepFrameLaws.{AnyAction, ActionFact, Both
 use Rattle.domain_world.proofs.Frames.DrawnRunLaws.{draws_differ}
 use Rattle.domain_world.proofs.Requests.AnsweredCallLaws.{AreCalled}
 use Rattle.domain_world.proofs.Requests.CallComesLaws.{IsWhole, KeptAfter, KeptIn, controller_comes, other_comes, whole_comes}
-use Rattle.domain_world.proofs.Requests.CallHoldsLaws.{CallsHold, differ_front, link_more, marks_in, requests_at, sent_more}
-use Rattle.domain_world.proofs.Requests.CallStepLaws.{KeptSo, client_anew, client_hears, controller_anew, controller_hears, member_anew, member_hears, none_so}
+use Rattle.domain_world.proofs.Requests.CallHoldsLaws.{CallsHold, differ_front, link_more, marks_in, plans_so, requests_at, sent_more}
+use Rattle.domain_world.proofs.Requests.CallStepLaws.{KeptSo, member_changes, client_anew, client_hears, controller_anew, controller_hears, member_anew, member_hears, none_so}
 use Rattle.domain_world.proofs.Requests.LooserLaws.{NoRequests}
 use Rattle.domain_world.proofs.Requests.OutStepLaws.{IsOther, IsOutIn, MemberHolds, OutFor, none_out}
 use Rattle.domain_world.proofs.Frames.PlacedLaws.{HasBytes}
 use Rattle.domain_world.proofs.Frames.EndNoteLaws.{acted_by, stepped}
 use Rattle.domain_world.proofs.Requests.ByRequesterLaws.{by_requester, by_requester_apart, seen_so}
 use Rattle.authenticators.specs.Channels.{ChannelIdentity}
+use Rattle.world_moves.proofs.ChangeLaws.{by_change}
+use Rattle.world_moves.proofs.KeptLaws.{plans_alike}
 
 -- ---- a unit that comes on the link of a turn is whole, and comes in one piece
 
@@ -181,6 +183,12 @@ renewed_so n end s b kept =
     (λ at plan is. member_anew n s.member_plans s.ends s.links b.sent b.messages plan at s.chances.drawn kept)
     (λ at plan is. client_anew n s.member_plans s.ends s.links b.sent b.messages n at (fresh_client plan) s.chances.drawn (omega arith) kept) end
 
+changed_so : (n at : ℕ) (secret : List ℕ) (s : State) (b : Book) → KeptIn n s b → KeptIn (n + 1) (changed at secret s).state b
+changed_so n at secret s b kept =
+    by_change (λ (ends : EndStates) (actions : List Action). KeptSo (n + 1) s.member_plans ends s.chances.drawn s.links b.sent b.messages) at secret s.ends
+    (none_so n s.member_plans s.ends s.links b.sent b.messages s.chances.drawn kept)
+    (λ running is none. member_changes n s.member_plans s.ends s.links b.sent b.messages secret running at s.chances.drawn is none kept)
+
 over_so : (n at : ℕ) (given : Given) (s : State) (b : Book) → KeptIn n s b → KeptIn n s (note_given at given s b)
 over_so n at given s b kept = λ few differ.
     let count : ℕ = length s.bag - length b.sent in
@@ -210,13 +218,15 @@ calls_keep = record {
     holds = comes_so n end w piece s b came even quiet kept;
     fine = any_fine end s.links (hear end (event.Bytes w.link piece) s).actions;
   };
-  acts = λ n end what s given b fine quiet kept. kept;
+  acts = λ n end what s given b fine quiet kept few differ.
+      plans_so n s.member_plans (plans_after end what s.member_plans) s.ends s.chances.drawn s.links b.sent b.messages (plans_alike end what s.member_plans) (kept few differ);
   shuts = λ n link s given b quiet kept. kept;
   answers = λ n link there s given b is quiet kept. kept;
   forgets = λ n end s given b quiet kept. kept;
   settles = λ n number s given b quiet kept. kept;
   dials = λ n s given b quiet kept. kept;
   renews = λ n end s given b quiet kept. renewed_so n end s b kept;
+  changes = λ n member secret s given b quiet kept. record { holds = changed_so n member secret s b kept; fine = any_fine (Member member) s.links (changed member secret s).actions };
   ticks = λ n more s given b quiet kept. kept;
   over = λ n at s given b quiet kept. over_so n at given s b kept;
 }

@@ -26,6 +26,8 @@ use Rattle.domain_world.proofs.Requests.LooserLaws.{NoRequests, drawn_before, re
 use Rattle.domain_world.proofs.Requests.OutStepLaws.{IsOutIn, MemberHolds, StaysKnown, stays_known}
 use Rattle.domain_world.proofs.Requests.StepApartLaws.{Differ, differ_later, requests_after, seen_member, seen_or, seen_running}
 use Rattle.domain_world.proofs.Requests.WholeOutLaws.{AreAccepted, out_more}
+use Rattle.domain_world.proofs.Frames.MemberPlanLaws.{controllers_alike}
+use Rattle.world_moves.specs.MemberPlans.{AreAlikeButSecrets}
 
 -- ---- the controller of a member keeps its number while no end comes or goes
 
@@ -124,6 +126,21 @@ more_steps n later plans ends drawn links sent messages onward holds = record {
   apart = looser (requests_at n plans ends drawn sent) (requests_at later plans ends drawn sent)
       (record { views = λ k v at. at; marks = λ unit number c mark asks there. there; drawn = λ challenge is. is; uses = omega (arith, onward) }) holds.apart;
   members = holds.members;
+  accepted = holds.accepted;
+  answered = holds.answered;
+}
+
+-- the plans are others, which are alike but for secrets
+pub plans_so : (n : ℕ) (plans later : List MemberPlan) (ends : EndStates) (drawn : List (List ℕ)) (links : List Route) (sent : List Sent) (messages : List MessageTaken) → AreAlikeButSecrets plans later →
+    CallsHold n plans ends drawn links sent messages → CallsHold n later ends drawn links sent messages
+plans_so n plans later ends drawn links sent messages alike holds = record {
+  apart = looser (requests_at n plans ends drawn sent) (requests_at n later ends drawn sent) (record {
+    views = λ k v at. ap (λ (c : ℕ). seen_member c (slice_get ends.members k)) (sym (controllers_alike plans later k ends alike)) ∙ at;
+    marks = λ unit number c mark asks there. there;
+    drawn = λ challenge is. is;
+    uses = omega arith;
+  }) holds.apart;
+  members = λ k m there. subst (λ (c : ℕ). MemberHolds links sent messages c k m.running) (sym (controllers_alike plans later k ends alike)) (holds.members k m there);
   accepted = holds.accepted;
   answered = holds.answered;
 }

@@ -1,6 +1,6 @@
 -- Each step of an end at which no bytes come keeps what is known of calls, and so does an end that is made anew.
 -- It serves `runs_stand_so`.
-use Rattle.std.proofs.Common.{◌≡◌, ◌⊎◌, ℕ, ◌+◌, ◌*◌, ◌≤◌, ◌==◌, Bool, true, false, List, [], ◌++◌, inl, inr, Option, Some, None, slice_get, slice_set, refl, ap, subst, arith}
+use Rattle.std.proofs.Common.{◌≡◌, ◌⊎◌, ℕ, ◌+◌, ◌*◌, ◌≤◌, ◌==◌, Bool, true, false, List, [], ◌++◌, inl, inr, Option, Some, None, slice_get, slice_set, refl, ap, subst, arith, ◌∙◌}
 use Rattle.std.proofs.lemmas.Bool.Decides.{Decides-eqb}
 use Rattle.std.proofs.lemmas.List.{append-nil, length-set}
 use Rattle.outside.specs.Drawing.{Drawing}
@@ -18,7 +18,7 @@ use Rattle.member_server.specs.declared.plan.MemberPlan.{MemberPlan}
 use Rattle.member_server.specs.declared.state.Running.{Running}
 use Rattle.step_notes.specs.CallLogons.{AsksUnlessStopped}
 use Rattle.step_notes.specs.Records.{MessageTaken, Sent}
-use Rattle.step_notes.proofs.Members.CallKeptLaws.{fresh_asks}
+use Rattle.step_notes.proofs.Members.CallKeptLaws.{fresh_asks, change_asks}
 use Rattle.step_notes.proofs.Members.KeptLogonLaws.{Dials}
 use Rattle.step_notes.proofs.Members.UnservedLaws.{Opens}
 use Rattle.world_moves.specs.declared.links.Route.{Route}
@@ -27,7 +27,9 @@ use Rattle.domain_world.specs.Past.{controller_of_plan}
 use Rattle.domain_world.proofs.Accepting.LetInStepLaws.{IsAcceptedBy, IsDialledBy}
 use Rattle.domain_world.proofs.Requests.CallHoldsLaws.{CallsHold, differ_front, ends_other, marks_in, member_changed, more_steps, requests_at, views_at}
 use Rattle.domain_world.proofs.Requests.OutStepLaws.{MemberHolds, StaysKnown, none_out, not_bytes, quiet_holds}
-use Rattle.domain_world.proofs.Requests.StepApartLaws.{CoherentIf, Differ, HearsNone, other_apart, seen_member, seen_or}
+use Rattle.domain_world.proofs.Requests.StepApartLaws.{CoherentIf, Differ, HearsNone, other_apart, seen_member, seen_or, requests_after, seen_running}
+use Rattle.domain_world.proofs.Requests.LooserLaws.{looser}
+use Rattle.world_moves.proofs.ChangeLaws.{member_begun}
 
 -- more steps than those of a schedule, and few enough that no number comes round
 abbrev pub most_steps : ℕ
@@ -128,4 +130,27 @@ module _ (n : ℕ) (plans : List MemberPlan) (ends : EndStates) (links : List Ro
       member_changed plans ends at (fresh_member plan) n n (2 * n) drawn drawn links sent sent messages messages (omega arith) holds
       (calls_stay_apart.renewed r at (λ j. seen_or (j == at) (Some blank) (r.views j)) (λ j v seen. seen_anew (j == at) j at (r.views j) v refl seen) holds.apart)
       (record { asks = fresh_asks plan; kept = (tt, tt); accepts = tt; out = λ pending logon turn reply there. absurd (none_out pending turn) })
+      (λ k other. nothing_new links sent messages k) holds.accepted holds.answered
+
+  -- it begins to change its secret: it is seen as before
+  seen_still : (secret : List ℕ) (running : Running) (at j : ℕ) (hit : Bool) (v : View) → slice_get ends.members at ≡ Some (record { running = Some running }) → (j == at) ≡ hit →
+      seen_or hit (seen_running (controller_of_plan (slice_get plans at) ends) (member_begun secret running).running) (views_at plans ends j) ≡ Some v → views_at plans ends j ≡ Some v
+  seen_still secret running at j false v there is seen = seen
+  seen_still secret running at j true v there is seen =
+      ap (λ (k : ℕ). views_at plans ends k) ((Decides-eqb j at).0 is) ∙ ap (λ (x : Option MemberState). seen_member (controller_of_plan (slice_get plans at) ends) x) there ∙ seen
+
+  pub member_changes : (secret : List ℕ) (running : Running) (at : ℕ) (drawn : List (List ℕ)) → slice_get ends.members at ≡ Some (record { running = Some running }) →
+      running.logons.plan.secrets.next ≡ None → KeptSo n plans ends drawn links sent messages → KeptSo (n + 1) plans (with_member at (member_begun secret running) ends) drawn links sent messages
+  member_changes secret running at drawn is none kept few differ =
+      let controller : ℕ = controller_of_plan (slice_get plans at) ends in
+      let holds : CallsHold n plans ends drawn links sent messages = kept (omega (arith, few)) differ in
+      let own : MemberHolds links sent messages controller at (Some running) = holds.members at (record { running = Some running }) is in
+      member_changed plans ends at (member_begun secret running) n (n + 1) (2 * n) drawn drawn links sent sent messages messages (omega arith) holds
+      (looser (requests_at n plans ends drawn sent) (requests_after (views_at plans ends) at controller (member_begun secret running).running (marks_in sent) drawn (2 * n)) (record {
+        views = λ j v seen. seen_still secret running at j (j == at) v is refl seen;
+        marks = λ unit number c mark asks there. there;
+        drawn = λ challenge was. was;
+        uses = omega arith;
+      }) holds.apart)
+      (record { asks = change_asks secret running none own.asks; kept = own.kept; accepts = own.accepts; out = own.out })
       (λ k other. nothing_new links sent messages k) holds.accepted holds.answered

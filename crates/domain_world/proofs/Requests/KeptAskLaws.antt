@@ -13,9 +13,10 @@ use Rattle.world_moves.specs.declared.moves.Move.{Move}
 use Rattle.world_moves.specs.declared.plan.Plan.{Plan}
 use Rattle.domain_world.specs.Claims.AskedFor.{MembersAskForKept}
 use Rattle.domain_world.specs.Past.{past}
-use Rattle.step_notes.proofs.Members.CallKeptLaws.{fresh_asks, step_asks}
+use Rattle.step_notes.proofs.Members.CallKeptLaws.{change_asks, fresh_asks, step_asks}
 use Rattle.domain_world.proofs.Frames.FrameLaws.{run_stays}
 use Rattle.domain_world.proofs.Frames.MemberFrameLaws.{AmongMembers, KeepsMembers, MembersFact, members_written}
+use Rattle.world_moves.proofs.ChangeLaws.{member_begun}
 
 -- ---- a run
 
@@ -56,6 +57,8 @@ ask_on = record {
   opens = λ nothing route members chances links all. all;
   accepts = λ nothing m at route now members chances links accepts is all. hear_ask m at (event.Opened (length links)) now members chances.left is all;
   comes = λ m at w piece s after b is all. hear_ask m at (event.Bytes w.link piece) s.moment s.ends.members s.chances.left is all;
+  changes = λ nothing secret running at members chances links is none all.
+      set_ask members at (member_begun secret running) (change_asks secret running none (one_asks members at (record { running = Some running }) is all)) all;
   anew = λ nothing plan at members chances links all. set_ask members at (fresh_member plan) (fresh_asks plan) all;
 }
 

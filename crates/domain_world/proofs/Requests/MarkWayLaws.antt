@@ -178,6 +178,7 @@ nothing_else = record {
     opens = λ route now ends chances links holds. tt;
     controllers = λ c at ends chances links there holds. tt;
     members = λ plan at ends chances links holds. tt;
+    changes = λ secret running at ends chances links is none holds. tt;
     clients = λ client at ends chances links holds. tt;
   };
   bytes = λ end w piece s after b holds. tt;

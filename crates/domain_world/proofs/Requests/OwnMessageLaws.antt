@@ -18,7 +18,7 @@ use Rattle.step_notes.specs.MemberNotes.{LinkAt, link_of_place, link_units, mess
 use Rattle.step_notes.specs.Records.{Book, MessageTaken, unit_in, OfMember}
 use Rattle.world_moves.specs.declared.state.State.{State}
 use Rattle.domain_world.specs.Past.{Coming, at_member, change_message, note_member, note_messages, with_answer, with_call}
-use Rattle.step_notes.proofs.Members.CallKeptLaws.{fresh_asks, step_asks}
+use Rattle.step_notes.proofs.Members.CallKeptLaws.{change_asks, fresh_asks, step_asks}
 use Rattle.step_notes.proofs.Members.KeptLogonLaws.{Dials, IsFor, KeptIn, bytes_keep, kept_so, one_before, step_keeps}
 use Rattle.step_notes.proofs.Members.UnservedLaws.{LinksIn, Opens, bytes_took, step_known, took_known}
 use Rattle.domain_world.proofs.Accepting.Messages.MessageNoteLaws.{changed, one_so}
@@ -28,6 +28,7 @@ use Rattle.domain_world.proofs.Frames.MemberFrameLaws.{AmongMembers, KeepsMember
 use Rattle.domain_world.proofs.Frames.EndNoteLaws.{messages_in, messages_so}
 use Rattle.domain_world.proofs.Frames.EventLaws.{quiet_no_bytes}
 use Rattle.domain_world.proofs.Frames.TurnFrameLaws.{asked_keep}
+use Rattle.world_moves.proofs.ChangeLaws.{member_begun}
 
 -- ---- the message of a logon
 
@@ -204,6 +205,9 @@ kept_on = record {
   opens = λ messages route members chances links all. all;
   accepts = λ messages m at route now members chances links accepts is all. hear_kept messages m at (event.Opened (length links)) now members chances.left tt is all;
   comes = λ m at w piece s after b is all. member_bytes m at w piece s after b is all;
+  changes = λ messages secret running at members chances links is none all.
+      (let kept : KeptOf messages (Some running) = one_kept messages members at (record { running = Some running }) is all in
+      set_kept messages members at (member_begun secret running) (change_asks secret running none kept.0, kept.1, kept.2) all);
   anew = λ messages plan at members chances links all. set_kept messages members at (fresh_member plan) (fresh_kept messages plan) all;
 }
 

@@ -10,14 +10,14 @@ use Rattle.logon_client.specs.declared.plan.ClientPlan.{ClientPlan}
 use Rattle.member_server.specs.declared.plan.MemberPlan.{MemberPlan}
 use Rattle.step_notes.specs.Records.{ChannelTurn}
 use Rattle.world_moves.specs.declared.links.EndId.{EndId}
-use Rattle.world_moves.specs.declared.links.EndId.TheVariants.{Client}
+use Rattle.world_moves.specs.declared.links.EndId.TheVariants.{Client, Member}
 use Rattle.world_moves.specs.declared.moves.Move.{Move}
 use Rattle.world_moves.specs.declared.state.State.{State}
 use Rattle.world_moves.specs.declared.state.WaitingDial.{WaitingDial}
 use Rattle.world_moves.specs.Acting.{Given, Heard, forget, given_by, hear, hear_and_act, perform_quietly}
 use Rattle.world_moves.specs.Ends.{EndStates}
 use Rattle.world_moves.specs.Links.{acceptor_of}
-use Rattle.world_moves.specs.Moving.{begun, renewed, with_link, without_first}
+use Rattle.world_moves.specs.Moving.{begun, changed, renewed, with_link, without_first}
 use Rattle.world_moves.specs.World.{first_world}
 use Rattle.domain_world.specs.Past.{turns_in, past}
 use Rattle.domain_world.proofs.Frames.EndNoteLaws.{bytes_turns}
@@ -57,6 +57,8 @@ pub record KeepsDials (Holds : DialFact) : Type 0 where
       AtState Holds (Some dial.end) [] (without_first s) [] turns
   pub forgets : (end : EndId) (s : State) (turns : List ChannelTurn) → AtState Holds None [] s [] turns → AtState Holds None [] (forget end s) [] turns
   pub renews : (end : EndId) (s : State) (turns : List ChannelTurn) → AtState Holds None [] s [] turns → AtState Holds None [] (renewed end (forget end s)) [] turns
+  -- a member begins to change its secret
+  pub changes : (at : ℕ) (secret : List ℕ) (s : State) (turns : List ChannelTurn) → AtState Holds None [] s [] turns → IsHeard Holds None [] (Member at) (changed at secret s) [] turns
   -- the move is over
   pub over : (s : State) (given : Given) (turns : List ChannelTurn) → AtState Holds None [] s given turns → AtState Holds None [] s [] (turns ++ turns_in given s)
 
@@ -84,6 +86,7 @@ module _ (Holds : DialFact) (keeps : KeepsDials Holds) where
     settles = λ n at on number s b none holds. holds;
     dials = λ n at dial s b is none holds. keeps.first dial s b.turns is holds;
     renews = λ n at end s b none holds. keeps.renews end s b.turns holds;
+    changes = λ n at member secret s b none holds. keeps.changes member secret s b.turns holds;
     ticks = λ n at more s b none holds. holds;
     over = λ n at on next s given b none holds. keeps.over s given b.turns holds;
   }

@@ -79,7 +79,7 @@ lands_closing_two s v unit later end one other ends ones others left link next a
     ∙ ap (λ (o : Option OpenLink). (perform_all end rest (close_open o end link s2).state).state) (ap (λ (o : OpenMap). lookup same_number link o) shows.opened ∙ closes.found)
     ∙ ap (λ (h : Option EndId). (perform_all end rest (closed_at h link (shut_link link s2)).state).state) closes.side
     ∙ ap (λ (h : Heard). (perform_all end rest (done_quietly one h).state).state) heard_one
-    ∙ ap (λ (t : State). (perform_all end (action.Close next cause_too ∷ []) t).state) (idle_quiet end (action.Told tells what) s3 refl refl)
+    ∙ ap (λ (t : State). (perform_all end (action.Close next cause_too ∷ []) t).state) (idle_quiet end (action.Told tells what) s3 refl refl refl)
     ∙ ap (λ (o : Option OpenLink). (close_open o end next s3).state)
     (ap (λ (o : OpenMap). lookup same_number next (take_out same_number link o)) shows.opened ∙ closes_too.found)
     ∙ ap (λ (h : Option EndId). (closed_at h next (shut_link next s3)).state) closes_too.side

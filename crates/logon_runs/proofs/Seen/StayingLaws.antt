@@ -2,6 +2,7 @@
 -- Of `ends_stay`.
 use Rattle.std.proofs.Common.{◌≡◌, ℕ, List, [], ◌∷◌, length, Some, refl, ap, ap₂, ◌∙◌, slice_set}
 use Rattle.std.proofs.lemmas.List.{length-set}
+use Rattle.outside.specs.declared.action.Action.{Action}
 use Rattle.outside.specs.declared.event.Event.{Event}
 use Rattle.domain_controller.specs.State.{State as ControllerState}
 use Rattle.domain_controller.specs.Step.{first_state, step_of as controller_step_of}
@@ -15,8 +16,10 @@ use Rattle.world_moves.specs.declared.state.State.{State}
 use Rattle.world_moves.specs.Acting.{forget, hear, perform_quietly, shut_link}
 use Rattle.world_moves.specs.Ends.{EndStates, EndStep, end_in}
 use Rattle.world_moves.specs.MemberPlans.{AreAlikeButSecrets}
-use Rattle.world_moves.specs.Moving.{answered_link, begun, connect, end_of_peer, onward, renewed, settle, start, tick, with_link, without_first}
+use Rattle.world_moves.specs.Moving.{answered_link, begun, changed, connect, end_of_peer, onward, renewed, settle, start, tick, with_link, without_first}
+use Rattle.world_moves.proofs.ChangeLaws.{by_change, member_begun}
 use Rattle.world_moves.proofs.EndKindLaws.{renew_by, step_by}
+use Rattle.world_moves.proofs.KeptLaws.{plans_alike}
 use Rattle.world_moves.proofs.StateFrameLaws.{HoldsMoving, move_so}
 use Rattle.logon_runs.specs.Seen.Staying.{AreAsMany, EndsStay, HasSameEnds}
 
@@ -67,6 +70,11 @@ renewed_same end s =
     (renew_by (λ (one : EndId) (ends : EndStates). AreAsMany s.ends ends) s (λ one. as_many s.ends) (λ at c is. controller_set s.ends at (first_state c.table c.name))
     (λ at plan is. member_set s.ends at (fresh_member plan)) (λ at plan is. client_set s.ends at (fresh_client plan)) end)
 
+changed_same : (at : ℕ) (secret : List ℕ) (s : State) → HasSameEnds s (changed at secret s).state
+changed_same at secret s =
+    of_ends s (changed at secret s).state refl refl
+    (by_change (λ (ends : EndStates) (actions : List Action). AreAsMany s.ends ends) at secret s.ends (as_many s.ends) (λ running is none. member_set s.ends at (member_begun secret running)))
+
 -- ---- a move
 
 moves_same : HoldsMoving HasSameEnds
@@ -75,7 +83,7 @@ moves_same = record {
     none = same_ends;
     both = both_same;
     hears = heard_same;
-    acts = λ end what s. of_ends s (perform_quietly end what s) refl refl (as_many s.ends);
+    acts = λ end what s. of_ends s (perform_quietly end what s) (plans_alike end what s.member_plans) refl (as_many s.ends);
     shuts = λ link s. of_ends s (shut_link link s) refl refl (as_many s.ends);
   };
   begins = λ client plan s. of_ends s (begun client plan s).state refl refl (client_set s.ends client (begin_of (fresh_client plan)).state);
@@ -85,6 +93,7 @@ moves_same = record {
   settles = λ number s. of_ends s (settle number s) refl refl (as_many s.ends);
   dials = λ s. of_ends s (without_first s) refl refl (as_many s.ends);
   renews = renewed_same;
+  changes = changed_same;
   ticks = λ more s. of_ends s (tick more s) refl refl (as_many s.ends);
 }
 

@@ -17,6 +17,7 @@ by_step P connects comes ticks (move.Deliver unit link) steps = absurd steps
 by_step P connects comes ticks (move.Hand link back bytes) steps = absurd steps
 by_step P connects comes ticks (move.Shut number) steps = absurd steps
 by_step P connects comes ticks (move.Restart number) steps = absurd steps
+by_step P connects comes ticks (move.Change member secret) steps = absurd steps
 
 -- ---- whether a unit comes
 

@@ -19,14 +19,14 @@ use Rattle.step_notes.proofs.Controllers.JudgedInRangeLaws.{replies_are_read}
 use Rattle.domain_controller.specs.Hearing.{hear as hear_unit}
 use Rattle.world_moves.specs.declared.bag.BagUnit.{BagUnit}
 use Rattle.world_moves.specs.declared.links.EndId.{EndId}
-use Rattle.world_moves.specs.declared.links.EndId.TheVariants.{Controller, Client}
+use Rattle.world_moves.specs.declared.links.EndId.TheVariants.{Controller, Client, Member}
 use Rattle.world_moves.specs.declared.moves.Move.{Move}
 use Rattle.world_moves.specs.declared.plan.Plan.{Plan}
 use Rattle.world_moves.specs.declared.state.State.{State}
 use Rattle.world_moves.specs.Acting.{Given, Heard, hear, hear_and_act}
 use Rattle.world_moves.specs.Forms.{IsSchedule}
 use Rattle.world_moves.specs.Links.{acceptor_of}
-use Rattle.world_moves.specs.Moving.{begun, with_link}
+use Rattle.world_moves.specs.Moving.{begun, with_link, changed}
 use Rattle.domain_world.specs.Accepting.Carried.{IsJudgedAsCarried, JudgedAsCarried}
 use Rattle.domain_world.specs.Accepting.ReadBack.{RepliesAreReadBack}
 use Rattle.domain_world.specs.Past.{Coming, Past, answers_of, at_controller, judged_of, note_at, note_controller, numbers_on, past, plain_form}
@@ -126,6 +126,7 @@ judged_keeps = record {
   settles = λ n number s given b quiet stand. settled_stand number s.bag b.judged stand;
   dials = λ n s given b quiet stand. stand;
   renews = λ n end s given b quiet stand. stand;
+  changes = λ n member secret s given b quiet stand. heard_stand (n + 1) (Member member) (changed member secret s) given b stand;
   ticks = λ n more s given b quiet stand. stand;
   over = λ n at s given b quiet stand. stand;
 }

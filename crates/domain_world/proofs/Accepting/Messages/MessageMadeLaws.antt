@@ -88,6 +88,7 @@ answers_stay made = record {
   opens = λ route now plans ends chances links kept. hear_answers (acceptor_of route) made (event.Opened (length links)) now plans ends chances (links) kept;
   controllers = λ c at plans ends chances links is kept. kept;
   members = λ plan at plans ends chances links kept. kept;
+  changes = λ secret running at plans ends chances links is none kept. kept;
   begins = λ plan at plans ends chances links is kept.
       client_put made plans ends.clients chances.left chances.left at (begin_of (fresh_client plan)).state kept kept.eights (all_at HasNames plans at plan kept.names is);
   clients = λ plan at plans ends chances links is kept.

@@ -44,6 +44,7 @@ use Rattle.domain_world.proofs.Frames.LeftLaws.{AreEights, eights_after, eights_
 use Rattle.domain_world.proofs.Frames.AllLaws.{all_join}
 use Rattle.domain_world.proofs.Frames.MemberFrameLaws.{AmongMembers, KeepsMembers, MembersFact, members_written}
 use Rattle.domain_world.proofs.Frames.TurnFrameLaws.{asked_keep}
+use Rattle.world_moves.proofs.ChangeLaws.{member_begun}
 
 -- ---- what is kept
 
@@ -289,6 +290,8 @@ sends_on = record {
       hear_sends written m at (event.Opened (length links)) now members chances.left (links ++ route ∷ []) is (last_unsent written links route at accepts kept.below)
       (link_made written members links chances.left route kept);
   comes = λ m at w piece s after b is kept. member_heard m at w piece s after b is kept;
+  changes = λ written secret running at members chances links is none kept.
+      member_put written members links chances.left chances.left at (member_begun secret running) kept kept.eights (kept.each at (record { running = Some running }) is);
   anew = λ written plan at members chances links kept. member_put written members links chances.left chances.left at (fresh_member plan) kept kept.eights tt;
 }
 

@@ -15,7 +15,7 @@ use Rattle.world_moves.specs.declared.moves.Move.TheVariants as move
 use Rattle.domain_world.specs.Accepting.Runs.{IsQuiet, IsQuietLink, IsQuietTurn}
 use Rattle.domain_world.specs.Past.{past}
 use Rattle.domain_world.specs.Schedules.{OfSchedules}
-use Rattle.domain_world.proofs.Accepting.Quiet.QuietStepLaws.{ClientIsQuiet, ControllerIsQuiet, IsClients, IsMade, Meets, MeetsClient, MeetsMember, MemberIsQuiet, QuietAction, QuietFact, QuietState, StandsQuiet, WholeBag, WholeIfCarried, end_steps, with_bag}
+use Rattle.domain_world.proofs.Accepting.Quiet.QuietStepLaws.{ClientIsQuiet, ControllerIsQuiet, IsClients, IsMade, Meets, MeetsClient, MeetsMember, MemberIsQuiet, QuietAction, QuietFact, QuietState, StandsQuiet, WholeBag, WholeIfCarried, end_steps, with_bag, RunningIsQuiet}
 use Rattle.domain_world.proofs.Frames.LeftLaws.{first_left_blocks}
 use Rattle.domain_world.proofs.Frames.StepFrameLaws.{HoldsAfterRun, run_carries}
 use Rattle.std.proofs.Common.{◌≡◌, ℕ, zero, suc, ◌+◌, ◌<◌, ◌≤◌, ◌^◌, Bool, true, false, List, [], ◌∷◌, ◌++◌, drop, length, map, min, nat_le, inl, inr, Option, Some, None, slice_get, slice_set, if◌then◌else◌, refl, sym, ap, subst, ◌∙◌, arith, append-nil}
@@ -55,12 +55,12 @@ use Rattle.world_moves.specs.declared.links.Route.{Route}
 use Rattle.world_moves.specs.declared.links.Route.TheVariants.{ToMember, ToController, Stranger}
 use Rattle.world_moves.specs.declared.plan.Plan.{Plan}
 use Rattle.world_moves.specs.declared.state.State.{State}
-use Rattle.world_moves.specs.Acting.{Given, hear, perform_quietly, unit_on}
+use Rattle.world_moves.specs.Acting.{Given, hear, perform_quietly, unit_on, units_of_action, plans_after}
 use Rattle.world_moves.specs.Bag.{piece_limit, pieces_in, pieces_of, settle_at, AreShortUnits, HaveBytes}
-use Rattle.world_moves.specs.Ends.{EndStates, renew_controller, renew_member}
+use Rattle.world_moves.specs.Ends.{EndStates, renew_controller, renew_member, with_member}
 use Rattle.world_moves.specs.Forms.{HasForms, IsMemberPlan, IsTable}
 use Rattle.world_moves.specs.Links.{acceptor_of, dialler_of, kind_of}
-use Rattle.world_moves.specs.Moving.{renewed, settle, with_link}
+use Rattle.world_moves.specs.Moving.{renewed, settle, with_link, changed}
 use Rattle.world_moves.specs.World.{IsPlan, first_controllers, first_world, run}
 use Rattle.world_moves.proofs.RangeLaws.{table_in_range}
 use Rattle.world_moves.proofs.QuietLaws.{units_by}
@@ -78,6 +78,10 @@ use Rattle.domain_world.proofs.Frames.OpenMadeLaws.{IsAtSide}
 use Rattle.domain_world.proofs.Frames.StepFrameLaws.{HasHeard, Keeps, NoFact}
 use Rattle.domain_world.proofs.Frames.EndFrameLaws.{IsCalm, by_calm}
 use Rattle.domain_world.proofs.Frames.PlacedLaws.{HandsBytes, HasBytes, IsBytesBag, short_units, units_have_bytes}
+use Rattle.domain_world.proofs.Frames.MemberPlanLaws.{names_alike}
+use Rattle.world_moves.proofs.ChangeLaws.{by_change, member_begun}
+use Rattle.world_moves.proofs.KeptLaws.{plans_alike}
+use Rattle.world_moves.specs.MemberPlans.{AreAlikeButSecrets}
 
 -- ---- links
 
@@ -250,12 +254,32 @@ sent_whole end links what link bytes route is fine made =
     let all : QuietAction end links (Send link bytes) = subst (QuietAction end links) is fine in
     ((λ on. let own = members_link route on in all.0 (own.0, own.1.0, made ∙ ap (λ (r : Route). Some r) own.1.1)), all.1)
 
-action_quiet : (end : EndId) (what : Action) (s : State) → QuietAction end s.links what → QuietState s → QuietState (perform_quietly end what s)
-action_quiet end what s fine quiet =
+-- the same, where the plans are alike but for secrets
+with_plans : (plans later : List MemberPlan) (tasks : List ClientPlan) (links : List Route) (units : List BagUnit) (ends : EndStates) (now : ℕ) (left : List (List ℕ)) → AreAlikeButSecrets plans later →
+    StandsQuiet plans tasks links units ends now left → StandsQuiet later tasks links units ends now left
+with_plans plans later tasks links units ends now left alike quiet = record {
+  bag = quiet.bag;
+  controllers = quiet.controllers;
+  members = quiet.members;
+  clients = quiet.clients;
+  moment = quiet.moment;
+  blocks = quiet.blocks;
+  plans = names_alike IsName plans later alike quiet.plans;
+  follow = quiet.follow;
+}
+
+units_quiet : (end : EndId) (what : Action) (s : State) → QuietAction end s.links what → QuietState s →
+    StandsQuiet s.member_plans s.client_plans s.links (s.bag ++ units_of_action s.links end what) s.ends s.moment s.chances.left
+units_quiet end what s fine quiet =
     units_by (λ (units : List BagUnit). StandsQuiet s.member_plans s.client_plans s.links (s.bag ++ units) s.ends s.moment s.chances.left) s.links end what
     (with_bag s (s.bag ++ []) quiet (subst WholeBag (sym (append-nil s.bag)) quiet.bag))
     (λ link bytes route sends made own.
     with_bag s (s.bag ++ unit_on route end link bytes ∷ []) quiet (bag_more s.bag (unit_on route end link bytes) quiet.bag (sent_whole end s.links what link bytes route sends fine made)))
+
+action_quiet : (end : EndId) (what : Action) (s : State) → QuietAction end s.links what → QuietState s → QuietState (perform_quietly end what s)
+action_quiet end what s fine quiet =
+    with_plans s.member_plans (plans_after end what s.member_plans) s.client_plans s.links (s.bag ++ units_of_action s.links end what) s.ends s.moment s.chances.left (plans_alike end what s.member_plans)
+    (units_quiet end what s fine quiet)
 
 -- ---- one thing changes
 
@@ -318,6 +342,18 @@ renewed_quiet end s quiet =
     renew_by (λ (one : EndId) (ends : EndStates). StandsQuiet s.member_plans s.client_plans s.links s.bag ends s.moment s.chances.left) s (λ one. quiet) (λ at c is. controller_renewed c at s is quiet)
     (λ at plan is. member_renewed plan at s is quiet) (λ at plan is. client_put at (client.fresh_client plan) s (fresh_client s.links at plan (quiet.follow at plan is)) quiet) end
 
+-- a member begins to change its secret
+change_quiet : (n at : ℕ) (secret : List ℕ) (s : State) (given : Given) (b : Book) → QuietState s → HasHeard QuietFact QuietAction (n + 1) (Member at) (changed at secret s) given b
+change_quiet n at secret s given b quiet = record {
+  holds = by_change (λ (ends : EndStates) (actions : List Action). StandsQuiet s.member_plans s.client_plans s.links s.bag ends s.moment s.chances.left) at secret s.ends quiet
+      (λ running is none.
+      (let was : RunningIsQuiet s.links at running = quiet.members at (record { running = Some running }) is in
+      with_ends s (with_member at (member_begun secret running) s.ends) quiet quiet.controllers
+      (each_put (λ i (one : MemberState). MemberIsQuiet s.links i one.running) s.ends.members at (member_begun secret running) (λ i one other there. quiet.members i one there)
+      (record { range = record { channel = was.range.channel; links = was.range.links; dialling = was.range.dialling }; turn = was.turn; accepted = was.accepted })) quiet.clients));
+  fine = by_change (λ (ends : EndStates) (actions : List Action). AllByRecursion (QuietAction (Member at) s.links) actions) at secret s.ends tt (λ running is none. (tt, tt));
+}
+
 moment_by : (early : Bool) (more now : ℕ) → now < 2 ^ 64 → (if early then min (now + more) (2 ^ 63) else now) < 2 ^ 64
 moment_by true more now below = omega arith
 moment_by false more now below = below
@@ -349,6 +385,7 @@ quiet_keeps = record {
   settles = λ n number s given b none quiet. settled_quiet number s quiet;
   dials = λ n s given b none quiet. quiet;
   renews = λ n end s given b none quiet. renewed_quiet end s quiet;
+  changes = λ n at secret s given b none quiet. change_quiet n at secret s given b quiet;
   ticks = λ n more s given b none quiet. record {
     bag = quiet.bag;
     controllers = quiet.controllers;
@@ -435,6 +472,7 @@ handed (move.Lose ∷ moves) forms = (tt, handed moves (All-tail HasMoveForm mov
 handed (move.Deliver unit link ∷ moves) forms = (tt, handed moves (All-tail HasMoveForm (move.Deliver unit link) moves forms))
 handed (move.Shut number ∷ moves) forms = (tt, handed moves (All-tail HasMoveForm (move.Shut number) moves forms))
 handed (move.Restart number ∷ moves) forms = (tt, handed moves (All-tail HasMoveForm (move.Restart number) moves forms))
+handed (move.Change member secret ∷ moves) forms = (tt, handed moves (All-tail HasMoveForm (move.Change member secret) moves forms))
 handed (move.Tick more ∷ moves) forms = (tt, handed moves (All-tail HasMoveForm (move.Tick more) moves forms))
 
 -- the units of a quiet bag are short, and have bytes

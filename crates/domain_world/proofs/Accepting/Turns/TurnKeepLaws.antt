@@ -16,7 +16,7 @@ use Rattle.step_notes.specs.Records.{Book, MessageTaken, OutcomeTold, Sent, blan
 use Rattle.step_notes.proofs.Members.KeptLogonLaws.{Dials, KeptIn}
 use Rattle.world_moves.specs.declared.bag.BagUnit.{BagUnit}
 use Rattle.world_moves.specs.declared.links.EndId.{EndId}
-use Rattle.world_moves.specs.declared.links.EndId.TheVariants.{Controller, Client}
+use Rattle.world_moves.specs.declared.links.EndId.TheVariants.{Controller, Client, Member}
 use Rattle.world_moves.specs.declared.moves.Move.{Move}
 use Rattle.world_moves.specs.declared.plan.Plan.{Plan}
 use Rattle.world_moves.specs.declared.state.State.{State}
@@ -25,14 +25,14 @@ use Rattle.world_moves.specs.Counting.{is_in}
 use Rattle.world_moves.specs.Ends.{EndStates, EndStep, client_step, controller_step, no_step}
 use Rattle.world_moves.specs.Links.{acceptor_of}
 use Rattle.world_moves.specs.MemberPlans.{AreAlikeButSecrets}
-use Rattle.world_moves.specs.Moving.{answered_link, begun, renewed, settle, tick, with_link, without_first}
+use Rattle.world_moves.specs.Moving.{answered_link, begun, renewed, settle, tick, with_link, without_first, changed as change_begun}
 use Rattle.world_moves.specs.World.{World, first_world}
 use Rattle.domain_world.specs.Accepting.Carried.{IsAnswerFor, IsAnsweredInTurn, IsTakenInTurn}
 use Rattle.domain_world.specs.Accepting.ReadBack.{IsLetInInTurn, IsToldInTurn, TurnsAreHeard}
 use Rattle.domain_world.specs.Past.{Coming, Past, answers_of, any_clash, note_at, note_client, note_controller, note_given, past, told_in}
 use Rattle.domain_world.proofs.Accepting.Turns.TurnFactLaws.{Any, AreApart, GrowsTo, HasFree, IsAnswered, IsKnown, KeepFree, MarksAreKnown, SameEnds, TurnFacts, apart_from, let_in_stays, marks_before, past_at, taken_stays, told_stays, world_in}
 use Rattle.domain_world.proofs.Accepting.Turns.TurnNotedLaws.{or_false}
-use Rattle.domain_world.proofs.Accepting.Turns.TurnQuietLaws.{action_still, acts_stay, changed_stays, hear_grows, others_hear, others_tell, over_grows, over_stays, quiet_hears, renew_same, renew_stays, same_ends, step_same, told_yet}
+use Rattle.domain_world.proofs.Accepting.Turns.TurnQuietLaws.{change_same, change_stays, action_still, acts_stay, changed_stays, hear_grows, others_hear, others_tell, over_grows, over_stays, quiet_hears, renew_same, renew_stays, same_ends, step_same, told_yet}
 use Rattle.domain_world.proofs.Accepting.Turns.TurnMarkLaws.{marks_known}
 use Rattle.domain_world.proofs.Accepting.Turns.TurnSideLaws.{TurnSide, member_comes}
 use Rattle.domain_world.proofs.Challenges.MessageApartLaws.{links_in, messages_apart}
@@ -41,6 +41,7 @@ use Rattle.domain_world.proofs.Frames.OpenMadeLaws.{IsAtSide}
 use Rattle.domain_world.proofs.Frames.StepFrameLaws.{AnyAction, all_any, HasHeard, Keeps, RunFact}
 use Rattle.domain_world.proofs.Frames.EndFrameLaws.{IsCalm, by_calm}
 use Rattle.domain_world.proofs.Frames.EndNoteLaws.{noted_by}
+use Rattle.world_moves.proofs.KeptLaws.{plans_alike}
 
 -- ---- what is to hold
 
@@ -150,6 +151,20 @@ module _ (plan : Plan) where
     fine = all_any (begun client own s).actions;
   }
 
+  -- a member begins to change its secret
+  changing : (n member : ℕ) (secret : List ℕ) (s : State) (given : Given) (b : Book) → TurnsHold plan n s given b →
+      HasHeard (TurnsHold plan) AnyAction (n + 1) (Member member) (change_begun member secret s) given b
+  changing n member secret s given b holds = record {
+    holds = (
+      holds.0,
+      λ unclashed apart marks.
+          change_stays plan member secret s given b
+          (holds.1 unclashed apart
+          (marks_before s (change_begun member secret s).state b b (record { bag = kept_same s.bag; sent = λ k one there. there; ends = change_same member secret s }) marks)),
+    );
+    fine = all_any (change_begun member secret s).actions;
+  }
+
   -- through all moves
   pub turns_keep : Keeps (TurnsRestOn plan) (TurnsHold plan) AnyAction
   turns_keep = record {
@@ -161,7 +176,7 @@ module _ (plan : Plan) where
     comes = λ n end w piece s given b side came bytes marked rests holds.
         end_comes end n w piece s (hear_and_act end (event.Bytes w.link piece) s).state given b side came rests holds;
     acts = λ n end what s given b fine rests holds.
-        changed n s (perform_quietly end what s) given b refl (action_still end what s) (same_ends s.ends) (acts_stay plan end what s given b) holds;
+        changed n s (perform_quietly end what s) given b (plans_alike end what s.member_plans) (action_still end what s) (same_ends s.ends) (acts_stay plan end what s given b) holds;
     shuts = λ n link s given b rests holds. beside n s (shut_link link s) given b refl refl refl holds;
     answers = λ n link there s given b is rests holds. beside n s (answered_link link there s) given b refl refl refl holds;
     forgets = λ n end s given b rests holds. beside n s (forget end s) given b refl refl refl holds;
@@ -170,6 +185,7 @@ module _ (plan : Plan) where
         (λ facts. changed_stays plan s (settle number s) given b (kept_settled number s.bag) (same_ends s.ends) facts.free facts) holds;
     dials = λ n s given b rests holds. beside n s (without_first s) given b refl refl refl holds;
     renews = λ n end s given b rests holds. changed n s (renewed end s) given b refl (kept_same s.bag) (renew_same end s) (renew_stays plan end s given b) holds;
+    changes = λ n member secret s given b rests holds. changing n member secret s given b holds;
     ticks = λ n more s given b rests holds. beside n s (tick more s) given b refl refl refl holds;
     over = λ n at s given b rests holds.
         (holds.0, λ unclashed apart marks. over_stays plan at s given b (holds.1 unclashed apart (marks_before s s b (note_given at given s b) (over_grows at given s b) marks)));

@@ -133,6 +133,7 @@ module _ (count : ℕ) where
       opens = λ route now ends chances links holds. sym (step_same _ _ now ends chances).controllers ∙ holds;
       controllers = λ c at ends chances links there holds. length-set ends.controllers at _ ∙ holds;
       members = λ plan at ends chances links holds. holds;
+      changes = λ secret running at ends chances links is none holds. holds;
       clients = λ client at ends chances links holds. holds;
     };
     bytes = λ end w piece s after b holds. sym (step_same end _ s.moment s.ends s.chances).controllers ∙ holds;

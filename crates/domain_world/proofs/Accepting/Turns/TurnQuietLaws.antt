@@ -31,7 +31,7 @@ use Rattle.world_moves.specs.declared.state.State.{State}
 use Rattle.world_moves.specs.Acting.{Given, Heard, given_by, hear, heard_by, perform_quietly}
 use Rattle.world_moves.specs.Counting.{is_in}
 use Rattle.world_moves.specs.Ends.{EndStates, EndStep, actions_by, client_step, controller_step, end_step, member_step, no_step}
-use Rattle.world_moves.specs.Moving.{renewed}
+use Rattle.world_moves.specs.Moving.{renewed, changed}
 use Rattle.world_moves.proofs.LinkFrameLaws.{quiet_stays}
 use Rattle.world_moves.proofs.EndKindLaws.{is_member, renew_by, step_by}
 use Rattle.domain_world.specs.Accepting.ReadBack.{IsLetInInTurn, IsToldInTurn}
@@ -40,6 +40,7 @@ use Rattle.domain_world.proofs.Accepting.Turns.TurnFactLaws.{Any, GrowsTo, HasFr
 use Rattle.domain_world.proofs.Challenges.MessageOnceLaws.{each_put}
 use Rattle.domain_world.proofs.Frames.ComingLaws.{StillHas, StillIn, kept_same, kept_sent}
 use Rattle.domain_world.proofs.Frames.GivenLaws.{told_cases}
+use Rattle.world_moves.proofs.ChangeLaws.{by_change, member_begun}
 
 -- ---- what is told, also in the move that is under way
 
@@ -222,6 +223,27 @@ pub renew_stays : (plan : Plan) (end : EndId) (s : State) (given : Given) (b : B
     TurnFacts plan (renewed end s) b b.messages b.answers (told_yet given b)
 renew_stays plan end s given b facts =
     changed_stays plan s (renewed end s) given b (kept_same s.bag) (renew_same end s) (renew_free end s b.messages facts.free) facts
+
+-- a member begins to change its secret
+pub change_same : (at : ℕ) (secret : List ℕ) (s : State) → SameEnds s.ends (changed at secret s).state.ends
+change_same at secret s =
+    by_change (λ (ends : EndStates) (actions : List Action). SameEnds s.ends ends) at secret s.ends (same_ends s.ends)
+    (λ running is none. record { controllers = refl; members = sym (length-set s.ends.members at _); clients = refl })
+
+change_tells : (at : ℕ) (secret : List ℕ) (s : State) → told_in (given_by (Member at) (changed at secret s).actions) 0 ≡ []
+change_tells at secret s = by_change (λ (ends : EndStates) (actions : List Action). told_in (given_by (Member at) actions) 0 ≡ []) at secret s.ends refl (λ running is none. refl)
+
+change_free : (at : ℕ) (secret : List ℕ) (s : State) (messages : List MessageTaken) → KeepFree s.ends.members messages → KeepFree (changed at secret s).state.ends.members messages
+change_free at secret s messages free =
+    by_change (λ (ends : EndStates) (actions : List Action). KeepFree ends.members messages) at secret s.ends free
+    (λ running is none. free_put s.ends.members at (member_begun secret running) messages free (free at (record { running = Some running }) is))
+
+pub change_stays : (plan : Plan) (at : ℕ) (secret : List ℕ) (s : State) (given : Given) (b : Book) → TurnFacts plan s b b.messages b.answers (told_yet given b) →
+    TurnFacts plan (changed at secret s).state b b.messages b.answers (told_yet (given ++ given_by (Member at) (changed at secret s).actions) b)
+change_stays plan at secret s given b facts =
+    let t : Heard = changed at secret s in
+    member_heard plan s t.state b b given (given_by (Member at) t.actions) (record { bag = kept_same s.bag; sent = λ k one there. there; ends = change_same at secret s }) refl
+    (subst (λ (new : List OutcomeTold). AllByRecursion (IsKnown plan t.state b b.messages) new) (sym (change_tells at secret s)) tt) (change_free at secret s b.messages facts.free) facts
 
 -- ---- what ends gave is written down
 

@@ -11,7 +11,7 @@ use Rattle.world_moves.specs.declared.moves.Move.{Move}
 use Rattle.world_moves.specs.declared.plan.Plan.{Plan}
 use Rattle.world_moves.specs.declared.state.State.{State}
 use Rattle.world_moves.specs.Acting.{Given, hear}
-use Rattle.world_moves.specs.Moving.{begun, with_link}
+use Rattle.world_moves.specs.Moving.{begun, with_link, changed}
 use Rattle.world_moves.specs.Forms.{IsSchedule}
 use Rattle.world_moves.specs.Links.{acceptor_of}
 use Rattle.world_moves.specs.World.{first_world}
@@ -53,6 +53,7 @@ drawn_keep plan = record {
   settles = λ n number s given b none is. is;
   dials = λ n s given b none is. is;
   renews = λ n end s given b none is. is;
+  changes = λ n member secret s given b none is. record { holds = is; fine = all_any (changed member secret s).actions };
   ticks = λ n more s given b none is. is;
   over = λ n at s given b none is. is;
 }

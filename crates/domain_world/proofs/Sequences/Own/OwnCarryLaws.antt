@@ -1,7 +1,7 @@
 -- What is known of the calls of members' turns is carried through a run, where it is kept as bytes come at a member.
 -- It serves `Proved.sequences`.
 use Rattle.std.proofs.Common.{◌≡◌, ℕ, ◌+◌, false, List, [], ◌++◌, Option, Some, None, slice_get, refl, sym, ap, subst, arith}
-use Rattle.std.proofs.lemmas.List.{length-set}
+use Rattle.std.proofs.lemmas.List.{length-set, append-nil}
 use Rattle.outside.specs.Drawing.{Drawing}
 use Rattle.outside.specs.declared.action.Action.{Action}
 use Rattle.outside.specs.declared.event.Event.{Event}
@@ -16,32 +16,33 @@ use Rattle.member_server.specs.declared.state.Running.{Running}
 use Rattle.member_server.proofs.AskedLaws.{asks_what_waits}
 use Rattle.step_notes.specs.Records.{Book, ChannelTurn, Sent, blank, OfMember, RequesterId}
 use Rattle.world_moves.specs.declared.links.EndId.{EndId}
-use Rattle.world_moves.specs.declared.links.EndId.TheVariants.{Client}
+use Rattle.world_moves.specs.declared.links.EndId.TheVariants.{Client, Member}
 use Rattle.world_moves.specs.declared.plan.Plan.{Plan}
 use Rattle.world_moves.specs.declared.state.State.{State}
 use Rattle.world_moves.specs.Acting.{Given, given_by}
-use Rattle.world_moves.specs.Ends.{EndStates, renew_client, renew_controller, renew_member}
+use Rattle.world_moves.specs.Ends.{EndStates, renew_client, renew_controller, renew_member, with_member}
 use Rattle.world_moves.specs.MemberPlans.{AreAlikeButSecrets}
-use Rattle.world_moves.specs.Moving.{begun, renewed}
+use Rattle.world_moves.specs.Moving.{begun, changed as begun_change, renewed}
 use Rattle.world_moves.specs.World.{first_world}
 use Rattle.world_moves.proofs.EndKindLaws.{renew_by}
 use Rattle.domain_world.specs.Accepting.Sequences.{IsTakenFor}
-use Rattle.domain_world.specs.Past.{controller_asked}
+use Rattle.domain_world.specs.Past.{controller_asked, running_in}
 use Rattle.domain_world.proofs.Accepting.Turns.TurnFactLaws.{AreApart, GrowsTo, SameEnds, marks_before, past_at}
-use Rattle.domain_world.proofs.Accepting.Turns.TurnQuietLaws.{renew_same, same_ends}
+use Rattle.domain_world.proofs.Accepting.Turns.TurnQuietLaws.{change_same, renew_same, same_ends}
 use Rattle.domain_world.proofs.Challenges.MessageApartLaws.{links_in}
 use Rattle.domain_world.proofs.Frames.ComingLaws.{StillHas, kept_same}
 use Rattle.domain_world.proofs.Frames.EventLaws.{by_no_bytes}
 use Rattle.domain_world.proofs.Frames.NoBytesLaws.{IsNoBytes}
 use Rattle.domain_world.proofs.Requests.CallHoldsLaws.{marks_in}
 use Rattle.domain_world.proofs.Requests.StepApartLaws.{Differ, HearsNone}
-use Rattle.domain_world.proofs.Sequences.DialCountLaws.{given_append, given_other}
-use Rattle.domain_world.proofs.Sequences.Own.OwnFrameLaws.{StillDrawn, mine_drawn}
+use Rattle.domain_world.proofs.Sequences.DialCountLaws.{given_append, given_dials, given_other}
+use Rattle.domain_world.proofs.Sequences.Own.OwnFrameLaws.{text_dials, StillDrawn, mine_drawn}
 use Rattle.domain_world.proofs.Sequences.Own.OwnKeepLaws.{OwnHolds}
-use Rattle.domain_world.proofs.Sequences.Own.OwnStayLaws.{HearsIf, NoNewCalls, OwnFacts, all_stay, on_any, OwnBy, OwnOf, own_put}
+use Rattle.domain_world.proofs.Sequences.Own.OwnStayLaws.{one_stays, HearsIf, NoNewCalls, OwnFacts, all_stay, on_any, OwnBy, OwnOf, own_put}
 use Rattle.domain_world.proofs.Sequences.Own.OwnTurnLaws.{AreDrawn, mine}
 use Rattle.domain_world.proofs.Sequences.SeedTurnLaws.{turned_blank}
 use Rattle.domain_world.proofs.Frames.RequesterLaws.{not_client, asker_in, asker_first}
+use Rattle.world_moves.proofs.ChangeLaws.{by_change, member_begun, text_begun}
 
 -- ---- events at which no bytes come
 
@@ -139,6 +140,51 @@ module _ (plan : Plan) where
     where
       same_draws : (one : EndId) → Differ (renewed one s).chances.drawn → Differ s.chances.drawn
       same_draws one is = is
+
+  -- ---- a member begins to change its secret
+
+  -- what is known of its calls stays known: the channel and the dial are the same
+  changed_own : (Done : ℕ → Type 0) (marks : List Mark) (drawn : List (List ℕ)) (turns : List ChannelTurn) (given : Given) (controller : ℕ) (who : RequesterId) (secret : List ℕ) (running : Running) →
+      OwnBy Done marks drawn turns given controller who (Some running) → OwnBy Done marks drawn turns given controller who (member_begun secret running).running
+  changed_own Done marks drawn turns given controller who secret running old = (
+    record { coherent = old.0.coherent; asked = old.0.asked; out = old.0.out },
+    record { own = old.1.own; none = old.1.none; one = old.1.one; before = old.1.before; turned = old.1.turned; calls = old.1.calls },
+  )
+
+  module _ (s : State) (given : Given) (b : Book) where
+    member_changed : (at : ℕ) (secret : List ℕ) (running : Running) → slice_get s.ends.members at ≡ Some (record { running = Some running }) →
+        SameEnds s.ends (with_member at (member_begun secret running) s.ends) → OwnFacts plan s given b →
+        OwnFacts plan (record s { ends = with_member at (member_begun secret running) s.ends }) (given ++ given_by (Member at) (text_begun secret running)) b
+    member_changed at secret running is same old =
+        let t : State = record s { ends = with_member at (member_begun secret running) s.ends } in
+        let more : Given = given ++ given_by (Member at) (text_begun secret running) in
+        let grows : GrowsTo s t b b = record { bag = kept_same s.bag; sent = λ k one there. there; ends = same } in
+        let still : StillDrawn s.chances.drawn t.chances.drawn = λ challenge was. was in
+        let count : (who : RequesterId) → given_dials who more ≡ given_dials who given =
+        λ who. omega (arith, given_append who given (given_by (Member at) (text_begun secret running)), text_dials who at secret running) in
+        let was : OwnOf plan s given b (OfMember at) (Some running) =
+        subst (λ (found : Option MemberState). OwnOf plan s given b (OfMember at) (running_in found)) is (old.asks (OfMember at)) in
+        let own : OwnOf plan t more b (OfMember at) (Some running) =
+        one_stays plan s t b b refl grows given more still refl (OfMember at) (Some running) (count (OfMember at))
+        (on_any plan s t b b refl grows (controller_asked (OfMember at) s) (Some running) (λ n number timestamp e there. there)) was in
+        record {
+          before = old.before;
+          asks = own_put plan s t b b refl grows given more still refl at (member_begun secret running)
+              (changed_own (IsTakenFor (past_at plan t b)) (marks_in b.sent) t.chances.drawn b.turns more (controller_asked (OfMember at) t) (OfMember at) secret running own) (λ who differs. count who)
+              (λ who differs. on_any plan s t b b refl grows (controller_asked who s) (asker_in who s.ends) (λ n number timestamp e there. there)) old;
+        }
+
+    end_changed : (at : ℕ) (secret : List ℕ) → OwnFacts plan s given b → OwnFacts plan (begun_change at secret s).state (given ++ given_by (Member at) (begun_change at secret s).actions) b
+    end_changed at secret old =
+        by_change (λ (ends : EndStates) (actions : List Action). SameEnds s.ends ends → OwnFacts plan (record s { ends = ends }) (given ++ given_by (Member at) actions) b) at secret s.ends
+        (λ same. subst (λ (all : Given). OwnFacts plan s all b) (sym (append-nil given)) old) (λ running is none same. member_changed at secret running is same old) (change_same at secret s)
+
+  pub own_change : (n at : ℕ) (secret : List ℕ) (s : State) (given : Given) (b : Book) → OwnHolds plan n s given b →
+      OwnHolds plan (n + 1) (begun_change at secret s).state (given ++ given_by (Member at) (begun_change at secret s).actions) b
+  own_change n at secret s given b known few unclashed apart marks differ =
+      end_changed s given b at secret
+      (known (omega (arith, few)) unclashed apart
+      (marks_before s (begun_change at secret s).state b b (record { bag = kept_same s.bag; sent = λ k one there. there; ends = change_same at secret s }) marks) differ)
 
   -- at first
   pub first_own : OwnHolds plan 0 (first_world plan).state [] blank

@@ -27,12 +27,16 @@ use Rattle.world_moves.specs.Ends.{EndStates, EndStep, actions_by, client_step, 
 use Rattle.world_moves.proofs.EndKindLaws.{step_by}
 use Rattle.domain_world.proofs.Requests.CallHoldsLaws.{SameNumbers, differ_front}
 use Rattle.domain_world.proofs.Requests.StepApartLaws.{Differ}
-use Rattle.domain_world.proofs.Sequences.DialCountLaws.{answered_dials, dials_out, given_append, given_dials, given_other}
+use Rattle.domain_world.proofs.Sequences.DialCountLaws.{answered_dials, dials_out, given_append, given_dials, given_other, none_counted}
 use Rattle.domain_world.proofs.Sequences.DialWalkLaws.{DialFact}
 use Rattle.domain_world.proofs.Sequences.Own.OwnTurnLaws.{Answers, AreDrawn, TurnsIf, member_step as own_step, mine, times}
 use Rattle.domain_world.proofs.Sequences.SeedTurnLaws.{Turned, drawn_still, turned_later}
-use Rattle.domain_world.proofs.Frames.RequesterLaws.{asked_in, not_controller, not_client, not_that, asker_in, asker_same, asked_put}
+use Rattle.domain_world.proofs.Frames.RequesterLaws.{asked_in, not_controller, not_client, not_that, asker_in, asker_same, asked_put, asks_at}
 use Rattle.domain_world.specs.Past.{running_in}
+use Rattle.secret_change.specs.Secrets.{written_secrets}
+use Rattle.outside.specs.declared.action.Action.TheVariants.{Keep}
+use Rattle.world_moves.proofs.ChangeLaws.{by_change, member_begun, text_begun, with_next}
+use Rattle.world_moves.specs.Moving.{changed}
 
 -- ---- what is known
 
@@ -173,3 +177,45 @@ pub begin_holds : (client : ℕ) (state : ClientState) (actions : List Action) (
 begin_holds client state actions plans ends dials chances turns known differ =
     others_hold plans ends dials None None [] [] turns (λ who. omega arith) (with_client client state ends) (Client client) actions chances.drawn chances.drawn refl
     (record { controllers = refl; members = refl; clients = length-set ends.clients client state }) (λ who. given_other who (Client client) actions (not_client who client)) (λ challenge is. is) (known differ)
+
+-- ---- a member begins to change its secret
+
+-- its turns and its dials stay as they are
+changed_turns : (who : RequesterId) (controller : ℕ) (d : Option EndId) (rest : Given) (dials : List WaitingDial) (drawn : List (List ℕ)) (given : Given) (turns : List ChannelTurn) (secret : List ℕ) (running : Running) →
+    TurnsIf who controller d rest dials drawn given turns (Some running) → TurnsIf who controller d rest dials drawn given turns (member_begun secret running).running
+changed_turns who controller d rest dials drawn given turns secret running old = record {
+  order = record { coherent = old.order.coherent; asked = old.order.asked; out = old.order.out };
+  out_once = old.out_once;
+  out_waits = old.out_waits;
+  given_once = old.given_once;
+  given_waits = old.given_waits;
+  turned = old.turned;
+}
+
+-- the text that it keeps dials nothing
+pub text_dials : (who : RequesterId) (at : ℕ) (secret : List ℕ) (running : Running) → given_dials who (given_by (Member at) (text_begun secret running)) ≡ 0
+text_dials who at secret running = omega (arith, none_counted (asks_at who (Member at)) (Keep (written_secrets (with_next secret running.logons.plan.secrets))) refl)
+
+pub change_holds : (at : ℕ) (secret : List ℕ) (s : State) (turns : List ChannelTurn) → TurnsKnown None [] s.member_plans s.ends s.dials s.chances [] turns →
+    let heard = changed at secret s in
+    TurnsKnown None (given_by (Member at) heard.actions ++ []) heard.state.member_plans heard.state.ends heard.state.dials heard.state.chances (given_by (Member at) heard.actions) turns
+change_holds at secret s turns known differ =
+    let plans : List MemberPlan = s.member_plans in
+    let holds : TurnsHold None [] plans s.ends s.dials s.chances.drawn [] turns = known differ in
+    by_change (λ (ends : EndStates) (actions : List Action). TurnsHold None (given_by (Member at) actions ++ []) plans ends s.dials s.chances.drawn (given_by (Member at) actions) turns) at secret s.ends holds
+    (λ running is none.
+    (let actions : List Action = text_begun secret running in
+    let one : (who : RequesterId) (c : ℕ) (r : Option Running) → TurnsIf who c None [] s.dials s.chances.drawn [] turns r →
+    TurnsIf who c None (given_by (Member at) actions ++ []) s.dials s.chances.drawn (given_by (Member at) actions) turns r =
+    λ who c r old.
+    one_other plans s.ends s.dials None None [] [] turns (λ other. omega arith) who c (Member at) actions s.chances.drawn s.chances.drawn r (text_dials who at secret running) (λ challenge was. was) old in
+    record {
+      before = holds.before;
+      asks = asked_put
+          (λ (who : RequesterId) (c : ℕ) (r : Option Running). TurnsIf who c None (given_by (Member at) actions ++ []) s.dials s.chances.drawn (given_by (Member at) actions) turns r) plans at
+          (member_begun secret running) s.ends (λ who c. tt)
+          (one (OfMember at) (asked_in (OfMember at) plans s.ends) (member_begun secret running).running
+          (changed_turns (OfMember at) (asked_in (OfMember at) plans s.ends) None [] s.dials s.chances.drawn [] turns secret running
+          (subst (λ (found : Option MemberState). TurnsIf (OfMember at) (asked_in (OfMember at) plans s.ends) None [] s.dials s.chances.drawn [] turns (running_in found)) is (holds.asks (OfMember at)))))
+          (λ who differs. one who (asked_in who plans s.ends) (asker_in who s.ends) (holds.asks who));
+    }))

@@ -32,7 +32,7 @@ use Rattle.world_moves.specs.declared.moves.Move.{Move}
 use Rattle.world_moves.specs.declared.plan.Plan.{Plan}
 use Rattle.world_moves.specs.declared.state.State.{State}
 use Rattle.world_moves.specs.declared.state.WaitingDial.{WaitingDial}
-use Rattle.world_moves.specs.Acting.{Given, forget, is_of_other, perform_quietly}
+use Rattle.world_moves.specs.Acting.{Given, forget, is_of_other, perform_quietly, plans_after}
 use Rattle.world_moves.specs.Moving.{renew}
 use Rattle.world_moves.specs.Ends.{EndStates, renew_client, renew_controller, renew_member}
 use Rattle.world_moves.specs.World.{first_world}
@@ -42,11 +42,12 @@ use Rattle.domain_world.specs.Past.{past, running_in, turns_by, turns_in, contro
 use Rattle.domain_world.proofs.Frames.DrawnRunLaws.{draws_differ}
 use Rattle.domain_world.proofs.Sequences.DialCountLaws.{counted, dials_out, done_same, forgotten_few, given_dials, gone_all, none_counted, one_if, waiting_dials}
 use Rattle.domain_world.proofs.Sequences.DialWalkLaws.{AtState, KeepsDials, dials_after}
-use Rattle.domain_world.proofs.Sequences.Own.OwnFrameLaws.{TurnsHold, TurnsKnown, begin_holds, hear_holds, same_turns}
+use Rattle.domain_world.proofs.Sequences.Own.OwnFrameLaws.{change_holds, TurnsHold, TurnsKnown, begin_holds, hear_holds, same_turns}
 use Rattle.domain_world.proofs.Sequences.Own.OwnTurnLaws.{AreDrawn, TurnsIf, TurnsOf, both_drawn, mine, times, turn_drawn}
 use Rattle.domain_world.proofs.Sequences.SeedTurnLaws.{Turned, on_channel, stamps_on, turned_blank}
-use Rattle.domain_world.proofs.Frames.RequesterLaws.{asked_in, asked_now, asking_end, asks_at, not_controller, not_client, asker_in, RunsWith, asker_runs, stands_open, asker_first, asker_same, asked_put, same_is, same_asks}
+use Rattle.domain_world.proofs.Frames.RequesterLaws.{asked_alike, asked_in, asked_now, asking_end, asks_at, not_controller, not_client, asker_in, RunsWith, asker_runs, stands_open, asker_first, asker_same, asked_put, same_is, same_asks}
 use Rattle.domain_world.proofs.Requests.CallHoldsLaws.{SameNumbers}
+use Rattle.world_moves.proofs.KeptLaws.{plans_alike}
 
 -- ---- dials
 
@@ -278,8 +279,10 @@ acts_hold d rest end what s given turns known differ =
     record {
       before = holds.before;
       asks = λ who.
-          same_turns who (asked_in who s.member_plans s.ends) d d ((end, what) ∷ rest) rest s.dials (perform_quietly end what s).dials s.chances.drawn s.chances.drawn given given
-          turns (asker_in who s.ends) (omega (arith, done_same who d rest end what s)) (omega arith) refl (λ challenge is. is) (holds.asks who);
+          subst (λ (c : ℕ). TurnsIf who c d rest (perform_quietly end what s).dials s.chances.drawn given turns (asker_in who s.ends))
+          (sym (asked_alike who s.member_plans (plans_after end what s.member_plans) s.ends (plans_alike end what s.member_plans)))
+          (same_turns who (asked_in who s.member_plans s.ends) d d ((end, what) ∷ rest) rest s.dials (perform_quietly end what s).dials s.chances.drawn s.chances.drawn given given
+          turns (asker_in who s.ends) (omega (arith, done_same who d rest end what s)) (omega arith) refl (λ challenge is. is) (holds.asks who));
     }
 
 -- ---- through a run
@@ -297,6 +300,7 @@ turns_keep = record {
   first = λ dial s turns is known. first_holds dial s turns is known;
   forgets = λ end s turns known. forgets_hold end s turns known;
   renews = λ end s turns known. renews_hold end s turns known;
+  changes = λ at secret s turns known. change_holds at secret s turns known;
   over = λ s given turns known differ. hold_over s given turns (known differ);
 }
 

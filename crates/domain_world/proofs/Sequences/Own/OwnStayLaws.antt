@@ -92,7 +92,7 @@ module _ (plan : Plan) (s t : State) (b d : Book) (plans : AreAlikeButSecrets s.
   on_any controller (Some running) none = λ c stands n number timestamp e there client. none n number timestamp e there
 
   module _ (given more : Given) (drawn : StillDrawn s.chances.drawn t.chances.drawn) (turns : d.turns ≡ b.turns) where
-    one_stays : (who : RequesterId) (r : Option Running) → given_dials who more ≡ given_dials who given → OnStanding (NoNewOn (marks_in b.sent) (marks_in d.sent)) (controller_asked who s) r →
+    pub one_stays : (who : RequesterId) (r : Option Running) → given_dials who more ≡ given_dials who given → OnStanding (NoNewOn (marks_in b.sent) (marks_in d.sent)) (controller_asked who s) r →
         OwnOf plan s given b who r → OwnOf plan t more d who r
     one_stays who r count new old =
         subst (λ (all : List ChannelTurn). OwnBy (IsTakenFor (past_at plan t d)) (marks_in d.sent) t.chances.drawn all more (controller_asked who t) who r) (sym turns)

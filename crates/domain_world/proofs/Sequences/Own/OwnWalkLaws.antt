@@ -18,7 +18,7 @@ use Rattle.world_moves.specs.declared.plan.Plan.{Plan}
 use Rattle.world_moves.specs.declared.state.State.{State}
 use Rattle.world_moves.specs.Acting.{Given, given_by, hear, hear_and_act, perform_quietly, shut_link, forget}
 use Rattle.world_moves.specs.Links.{acceptor_of}
-use Rattle.world_moves.specs.Moving.{answered_link, begun, settle, tick, with_link, without_first}
+use Rattle.world_moves.specs.Moving.{answered_link, begun, settle, tick, with_link, without_first, changed as begun_change}
 use Rattle.world_moves.proofs.EndKindLaws.{by_member, is_member, no_member}
 use Rattle.domain_world.specs.Past.{Coming, answers_of, any_clash, at_controller, marks_of, note_at, note_client, note_controller, sent_at}
 use Rattle.domain_world.proofs.Accepting.Turns.TurnNotedLaws.{or_false}
@@ -33,12 +33,13 @@ use Rattle.domain_world.proofs.Requests.CallComesLaws.{no_requests_sent, reply_n
 use Rattle.domain_world.proofs.Requests.CallHoldsLaws.{marks_append, marks_in}
 use Rattle.domain_world.proofs.Requests.LooserLaws.{calls_before}
 use Rattle.domain_world.proofs.Requests.WholeNotedLaws.{no_requests_marked}
-use Rattle.domain_world.proofs.Sequences.Own.OwnCarryLaws.{book_changed, changed, client_begins, none_if, own_anew}
+use Rattle.domain_world.proofs.Sequences.Own.OwnCarryLaws.{own_change, book_changed, changed, client_begins, none_if, own_anew}
 use Rattle.domain_world.proofs.Sequences.Own.OwnKeepLaws.{HearsNoUnit, OwnHolds, own_hears}
 use Rattle.domain_world.proofs.Sequences.Own.OwnStayLaws.{HearsIf}
 use Rattle.domain_world.proofs.Frames.EndNoteLaws.{book_by}
 use Rattle.domain_world.proofs.Frames.EventLaws.{calm_no_bytes}
 use Rattle.domain_world.proofs.Frames.NoBytesLaws.{IsNoBytes}
+use Rattle.world_moves.proofs.KeptLaws.{plans_alike}
 
 no_unit : (end : EndId) (what : Event) (s : State) → IsNoBytes what → HearsNoUnit end what s
 no_unit end what s none at is = none_if (slice_get s.ends.members at) what none
@@ -111,13 +112,15 @@ module _ (plan : Plan) where
       comes = λ n end w piece s given b at_side came bytes even side holds.
           record { holds = end_comes n end w piece s given b at_side came even side holds; fine = all_any (hear end (event.Bytes w.link piece) s).actions };
       acts = λ n end what s given b fine side holds.
-          changed plan n s (perform_quietly end what s) given b refl (action_still end what s) refl refl holds;
+          changed plan n s (perform_quietly end what s) given b (plans_alike end what s.member_plans) (action_still end what s) refl refl holds;
       shuts = λ n link s given b side holds. changed plan n s (shut_link link s) given b refl (kept_same s.bag) refl refl holds;
       answers = λ n link there s given b is side holds. changed plan n s (answered_link link there s) given b refl (kept_same s.bag) refl refl holds;
       forgets = λ n end s given b side holds. changed plan n s (forget end s) given b refl (kept_same s.bag) refl refl holds;
       settles = λ n number s given b side holds. changed plan n s (settle number s) given b refl (kept_settled number s.bag) refl refl holds;
       dials = λ n s given b side holds. changed plan n s (without_first s) given b refl (kept_same s.bag) refl refl holds;
       renews = λ n end s given b side holds. own_anew plan n end s given b holds;
+      changes = λ n member secret s given b side holds.
+          record { holds = own_change plan n member secret s given b holds; fine = all_any (begun_change member secret s).actions };
       ticks = λ n more s given b side holds. changed plan n s (tick more s) given b refl (kept_same s.bag) refl refl holds;
       over = tt;
     }
