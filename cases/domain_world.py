@@ -5,9 +5,12 @@
 `client/SERVER/DOMAIN/USER/WORKSTATION/HASH/LEVEL/KIND/ECHO` (as in `controller.run`, `member.run` and `client.run`) and
 `now/MOMENT`, whose seed is 32 zeros, and its moves: `start/NUMBER`, `stranger/NUMBER`, `connect`, `fail`, `onward`,
 `lose`, `deliver/UNIT/LINK`, `hand/LINK/WAY/BYTES` (WAY `back` or `forward`), `shut/NUMBER`,
-`restart/NUMBER`, `tick/NUMBER`. The answer is the report, and the outcomes of the clients at the first four places.
+`restart/NUMBER`, `change/NUMBER/SECRET`, `tick/NUMBER`. The answer is the report, and the outcomes of the clients at
+the first four places.
 
-`world.drill NUMBER COUNT WORD ..`: the same of so many moves that the number makes.
+`world.kept WORD ..`: the same, and the secrets that the members at the first two places keep.
+
+`world.drill NUMBER COUNT WORD ..`: what `world.run` gives, of so many moves that the number makes.
 
 `world.moves NUMBER COUNT`: so many moves that the number makes.
 
@@ -27,7 +30,7 @@ import logon_client
 import world_marks
 from channel_client import credential
 from documents import ANN, BOB, EVE, FILE1, FILE2
-from forms import line, struct, units, word_of
+from forms import array, line, struct, units, word_of
 from rpc_units import PLAIN_BIND
 from wire import le, steps
 
@@ -546,9 +549,68 @@ def change_comes_through():
     return script
 
 
-def check_changes():
-    """A change comes through, as it is worked out by hand."""
-    counted(change_comes_through, {"accepted": 1, "no_controller": 2, "passed": 2, "barred": 0})
+def change_over_a_restart():
+    """FILE1 takes a new secret, and is made anew before a turn sets it, from both secrets. It opens its channel by the
+    old one, sets the new one on it, and ann is in."""
+    script = Script(one_logon())
+    script.make("change", 0, b"\x61" * 16)
+    script.make("restart", 1)
+    assert script.world.kept(0) == ["41" * 16, "61" * 16]
+    script.make("start", 0)
+    with_outcomes(script.run(onward), True)
+    assert script.world.kept(0) == ["61" * 16]
+    return script
+
+
+def second_change():
+    """FILE1 is told to take a second secret while it has a next one, and stays with that. Afterwards it takes
+    another."""
+    script = Script(one_logon())
+    script.make("change", 0, b"\x61" * 16)
+    script.make("change", 1, b"\x62" * 16)
+    assert script.world.kept(0) == ["41" * 16, "61" * 16]
+    script.make("start", 0)
+    with_outcomes(script.run(onward), True)
+    script.make("change", 0, b"\x63" * 16)
+    assert script.world.kept(0) == ["61" * 16, "63" * 16]
+    return script
+
+
+def change_with_a_restart(count):
+    """FILE1 takes a new secret, and is made anew behind so many moves of ann's logon. She starts twice more: in the end
+    she is in, and the member keeps the new secret alone."""
+    script = Script(one_logon())
+    script.make("change", 0, b"\x61" * 16)
+    script.make("start", 0)
+    for _ in range(count):
+        script.make("connect" if script.world.dials else "onward")
+    script.make("restart", 1)
+    script.run(onward)
+    for _ in range(2):
+        script.make("start", 0)
+        script.run(onward)
+    assert script.world.kept(0) == ["61" * 16], count
+    return with_outcomes(script, True)
+
+
+def changes_with_restarts():
+    """Such changes, with a restart behind each number of moves up to the one that lets ann in at the first logon."""
+    script = Script(one_logon())
+    script.make("change", 0, b"\x61" * 16)
+    script.make("start", 0)
+    while not script.world.counts["accepted"]:
+        script.make("connect" if script.world.dials else "onward")
+    return [change_with_a_restart(count) for count in range(len(script.moves) - 1)]
+
+
+def change_scripts():
+    """Changes of a secret, as they are worked out by hand."""
+    scripts = [
+        counted(change_comes_through, {"accepted": 1, "no_controller": 2, "passed": 2, "barred": 0}),
+        counted(change_over_a_restart, {"accepted": 1, "no_controller": 0, "passed": 2, "barred": 0}),
+        counted(second_change, {"accepted": 1, "no_controller": 0, "passed": 2, "barred": 0}),
+    ]
+    return scripts + changes_with_restarts() + [with_moves(World([], [], []), ("change", 3, b"\x61" * 16))]
 
 
 def check_clearness():
@@ -578,6 +640,9 @@ def move_word(name, *rest):
     if name == "hand":
         link, back, data = rest
         rest = link, "back" if back else "forward", word_of(data)
+    if name == "change":
+        number, secret = rest
+        rest = number, word_of(secret)
     return "/".join([{"fail_dial": "fail"}.get(name, name)] + [str(each) for each in rest])
 
 
@@ -589,15 +654,27 @@ def move_text(name, *rest):
     return f"{plain}({rest[0]})" if rest else plain
 
 
-def answer_of(world):
-    """The report of a world, and the outcomes of the clients at the first four places."""
+def kept_text(world, place):
+    """What `{:?}` prints of the secrets that a member keeps."""
+    if place >= len(world.members):
+        return "None"
+    current, *following = world.kept(place)
+    tried = [struct("Next", secret=array(secret), is_tried="false") for secret in following]
+    return f"Some({struct('Secrets', current=array(current), next=f'Some({tried[0]})' if tried else 'None')})"
+
+
+def answer_of(world, tells_kept=False):
+    """The report of a world, and the outcomes of the clients at the first four places; also what the members at the
+    first two places keep, where that is told."""
     outcomes = [world.outcome(place) if place < len(world.clients) else "None" for place in range(4)]
-    return steps([struct("Report", **world.counts)] + outcomes)
+    return steps([struct("Report", **world.counts)] + outcomes + ([kept_text(world, place) for place in range(2)] if tells_kept else []))
 
 
 def case_of(script):
-    """The line of a script, and its answer."""
-    return line("world.run", *script.words, *(move_word(*move) for move in script.moves)), answer_of(script.world)
+    """The line of a script, and its answer. What members keep is told where one changes its secret."""
+    tells_kept = any(move[0] == "change" for move in script.moves)
+    words = *script.words, *(move_word(*move) for move in script.moves)
+    return line("world.kept" if tells_kept else "world.run", *words), answer_of(script.world, tells_kept)
 
 
 def counted(scenario, wanted):
@@ -940,9 +1017,8 @@ def one_at_a_time():
 def cases():
     """Each line and its answer."""
     check_clearness()
-    check_changes()
     scripts = [counted(scenario, wanted) for scenario, wanted in WANTED] + logon_scripts()
     scripts += [twice_delivered(), misdelivered(), controller_restarts()]
-    scripts += one_at_a_time() + broken_scripts() + address_scripts() + strangers() + strangers_set() + ticks() + idle_scripts()
+    scripts += one_at_a_time() + broken_scripts() + address_scripts() + strangers() + strangers_set() + ticks() + idle_scripts() + change_scripts()
     drills = [drilled(number, count) for number, count in ((7, 2000), (1, 1), (1, 500), (2, 500), (3, 500), (2**64 - 1, 300))]
     return [case_of(script) for script in scripts] + drills + [made(number, count) for number, count in ((1, 1), (7, 200), (0, 50), (2**64 - 1, 50), (5, 0))]

@@ -7,7 +7,7 @@ ghost use Rattle.domain_world.specs.World.{IsMove, IsPlan};
 use crate::clients;
 use crate::controllers::table;
 use crate::members::{self, name};
-use case_words::{add_debug, blob, debug_text, no_case, number, number64, word};
+use case_words::{add_debug, blob, debug_text, no_case, number, number64, sixteen, word};
 use domain_world::{
     ClientPlans, MemberPlans, Move, Moves, Plan, Report, Tables, World, drive, moves_from,
 };
@@ -122,12 +122,21 @@ fn hand(alloc: Global, parts: &[&str]) -> anyhow::Result<Option<Move>> {
     }))
 }
 
+/// The move of the parts `change NUMBER SECRET`.
+fn change(parts: &[&str]) -> anyhow::Result<Option<Move>> {
+    Ok(Some(Move::Change {
+        member: first(parts),
+        secret: sixteen(word(parts, 2))?,
+    }))
+}
+
 /// The move of a word: `start/NUMBER`, `stranger/NUMBER`, `connect`, `fail`, `onward`, `lose`, `deliver/UNIT/LINK`,
-/// `hand/LINK/WAY/BYTES` (the way `back` or another), `shut/NUMBER`, `restart/NUMBER`, `tick/NUMBER`. None where it is
-/// no move.
+/// `hand/LINK/WAY/BYTES` (the way `back` or another), `shut/NUMBER`, `restart/NUMBER`, `change/NUMBER/SECRET`,
+/// `tick/NUMBER`. None where it is no move.
 fn read_move(alloc: Global, parts: &[&str]) -> anyhow::Result<Option<Move>> {
     match word(parts, 0) {
         "hand" => hand(alloc, parts),
+        "change" => change(parts),
         "tick" => Ok(Some(Move::Tick(number64(word(parts, 1))?))),
         name => Ok(move_of(name, first(parts), second(parts))),
     }
@@ -184,26 +193,40 @@ fn text_of_world(alloc: Global, world: &World, report: &Report) -> anyhow::Resul
     Ok(answers)
 }
 
-/// The report of a world of the plan, driven by the moves, and the outcomes of the clients at the first four places.
-fn play(alloc: Global, plan: Plan, moves: &Moves) -> anyhow::Result<String>
+/// The same, and the secrets that the members at the first two places keep.
+fn text_with_kept(alloc: Global, world: &World, report: &Report) -> anyhow::Result<String> {
+    let mut answers = text_of_world(alloc, world, report)?;
+    for member in 0..2u32 {
+        add_debug(alloc, &mut answers, world.kept(member))?;
+    }
+    Ok(answers)
+}
+
+/// The report of a world of the plan, driven by the moves, and the outcomes of the clients at the first four places;
+/// also what its members keep, where that is told.
+fn play(alloc: Global, plan: Plan, moves: &Moves, tells_kept: bool) -> anyhow::Result<String>
     requires plan { IsPlan plan }
     requires moves { All IsMove moves.now }
     requires few { length moves.now ≤ 100000 }
 {
     let mut world = World::new(alloc, plan)?;
     let report = drive(alloc, &mut world, moves)?;
-    text_of_world(alloc, &world, &report)
+    if tells_kept {
+        text_with_kept(alloc, &world, &report)
+    } else {
+        text_of_world(alloc, &world, &report)
+    }
 }
 
 /// The report and the outcomes, where the plan and the moves are ones that a world can have.
-fn play_if(alloc: Global, plan: Plan, moves: &Moves) -> anyhow::Result<String> {
+fn play_if(alloc: Global, plan: Plan, moves: &Moves, tells_kept: bool) -> anyhow::Result<String> {
     if moves.len() > 100000 || !are_moves(moves) || !can_log_on(&plan.clients) {
         return no_case(alloc);
     }
     if plan.tables.len() != plan.controllers.len() {
         return no_case(alloc);
     }
-    play(alloc, plan, moves)
+    play(alloc, plan, moves, tells_kept)
 }
 
 /// `world.run WORD ..`: the plan's words and the moves: the report, and the outcomes of the clients at the first four
@@ -211,16 +234,23 @@ fn play_if(alloc: Global, plan: Plan, moves: &Moves) -> anyhow::Result<String> {
 fn run(alloc: Global, words: &[&str]) -> anyhow::Result<String> {
     let moves = read_moves(alloc, words)?;
     let plan = read_plan(alloc, words)?;
-    play_if(alloc, plan, &moves)
+    play_if(alloc, plan, &moves, false)
 }
 
-/// `world.drill NUMBER COUNT WORD ..`: the same of so many moves that the number makes.
+/// `world.kept WORD ..`: the same, and the secrets that the members at the first two places keep.
+fn kept(alloc: Global, words: &[&str]) -> anyhow::Result<String> {
+    let moves = read_moves(alloc, words)?;
+    let plan = read_plan(alloc, words)?;
+    play_if(alloc, plan, &moves, true)
+}
+
+/// `world.drill NUMBER COUNT WORD ..`: what `world.run` gives, of so many moves that the number makes.
 fn drill(alloc: Global, words: &[&str]) -> anyhow::Result<String> {
     let from = number64(word(words, 1))?;
     let count = number(word(words, 2))?;
     let moves = moves_from(alloc, from, count)?;
     let plan = read_plan(alloc, words)?;
-    play_if(alloc, plan, &moves)
+    play_if(alloc, plan, &moves, false)
 }
 
 /// `world.moves NUMBER COUNT`: so many moves that the number makes.
@@ -235,6 +265,7 @@ fn made(alloc: Global, words: &[&str]) -> anyhow::Result<String> {
 pub(crate) fn answer(alloc: Global, operation: &str, words: &[&str]) -> anyhow::Result<String> {
     match operation {
         "run" => run(alloc, words),
+        "kept" => kept(alloc, words),
         "drill" => drill(alloc, words),
         "moves" => made(alloc, words),
         _ => no_case(alloc),
