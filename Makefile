@@ -8,6 +8,7 @@ demo: programs
 	@demo/run.sh bin
 	@demo/few_descriptors.sh bin
 	@demo/kept_secret.sh bin
+	@demo/changed_secret.sh bin
 
 # How long each operation takes on this machine: lines `ours OPERATION NANOSECONDS`, and where their headers are there,
 # the same of OpenSSL and nettle for the operations on DES.

@@ -76,6 +76,13 @@ free_port() {
 controller_port=$(free_port $((20000 + $$ % 20000)))
 member_port=$(free_port $((controller_port + 1)))
 
+# what a member server is started with: the port at which it asks its controller, the file of its secrets, its number of
+# the boot, and further words
+asked_port=$controller_port
+member_secrets=$folder/file1.secret
+member_boot=1
+member_words=
+
 # what each machine keeps
 hash=$(digits 16)
 secret=$(digits 16)
@@ -113,7 +120,8 @@ start_member() {
     (
         [ $# -eq 0 ] || ulimit -n "$1" || exit 1
         exec "$bin/nt_member" serve --listen "127.0.0.1:$member_port" --computer FILE1 --domain CORP \
-            --secret "$folder/file1.secret" --controller "127.0.0.1:$controller_port" --seed "$folder/member.seed" --boot 1
+            --secret "$member_secrets" --controller "127.0.0.1:$asked_port" --seed "$folder/member.seed" \
+            --boot "$member_boot" $member_words
     ) > "$folder/member.out" 2> "$folder/member.err" &
     member=$!
     wait_for $member "$member_port" || { echo "nt_member doesn't listen"; cat "$folder/member.err"; exit 1; }
