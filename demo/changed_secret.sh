@@ -84,7 +84,10 @@ python3 "$peers/losing_proxy.py" "$asked_port" "$controller_port" 6 > "$folder/p
 proxy=$!
 silent="$silent $proxy"
 wait_for $proxy "$asked_port" || { echo "the proxy doesn't listen"; cat "$folder/proxy.out"; exit 1; }
+restart_controller
 holds "before a logon" "$kept"
+restart_member
+holds "before a logon" "$member_secrets" "$secret" "$new"
 
 logs_on "where the reply is lost" 8
 has "$folder/proxy.out" lost
@@ -92,11 +95,14 @@ holds "where the reply is lost" "$kept" "FILE1\$ $new"
 holds "where the reply is lost" "$member_secrets" "$secret" "$new"
 
 restart_controller
+holds "after the controller was killed" "$kept" "FILE1\$ $new"
 restart_member
 holds "after both were killed" "$kept" "FILE1\$ $new"
 holds "after both were killed" "$member_secrets" "$secret" "$new"
 logs_on "with the old secret" 8
 holds "where the old one was denied" "$member_secrets" "$secret" "$new"
+restart_controller
+holds "after the controller was killed again" "$kept" "FILE1\$ $new"
 logs_on "with the new secret" 0
 holds "where the new one opened the channel" "$member_secrets" "$new"
 holds "where the new one opened the channel" "$kept" "FILE1\$ $new"
@@ -105,6 +111,10 @@ printed 1 'link [0-9]* in CORP\\ann'
 printed 2 'passed 00000000'
 printed 0 'barred'
 
+restart_member
+holds "with --change once more" "$member_secrets" "$new" "$new"
+logs_on "with --change once more" 0
+holds "with --change once more" "$member_secrets" "$new"
 restart_controller
 logs_on "at a controller that knows no channel" 8
 logs_on "after that" 0
