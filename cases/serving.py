@@ -555,6 +555,11 @@ def of_member_changes():
     return out + of_kept_members()
 
 
+def first_write(member):
+    """The place of the first action of a member that keeps a text."""
+    return next(place for place, (_, action) in enumerate(member.done) if action[0] == "keep")
+
+
 def of_kept_members():
     """Where two secrets are kept a change that is asked for is passed over, and the one under way goes on. Without a
     change, and where none ends, the file stays as it is, byte by byte."""
@@ -570,6 +575,8 @@ def of_kept_members():
         logs_on(member, controller_of(), secret=ANN["hash"])
         assert member.kept() == (NEW_SECRET + "\n").encode()
         out.append(member_keeps(member, both, new))
+    # the write behind a Set fails: both stay
+    out.append(member_keeps(member, both, None, ending("FileFault"), done=first_write(member), reads="2"))
     # a logon changes nothing of one secret
     member = Served()
     logs_on(member, controller_of(), secret=ANN["hash"])
@@ -580,6 +587,8 @@ def of_kept_members():
         logs_on(member, controller_of(machines=(machine,)), link, 998 + 2 * link, secret=ANN["hash"])
     assert member.kept() == (NEW_SECRET + "\n").encode()
     out.append(member_keeps(member, both))
+    # and the write behind that opening fails
+    out.append(member_keeps(member, both, None, ending("FileFault"), done=first_write(member), reads="2"))
     # files that are refused: the port doesn't listen, and nothing is written
     still = Served()
     for held, new, exit_text in [
