@@ -15,6 +15,7 @@ REQUEST = 0
 
 
 def take(link, count):
+    """So many bytes of a link."""
     data = b""
     while len(data) < count:
         piece = link.recv(count - len(data))
@@ -52,6 +53,7 @@ def carry(member, controller, to_lose):
 
 
 def serve(member, port, to_lose):
+    """Carries what comes on a member's link, until a side closes it or a reply is lost: whether one was."""
     member.settimeout(10)
     with member, socket.create_connection(("127.0.0.1", port), 10) as controller:
         try:
