@@ -22,6 +22,8 @@ struct Says {
     want: Cell<Option<i32>>,
     /// How many times accept(2) gave it.
     refused: Cell<u32>,
+    /// How many seconds the last dial was to wait.
+    dialled: Cell<u64>,
 }
 
 impl Says {
@@ -32,6 +34,7 @@ impl Says {
             step: Cell::new(0),
             want: Cell::new(None),
             refused: Cell::new(0),
+            dialled: Cell::new(0),
         }
     }
 
@@ -89,6 +92,7 @@ impl<'a, R: Net> Net for Ruled<'a, R> {
     }
 
     fn connect_timeout(&self, addr: SocketAddr, timeout: Duration) -> io::Result<R::Stream> {
+        self.says.dialled.set(timeout.as_secs());
         match self.says.error() {
             Some(error) => Err(error),
             None => self.rt.connect_timeout(addr, timeout),
@@ -237,6 +241,37 @@ fn a_dialled_link_is_silent_for_30_seconds_or_15(rt: HostRuntime) -> io::Result<
     assert!(rt; is_closed(&port.next(None), 1));
     assert_eq!(rt; says.second.get(), 4000);
     assert!(rt; is_closed(&port.next(Some(dialled)), dialled));
+    Ok(())
+}
+
+#[test]
+fn a_port_may_have_other_limits_of_what_is_dialled(rt: HostRuntime) -> io::Result<()> {
+    let place = TcpListener::bind(&rt, "127.0.0.1:0")?;
+    let peer = format!(in rt.alloc(); "{}", place.local_addr()?)?;
+    let address = free_address(&rt)?;
+    let says = Says::new();
+    let net = Ruled {
+        rt: &rt,
+        says: &says,
+    };
+    let mut usual = SocketPort::new(rt.alloc(), &net);
+    assert!(rt; usual.dial(peer.as_bytes()).is_ok());
+    assert_eq!(rt; says.dialled.get(), 3);
+
+    let mut port = SocketPort::with_limits(rt.alloc(), &net, 1, 4);
+    let dialled = port.dial(peer.as_bytes()).unwrap_or(0);
+    assert_eq!(rt; says.dialled.get(), 1);
+    says.run(1003);
+    assert!(rt; is_closed(&port.next(Some(dialled)), dialled));
+    assert_eq!(rt; says.second.get(), 1004);
+
+    // While the port listens they are the same.
+    assert_eq!(rt; port.listen(address.as_bytes()), Ok(()));
+    says.stand(2000);
+    let dialled = port.dial(peer.as_bytes()).unwrap_or(0);
+    says.run(2003);
+    assert!(rt; is_closed(&port.next(Some(dialled)), dialled));
+    assert_eq!(rt; says.second.get(), 2004);
     Ok(())
 }
 

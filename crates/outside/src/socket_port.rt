@@ -8,7 +8,7 @@ ghost use Rattle.outside.specs.declared.port.PortRefused.{PortRefused};
 
 use crate::event::Event;
 use crate::port::{Failed, Port, PortRefused};
-use crate::sockets::Sockets;
+use crate::sockets::{Limits, Sockets, usual_limits};
 use std::alloc::Global;
 use std::marker::Model;
 use std::net::Net;
@@ -21,8 +21,8 @@ use std::time::Clock;
 /// The events of all links come as their sockets are ready, each link in its turn and the listening place in its own.
 /// What a peer doesn't read waits, up to 256 KiB; a send beyond that fails and closes the link. A link that was
 /// accepted is closed after 15 minutes of silence. One that was dialled is closed after 30 seconds in which the
-/// caller waits for it, 15 where the port listens too. A dial fails after 3 seconds. Without a listening place and
-/// without links comes `Stop`.
+/// caller waits for it, 15 where the port listens too. A dial fails after 3 seconds. A port may be made with other
+/// limits for what is dialled. Without a listening place and without links comes `Stop`.
 #[derive(Drop)]
 pub struct SocketPort<'a, N: Net> {
     net: &'a N,
@@ -44,9 +44,29 @@ impl<'a, N: Net + Clock> SocketPort<'a, N> {
     pub fn new(alloc: Global, net: &'a N) -> Self
         ensures { result ≡ record { faults = 0; link_faults = 0 } }
     {
+        SocketPort::of_limits(alloc, net, usual_limits())
+    }
+
+    /// The same, but that a dial fails after `dial` seconds, and a link that was dialled is closed after `silence`
+    /// seconds in which the caller waits for it.
+    pub fn with_limits(alloc: Global, net: &'a N, dial: u64, silence: u64) -> Self
+        ensures { result ≡ record { faults = 0; link_faults = 0 } }
+    {
+        let limits = Limits {
+            dial,
+            silence,
+            silence_of_server: silence,
+        };
+        SocketPort::of_limits(alloc, net, limits)
+    }
+
+    /// A port with these limits, on which nothing is open yet.
+    fn of_limits(alloc: Global, net: &'a N, limits: Limits) -> Self
+        ensures { result ≡ record { faults = 0; link_faults = 0 } }
+    {
         SocketPort {
             net,
-            sockets: Sockets::new(alloc),
+            sockets: Sockets::new(alloc, limits),
             faults: 0,
             link_faults: 0,
         }

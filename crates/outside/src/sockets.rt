@@ -22,7 +22,7 @@ const LISTENER: u32 = 0;
 /// The first number of a link that was dialled. Those that were accepted have lower ones.
 const FIRST_DIALLED: u32 = 1 << 31;
 
-/// How many seconds a dial waits for its peer.
+/// How many seconds a dial waits for its peer, where the port isn't told another number.
 const DIAL_LIMIT: u64 = 3;
 
 /// How many seconds a peer that was dialled may be silent while it is waited for.
@@ -57,6 +57,26 @@ const EMFILE: i32 = 24;
 
 const ENOBUFS: i32 = 105;
 
+/// How many seconds peers have that are dialled.
+#[derive(Drop)]
+pub(crate) struct Limits {
+    /// For all addresses of a peer together, until one answers.
+    pub(crate) dial: u64,
+    /// For a peer that is waited for, until something comes of it.
+    pub(crate) silence: u64,
+    /// The same where the port listens too.
+    pub(crate) silence_of_server: u64,
+}
+
+/// Those of a port that isn't told others.
+pub(crate) fn usual_limits() -> Limits {
+    Limits {
+        dial: DIAL_LIMIT,
+        silence: DIALLED_SILENCE,
+        silence_of_server: DIALLED_SILENCE_OF_SERVER,
+    }
+}
+
 /// The sockets. Nothing of what they give is told.
 #[derive(Drop)]
 pub(crate) struct Sockets<N: Net> {
@@ -65,6 +85,7 @@ pub(crate) struct Sockets<N: Net> {
     listener: Option<N::Listener>,
     /// Whether no descriptor was found for the next link that is accepted.
     rests: bool,
+    limits: Limits,
     links: BTreeMap<u32, Link<N::Stream>>,
     next_accepted: u32,
     next_dialled: u32,
@@ -80,12 +101,13 @@ pub(crate) struct Sockets<N: Net> {
 
 impl<N: Net + Clock> Sockets<N> {
     /// Nothing is open yet.
-    pub(crate) fn new(alloc: Global) -> Self {
+    pub(crate) fn new(alloc: Global, limits: Limits) -> Self {
         Sockets {
             alloc,
             watch: None,
             listener: None,
             rests: false,
+            limits,
             links: BTreeMap::new(alloc),
             next_accepted: 1,
             next_dialled: FIRST_DIALLED,
@@ -360,9 +382,13 @@ impl<N: Net + Clock> Sockets<N> {
 
     /// A link whose time is over.
     fn over(&self, want: Option<u32>) -> Option<u32> {
-        let listens = self.listener.is_some();
+        let silence = if self.listener.is_some() {
+            self.limits.silence_of_server
+        } else {
+            self.limits.silence
+        };
         for (number, link) in self.links.iter() {
-            if link.is_over(self.now, silence(*number, want, listens)) {
+            if link.is_over(self.now, limit_of(*number, want, silence)) {
                 return Some(*number);
             }
         }
@@ -379,7 +405,7 @@ impl<N: Net + Clock> Sockets<N> {
     /// Dials the peer, and gives its link.
     pub(crate) fn dial(&mut self, net: &N, peer: &str) -> Option<u32> {
         self.begin(net).ok()?;
-        let stream = connect(net, peer);
+        let stream = connect(net, peer, self.limits.dial);
         self.read_clock(net);
         let stream = stream?;
         let number = self.next_dialled;
@@ -419,25 +445,23 @@ impl<N: Net + Clock> Sockets<N> {
     }
 }
 
-/// How many seconds the peer of the link may be silent.
-fn silence(number: u32, want: Option<u32>, listens: bool) -> u64 {
+/// How many seconds the peer of the link may be silent, where one that is waited for may be so for this many.
+fn limit_of(number: u32, want: Option<u32>, silence: u64) -> u64 {
     if number < FIRST_DIALLED {
         ACCEPTED_SILENCE
-    } else if want != Some(number) {
-        u64::MAX
-    } else if listens {
-        DIALLED_SILENCE_OF_SERVER
+    } else if want == Some(number) {
+        silence
     } else {
-        DIALLED_SILENCE
+        u64::MAX
     }
 }
 
-/// A stream to the first address of the peer that answers, within the limit for all.
-fn connect<N: Net + Clock>(net: &N, peer: &str) -> Option<N::Stream> {
+/// A stream to the first address of the peer that answers, within so many seconds for all.
+fn connect<N: Net + Clock>(net: &N, peer: &str, limit: u64) -> Option<N::Stream> {
     let begun = net.monotonic().ok()?;
     for address in peer.to_socket_addrs(net).ok()? {
         let passed = net.monotonic().ok()?.saturating_sub(begun);
-        let left = Duration::from_secs(DIAL_LIMIT).saturating_sub(passed);
+        let left = Duration::from_secs(limit).saturating_sub(passed);
         if let Ok(stream) = TcpStream::connect_timeout(net, &address, left) {
             return Some(stream);
         }
