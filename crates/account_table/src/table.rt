@@ -342,6 +342,13 @@ impl Table {
         }
     }
 
+    /// The trusted domains, in the order of the document. It takes no memory.
+    pub fn trusts(&self) -> &[Trust]
+        ensures { result.now ≡ self.now.trusts }
+    {
+        self.trusts.items()
+    }
+
     /// The trusted domain at a place, counted from 0. None exactly past the end. It takes no memory.
     pub fn trust(&self, at: u32) -> Option<&Trust>
         ensures { option_copied result ≡ slice_get self.now.trusts at }

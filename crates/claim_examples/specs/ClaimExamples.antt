@@ -30,6 +30,7 @@ use Rattle.channel_client.specs.declared.state.Question.TheVariants as question
 use Rattle.channel_client.specs.declared.state.Standing.TheVariants as standing
 use Rattle.channel_client.specs.declared.state.Step.TheVariants as step
 use Rattle.domain_controller.specs.State.{State as ControllerState}
+use Rattle.domain_controller.specs.Trusting.{no_trusting}
 use Rattle.controller_calls.specs.declared.state.Computers.{Computers}
 use Rattle.domain_controller.specs.declared.state.Running.{Running as ControllerRunning}
 use Rattle.member_server.specs.Machine.{caller_of}
@@ -403,7 +404,7 @@ keeping_running seed = record { computers = small_computers seed; links = [] }
 
 abbrev pub keeping_controller : List ℕ → ControllerState
 keeping_controller seed =
-    record { table = small_table; name = codes "PDC"; running = Some (keeping_running seed) }
+    record { table = small_table; name = codes "PDC"; running = Some (keeping_running seed); trusting = no_trusting }
 
 -- both ends with these seeds
 abbrev pub world_open : Option Pending → List ℕ → List ℕ → World

@@ -11,6 +11,7 @@ use Rattle.authenticators.specs.SecureChannels.{SecureChannelState, channel_of}
 use Rattle.channel_client.specs.declared.state.Pending.{Pending}
 use Rattle.channel_client.specs.declared.state.Standing.TheVariants as standing
 use Rattle.domain_controller.specs.State.{State as ControllerState}
+use Rattle.domain_controller.specs.Trusting.{no_trusting}
 use Rattle.member_server.specs.State.{State as MemberState}
 use Rattle.member_server.specs.declared.plan.MemberPlan.{MemberPlan}
 use Rattle.member_server.specs.declared.state.Running.{Running as MemberRunning}
@@ -74,6 +75,7 @@ controller_on name c = record {
   table = small_table;
   name = codes "PDC";
   running = Some (record { computers = record { pending = []; channels = (name, c) ∷ []; sessions = [] }; links = [] });
+  trusting = no_trusting;
 }
 
 -- one member and one controller

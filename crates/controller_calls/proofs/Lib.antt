@@ -1,8 +1,11 @@
 pub mod ChangeLaws
 pub mod ChannelKindLaws
 pub mod DoneLaws
+pub mod HandingLaws
 pub mod HashLaws
+pub mod JudgingLaws
 pub mod LevelLaws
+pub mod LongReplyLaws
 pub mod OutcomeLaws
 pub mod PassLaws
 pub mod RefusalLaws

@@ -3,6 +3,8 @@ pub mod Calls
 pub mod ChannelKinds
 pub mod Desk
 pub mod Doing
+pub mod Forwarded
+pub mod Handing
 pub mod Interactive
 pub mod Judging
 pub mod Logons

@@ -7,6 +7,7 @@ use Rattle.authenticators.specs.SecureChannels.{SecureChannelState, key_of_chann
 use Rattle.outside.specs.declared.action.Action.TheVariants as action
 use Rattle.outside.specs.declared.action.Judged.{Judged}
 use Rattle.outside.specs.declared.action.Judged.TheVariants as judged
+use Rattle.logon_stubs.specs.declared.calls.Reply.{Reply}
 use Rattle.logon_stubs.specs.declared.calls.Reply.TheVariants as reply
 use Rattle.logon_stubs.specs.declared.info.NetworkInfo.{NetworkInfo}
 use Rattle.logon_stubs.specs.declared.info.SamInfo.{SamInfo}
@@ -45,16 +46,19 @@ abbrev pub info_of : ℕ → List ℕ → Verdict → Option SamInfo
 info_of validation key (Granted info) = Some (reply_info validation key info)
 info_of validation key (Status status) = None
 
--- the authenticator that is returned has a timestamp of 0
+-- The reply: the authenticator that is returned has a timestamp of 0.
+abbrev pub reply_to : Verdict → ℕ → List ℕ → List ℕ → Reply
+reply_to verdict validation key credential = reply.Logon (record {
+  returned = Some (record { credential = credential; timestamp = 0 });
+  level = validation;
+  info = info_of validation key verdict;
+  authoritative = 1;
+  status = status_of verdict;
+})
+
 abbrev pub pass_logon : Verdict → Line → ℕ → List ℕ → List ℕ → Work → Work
 pass_logon verdict line validation key credential work =
-    send_reply (tell work (action.Judged (judged.Passed (status_of verdict)))) line (reply.Logon (record {
-      returned = Some (record { credential = credential; timestamp = 0 });
-      level = validation;
-      info = info_of validation key verdict;
-      authoritative = 1;
-      status = status_of verdict;
-    }))
+    send_reply (tell work (action.Judged (judged.Passed (status_of verdict)))) line (reply_to verdict validation key credential)
 
 -- the validation levels that are served: NETLOGON_VALIDATION_SAM_INFO, 2, and with identifiers beside the groups
 -- NETLOGON_VALIDATION_SAM_INFO2, 3 (MS-NRPC 2.2.1.4.14)

@@ -1,15 +1,16 @@
 //! Calls that ask for something on a secure channel. Their authenticators are judged in one way, whatever they ask.
 
-ghost use Rattle.std.specs.Prelude.{◌≡◌, IfOk};
+ghost use Rattle.std.specs.Prelude.{◌≡◌, IfOk, None};
 ghost use Rattle.wire_base.specs.Maps.{lookup};
 ghost use Rattle.wire_base.specs.Names.{same_name};
 ghost use Rattle.account_table.specs.Changes.{with_changes};
-ghost use Rattle.controller_calls.specs.Asking.{answer_judged, answers_to, pass_asked, refuse_asked};
+ghost use Rattle.controller_calls.specs.Asking.{pass_asked, refuse_asked};
 ghost use Rattle.controller_calls.specs.Desk.{IsLine, desk, take_channel};
-ghost use Rattle.controller_calls.specs.Judging.{answer_on};
+ghost use Rattle.controller_calls.specs.Handing.{judge_call, judge_on, pass_or_hand, trust_asked};
 
 use crate::calls::{Asked, JudgedCall, parts};
 use crate::computers::{put_channel, take_channel};
+use crate::handing::{HandOn, hand_on, trust_asked};
 use crate::interactive::{end_session, pass_interactive, pass_logoff, refuse_logoff};
 use crate::line::Line;
 use crate::logon::{pass_network, refuse_logon};
@@ -21,28 +22,32 @@ use outside::Judged;
 use std::alloc::Global;
 use wire_base::{Authenticator, Name, NoMemory, Units};
 
-/// Answers a call that asks for something on a secure channel, at a moment (MS-NRPC 3.1.4.5). What it changes of the
-/// accounts stands in `changes`, behind what stood there.
-pub fn answer_judged(
+/// Answers a call that asks for something on a secure channel, at a moment (MS-NRPC 3.1.4.5), where the controllers of
+/// the first so many trusted domains can be asked. What it changes of the accounts stands in `changes`, behind what
+/// stood there. A logon that is to be asked of one of them is handed on: of it nothing is told or sent.
+pub fn judge_call(
     alloc: Global,
     table: &Table,
     changes: &mut TableChanges,
     name: &Name,
     now: u64,
     line: Line,
+    trusts: usize,
     call: JudgedCall,
     work: Work,
-) -> Result<Work, NoMemory>
+) -> Result<(Work, Option<HandOn>), NoMemory>
     requires { IsLine line }
-    ensures { IfOk result (λ w. desk (with_changes changes.new table.now) w ≡ answer_judged
-        call name.now now line (desk (with_changes changes.old table.now) work)) }
+    ensures { IfOk result (λ done. (desk (with_changes changes.new table.now) done.0, done.1)
+        ≡ judge_call call
+        (record { name = name.now; now = now; line = line; trusts = trusts })
+        (desk (with_changes changes.old table.now) work)) }
 {
     let (computer, given, asked) = parts(call);
     match (computer, given) {
         (Some(computer), Some(given)) => judge_on(
-            alloc, table, changes, name, now, line, computer, &given, &asked, work,
+            alloc, table, changes, name, now, line, trusts, computer, &given, asked, work,
         ),
-        _ => refuse_asked(alloc, Judged::NoChannel, line, &asked, work),
+        _ => refuse_here(alloc, Judged::NoChannel, line, &asked, work),
     }
 }
 
@@ -54,39 +59,91 @@ fn judge_on(
     name: &Name,
     now: u64,
     line: Line,
+    trusts: usize,
     computer: Units,
     given: &Authenticator,
-    asked: &Asked,
+    asked: Asked,
     work: Work,
-) -> Result<Work, NoMemory>
+) -> Result<(Work, Option<HandOn>), NoMemory>
     requires { IsLine line }
-    ensures { IfOk result (λ w. desk (with_changes changes.new table.now) w ≡ answer_on
-        (lookup same_name computer work.computers.channels) computer given.now
-        (answers_to asked.now name.now now line)
+    ensures { IfOk result (λ done. (desk (with_changes changes.new table.now) done.0, done.1)
+        ≡ judge_on (lookup same_name computer work.computers.channels) given.now asked
+        (record { name = name.now; now = now; line = line; trusts = trusts }) computer
         (desk (with_changes changes.old table.now) (take_channel computer work))) }
 {
     let (work, found) = take_channel(computer.units(), work);
     let Some(mut channel) = found else {
-        return refuse_asked(alloc, Judged::NoChannel, line, asked, work);
+        return refuse_here(alloc, Judged::NoChannel, line, &asked, work);
     };
+    let kind = channel.kind();
     let returned = channel.judge(given);
     let key = channel.key();
     let work = put_channel(computer.duplicate(alloc)?, channel, work)?;
     match returned {
-        Some(credential) => pass_asked(
+        Some(credential) => pass_or_hand(
             alloc,
             table,
             changes,
             name,
             now,
             line,
+            trusts,
+            kind,
             asked,
             computer.units(),
             key,
             credential,
             work,
         ),
-        None => refuse_asked(alloc, Judged::Barred, line, asked, work),
+        None => refuse_here(alloc, Judged::Barred, line, &asked, work),
+    }
+}
+
+/// The call is refused, and nothing is handed on.
+fn refuse_here(
+    alloc: Global,
+    how: Judged,
+    line: Line,
+    asked: &Asked,
+    work: Work,
+) -> Result<(Work, Option<HandOn>), NoMemory>
+    requires { IsLine line }
+    ensures { IfOk result (λ done. done ≡ (refuse_asked asked.now how line work, None)) }
+{
+    let work = refuse_asked(alloc, how, line, asked, work)?;
+    Ok((work, None))
+}
+
+/// Where the authenticator passes, on a channel of that type, what is asked is handed on, or done here.
+fn pass_or_hand(
+    alloc: Global,
+    table: &Table,
+    changes: &mut TableChanges,
+    name: &Name,
+    now: u64,
+    line: Line,
+    trusts: usize,
+    kind: Option<u16>,
+    asked: Asked,
+    computer: &[u16],
+    key: [u8; 16],
+    credential: [u8; 8],
+    work: Work,
+) -> Result<(Work, Option<HandOn>), NoMemory>
+    requires { IsLine line }
+    ensures { IfOk result (λ done. (desk (with_changes changes.new table.now) done.0, done.1)
+        ≡ pass_or_hand (trust_asked asked kind (with_changes changes.old table.now) trusts) asked
+        (record { name = name.now; now = now; line = line; trusts = trusts })
+        computer.now key credential (desk (with_changes changes.old table.now) work)) }
+{
+    match trust_asked(table, changes, &asked, kind, trusts) {
+        Some(trust) => Ok((work, hand_on(asked, trust, line, key, credential))),
+        None => {
+            let work = pass_asked(
+                alloc, table, changes, name, now, line, &asked, computer, key, credential, work,
+            )?;
+            Ok((work, None))
+        }
     }
 }
 

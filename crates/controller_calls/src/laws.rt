@@ -2,6 +2,7 @@
 
 ghost use Rattle.controller_calls.specs.ChannelKinds.{ChannelsHaveKinds};
 ghost use Rattle.controller_calls.specs.Doing.{DoesWhatPasses};
+ghost use Rattle.controller_calls.specs.Handing.{JudgesHere};
 ghost use Rattle.controller_calls.specs.Passing.{PassesTheNext};
 
 /// An authenticator passes exactly where it is the next one of the channel of the computer that the call names, whoever
@@ -24,4 +25,10 @@ pub fn what_passes_is_done()
 #[tactic(auto, using(crate::proofs::ChannelKindLaws::channels_have_kinds))]
 pub fn kept_channels_have_kinds()
     ensures { ChannelsHaveKinds }
+{}
+
+/// A controller that can ask no trusted domain's controller hands nothing on: each call on a channel is judged here.
+#[tactic(auto, using(crate::proofs::HandingLaws::judges_here))]
+pub fn what_asks_nobody_is_judged_here()
+    ensures { JudgesHere }
 {}

@@ -3,11 +3,11 @@
 ghost use Rattle.std.specs.Prelude.{◌≡◌, ◌++◌, IfOk, OnErr, OnOk, Some};
 ghost use Rattle.std.specs.Option.{option_to_list};
 ghost use Rattle.account_table.specs.Changes.{with_changes};
-ghost use Rattle.logon_stubs.specs.Ranges.{HasShortTexts};
-ghost use Rattle.logon_stubs.specs.Writing.{CanWriteArm, CanWriteSamInfo};
+ghost use Rattle.logon_stubs.specs.Ranges.{HasShortTexts, IsShortReply};
+ghost use Rattle.logon_stubs.specs.Writing.{CanWriteArm, CanWriteReply, CanWriteSamInfo};
 ghost use Rattle.sam_logon.specs.Verdict.{IfGranted};
 ghost use Rattle.controller_calls.specs.Desk.{IsLine, desk};
-ghost use Rattle.controller_calls.specs.Logons.{IsServedLevel, refuse_logon, reply_info, pass_logon, pass_network, serves_level, judge_info};
+ghost use Rattle.controller_calls.specs.Logons.{IsServedLevel, refuse_logon, reply_info, reply_to, status_of, pass_logon, pass_network, serves_level, judge_info};
 
 use crate::line::Line;
 use crate::replying::{send_reply, tell};
@@ -132,12 +132,40 @@ pub(crate) fn pass_logon(
     requires level { IfGranted verdict (λ info. IsServedLevel validation) }
     ensures { IfOk result (λ w. w ≡ pass_logon verdict line validation key credential work) }
 {
+    let work = tell(work, Action::Judged(Judged::Passed(status_of(&verdict))))?;
+    let answer = reply_to(alloc, verdict, validation, key, credential);
+    send_reply(alloc, work, line, &answer)
+}
+
+/// The status of a verdict; 0 of what is granted.
+pub(crate) fn status_of(verdict: &Verdict) -> u32
+    ensures { result ≡ status_of verdict.now }
+{
+    match verdict {
+        Verdict::Granted(_) => 0,
+        Verdict::Status(status) => *status,
+    }
+}
+
+/// The reply that carries the verdict at the level, and returns the credential.
+pub(crate) fn reply_to(
+    alloc: Global,
+    verdict: Verdict,
+    validation: u16,
+    key: [u8; 16],
+    credential: [u8; 8],
+) -> Reply
+    requires writable { IfGranted verdict CanWriteSamInfo }
+    requires level { IfGranted verdict (λ info. IsServedLevel validation) }
+    ensures value { result ≡ reply_to verdict validation key credential }
+    ensures writable { CanWriteReply result }
+    ensures short { IfGranted verdict HasShortTexts → IsShortReply result }
+{
     let (status, info) = match verdict {
         Verdict::Granted(info) => (0, Some(reply_info(alloc, info, validation, key))),
         Verdict::Status(status) => (status, None),
     };
-    let work = tell(work, Action::Judged(Judged::Passed(status)))?;
-    let answer = Reply::Logon(LogonReply {
+    Reply::Logon(LogonReply {
         returned: Some(Authenticator {
             credential,
             timestamp: 0,
@@ -146,18 +174,16 @@ pub(crate) fn pass_logon(
         info,
         authoritative: 1,
         status,
-    });
-    send_reply(alloc, work, line, &answer)
+    })
 }
 
 /// What a reply at the level carries of what is granted, with its key hidden under the session key.
 fn reply_info(alloc: Global, info: SamInfo, validation: u16, key: [u8; 16]) -> SamInfo
     requires writable { CanWriteSamInfo info }
-    requires short { HasShortTexts info }
     requires level { IsServedLevel validation }
     ensures value { result ≡ reply_info validation key info }
     ensures writable { CanWriteArm validation (Some result) }
-    ensures short { HasShortTexts result }
+    ensures short { HasShortTexts info → HasShortTexts result }
 {
     let key = crypt_key(key, info.key);
     SamInfo {

@@ -4,9 +4,10 @@ ghost use Rattle.std.specs.Prelude.{◌≡◌, ◌≤◌, IfOk, Ok, length};
 ghost use Rattle.logon_stubs.specs.Calls.{opnum_of_reply, reply_of};
 ghost use Rattle.logon_stubs.specs.Ranges.{IsShortReply};
 ghost use Rattle.logon_stubs.specs.Writing.{CanWriteReply, written_reply};
+ghost use Rattle.rpc_units.specs.Calls.{bytes_of_call};
 ghost use Rattle.rpc_units.specs.Writing.{written};
-ghost use Rattle.end_links.specs.Bounds.{IsShortSend};
-ghost use Rattle.end_links.specs.Sending.{fault_of};
+ghost use Rattle.end_links.specs.Bounds.{IsShortSend, send_limit};
+ghost use Rattle.end_links.specs.Sending.{fault_of, response_of};
 ghost use Rattle.controller_calls.specs.Desk.{IsLine, tell, send_reply, send_stub};
 
 use crate::line::Line;
@@ -50,6 +51,55 @@ pub(crate) fn send_reply(
     let stub = reply_stub(alloc, answer)?;
     send_stub(alloc, work, line, stub)
 }
+
+/// The same of a reply of any length, in one send of at most 589,824 bytes.
+pub(crate) fn send_long_reply(
+    alloc: Global,
+    work: Work,
+    line: Line,
+    answer: &Reply,
+) -> Result<Work, NoMemory>
+    requires writable { CanWriteReply answer.now }
+    requires line { IsLine line }
+    ensures { IfOk result (λ w. w ≡ send_reply work line answer.now) }
+{
+    let stub = long_stub(alloc, answer)?;
+    let bytes = long_bytes(alloc, line, stub)?;
+    tell(work, Action::Send(line.link, bytes))
+}
+
+/// The frames of a reply with that stub.
+fn long_bytes(alloc: Global, line: Line, stub: Blob) -> Result<Blob, NoMemory>
+    requires few { length stub ≤ 551263 }
+    requires line { IsLine line }
+    ensures exact { IfOk result (λ bytes. bytes
+        ≡ bytes_of_call (response_of line.call line.context stub) line.limit) }
+    ensures most { IfOk result (λ bytes. length bytes ≤ send_limit) }
+{
+    let unit = response(line.call, line.context, stub);
+    call_bytes(alloc, &unit, line.limit)
+}
+
+/// The stub of a reply of any length.
+fn long_stub(alloc: Global, answer: &Reply) -> Result<Blob, NoMemory>
+    requires { CanWriteReply answer.now }
+    ensures exact { IfOk result (λ stub. stub ≡ written_reply answer.now) }
+    ensures most { IfOk result (λ stub. length stub ≤ 551263) }
+{
+    let stub = write_reply(alloc, answer)?;
+    read_long_stub(answer, stub.bytes());
+    Ok(stub)
+}
+
+/// The stub of a reply has at most 551,263 bytes, as one has with eight texts of 32,767 units, 256 groups and 256
+/// identifiers. It reads them, so that this is known.
+#[tactic(auto, using(crate::proofs::LongReplyLaws::stub_long))]
+fn read_long_stub(answer: &Reply, stub: &[u8])
+    requires writable { CanWriteReply answer.now }
+    requires again { reply_of (opnum_of_reply answer.now) stub.now ≡ Ok answer.now }
+    requires exact { stub.now ≡ written_reply answer.now }
+    ensures { length stub.now ≤ 551263 }
+{}
 
 /// The same by the stub of the reply.
 pub(crate) fn send_stub(alloc: Global, work: Work, line: Line, stub: Blob) -> Result<Work, NoMemory>

@@ -2,10 +2,10 @@
 
 ghost use Rattle.std.specs.Prelude.{◌≡◌, option_map};
 ghost use Rattle.account_table.specs.Changes.{with_changes};
-ghost use Rattle.account_table.specs.LookUps.{knows_in, machine_in};
+ghost use Rattle.account_table.specs.LookUps.{knows_in, machine_in, route_in};
 ghost use Rattle.controller_calls.specs.Opening.{account_for};
 
-use account_table::{Table, TableChanges};
+use account_table::{Route, Table, TableChanges};
 use logon_stubs::AuthCall;
 
 /// Whether the table knows the computer, which no change changes. It takes no memory.
@@ -32,6 +32,15 @@ pub(crate) fn machine_with(
     // only the clause speaks of them
     let _changes = changes.items();
     table.machine(account, kind, computer)
+}
+
+/// Where the accounts of a domain are, which no change changes. It takes no memory.
+pub(crate) fn route_with(table: &Table, changes: &TableChanges, domain: &[u16]) -> Route
+    ensures { result ≡ route_in (with_changes changes.now table.now) domain.now }
+{
+    // only the clause speaks of them
+    let _changes = changes.items();
+    table.route(domain)
 }
 
 /// The hash of the account that opens the channel, as the changes leave it. It takes no memory.

@@ -1,9 +1,14 @@
 pub mod AloneLaws
+pub mod ApartLaws
 pub mod ChangeLaws
 pub mod ChannelKindLaws
 pub mod CountLaws
+pub mod ForwardLaws
+pub mod HandOnLaws
 pub mod KeepingLaws
+pub mod LineLaws
 pub mod NumberedLaws
+pub mod OnceLaws
 pub mod OtherLaws
 pub mod QuietLaws
 pub mod ReadBackLaws
@@ -12,6 +17,12 @@ pub mod SendLaws
 pub mod SessionLaws
 pub mod SettingLaws
 pub mod StepLaws
+pub mod TrustAloneLaws
+pub mod TrustEventLaws
+pub mod TrustRestLaws
+pub mod TrustSettleLaws
+pub mod TrustStepLaws
+pub mod TurnOutLaws
 pub mod UnitLaws
 pub mod UnsetLaws
 pub mod WalkLaws

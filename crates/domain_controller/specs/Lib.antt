@@ -1,3 +1,4 @@
+pub mod Forwarding
 pub mod Hearing
 pub mod Keeping
 pub mod Laws
@@ -7,4 +8,8 @@ pub mod ReadBack
 pub mod Sessions
 pub mod State
 pub mod Step
+pub mod TrustLaws
+pub mod TrustStep
+pub mod Trusting
+pub mod TurnApart
 pub mod Whole

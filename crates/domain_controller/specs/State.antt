@@ -2,6 +2,7 @@
 use Rattle.std.specs.Prelude.{ℕ, List, Option}
 use Rattle.account_table.specs.AccountTable.{AccountTable}
 use Rattle.domain_controller.specs.declared.state.Running.{Running}
+use Rattle.domain_controller.specs.declared.trusting.Trusting.{Trusting}
 
 pub record State : Type 0 where
   -- the accounts of the domain
@@ -10,3 +11,5 @@ pub record State : Type 0 where
   pub name : List ℕ
   -- what is kept of computers and links; None once the controller has stopped
   pub running : Option Running
+  -- what is kept of logons that are asked of the controllers of trusted domains; nothing once it has stopped
+  pub trusting : Trusting

@@ -1,4 +1,5 @@
--- One step of a controller (this project's own choice).
+-- One step of a controller that asks no trusted domain's controller (this project's own choice). `TrustStep` has that
+-- of one that does.
 use Rattle.std.specs.Prelude.{ℕ, Bool, true, false, nat_le, List, [], ◌++◌, length, Option, Some, None, Result, Ok, is_none}
 use Rattle.wire_base.specs.Maps.{lookup, put, take_out, same_number}
 use Rattle.account_table.specs.AccountTable.{AccountTable}
@@ -17,6 +18,7 @@ use Rattle.domain_controller.specs.Lines.{line_of}
 use Rattle.controller_calls.specs.Desk.{Desk, desk, tell}
 use Rattle.domain_controller.specs.Machine.{controller_server}
 use Rattle.domain_controller.specs.State.{State}
+use Rattle.domain_controller.specs.Trusting.{no_trusting}
 use Rattle.domain_controller.specs.declared.state.Running.{Running}
 use Rattle.domain_controller.specs.declared.state.Talk.{Talk}
 use Rattle.controller_calls.specs.declared.state.Work.{Work}
@@ -89,8 +91,12 @@ start_turn after left = whole_part after.0 after.1 left
 
 -- at first, and once it has stopped
 abbrev pub first_state : AccountTable → List ℕ → State
-first_state table name =
-    record { table = table; name = name; running = Some (record { computers = record { pending = []; channels = []; sessions = [] }; links = [] }) }
+first_state table name = record {
+  table = table;
+  name = name;
+  running = Some (record { computers = record { pending = []; channels = []; sessions = [] }; links = [] });
+  trusting = no_trusting;
+}
 
 abbrev pub halted : State → State
 halted s = record s { running = None }

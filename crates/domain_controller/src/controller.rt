@@ -1,15 +1,20 @@
 //! The controller.
 
 ghost use Rattle.std.specs.Prelude.{◌≡◌, ◌≤◌, ◌+◌, ◌↔◌, OnErr, ◌++◌, [], length, IfOk, OnOk, Err, IsTrue, false, true};
-ghost use Rattle.account_table.specs.Changes.{DifferInStates};
-ghost use Rattle.outside.specs.Machine.{StepsBy};
+ghost use Rattle.account_table.specs.Changes.{DifferInStates, with_changes};
+ghost use Rattle.outside.specs.Drawing.{DrawsSome};
+ghost use Rattle.outside.specs.Machine.{AnswersBy, StepsBy};
 ghost use Rattle.end_links.specs.Bounds.{AreShortSends, units_at};
-ghost use Rattle.end_loop.specs.Acts.{is_made};
-ghost use Rattle.domain_controller.specs.Step.{first_state, halted, is_stopped, held_of, step_of};
+ghost use Rattle.end_loop.specs.Acts.{is_made, most_made_by};
+ghost use Rattle.domain_controller.specs.Step.{first_state, halted, is_stopped, step_of};
+ghost use Rattle.domain_controller.specs.Trusting.{no_trusting};
+ghost use Rattle.domain_controller.specs.TrustStep.{first_trust_state, at_parts, event_and_turn, parts_of, trust_halted, trust_held_of, trust_pending_in, trusting_after, trust_step_of, trust_want_of};
 
 use crate::lines::line_of;
 use crate::links::answer_event;
 use crate::state::Running;
+use crate::trusting::{Parts, TrustWork, Trusting, first_trusting, no_trusting};
+use crate::turning::next_turn;
 use account_table::{Table, TableChanges};
 use controller_calls::{Computers, Work};
 use end_links::{Links, ShortActions};
@@ -18,6 +23,7 @@ use interactive_logon::Sessions;
 use outside::{Action, Actions, Chances, Event, StepRefused};
 use std::alloc::Global;
 use std::marker::Model;
+use std::mem;
 use wire_base::{Blob, List, Name, NoMemory};
 
 /// A domain controller, seen as what it keeps: its accounts, its name, and the rest, unless it has stopped.
@@ -27,20 +33,54 @@ pub struct Controller {
     name: Name,
     // none once it has stopped
     running: Option<Running>,
+    // nothing once it has stopped
+    trusting: Trusting,
 }
 
 impl Model for Controller {
+    ghost use Rattle.std.specs.Prelude.{◌≡◌, None};
     ghost use Rattle.domain_controller.specs.State.{State};
+    ghost use Rattle.domain_controller.specs.Trusting.{no_trusting};
 
     ghost Value = { State };
 
-    ghost view = { λ c. record { table = c.table; name = c.name; running = c.running } };
+    ghost view = { λ c. record {
+      table = c.table;
+      name = c.name;
+      running = c.running;
+      trusting = c.trusting;
+    } };
+
+    ghost invariant = { λ c. c.running ≡ None → c.trusting ≡ no_trusting };
 }
 
 impl Controller {
-    /// A controller of that name over these accounts, which keeps nothing of computers yet, and has no links.
+    /// A controller of that name over these accounts, which keeps nothing of computers yet, and has no links. It asks
+    /// no controller of a trusted domain.
     pub fn new(alloc: Global, table: Table, name: Name) -> Result<Controller, NoMemory>
         ensures { IfOk result (λ controller. controller ≡ first_state table name) }
+    {
+        let trusting = no_trusting(alloc);
+        Controller::make(alloc, table, name, trusting)
+    }
+
+    /// The same, but that it asks the controllers of the table's trusted domains for logons of their users.
+    pub fn with_trusts(alloc: Global, table: Table, name: Name) -> Result<Controller, NoMemory>
+        ensures { IfOk result (λ controller. controller ≡ first_trust_state table name) }
+    {
+        let trusting = first_trusting(alloc, &table, &name)?;
+        Controller::make(alloc, table, name, trusting)
+    }
+
+    /// A controller that has no links, with what it keeps of logons that it asks of others.
+    fn make(
+        alloc: Global,
+        table: Table,
+        name: Name,
+        trusting: Trusting,
+    ) -> Result<Controller, NoMemory>
+        ensures { IfOk result
+            (λ controller. controller ≡ record (first_state table name) { trusting = trusting }) }
     {
         Ok(Controller {
             table,
@@ -53,6 +93,7 @@ impl Controller {
                 },
                 links: Links::new(alloc),
             }),
+            trusting,
         })
     }
 
@@ -60,7 +101,7 @@ impl Controller {
     ///
     /// `Spent` where the step draws more challenges than were left, and `Memory` where no memory was found: after both
     /// the controller has stopped, and answers `Stopped` for ever.
-    #[tactic(auto, using(crate::proofs::StepLaws::stepping, crate::proofs::ChangeLaws::differing))]
+    #[tactic(auto, using(crate::proofs::TrustStepLaws::alone))]
     pub fn step<Q: Chances>(
         &mut self,
         alloc: Global,
@@ -70,49 +111,95 @@ impl Controller {
     ) -> Result<Actions, StepRefused>
         // The actions, the state and the challenges drawn are the machine's.
         ensures answer { StepsBy result
-            (step_of self.old event.now now (Q.drawing chances.old).left)
-            (halted self.old) self.new (Q.drawing chances.old) (Q.drawing chances.new) }
+            (trust_step_of self.old event.now now (Q.drawing chances.old).left)
+            (trust_halted self.old) self.new (Q.drawing chances.old) (Q.drawing chances.new) }
         // It answers `Stopped` exactly where it had stopped, and a step that isn't taken stops it.
         ensures stopped { (result ≡ Err StepRefused.Stopped) ↔ IsTrue (is_stopped self.old) }
-        ensures stops { OnErr result (self.new ≡ halted self.old) }
+        ensures stops { OnErr result (self.new ≡ trust_halted self.old) }
         ensures goes_on { OnOk result (is_stopped self.new ≡ false) }
+        // One that can ask nobody steps as one that trusts no domain, and can ask nobody then.
+        ensures alone { self.old.trusting ≡ no_trusting → StepsBy result
+            (step_of self.old event.now now (Q.drawing chances.old).left)
+            (halted self.old) self.new (Q.drawing chances.old) (Q.drawing chances.new) }
+        ensures asks_nobody { self.old.trusting ≡ no_trusting → self.new.trusting ≡ no_trusting }
+        // It does nothing then where a link was closed, and no turn draws a challenge.
+        ensures quiet { self.old.trusting ≡ no_trusting →
+            IfOk result (λ actions. is_made event.now ≡ true → actions ≡ []) }
+        ensures few_alone { self.old.trusting ≡ no_trusting → length (Q.drawing chances.old).left
+            ≤ length (Q.drawing chances.new).left + units_at event.now }
         // Of the accounts it changes counts of bad passwords and hashes alone.
         ensures states { DifferInStates self.old.table self.new.table }
-        // Nothing is done where a link was closed.
-        ensures quiet { IfOk result (λ actions. is_made event.now ≡ true → actions ≡ []) }
-        // At most one challenge is drawn for each unit that the event can end, whatever the result; no send is long.
+        // Events that a failed send or a dial makes come to an end.
+        ensures settles { IfOk result (λ actions. IsTrue (is_made event.now) →
+            most_made_by actions + trust_pending_in self.new ≤ trust_pending_in self.old) }
+        // At most one challenge is drawn for each unit that the event can end, and one more for the turn that starts,
+        // whatever the result; no send is long.
         ensures few { length (Q.drawing chances.old).left
+            ≤ length (Q.drawing chances.new).left + units_at event.now + 1 }
+        ensures short { IfOk result (λ actions. AreShortSends actions) }
+    {
+        self.step_once(alloc, event, now, chances)
+    }
+
+    /// The same, but for what follows of the answer alone.
+    #[tactic(auto, using(crate::proofs::TrustStepLaws::stepping, crate::proofs::ChangeLaws::differing))]
+    fn step_once<Q: Chances>(
+        &mut self,
+        alloc: Global,
+        event: &Event,
+        now: u64,
+        chances: &mut Q,
+    ) -> Result<Actions, StepRefused>
+        // The actions, the state and the challenges drawn are the machine's.
+        ensures answer { StepsBy result
+            (trust_step_of self.old event.now now (Q.drawing chances.old).left)
+            (trust_halted self.old) self.new (Q.drawing chances.old) (Q.drawing chances.new) }
+        // It answers `Stopped` exactly where it had stopped, and a step that isn't taken stops it.
+        ensures stopped { (result ≡ Err StepRefused.Stopped) ↔ IsTrue (is_stopped self.old) }
+        ensures stops { OnErr result (self.new ≡ trust_halted self.old) }
+        ensures goes_on { OnOk result (is_stopped self.new ≡ false) }
+        ensures few_alone { self.old.trusting ≡ no_trusting → length (Q.drawing chances.old).left
             ≤ length (Q.drawing chances.new).left + units_at event.now }
+        // Of the accounts it changes counts of bad passwords and hashes alone.
+        ensures states { DifferInStates self.old.table self.new.table }
+        // Events that a failed send or a dial makes come to an end.
+        ensures settles { IfOk result (λ actions. IsTrue (is_made event.now) →
+            most_made_by actions + trust_pending_in self.new ≤ trust_pending_in self.old) }
+        // At most one challenge is drawn for each unit that the event can end, and one more for the turn that starts,
+        // whatever the result; no send is long.
+        ensures few { length (Q.drawing chances.old).left
+            ≤ length (Q.drawing chances.new).left + units_at event.now + 1 }
         ensures short { IfOk result (λ actions. AreShortSends actions) }
     {
         let Some(running) = self.running.take() else {
             return Err(StepRefused::Stopped);
         };
-        let Running { computers, links } = running;
-        let work = Work {
-            computers,
-            actions: ShortActions::new(alloc),
-        };
-        let mut changes = TableChanges::new(alloc);
-        match answer_event(
+        let trusting = mem::replace(&mut self.trusting, no_trusting(alloc));
+        match run_and_commit(
             alloc,
-            &self.table,
-            &mut changes,
+            &mut self.table,
             &self.name,
             now,
             event,
-            links,
-            work,
+            running,
+            trusting,
             chances,
         ) {
-            Ok((work, links)) => {
-                let Work { computers, actions } = work;
-                self.table.commit(&changes);
-                self.running = Some(Running { computers, links });
+            Ok(parts) => {
+                let (actions, running, trusting) = keep_apart(parts);
+                self.running = Some(running);
+                self.trusting = trusting;
                 Ok(actions.into_actions())
             }
             Err(why) => Err(why),
         }
+    }
+
+    /// The link that it waits for: that of the turn. It takes no memory.
+    pub fn wants(&self) -> Option<u32>
+        ensures { result ≡ trust_want_of self.now }
+    {
+        self.trusting.dialling.wants()
     }
 
     /// The accounts as they stand, and the name: all that is left of it once it is made anew. It takes no memory.
@@ -124,28 +211,154 @@ impl Controller {
         (table, name)
     }
 
-    /// The bytes that it holds for its links: the rests of their streams, and the stub bytes of open calls. None once
-    /// it has stopped. They are at most what 256 links hold. It takes no memory.
+    /// The bytes that it holds for its links: the rests of their streams, and the stub bytes of open calls and replies.
+    /// They are at most what 256 accepted links hold, and the link of the turn. It takes no memory.
     pub fn held(&self) -> u64
-        ensures count { result ≡ held_of self.now }
-        ensures most { result ≤ 18272000 }
+        ensures count { result ≡ trust_held_of self.now }
+        ensures most { result ≤ 18343375 }
     {
+        let turn = self.trusting.dialling.held();
         match &self.running {
-            Some(running) => running.links.held(),
-            None => 0,
+            Some(running) => running.links.held() + turn,
+            None => turn,
         }
     }
 }
 
-impl End for Controller {
-    ghost use Rattle.std.specs.Prelude.{ℕ};
-    ghost use Rattle.domain_controller.specs.Step.{controller_machine, is_stopped};
+/// What an event comes to, and then the next turn; the changes of the accounts are made, unless it is refused.
+#[tactic(auto, using(crate::proofs::ChangeLaws::differing, crate::proofs::TrustStepLaws::committing))]
+fn run_and_commit<Q: Chances>(
+    alloc: Global,
+    table: &mut Table,
+    name: &Name,
+    now: u64,
+    event: &Event,
+    running: Running,
+    trusting: Trusting,
+    chances: &mut Q,
+) -> Result<Parts, StepRefused>
+    ensures draws { DrawsSome (Q.drawing chances.old) (Q.drawing chances.new) }
+    ensures answer { AnswersBy (at_parts table.new result)
+        (event_and_turn table.old.trusts event.now name.now now table.old
+        (parts_of running trusting) (Q.drawing chances.old).left)
+        (Q.drawing chances.new).left }
+    ensures stays { OnErr result (table.new ≡ table.old) }
+    ensures states { DifferInStates table.old table.new }
+    ensures few { length (Q.drawing chances.old).left
+        ≤ length (Q.drawing chances.new).left + units_at event.now + 1 }
+    ensures few_alone { trusting ≡ no_trusting → length (Q.drawing chances.old).left
+        ≤ length (Q.drawing chances.new).left + units_at event.now }
+{
+    let mut changes = TableChanges::new(alloc);
+    match run_event(
+        alloc,
+        table,
+        &mut changes,
+        name,
+        now,
+        event,
+        running,
+        trusting,
+        chances,
+    ) {
+        Ok(parts) => {
+            table.commit(&changes);
+            Ok(parts)
+        }
+        Err(why) => Err(why),
+    }
+}
 
-    ghost machine = { controller_machine };
+/// What an event comes to, and then the next turn.
+#[tactic(auto, using(crate::proofs::TrustStepLaws::running, crate::proofs::TrustStepLaws::none_asked))]
+fn run_event<Q: Chances>(
+    alloc: Global,
+    table: &Table,
+    changes: &mut TableChanges,
+    name: &Name,
+    now: u64,
+    event: &Event,
+    running: Running,
+    trusting: Trusting,
+    chances: &mut Q,
+) -> Result<Parts, StepRefused>
+    ensures draws { DrawsSome (Q.drawing chances.old) (Q.drawing chances.new) }
+    ensures answer { AnswersBy (at_parts (with_changes changes.new table.now) result)
+        (event_and_turn table.now.trusts event.now name.now now
+        (with_changes changes.old table.now) (parts_of running trusting)
+        (Q.drawing chances.old).left)
+        (Q.drawing chances.new).left }
+    ensures few { length (Q.drawing chances.old).left
+        ≤ length (Q.drawing chances.new).left + units_at event.now + 1 }
+    ensures few_alone { trusting ≡ no_trusting → length (Q.drawing chances.old).left
+        ≤ length (Q.drawing chances.new).left + units_at event.now }
+{
+    let parts = all_parts(alloc, running, trusting);
+    let parts = match answer_event(alloc, table, changes, name, now, event, parts, chances) {
+        Ok(parts) => parts,
+        Err(why) => return Err(why),
+    };
+    next_turn(alloc, now, table, parts, chances)
+}
+
+/// A controller that works, before it acts. It takes no memory.
+fn all_parts(alloc: Global, running: Running, trusting: Trusting) -> Parts
+    ensures { result ≡ parts_of running trusting }
+{
+    let Running { computers, links } = running;
+    let Trusting {
+        queues,
+        turn_of,
+        dialling,
+    } = trusting;
+    Parts {
+        work: TrustWork {
+            work: Work {
+                computers,
+                actions: ShortActions::new(alloc),
+            },
+            queues,
+        },
+        links,
+        turn_of,
+        dialling,
+    }
+}
+
+/// Its actions, and what it keeps. It takes no memory.
+fn keep_apart(parts: Parts) -> (ShortActions, Running, Trusting)
+    ensures { result ≡ (
+      parts.work.work.actions,
+      record { computers = parts.work.work.computers; links = parts.links },
+      trusting_after parts,
+    ) }
+{
+    let Parts {
+        work,
+        links,
+        turn_of,
+        dialling,
+    } = parts;
+    let TrustWork { work, queues } = work;
+    let Work { computers, actions } = work;
+    let running = Running { computers, links };
+    let trusting = Trusting {
+        queues,
+        turn_of,
+        dialling,
+    };
+    (actions, running, trusting)
+}
+
+impl End for Controller {
+    ghost use Rattle.domain_controller.specs.Step.{is_stopped};
+    ghost use Rattle.domain_controller.specs.TrustStep.{trust_machine, trust_pending_in};
+
+    ghost machine = { trust_machine };
 
     ghost is_stopped = { λ s. is_stopped s };
 
-    ghost pending = { λ s. 0 };
+    ghost pending = { λ s. trust_pending_in s };
 
     fn step<Q: Chances>(
         &mut self,
@@ -158,7 +371,7 @@ impl End for Controller {
     }
 
     fn wants(&self) -> Option<u32> {
-        None
+        self.wants()
     }
 
     fn is_over(&self) -> bool {

@@ -4,6 +4,7 @@ ghost use Rattle.domain_controller.specs.Keeping.{HashesAreSet, KeepsSecrets};
 ghost use Rattle.domain_controller.specs.Laws.{ClosesNothing, AnswersUnits, KeepsOthers, KeptHaveKinds, CountsByVerdict};
 ghost use Rattle.domain_controller.specs.ReadBack.{RepliesAreReadBack};
 ghost use Rattle.domain_controller.specs.Sessions.{HashesStayUnset, SessionsFollowCalls};
+ghost use Rattle.domain_controller.specs.TrustLaws.{AnswersOnce, AnswersOpenLinks, ClosesNone, ForwardsByTrust, LinksAreApart, OneTurnIsOut, StepsAlone};
 ghost use Rattle.domain_controller.specs.Whole.{SendsAreWhole};
 
 /// A step for a link that was closed, or for a dial's answer, has no actions.
@@ -81,4 +82,56 @@ pub fn what_is_kept_stands()
 #[tactic(auto, using(crate::proofs::SettingLaws::hashes_are_set))]
 pub fn what_is_kept_is_read_again()
     ensures { HashesAreSet }
+{}
+
+/// A controller that can ask no controller of a trusted domain steps as one that trusts none: `trust_step_of` is
+/// `step_of`, and it stays so. Such a one is made by `Controller::new`, and over a table without trusted domains by
+/// `Controller::with_trusts` too.
+#[tactic(auto, using(crate::proofs::TrustAloneLaws::steps_alone))]
+pub fn what_asks_nobody_steps_alone()
+    ensures { StepsAlone }
+{}
+
+/// A step of a controller that asks others for a link that was closed, or for a dial's answer, closes nothing.
+#[tactic(auto, using(crate::proofs::TrustSettleLaws::closes_none))]
+pub fn what_is_closed_closes_none()
+    ensures { ClosesNone }
+{}
+
+/// A call on a secure channel is handed on to the controller of a trusted domain exactly where its authenticator is the
+/// channel's next one, it asks for a network logon of that domain at a level that is served, on a channel of type 2 or
+/// 6, and there is room at that trust and in one call: then nothing is sent, the accounts stay, and the logon waits
+/// there. Where there is no room it is told as passed, and answered, with STATUS_NO_LOGON_SERVERS. Any other call is
+/// told otherwise, and answered; its authenticator passes exactly where it is the channel's next one.
+#[tactic(auto, using(crate::proofs::HandOnLaws::forwards_by_trust))]
+pub fn a_logon_goes_by_its_domain()
+    ensures { ForwardsByTrust }
+{}
+
+/// A step answers at most one of the logons that were asked of another controller: that of the turn which ended in it.
+#[tactic(auto, using(crate::proofs::OnceLaws::answers_once))]
+pub fn one_logon_is_answered()
+    ensures { AnswersOnce }
+{}
+
+/// One turn is out at a time, over all trusts: exactly while its dial waits or its link is open. So it is at first, and
+/// each step leaves it so.
+#[tactic(auto, using(crate::proofs::TurnOutLaws::one_turn_out))]
+pub fn one_turn_is_out()
+    ensures { OneTurnIsOut }
+{}
+
+/// Each link has a number of its own: no two accepted links have one, nor has one of them that of the link of the turn.
+/// So it is at first, and each step leaves it so.
+#[tactic(auto, using(crate::proofs::ApartLaws::links_apart))]
+pub fn links_have_their_own_numbers()
+    ensures { LinksAreApart }
+{}
+
+/// A logon that was asked of another controller is answered on the link on which it came, while that is open, and else
+/// nowhere: so it is at first, and each step leaves it so. Where a link opens no such logon is answered on it, also
+/// where the number was another link's: a reply never goes to a later link of that number.
+#[tactic(auto, using(crate::proofs::LineLaws::answers_open))]
+pub fn replies_go_to_open_links()
+    ensures { AnswersOpenLinks }
 {}

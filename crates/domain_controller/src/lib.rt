@@ -5,11 +5,14 @@
 
 mod answering;
 mod controller;
+mod forwarding;
 mod hearing;
 pub mod laws;
 mod lines;
 mod links;
 mod serving;
 mod state;
+mod trusting;
+mod turning;
 
 pub use controller::Controller;

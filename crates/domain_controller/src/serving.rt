@@ -8,14 +8,13 @@ ghost use Rattle.rpc_units.specs.Stream.{cut_stream};
 ghost use Rattle.end_links.specs.Bounds.{units_in_piece};
 ghost use Rattle.end_links.specs.Serving.{StreamsBy, served_cut};
 ghost use Rattle.domain_controller.specs.Hearing.{hear};
-ghost use Rattle.controller_calls.specs.Desk.{desk, at_desk};
-ghost use Rattle.domain_controller.specs.Machine.{by_heard, controller_server};
+ghost use Rattle.domain_controller.specs.Forwarding.{at_trust_desk, by_trust_heard, trust_desk, trust_server};
 
-use crate::answering::answer_heard;
+use crate::answering::{answer_heard, tell_on};
 use crate::hearing::hear;
 use crate::state::Talk;
+use crate::trusting::TrustWork;
 use account_table::{Table, TableChanges};
-use controller_calls::{Work, tell};
 use end_links::Link;
 use outside::{Action, Chances, CloseCause, StepRefused};
 use rpc_units::{Came, Incoming};
@@ -35,13 +34,14 @@ pub(crate) fn serve_piece<Q: Chances>(
     number: u32,
     link: Link<Talk>,
     piece: &[u8],
-    work: Work,
+    work: TrustWork,
     chances: &mut Q,
-) -> Result<(Work, Option<Link<Talk>>), StepRefused>
+) -> Result<(TrustWork, Option<Link<Talk>>), StepRefused>
     ensures draws { DrawsSome (Q.drawing chances.old) (Q.drawing chances.new) }
-    ensures answer { StreamsBy (at_desk (with_changes changes.new table.now) result)
-        (served_cut (controller_server name.now now number) (cut_stream (link.rest ++ piece.now))
-        (desk (with_changes changes.old table.now) work) link.talk (Q.drawing chances.old).left)
+    ensures answer { StreamsBy (at_trust_desk (with_changes changes.new table.now) result)
+        (served_cut (trust_server name.now now number) (cut_stream (link.rest ++ piece.now))
+        (trust_desk (with_changes changes.old table.now) work) link.talk
+        (Q.drawing chances.old).left)
         (cut_stream (link.rest ++ piece.now)).rest (Q.drawing chances.new).left }
     ensures few { length (Q.drawing chances.old).left
         ≤ length (Q.drawing chances.new).left + units_in_piece (length piece.now) }
@@ -64,13 +64,14 @@ fn serve_units<Q: Chances>(
     number: u32,
     link: Link<Talk>,
     piece: &[u8],
-    work: Work,
+    work: TrustWork,
     chances: &mut Q,
-) -> Result<(Work, Option<Link<Talk>>), StepRefused>
+) -> Result<(TrustWork, Option<Link<Talk>>), StepRefused>
     ensures draws { DrawsSome (Q.drawing chances.old) (Q.drawing chances.new) }
-    ensures answer { StreamsBy (at_desk (with_changes changes.new table.now) result)
-        (served_cut (controller_server name.now now number) (cut_stream (link.rest ++ piece.now))
-        (desk (with_changes changes.old table.now) work) link.talk (Q.drawing chances.old).left)
+    ensures answer { StreamsBy (at_trust_desk (with_changes changes.new table.now) result)
+        (served_cut (trust_server name.now now number) (cut_stream (link.rest ++ piece.now))
+        (trust_desk (with_changes changes.old table.now) work) link.talk
+        (Q.drawing chances.old).left)
         (cut_stream (link.rest ++ piece.now)).rest (Q.drawing chances.new).left }
 {
     let (flow, said) = link.parts();
@@ -101,7 +102,7 @@ fn serve_units<Q: Chances>(
             }
             Came::Waits => return Ok((work, Some(Link::again(coming.into_flow(), talk)))),
             Came::Refused(_) => {
-                let work = tell(work, Action::Close(number, CloseCause::BadUnit))?;
+                let work = tell_on(work, Action::Close(number, CloseCause::BadUnit))?;
                 return Ok((work, None));
             }
         }
@@ -118,14 +119,14 @@ fn serve_unit<Q: Chances>(
     link: u32,
     bytes: &mut [u8],
     talk: Talk,
-    work: Work,
+    work: TrustWork,
     chances: &mut Q,
-) -> Result<(Work, Option<Talk>), StepRefused>
+) -> Result<(TrustWork, Option<Talk>), StepRefused>
     ensures len { length bytes.new ≡ length bytes.old }
     ensures draws { DrawsSome (Q.drawing chances.old) (Q.drawing chances.new) }
-    ensures answer { AnswersBy (at_desk (with_changes changes.new table.now) result)
-        (by_heard (hear link bytes.old talk) link name.now now
-        (desk (with_changes changes.old table.now) work) (Q.drawing chances.old).left)
+    ensures answer { AnswersBy (at_trust_desk (with_changes changes.new table.now) result)
+        (by_trust_heard (hear link bytes.old talk) link name.now now
+        (trust_desk (with_changes changes.old table.now) work) (Q.drawing chances.old).left)
         (Q.drawing chances.new).left }
 {
     match hear(alloc, link, bytes, talk) {

@@ -15,7 +15,7 @@ use case_words::{
 };
 use controller_calls::{
     ChallengePair, Computers, ControllerCall, JudgedCall, Line, Work, answer_authenticate,
-    answer_challenge, answer_judged, fault_bytes, tell,
+    answer_challenge, fault_bytes, judge_call, tell,
 };
 use end_links::ShortActions;
 use interactive_logon::{Sessions, read_interactive};
@@ -92,16 +92,21 @@ fn answer_call(
         ControllerCall::Authenticate(call) => {
             answer_authenticate(alloc, &scene.table, &scene.changes, line, call, work)?
         }
-        ControllerCall::Judged(call) => answer_judged(
-            alloc,
-            &scene.table,
-            &mut scene.changes,
-            &scene.name,
-            scene.now,
-            line,
-            call,
-            work,
-        )?,
+        ControllerCall::Judged(call) => {
+            // no trusted domain's controller is asked
+            let (work, _) = judge_call(
+                alloc,
+                &scene.table,
+                &mut scene.changes,
+                &scene.name,
+                scene.now,
+                line,
+                0,
+                call,
+                work,
+            )?;
+            work
+        }
     };
     Ok(Some(work))
 }

@@ -34,6 +34,19 @@ fn run(alloc: Global, words: &[&str]) -> anyhow::Result<String> {
     play_and_count(alloc, &mut end, &mut chances, steps)
 }
 
+/// `controller.trusts DOCUMENT NAME CHALLENGES STEP ..`: the same of a controller that asks the controllers of trusted
+/// domains.
+fn run_trusting(alloc: Global, words: &[&str]) -> anyhow::Result<String> {
+    let Some(steps) = words.get(4..) else {
+        return no_case(alloc);
+    };
+    let mut chances = chances(alloc, word(words, 3))?;
+    let name = name(alloc, word(words, 2))?;
+    let table = table(alloc, word(words, 1))?;
+    let mut end = Controller::with_trusts(alloc, table, name)?;
+    play_and_count(alloc, &mut end, &mut chances, steps)
+}
+
 /// A text that is to be kept.
 fn keep(alloc: Global) -> anyhow::Result<Action> {
     Ok(Action::Keep(Blob::copy(alloc, b"text")?))
@@ -135,6 +148,7 @@ fn line(alloc: Global, words: &[&str]) -> anyhow::Result<String> {
 pub(crate) fn answer(alloc: Global, operation: &str, words: &[&str]) -> anyhow::Result<String> {
     match operation {
         "run" => run(alloc, words),
+        "trusts" => run_trusting(alloc, words),
         "counts" => counts(alloc, words),
         "secrets" => secrets(alloc, words),
         "line" => line(alloc, words),

@@ -27,6 +27,7 @@ use Rattle.domain_controller.specs.Hearing.{bound_talk, first_talk}
 use Rattle.domain_controller.specs.Machine.{account_for, channel_for, info_of, status_of}
 use Rattle.domain_controller.specs.State.{State}
 use Rattle.domain_controller.specs.Step.{LinkMap, step_of}
+use Rattle.domain_controller.specs.Trusting.{no_trusting}
 use Rattle.controller_calls.specs.declared.state.Computers.{Computers}
 use Rattle.domain_controller.specs.declared.state.Talk.{Talk}
 use Rattle.logon_steps.specs.Answering.{IsInStep, auth_value, moved, pair_of}
@@ -35,7 +36,12 @@ use Rattle.logon_steps.specs.Turning.{IsTurnCall, turn_ack, turn_agreed, turn_re
 -- ---- a controller
 
 abbrev pub controller_at : AccountTable → List ℕ → Computers → LinkMap → State
-controller_at table name computers links = record { table = table; name = name; running = Some (record { computers = computers; links = links }) }
+controller_at table name computers links = record {
+  table = table;
+  name = name;
+  running = Some (record { computers = computers; links = links });
+  trusting = no_trusting;
+}
 
 -- the one link, on which all that came is served
 abbrev pub one_link : ℕ → Talk → LinkMap

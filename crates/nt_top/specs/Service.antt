@@ -5,7 +5,7 @@ use Rattle.outside.specs.declared.action.Action.{Action}
 use Rattle.outside.specs.declared.action.Action.TheVariants.{Keep}
 use Rattle.end_loop.specs.Seen.{Sight}
 use Rattle.end_loop.specs.Writing.{FilesTold}
-use Rattle.domain_controller.specs.Step.{controller_machine, first_state}
+use Rattle.domain_controller.specs.TrustStep.{first_trust_state, trust_machine}
 use Rattle.member_server.specs.Machine.{Changing, change_of, fresh_member, member_machine}
 use Rattle.member_server.specs.State.{State}
 use Rattle.member_server.specs.declared.change.ChangeRefused.{ChangeRefused}
@@ -92,13 +92,13 @@ pub record BeginsOneChange : Type 0 where
   pub not_asked : (job : MemberJob) (files : MemberFiles) → files.change ≡ None →
       (first_of (member_begins job files).answer ≡ []) × ((member_begins job files).state ≡ fresh_member (member_plan job files.secrets))
 
--- The end of the service is served: a controller of the words' name over the files' table, which keeps changed secrets
--- in the file that the words name for them, or a member server. It is served at the words' address, with the file's
--- seed and the words' number of the boot, for as many events as they say. A logon client of the words and the file's
--- hash comes to its exit.
+-- The end of the service is served: a controller of the words' name over the files' table, which asks the controllers
+-- of the domains that the table trusts and keeps changed secrets in the file that the words name for them, or a member
+-- server. It is served at the words' address, with the file's seed and the words' number of the boot, for as many
+-- events as they say. A logon client of the words and the file's hash comes to its exit.
 abbrev pub ServiceBy : Setup → Sight → Sight → Exit → Type 0
 ServiceBy (setups.Controller job files) before after exit =
-    MayServe controller_machine job.secrets [] (first_state files.table job.name) job.listen files.seed job.boot job.events before after exit
+    MayServe trust_machine job.secrets [] (first_trust_state files.table job.name) job.listen files.seed job.boot job.events before after exit
 ServiceBy (setups.Member job files) before after exit = MemberServes job files before after exit
 ServiceBy (setups.Logon job files) before after exit = LogonEnds (plan_of job files) files.seed job.boot before after exit
 

@@ -13,13 +13,13 @@ use Rattle.outside.specs.declared.action.StepRefused.TheVariants as refused
 use Rattle.outside.specs.declared.event.Event.{Event}
 use Rattle.account_table.specs.AccountTable.{AccountTable}
 use Rattle.domain_controller.specs.State.{State as ControllerState}
-use Rattle.domain_controller.specs.Step.{first_state, is_stopped as controller_is_stopped, step_of as controller_step_of}
+use Rattle.domain_controller.specs.Step.{first_state, step_of as controller_step_of}
 use Rattle.logon_client.specs.State.{State as ClientState}
 use Rattle.logon_client.specs.Machine.{step_of as client_step_of}
 use Rattle.member_server.specs.State.{State as MemberState}
 use Rattle.member_server.specs.Machine.{is_stopped as member_is_stopped, step_of as member_step_of}
 use Rattle.world_moves.specs.Ends.{EndStates, client_done, client_step, controller_done, controller_step, drawn_on, end_done, member_done, member_step, renew_controller}
-use Rattle.world_moves.specs.Running.{CanStep}
+use Rattle.world_moves.specs.Running.{CanStep, RunsAlone}
 use Rattle.world_moves.specs.declared.links.EndId.TheVariants.{Controller, Member, Client}
 
 same_drawing : (one other : Drawing) → one.seed ≡ other.seed → one.boot ≡ other.boot → one.drawn ≡ other.drawn → one.left ≡ other.left → one ≡ other
@@ -100,8 +100,8 @@ renewed_run gave_up controllers after members clients at lt renews can = elim (s
       record {
         few = omega (arith, can.few, size);
         running = λ goes_on. record {
-          each_controller = subst (λ (all : List ControllerState). All (λ (c : ControllerState). controller_is_stopped c ≡ false) all) (sym is)
-              (All-set (λ (c : ControllerState). controller_is_stopped c ≡ false) controllers at (first_state found.0.table found.0.name) refl (can.running goes_on).each_controller);
+          each_controller = subst (λ (all : List ControllerState). All RunsAlone all) (sym is)
+              (All-set RunsAlone controllers at (first_state found.0.table found.0.name) (record { runs = refl; asks_nobody = refl }) (can.running goes_on).each_controller);
           each_member = (can.running goes_on).each_member;
           each_client = (can.running goes_on).each_client;
           few = omega (arith, can.few, size);
@@ -116,7 +116,7 @@ pub none_run : (gave_up : Bool) (controllers none : List ControllerState) (membe
 none_run gave_up controllers none members clients is can = record {
   few = omega (arith, can.few, ap length is);
   running = λ goes_on. record {
-    each_controller = subst (λ (all : List ControllerState). All (λ (c : ControllerState). controller_is_stopped c ≡ false) all) (sym is) (All-nil (λ (c : ControllerState). controller_is_stopped c ≡ false));
+    each_controller = subst (λ (all : List ControllerState). All RunsAlone all) (sym is) (All-nil RunsAlone);
     each_member = (can.running goes_on).each_member;
     each_client = (can.running goes_on).each_client;
     few = omega (arith, can.few, ap length is);

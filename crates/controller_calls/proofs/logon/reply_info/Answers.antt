@@ -6,5 +6,5 @@ returns-clause-writable c =
     rw (c.at_level.ensures, c.crypt_key-key.ensures) (can_write_at c.args.validation c.args.key c.args.info c.requires.level c.requires.writable)
 
 pub returns-clause-short : goal.returns-clause-short
-returns-clause-short c =
-    rw (c.at_level.ensures, c.crypt_key-key.ensures) (short_at c.args.validation c.args.key c.args.info c.requires.level c.requires.short)
+returns-clause-short c = λ few.
+    rw (c.at_level.ensures, c.crypt_key-key.ensures) (short_at c.args.validation c.args.key c.args.info c.requires.level few)

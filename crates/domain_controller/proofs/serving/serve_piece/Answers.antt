@@ -1,17 +1,16 @@
 use Rattle.std.proofs.Common.{arith}
 use Rattle.end_links.proofs.BoundLaws.{piece_few}
 use Rattle.account_table.specs.Changes.{with_changes}
-use Rattle.controller_calls.specs.Desk.{desk, at_desk}
-use Rattle.domain_controller.specs.Machine.{controller_server}
-use Rattle.domain_controller.proofs.RestLaws.{server_few}
+use Rattle.domain_controller.specs.Forwarding.{at_trust_desk, trust_desk, trust_server}
+use Rattle.domain_controller.proofs.TrustRestLaws.{trust_server_few}
 use Rattle.domain_controller.proofs.serving.serve_piece.Goals as goal
 
 pub returns-clause-few : goal.returns-clause-few
 returns-clause-few g c =
-    let server = controller_server c.args.name.now c.args.now c.args.number in
+    let server = trust_server c.args.name.now c.args.now c.args.number in
     omega (
       arith,
-      piece_few server (λ talk. 0) (server_few c.args.name.now c.args.now c.args.number) (at_desk (with_changes c.serve_units.new.changes c.args.table.now) c.serve_units.result) c.args.link.rest c.args.piece.now
-          (desk (with_changes c.args.changes.now c.args.table.now) c.args.work) c.args.link.talk (g.Q.Chances.drawing c.args.chances.now).left (g.Q.Chances.drawing c.serve_units.new.chances).left
+      piece_few server (λ talk. 0) (trust_server_few c.args.name.now c.args.now c.args.number) (at_trust_desk (with_changes c.serve_units.new.changes c.args.table.now) c.serve_units.result) c.args.link.rest c.args.piece.now
+          (trust_desk (with_changes c.args.changes.now c.args.table.now) c.args.work) c.args.link.talk (g.Q.Chances.drawing c.args.chances.now).left (g.Q.Chances.drawing c.serve_units.new.chances).left
           (omega (arith, c.rest_len-held.ensures)) c.serve_units.ensures.answer,
     )

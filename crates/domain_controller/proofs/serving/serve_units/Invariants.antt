@@ -4,16 +4,15 @@ use Rattle.outside.specs.Drawing.{DrawsSome}
 use Rattle.rpc_units.specs.Stream.{cut_stream}
 use Rattle.end_links.specs.Serving.{served_cut}
 use Rattle.account_table.specs.Changes.{with_changes}
-use Rattle.controller_calls.specs.Desk.{desk}
-use Rattle.domain_controller.specs.Machine.{controller_server}
+use Rattle.domain_controller.specs.Forwarding.{trust_desk, trust_server}
 use Rattle.domain_controller.proofs.serving.serve_units.Given as goal
 
 abbrev pub invariant-units : goal.invariant-units
 invariant-units g l = record {
   runs : l.coming.flow.broken ≡ false;
   draws : DrawsSome (g.Q.Chances.drawing l.fn.chances) (g.Q.Chances.drawing l.chances);
-  so_far : served_cut (controller_server l.name l.now l.number) (cut_stream (l.coming.flow.held ++ l.coming.left)) (desk (with_changes l.changes l.table) l.work) l.talk (g.Q.Chances.drawing l.chances).left
-      ≡ served_cut (controller_server l.fn.name l.fn.now l.fn.number) (cut_stream (l.fn.link.rest ++ l.fn.piece)) (desk (with_changes l.fn.changes l.fn.table) l.fn.work) l.fn.link.talk (g.Q.Chances.drawing l.fn.chances).left;
+  so_far : served_cut (trust_server l.name l.now l.number) (cut_stream (l.coming.flow.held ++ l.coming.left)) (trust_desk (with_changes l.changes l.table) l.work) l.talk (g.Q.Chances.drawing l.chances).left
+      ≡ served_cut (trust_server l.fn.name l.fn.now l.fn.number) (cut_stream (l.fn.link.rest ++ l.fn.piece)) (trust_desk (with_changes l.fn.changes l.fn.table) l.fn.work) l.fn.link.talk (g.Q.Chances.drawing l.fn.chances).left;
   rest : (cut_stream (l.coming.flow.held ++ l.coming.left)).rest ≡ (cut_stream (l.fn.link.rest ++ l.fn.piece)).rest;
 }
 
