@@ -8,4 +8,5 @@ pub mod AnyTurnLaws
 pub mod ControllerAnswerLaws
 pub mod JudgingLaws
 pub mod RestAgainLaws
+pub mod SetAnswerLaws
 pub mod UnreachedLaws

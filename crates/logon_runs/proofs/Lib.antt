@@ -11,3 +11,4 @@ pub mod Any
 pub mod GrantsToldLaws
 pub mod RestStayLaws
 pub mod Keys
+pub mod SecretRestLaws

@@ -3,3 +3,4 @@ pub mod PhaseEndLaws
 pub mod PhaseLaws
 pub mod PhaseStartLaws
 pub mod PhaseTurnLaws
+pub mod SetPhaseLaws

@@ -25,7 +25,6 @@ use Rattle.world_moves.specs.World.{IsPlan, first_world}
 use Rattle.world_moves.proofs.RangeLaws.{table_in_range}
 use Rattle.logon_steps.specs.Knowing.{StandsLater}
 use Rattle.logon_steps.proofs.KnowingLaws.{computers_are_known}
-use Rattle.logon_steps.proofs.MemberLinkLaws.{fresh_rests}
 use Rattle.logon_runs.specs.Seen.Others.{OthersStay}
 use Rattle.logon_runs.specs.Phases.{Coming}
 use Rattle.logon_runs.specs.Rests.{AreAlone, AtRest, CanBeGranted, CanCome, ClientRests, ControllerRests, HasBegun, HasCome, HasOwnComputer, HasOwnName, LogonsComeToRest, channel_account, coming_at, three_of}
@@ -60,6 +59,7 @@ first_so plan is forms alone = record {
   dials = refl;
   units = refl;
   plans = refl;
+  alone = alone;
   controllers = λ at planned is_table.
       let named : HasItem plan.controllers at = item_at plan.controllers at (omega (arith, is.tables, slice_get_within plan.tables at planned is_table)) in
       record {
@@ -75,7 +75,7 @@ first_so plan is forms alone = record {
     how = standing.Nothing;
     place = 0;
     number = 1;
-    rests = got_mapped fresh_member plan.members at member is_plan ∙ ap Some (fresh_rests member (alone at member is_plan));
+    rests = got_mapped fresh_member plan.members at member is_plan;
     place_below = omega arith;
     number_below = omega arith;
     stands = tt;
@@ -136,12 +136,15 @@ comes_so plan s rest client member controller can account number is forms accoun
         units = able.units;
         names = able.names;
         caller = able.caller;
+        given = able.given;
+        one = able.one;
         place_below = able.place_below;
         number_below = able.number_below;
-        stands = stands_by plan coming coming.meeting.how refl (own_name plan member can.member_plan controller can.computer) able.stands;
+        stands = stands_by plan coming coming.meeting.how refl
+            (record { member = can.member_plan; planned = can.is_member_plan; named = own_name plan member can.member_plan controller can.computer }) able.stands;
         knows = secret.knows;
         machine_found = secret.found;
-        secret = secret.secret;
+        secret = λ none. secret.secret;
         ranged = able.ranged;
         named = able.named;
         account_so = account_so;

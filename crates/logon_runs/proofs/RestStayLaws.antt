@@ -44,6 +44,7 @@ rest_with plan s after controllers members clients opened dials units plans rest
   dials = dials;
   units = units;
   plans = plans ∙ rest.plans;
+  alone = rest.alone;
   controllers = λ at planned is_table.
       let cr : ControllerRests plan s at planned = rest.controllers at planned is_table in
       record {

@@ -3,6 +3,7 @@ pub mod AskSceneLaws
 pub mod LinkSceneLaws
 pub mod OtherLaws
 pub mod SceneLaws
+pub mod SetSceneLaws
 pub mod StartLaws
 pub mod StayingLaws
 pub mod StepOnLaws

@@ -3,3 +3,4 @@ pub mod AnyPhases
 pub mod AnyStarts
 pub mod ControllerAnswers
 pub mod GrantRests
+pub mod SetAnswers

@@ -10,3 +10,5 @@ pub mod Any
 pub mod AnyLogons
 pub mod GrantsTold
 pub mod Keys
+pub mod SetPhases
+pub mod SecretRests

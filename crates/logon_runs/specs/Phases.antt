@@ -64,7 +64,7 @@ use Rattle.logon_steps.specs.MemoCalls.{ReplyGoes, RequestGoes, logged_on, with_
 use Rattle.logon_steps.specs.Turning.{turn_ack, turn_request}
 use Rattle.logon_runs.specs.Seen.AskScenes.{turn_within, with_controller}
 use Rattle.logon_runs.specs.Grants.{KeyArrives}
-use Rattle.logon_runs.specs.Seen.LinkScenes.{Meeting, its_link, joined, meeting_scene, rest_scene, unit_down, unit_up}
+use Rattle.logon_runs.specs.Seen.LinkScenes.{FitsGiven, given_after, its_link, joined, Meeting, meeting_scene, rest_scene, unit_down, unit_up}
 use Rattle.logon_runs.specs.Seen.Others.{IfSo, IsStepOn, is_onward}
 use Rattle.logon_runs.specs.Runs.{Asked, StandsInStep, hidden, info_asked, message_for, sam_for}
 use Rattle.logon_runs.specs.Scenes.{Scene, Shows}
@@ -156,6 +156,7 @@ pub record Ending : Type 0 where
 
 abbrev pub meeting_at : Coming → Ending → Meeting
 meeting_at p e = record (with_controller (own p) e.table p.name e.computers) {
+  given = given_after (own p);
   how = standing.Open e.member;
   place = after p.meeting.place;
   number = e.number;
@@ -268,10 +269,11 @@ pub record IsTurning (p : Coming) (a : Asked) (v : TurnAt) : Type 0 where
   pub next_below : v.next < 2 ^ 32
   pub others : KeepsOthers p v.computers
 
--- the controller keeps what the call needs of it
+-- the controller keeps what the call needs of it; the calls that open a channel are made where there was none
 abbrev pub IsAimed : Coming → TurnAt → Aim → Type 0
-IsAimed p v (First client) = IsBlock 8 client
-IsAimed p v (Second client server) = lookup same_name p.meeting.caller.computer v.computers.pending ≡ Some (pair_of client server)
+IsAimed p v (First client) = IsBlock 8 client × (p.meeting.how ≡ standing.Nothing)
+IsAimed p v (Second client server) =
+    (lookup same_name p.meeting.caller.computer v.computers.pending ≡ Some (pair_of client server)) × (p.meeting.how ≡ standing.Nothing)
 IsAimed p v (Third o c timestamp) = (timestamp < 2 ^ 32) × (lookup same_name p.meeting.caller.computer v.computers.channels ≡ Some c) × IsInStep o c
 
 -- the accounts differ in counts of bad passwords alone, and both ends of the channel are in step
@@ -295,7 +297,7 @@ Fits p (BindsHeld a who v aim) = IsTurning p a v × IsAimed p v aim
 Fits p (Acked a who v aim) = IsTurning p a v × IsAimed p v aim
 Fits p (Calls a who v aim) = IsTurning p a v × IsAimed p v aim
 Fits p (Halved a who v client server) =
-    IsTurning p a v × IsBlock 8 server × (lookup same_name p.meeting.caller.computer v.computers.pending ≡ Some (pair_of client server))
+    IsTurning p a v × IsBlock 8 server × IsAimed p v (Second client server)
 Fits p (Proved a who v client server) =
     IsTurning p a v
     × ((c : SecureChannelState) × (lookup same_name p.meeting.caller.computer v.computers.channels ≡ Some c)
@@ -326,19 +328,21 @@ pub record IsOver (p : Coming) (s : State) : Type 0 where
 
 -- ---- of what it is granted
 
--- the client and its member can go on; the controller knows the computer, has its secret, and keeps the member's
--- channel in step where there is one
+-- The client and its member can go on. The controller knows the computer, has the secret by which its channel is to be
+-- opened, and keeps the channel in step where there is one.
 pub record IsKnown (p : Coming) : Type 0 where
   pub can : CanLogOn p.meeting.task
   pub units : HasUnits p.meeting.task
   pub names : HasShortNames p.meeting.plan
   pub caller : HasShortCaller p.meeting.caller
+  pub given : FitsGiven p.meeting
+  pub one : p.meeting.plan.secrets.next ≡ None
   pub place_below : p.meeting.place < 2 ^ 32
   pub number_below : p.meeting.number < 2 ^ 32
   pub stands : (p.meeting.how ≡ standing.Nothing) ⊎ StandsInStep p.meeting p.computers
   pub knows : knows_in p.table.accounts p.meeting.caller.computer ≡ true
   pub machine_found : (client server : List ℕ) → account_for p.table (auth_value p.meeting.caller client server) ≡ Some p.machine
-  pub secret : p.machine.hash ≡ p.meeting.caller.secret
+  pub secret : p.meeting.how ≡ standing.Nothing → p.machine.hash ≡ p.meeting.caller.secret
   pub ranged : InRangeTable p.table
   pub named : IsName p.name
   pub account_so : InRangeAccount p.account

@@ -36,7 +36,7 @@ use Rattle.world_moves.specs.World.{IsPlan, first_ends, first_world}
 use Rattle.logon_steps.specs.Answering.{IsInStep}
 use Rattle.logon_steps.specs.ClientSteps.{client_ended}
 use Rattle.logon_steps.specs.ControllerTurns.{controller_at}
-use Rattle.logon_steps.specs.MemberLinks.{logons_at_rest}
+use Rattle.logon_steps.specs.MemberLinks.{logons_resting}
 use Rattle.member_server.specs.Secrets.{tried_of}
 use Rattle.logon_steps.specs.MemberTurns.{member_at}
 use Rattle.logon_runs.specs.Seen.Others.{IsStepOn, OthersStay, Three}
@@ -112,7 +112,7 @@ pub record MemberRests (plan : Plan) (s : State) (at : ℕ) (member : MemberPlan
   pub how : Standing
   pub place : ℕ
   pub number : ℕ
-  pub rests : slice_get s.ends.members at ≡ Some (member_at (logons_at_rest member (caller_of member) how place number) [] dialling.Nothing)
+  pub rests : slice_get s.ends.members at ≡ Some (member_at (logons_resting member (caller_of member) None how place number) [] dialling.Nothing)
   pub place_below : place < 2 ^ 32
   pub number_below : number < 2 ^ 32
   pub stands : StandsWell plan s at member how
@@ -129,6 +129,7 @@ pub record AtRest (plan : Plan) (s : State) : Type 0 where
   pub dials : s.dials ≡ []
   pub units : waiting s.bag ≡ []
   pub plans : s.client_plans ≡ plan.clients
+  pub alone : AreAlone plan.members
   pub controllers : (at : ℕ) (planned : AccountTable) → slice_get plan.tables at ≡ Some planned → ControllerRests plan s at planned
   pub members : (at : ℕ) (member : MemberPlan) → slice_get plan.members at ≡ Some member → MemberRests plan s at member
   pub clients : (at : ℕ) (task : ClientPlan) → slice_get plan.clients at ≡ Some task → ClientRests s at task
@@ -165,6 +166,7 @@ coming_at plan s rest client member controller can account machine =
         task = can.task;
         plan = can.member_plan;
         caller = caller_of can.member_plan;
+        given = record { secret = tried_of can.member_plan.secrets; next = None };
         how = work.how;
         place = work.place;
         number = work.number;

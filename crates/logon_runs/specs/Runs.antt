@@ -40,7 +40,7 @@ use Rattle.logon_steps.specs.MemberAnswers.{granting, let_in, sam_shown}
 use Rattle.logon_steps.specs.MemoCalls.{ReplyGoes, RequestGoes, logged_on}
 use Rattle.logon_steps.specs.Turning.{IsTurnReply}
 use Rattle.logon_runs.specs.Seen.AskScenes.{with_controller}
-use Rattle.logon_runs.specs.Seen.LinkScenes.{IsJoined, Meeting, meeting_scene, unit_down, unit_up}
+use Rattle.logon_runs.specs.Seen.LinkScenes.{FitsGiven, given_after, IsJoined, Meeting, meeting_scene, unit_down, unit_up}
 use Rattle.logon_runs.specs.Scenes.{Shows}
 
 -- what a client answers to its member, where it is asked so
@@ -85,6 +85,7 @@ pub record IsToBeGranted (g : Meeting) (a : Asked) (o c : SecureChannelState) (t
   pub caller : HasShortCaller g.caller
   pub info : HasShortInfo (info_asked g a)
   pub stands : g.how ≡ standing.Open o
+  pub fits : FitsGiven g
   pub channel : lookup same_name g.caller.computer computers.channels ≡ Some c
   pub in_step : IsInStep o c
   pub found : account_in table.accounts g.task.user ≡ Some account
@@ -120,6 +121,7 @@ with_moved g c timestamp computers = record computers {
 -- the member's channel rests again
 abbrev pub rested : Meeting → SecureChannelState → ℕ → Meeting
 rested g o timestamp = record g {
+  given = given_after g;
   how = standing.Open (after_return true (after_call o timestamp));
   place = after g.place;
   number = after (after g.number);

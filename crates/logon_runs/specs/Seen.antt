@@ -2,6 +2,7 @@
 pub mod AskScenes
 pub mod LinkScenes
 pub mod Others
+pub mod SetScenes
 pub mod Starts
 pub mod Staying
 pub mod TurnScenes

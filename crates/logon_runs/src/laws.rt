@@ -5,6 +5,7 @@ ghost use Rattle.logon_runs.specs.Any.AnyPhases.{AnyPhasesGoOn};
 ghost use Rattle.logon_runs.specs.Any.AnyStarts.{AnyLogonsStart};
 ghost use Rattle.logon_runs.specs.Any.ControllerAnswers.{ControllersAnswer};
 ghost use Rattle.logon_runs.specs.Any.GrantRests.{GrantsRest};
+ghost use Rattle.logon_runs.specs.Any.SetAnswers.{ControllersAnswerSets};
 ghost use Rattle.logon_runs.specs.AnyLogons.{LogonsRest};
 ghost use Rattle.logon_runs.specs.Seen.AskScenes.{LogonsAreSeen};
 ghost use Rattle.logon_runs.specs.First.ExampleLogon.{AnnLogsOn};
@@ -24,6 +25,9 @@ ghost use Rattle.logon_runs.specs.Phases.{PhasesGoOn};
 ghost use Rattle.logon_runs.specs.Rests.{LogonsComeToRest, RestsStay};
 ghost use Rattle.logon_runs.specs.Runs.{TurnsRun};
 ghost use Rattle.logon_runs.specs.Scenes.{ScenesGoOn};
+ghost use Rattle.logon_runs.specs.SecretRests.{SetsLeaveOthers};
+ghost use Rattle.logon_runs.specs.Seen.SetScenes.{SetsAreSeen};
+ghost use Rattle.logon_runs.specs.SetPhases.{SetPhasesGoOn};
 ghost use Rattle.logon_runs.specs.Seen.Starts.{StartsAreSeen};
 ghost use Rattle.logon_runs.specs.Seen.Staying.{EndsStay};
 ghost use Rattle.logon_runs.specs.Seen.TurnScenes.{TurnsAreSeen};
@@ -71,6 +75,13 @@ pub fn starts_are_seen()
 #[tactic(auto, using(crate::proofs::Seen::TurnSceneLaws::turns_are_seen))]
 pub fn turns_are_seen()
     ensures { TurnsAreSeen }
+{}
+
+/// A turn that sets a member's next secret, unit by unit: from the reply that opens the channel under the current one,
+/// to the dial of the logon's own turn. Where the channel opens under the next one, no such turn is needed.
+#[tactic(auto, using(crate::proofs::Seen::SetSceneLaws::sets_are_seen))]
+pub fn sets_are_seen()
+    ensures { SetsAreSeen }
 {}
 
 /// A client and its member on their link: from the dial to the AUTHENTICATE with WhoAmI behind it,
@@ -155,6 +166,13 @@ pub fn phases_go_on()
     ensures { PhasesGoOn }
 {}
 
+/// A turn that sets a member's next secret goes on at each move, at a controller that has the member's account, to the
+/// dial of the logon's own turn. The member keeps one secret then, and the account has it.
+#[tactic(auto, using(crate::proofs::Phases::SetPhaseLaws::set_phases_go_on))]
+pub fn set_phases_go_on()
+    ensures { SetPhasesGoOn }
+{}
+
 /// The moves of one logon change its client, its member and its controller alone: all other ends
 /// are as they were, and no other link opens.
 #[tactic(auto, using(crate::proofs::Seen::OtherLaws::others_are_left))]
@@ -226,6 +244,13 @@ pub fn controllers_answer()
     ensures { ControllersAnswer }
 {}
 
+/// A controller answers a call that sets a secret by one reply, whatever it keeps of that computer. It sets the hash of
+/// the channel's own account or none, and keeps the channels of the others.
+#[tactic(auto, using(crate::proofs::Any::SetAnswerLaws::controllers_answer_sets))]
+pub fn controllers_answer_sets()
+    ensures { ControllersAnswerSets }
+{}
+
 /// A logon that a member takes as granted, with whatever key, comes to rest: once nothing waits its client has an
 /// outcome, all other ends are as they were, and no challenge was drawn.
 #[tactic(auto, using(crate::proofs::Keys::GrantRestLaws::grants_rest))]
@@ -252,4 +277,11 @@ pub fn any_logons_start()
 #[tactic(auto, using(crate::proofs::Any::AnyLogonLaws::logons_rest))]
 pub fn logons_rest()
     ensures { LogonsRest }
+{}
+
+/// A secret that is set leaves the accounts as they were by which a controller opens other computers' channels, and
+/// which computers it knows.
+#[tactic(auto, using(crate::proofs::SecretRestLaws::sets_leave_others))]
+pub fn sets_leave_others()
+    ensures { SetsLeaveOthers }
 {}

@@ -38,7 +38,7 @@ credential_right caller client server account is =
     ap (λ (key : List ℕ). bytes_eq (auth_value caller client server).credential (cred_of key client)) (opened_step caller client server account is).key
     ∙ same_bytes (auth_value caller client server).credential
 
-passes_step : (o c : SecureChannelState) (timestamp : ℕ) → IsInStep o c → passes_on c (authenticator_of (key_of_channel o) o.seed timestamp) ≡ true
+pub passes_step : (o c : SecureChannelState) (timestamp : ℕ) → IsInStep o c → passes_on c (authenticator_of (key_of_channel o) o.seed timestamp) ≡ true
 passes_step o c timestamp is =
     ap₂ (λ (key seed : List ℕ). bytes_eq (cred_of (key_of_channel o) (add_to o.seed timestamp)) (cred_of key (add_to seed timestamp))) is.key is.seed
     ∙ same_bytes (cred_of (key_of_channel o) (add_to o.seed timestamp))

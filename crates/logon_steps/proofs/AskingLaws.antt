@@ -11,7 +11,7 @@ use Rattle.channel_client.specs.declared.state.Question.TheVariants as question
 use Rattle.channel_client.specs.State.{Requester}
 use Rattle.wire_base.specs.declared.authenticator.Authenticator.{Authenticator}
 use Rattle.authenticators.specs.SecureChannels.{after_call, after_return, key_of_channel}
-use Rattle.logon_steps.specs.Asking.{LogonsAreAsked, asking}
+use Rattle.logon_steps.specs.Asking.{LogonsAreAsked, asking_keeping}
 
 pub same_bytes : (bytes : List ℕ) → bytes_eq bytes bytes ≡ true
 same_bytes bytes = (bytes_eq-Decides bytes bytes).1 refl
@@ -22,16 +22,16 @@ logons_are_asked = record {
   opens = λ caller info place number timestamp challenge. refl;
   proves = λ caller client server info place number timestamp challenge. refl;
   asks = λ caller o info place number timestamp challenge. refl;
-  half = λ caller info place number other client server. refl;
-  opened = λ caller info place number other flags client server fits.
-      let s : Requester = asking caller (standing.Half client server) info place number (Some (record { number = other; place = place; step = step.Reply question.Authenticate })) in
+  half = λ caller info place number other client server next. refl;
+  opened = λ caller info place number other flags client server next fits.
+      let s : Requester = asking_keeping caller (standing.Half client server) info place number (Some (record { number = other; place = place; step = step.Reply question.Authenticate })) next in
       ap (λ (same : Bool). settle (judge_credential same caller.secret client server flags) s) (same_bytes (server_credential caller.secret client server))
       ∙ ap (λ (fit : Bool). settle (judge_flags fit caller.secret client server) s) fits;
-  granted = λ caller o info sam place number other timestamp moment authoritative.
-      let s : Requester = asking caller (standing.Open (after_call o timestamp)) info place number (Some (record { number = other; place = place; step = step.Reply question.Logon })) in
+  granted = λ caller o info sam place number other timestamp moment authoritative next.
+      let s : Requester = asking_keeping caller (standing.Open (after_call o timestamp)) info place number (Some (record { number = other; place = place; step = step.Reply question.Logon })) next in
       ap (λ (same : Bool). settle (judge_awaited same 0 level_asked (Some sam) (after_call o timestamp)) s) (same_bytes (return_of (key_of_channel o) o.seed timestamp));
-  refused = λ caller o info sam place number other timestamp moment level authoritative status denied zero.
-      let s : Requester = asking caller (standing.Open (after_call o timestamp)) info place number (Some (record { number = other; place = place; step = step.Reply question.Logon })) in
+  refused = λ caller o info sam place number other timestamp moment level authoritative status next denied zero.
+      let s : Requester = asking_keeping caller (standing.Open (after_call o timestamp)) info place number (Some (record { number = other; place = place; step = step.Reply question.Logon })) next in
       let returned : Option Authenticator = Some (record { credential = return_of (key_of_channel o) o.seed timestamp; timestamp = moment }) in
       ap (λ (d : Bool). settle (judge_logon d (standing.Open (after_call o timestamp)) returned status level sam) s) denied
       ∙ ap (λ (same : Bool). settle (judge_awaited same status level sam (after_call o timestamp)) s) (same_bytes (return_of (key_of_channel o) o.seed timestamp))

@@ -46,7 +46,7 @@ stepped table name computers links left part =
     (then_part part (λ after rest. start_turn after rest))
 
 -- a piece is served on it, and no other is open
-on_link : (table : AccountTable) (name : List ℕ) (computers : Computers) (link now : ℕ) (talk : Talk) (piece : List ℕ) (left : List (List ℕ)) (part : ServedPart Desk Talk) →
+pub on_link : (table : AccountTable) (name : List ℕ) (computers : Computers) (link now : ℕ) (talk : Talk) (piece : List ℕ) (left : List (List ℕ)) (part : ServedPart Desk Talk) →
     served_cut (controller_server name now link) (cut_stream piece) (first_desk table (running computers (one_link link talk))) talk left ≡ part → (cut_stream piece).rest ≡ [] →
     step_of (controller_at table name computers (one_link link talk)) (event.Bytes link piece) now left
     ≡ stepped table name computers (one_link link talk) left (after_units part [] link [])

@@ -17,6 +17,7 @@ use Rattle.logon_stubs.specs.declared.info.SamInfo.{SamInfo}
 use Rattle.end_links.specs.Agreed.{accepts}
 use Rattle.end_links.specs.Links.{LinkState}
 use Rattle.channel_client.specs.declared.state.Question.TheVariants as question
+use Rattle.channel_client.specs.declared.state.Standing.{Standing}
 use Rattle.channel_client.specs.declared.state.Standing.TheVariants as standing
 use Rattle.channel_client.specs.declared.state.Step.TheVariants as step
 use Rattle.channel_client.specs.Machine.{Taking, after}
@@ -40,15 +41,16 @@ use Rattle.member_server.specs.Requests.{reply, send_reply, talk_in, unit_in}
 use Rattle.member_server.specs.Turns.{AtTurn, next_turn, take_by}
 use Rattle.member_server.specs.Units.{serve_held, then_held}
 use Rattle.member_server.specs.Work.{Served, drawless, send, stay}
-use Rattle.logon_steps.specs.Asking.{at_rest}
+use Rattle.secret_change.specs.Secrets.{next_of}
+use Rattle.logon_steps.specs.Asking.{asking_keeping, at_rest_keeping}
 use Rattle.logon_steps.specs.Meeting.{bound_for}
 use Rattle.logon_steps.specs.MemberAnswers.{LogonsEnd, granting, let_in, sam_shown}
-use Rattle.logon_steps.specs.MemberLinks.{asked_talk, logons_at_rest, one_link}
-use Rattle.logon_steps.specs.MemberTurns.{logons_in_turn, plan_of}
+use Rattle.logon_steps.specs.MemberLinks.{asked_talk, logons_resting, one_link}
+use Rattle.logon_steps.specs.MemberTurns.{logons_keeping}
 use Rattle.logon_steps.specs.MemoCalls.{ReplyGoes, RequestGoes, logged_on}
 use Rattle.logon_steps.proofs.AskingLaws.{logons_are_asked}
 use Rattle.logon_steps.proofs.MemberLinkLaws.{link_serves}
-use Rattle.logon_steps.proofs.MemberTurnLaws.{replied_steps}
+use Rattle.logon_steps.proofs.MemberTurnLaws.{replied_by}
 use Rattle.logon_steps.proofs.StreamLaws.{same}
 
 -- ---- WhoAmI is answered
@@ -112,17 +114,19 @@ granted_work plan channel task sam logon place turn most one short who back =
 pub logons_end : LogonsEnd
 logons_end = record {
   granted = λ plan caller o info sam logon task place next number turn now timestamp moment authoritative most one left below is short who back.
-      let logons : Logons = logons_in_turn plan caller (standing.Open (after_call o timestamp)) info place next number (step.Reply question.Logon) ((place, logon) ∷ []) in
-      let rest : Requester = at_rest caller (standing.Open (after_return true (after_call o timestamp))) (after place) next in
+      let how : Standing = standing.Open (after_call o timestamp) in
+      let kept : Option (List ℕ) = next_of plan.secrets in
+      let logons : Logons = logons_keeping plan caller how info place next number (step.Reply question.Logon) ((place, logon) ∷ []) in
+      let rest : Requester = at_rest_keeping caller (standing.Open (after_return true (after_call o timestamp))) (after place) next kept in
       let links : List (ℕ × LinkState Talk) = one_link logon.link (asked_talk (bound_for task) place (who.sent ∷ [])) in
       let at : AtTurn = at_turn turn (record { logons = logons; links = links; actions = [] }) in
-      replied_steps plan caller (standing.Open (after_call o timestamp)) info place next number turn now question.Logon (granting o timestamp moment authoritative sam) ((place, logon) ∷ []) links left below is
+      replied_by plan (asking_keeping caller how info place next None kept) ((place, logon) ∷ []) number place turn now question.Logon (granting o timestamp moment authoritative sam) links left below is
       ∙ ap (λ (taking : Taking). step_by actions_in state_in halted_state left (next_turn now ((take_by taking None at).0.work, keep_turn (take_by taking None at).1 [] turn) left))
-      (logons_are_asked.granted caller o info sam place next number timestamp moment authoritative)
+      (logons_are_asked.granted caller o info sam place next number timestamp moment authoritative kept)
       ∙ ap (λ (work : Work). step_by actions_in state_in halted_state left (next_turn now (work, dialling.Nothing) left))
-      (granted_work (plan_of plan caller) rest task (sam_shown o sam) logon place turn most one short who back);
-  echoed = λ plan caller how place next link now most task on bytes one left bound short are asks back.
-      let logons : Logons = logons_at_rest plan caller how place next in
+      (granted_work plan rest task (sam_shown o sam) logon place turn most one short who back);
+  echoed = λ plan caller kept how place next link now most task on bytes one left bound short are asks back.
+      let logons : Logons = logons_resting plan caller kept how place next in
       let at : AtLink = record { link = link; logons = logons; actions = [] } in
       link_serves logons dialling.Nothing link now (talk_in None on) asks.sent asks.unit left
       (drawless (stay (send at back.sent) (talk_in None (logged_on on back.later))) left) tt asks.read

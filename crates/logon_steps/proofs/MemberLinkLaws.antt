@@ -39,8 +39,8 @@ use Rattle.member_server.specs.Units.{link_server}
 use Rattle.member_server.specs.Work.{Served, drawless, send_unit, stay}
 use Rattle.logon_steps.specs.Answers.{AreDraws, answer_for, auth3_for, drawn_of, logon_for}
 use Rattle.logon_steps.specs.Meeting.{HasShortNames, ack_for, bound_for, challenged_talk, flags_agreed, fresh_talk}
-use Rattle.logon_steps.specs.MemberLinks.{IsElsewhere, LinksStep, asked_talk, logons_at_rest, one_link}
-use Rattle.logon_steps.specs.MemberTurns.{logons_in_turn, member_at}
+use Rattle.logon_steps.specs.MemberLinks.{IsElsewhere, LinksStep, asked_talk, logons_at_rest, logons_resting, one_link}
+use Rattle.logon_steps.specs.MemberTurns.{logons_keeping, member_at, plan_with}
 use Rattle.logon_steps.proofs.AnswersLaws.{answers_are_asked}
 use Rattle.logon_steps.proofs.MeetingLaws.{bind_sends, meets}
 use Rattle.logon_steps.proofs.StreamLaws.{one_read, read_again, same, served_one, served_read}
@@ -75,23 +75,23 @@ link_serves logons how link now talk bytes unit left part other read served =
 
 pub links_step : LinksStep
 links_step = record {
-  opened = λ plan caller how place number link now left. refl;
-  closed = λ plan caller how place number link now talk left.
-      ap (λ (found : Bool). whole_step left left [] (member_at (logons_at_rest plan caller how place number) (if found then [] else one_link link talk) dialling.Nothing)) (same link);
-  bound = λ plan caller how place number link now task challenge left can short eight.
-      let at : AtLink = record { link = link; logons = logons_at_rest plan caller how place number; actions = [] } in
+  opened = λ plan caller kept how place number link now left. refl;
+  closed = λ plan caller kept how place number link now talk left.
+      ap (λ (found : Bool). whole_step left left [] (member_at (logons_resting plan caller kept how place number) (if found then [] else one_link link talk) dialling.Nothing)) (same link);
+  bound = λ plan caller kept how place number link now task challenge left can short eight.
+      let at : AtLink = record { link = link; logons = logons_resting plan caller kept how place number; actions = [] } in
       let sends : IsSendable (bind_for task.level task.auth) = bind_sends task.level task.auth in
-      link_serves (logons_at_rest plan caller how place number) dialling.Nothing link now fresh_talk (written (bind_for task.level task.auth)) (bind_for task.level task.auth)
+      link_serves (logons_resting plan caller kept how place number) dialling.Nothing link now fresh_talk (written (bind_for task.level task.auth)) (bind_for task.level task.auth)
       (challenge ∷ left) (drawless (stay (send_unit at (ack_for plan task challenge)) (challenged_talk task challenge)) left) tt (read_again (bind_for task.level task.auth) sends)
       (sym (served_one link_server (bind_for task.level task.auth) at fresh_talk (challenge ∷ left) sends) ∙ meets.bind task at challenge left can (record { domain = short.domain; computer = short.computer }) eight);
-  asks_first = λ plan peer caller place number link now then_now task challenge one two three other left can short are.
-      let logons : Logons = logons_at_rest plan caller standing.Nothing place number in
+  asks_first = λ plan peer caller kept place number link now then_now task challenge one two three other left can short are.
+      let logons : Logons = logons_resting plan caller kept standing.Nothing place number in
       asks_steps logons peer link now then_now task challenge one two three (other ∷ left) can short are;
-  asks_again = λ plan peer caller o place number link now then_now task challenge one two three left can short are.
-      let logons : Logons = logons_at_rest plan caller (standing.Open o) place number in
+  asks_again = λ plan peer caller kept o place number link now then_now task secret challenge one two three left can short are.
+      let logons : Logons = logons_resting (plan_with (alone secret) plan) caller kept (standing.Open o) place number in
       asks_steps logons peer link now then_now task challenge one two three left can short are;
   holds = λ plan caller how info place next number link now what asked on bound most level call opnum stub one other goes left apart.
-      let logons : Logons = logons_in_turn plan caller how info place next number what asked in
+      let logons : Logons = logons_keeping plan caller how info place next number what asked in
       let at : AtLink = record { link = link; logons = logons; actions = [] } in
       link_serves logons on link now (asked_talk bound place []) goes.sent goes.unit left
       (drawless (stay at (asked_talk bound place (goes.sent ∷ []))) left) apart goes.read
@@ -122,7 +122,11 @@ is_alone s one =
     ap (λ (next : Option Next). record s { next = next }) one
     ∙ ap (λ (next : Option Next). alone (tried_of_next next s.current)) (sym one)
 
--- with one secret it rests
+-- it rests, and no turn was given a next secret yet
+pub fresh_rests_keeping : (plan : MemberPlan) → fresh_member plan ≡ member_at (logons_resting plan (caller_of plan) None standing.Nothing 0 1) [] dialling.Nothing
+fresh_rests_keeping plan = refl
+
+-- with one secret it rests as such a member does
 pub fresh_rests : (plan : MemberPlan) → plan.secrets.next ≡ None →
     fresh_member plan ≡ member_at (logons_at_rest plan (caller_of plan) standing.Nothing 0 1) [] dialling.Nothing
 fresh_rests plan one =

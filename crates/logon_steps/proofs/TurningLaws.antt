@@ -100,7 +100,7 @@ some_first (suc most) unit size first stub =
       | inr longer ↦ (fragment unit first false (take size stub), fragments_of most unit size false (drop size stub), rw longer refl)
     ]
 
-call_some : (call : RpcUnit) (limit : ℕ) → 0 < length (bytes_of_call call limit)
+pub call_some : (call : RpcUnit) (limit : ℕ) → 0 < length (bytes_of_call call limit)
 unfolding cut_of
 call_some call limit =
     let found = some_first (length (stub_of call.body)) call (stub_size limit) true (stub_of call.body) in
@@ -138,7 +138,7 @@ bind_heard name now link number d left below =
     ∙ ap (λ (unit : Result RpcUnit UnitRefused). by_heard (hear_read unit link first_talk) link name now d left) (read_again (bind_of netlogon_syntax number) sends)
 
 -- fragments of the call are joined
-abbrev hears_whole : List ℕ → ℕ → ℕ → RpcUnit → Desk → List (List ℕ) → ServedPart Desk Talk
+abbrev pub hears_whole : List ℕ → ℕ → ℕ → RpcUnit → Desk → List (List ℕ) → ServedPart Desk Talk
 hears_whole name now link call d left = by_heard (hear_whole call.body call.call link turn_agreed (bound_talk None turn_agreed)) link name now d left
 
 fragment_heard : (name : List ℕ) (now link number opnum : ℕ) (stub : List ℕ) (bytes : List ℕ) (unit : RpcUnit) (so_far : Option RpcUnit) (d : Desk) (left : List (List ℕ)) →
@@ -149,7 +149,7 @@ fragment_heard name now link number opnum stub bytes unit so_far d left read of 
     ap (λ (u : Result RpcUnit UnitRefused). by_heard (hear_read u link (bound_talk so_far turn_agreed)) link name now d left) (read ∙ ap (λ (u : RpcUnit). Ok u) of.is)
     ∙ ap (λ (u : RpcUnit). by_heard (hear_joined (answer_of so_far u) (open_after so_far u) link turn_agreed) link name now d left) (sym of.is)
 
-joins : (name : List ℕ) (now link number opnum : ℕ) (stub : List ℕ) →
+pub joins : (name : List ℕ) (now link number opnum : ℕ) (stub : List ℕ) →
     JoinsCall (controller_server name now link) (request_of number 0 opnum stub) (λ (so_far : Option RpcUnit). bound_talk so_far turn_agreed)
     (hears_whole name now link (request_of number 0 opnum stub))
 joins name now link number opnum stub = record {
@@ -223,7 +223,7 @@ ack_heard at number left below =
     ∙ ap (λ (unit : Result RpcUnit UnitRefused). Ok (record { value = turn_unit unit None at; left = left })) (read_again (turn_ack number) sends)
     ∙ ap (λ (a : Result (Option RpcUnit) JoinRefused). Ok (record { value = turn_by_join a None at; left = left })) (ack_whole number)
 
-turn_joins : (call : RpcUnit) →
+pub turn_joins : (call : RpcUnit) →
     JoinsCall turn_server call turn_talk (λ (at : AtTurn) (left : List (List ℕ)). Ok (record { value = take_by (take_of at.work.logons.channel call) None at; left = left }))
 turn_joins call = record {
   before = λ bytes unit so_far at left read of answer.
@@ -246,7 +246,7 @@ frames_map : (units : List RpcUnit) → joined_frames (map written units) ≡ fl
 frames_map [] = refl
 frames_map (unit ∷ units) = ap (λ (more : List ℕ). written unit ++ more) (frames_map units)
 
-frames_sent : (unit : RpcUnit) (limit : ℕ) → joined_frames (frames_of unit limit) ≡ bytes_of_call unit limit
+pub frames_sent : (unit : RpcUnit) (limit : ℕ) → joined_frames (frames_of unit limit) ≡ bytes_of_call unit limit
 unfolding frames_of
 frames_sent unit limit = frames_map (cut_of unit limit)
 

@@ -46,6 +46,13 @@ asking caller how info place number turn = record {
   next = None;
 }
 
+-- the same of a channel that has that next secret, or none: while it has one, it is set first
+abbrev pub asking_keeping : Caller → Standing → NetworkInfo → ℕ → ℕ → Option Pending → Option (List ℕ) → Requester
+asking_keeping caller how info place number turn next = record (asking caller how info place number turn) { next = next }
+
+abbrev pub at_rest_keeping : Caller → Standing → ℕ → ℕ → Option (List ℕ) → Requester
+at_rest_keeping caller how place number next = record (at_rest caller how place number) { next = next }
+
 -- ---- what it comes to
 
 pub record LogonsAreAsked : Type 0 where
@@ -71,23 +78,23 @@ pub record LogonsAreAsked : Type 0 where
         state = asking caller (standing.Open (after_call o timestamp)) info place (after number)
             (Some (record { number = number; place = place; step = step.Bind (logon_call caller o timestamp (info_at place info)) }));
       }
-  -- the replies of a controller that has the computer's secret: both challenges are known then
-  pub half : (caller : Caller) (info : NetworkInfo) (place number other : ℕ) (client server : List ℕ) →
+  -- the replies of a controller that has the computer's secret, whichever is next: both challenges are known then
+  pub half : (caller : Caller) (info : NetworkInfo) (place number other : ℕ) (client server : List ℕ) (next : Option (List ℕ)) →
       settle (judge (question.Challenge client) (reply.Challenge (record { challenge = server; status = 0 })) standing.Nothing caller.secret)
-      (asking caller standing.Nothing info place number (Some (record { number = other; place = place; step = step.Reply (question.Challenge client) })))
-      ≡ record { taken = taken.Half; state = asking caller (standing.Half client server) info place number None }
+      (asking_keeping caller standing.Nothing info place number (Some (record { number = other; place = place; step = step.Reply (question.Challenge client) })) next)
+      ≡ record { taken = taken.Half; state = asking_keeping caller (standing.Half client server) info place number None next }
   -- the channel stands
-  pub opened : (caller : Caller) (info : NetworkInfo) (place number other flags : ℕ) (client server : List ℕ) →
+  pub opened : (caller : Caller) (info : NetworkInfo) (place number other flags : ℕ) (client server : List ℕ) (next : Option (List ℕ)) →
       (has_flag offered_flags flags && has_flag flags rc4_flag) ≡ true →
       settle (judge question.Authenticate (reply.Authenticate (record {
         credential = server_credential caller.secret client server;
         flags = flags;
         status = 0;
       })) (standing.Half client server) caller.secret)
-      (asking caller (standing.Half client server) info place number (Some (record { number = other; place = place; step = step.Reply question.Authenticate })))
-      ≡ record { taken = taken.Opened; state = asking caller (standing.Open (fresh_channel caller.secret client server offered_flags)) info place number None }
+      (asking_keeping caller (standing.Half client server) info place number (Some (record { number = other; place = place; step = step.Reply question.Authenticate })) next)
+      ≡ record { taken = taken.Opened; state = asking_keeping caller (standing.Open (fresh_channel caller.secret client server offered_flags)) info place number None next }
   -- the logon is granted, or refused with another status than ACCESS_DENIED
-  pub granted : (caller : Caller) (o : SecureChannelState) (info : NetworkInfo) (sam : SamInfo) (place number other timestamp moment authoritative : ℕ) →
+  pub granted : (caller : Caller) (o : SecureChannelState) (info : NetworkInfo) (sam : SamInfo) (place number other timestamp moment authoritative : ℕ) (next : Option (List ℕ)) →
       settle (judge question.Logon (reply.Logon (record {
         returned = Some (record { credential = return_of (key_of_channel o) o.seed timestamp; timestamp = moment });
         level = level_asked;
@@ -95,12 +102,13 @@ pub record LogonsAreAsked : Type 0 where
         authoritative = authoritative;
         status = 0;
       })) (standing.Open (after_call o timestamp)) caller.secret)
-      (asking caller (standing.Open (after_call o timestamp)) info place number (Some (record { number = other; place = place; step = step.Reply question.Logon })))
+      (asking_keeping caller (standing.Open (after_call o timestamp)) info place number (Some (record { number = other; place = place; step = step.Reply question.Logon })) next)
       ≡ record {
         taken = taken.Answer place (verdict.Granted (record sam { key = crypt_key (key_of_channel o) sam.key }));
-        state = at_rest caller (standing.Open (after_return true (after_call o timestamp))) (after place) number;
+        state = at_rest_keeping caller (standing.Open (after_return true (after_call o timestamp))) (after place) number next;
       }
-  pub refused : (caller : Caller) (o : SecureChannelState) (info : NetworkInfo) (sam : Option SamInfo) (place number other timestamp moment level authoritative status : ℕ) →
+  pub refused : (caller : Caller) (o : SecureChannelState) (info : NetworkInfo) (sam : Option SamInfo) (place number other timestamp moment level authoritative status : ℕ)
+      (next : Option (List ℕ)) →
       (status == access_denied) ≡ false → (status == 0) ≡ false →
       settle (judge question.Logon (reply.Logon (record {
         returned = Some (record { credential = return_of (key_of_channel o) o.seed timestamp; timestamp = moment });
@@ -109,8 +117,8 @@ pub record LogonsAreAsked : Type 0 where
         authoritative = authoritative;
         status = status;
       })) (standing.Open (after_call o timestamp)) caller.secret)
-      (asking caller (standing.Open (after_call o timestamp)) info place number (Some (record { number = other; place = place; step = step.Reply question.Logon })))
+      (asking_keeping caller (standing.Open (after_call o timestamp)) info place number (Some (record { number = other; place = place; step = step.Reply question.Logon })) next)
       ≡ record {
         taken = taken.Answer place (verdict.Status status);
-        state = at_rest caller (standing.Open (after_return true (after_call o timestamp))) (after place) number;
+        state = at_rest_keeping caller (standing.Open (after_return true (after_call o timestamp))) (after place) number next;
       }

@@ -32,8 +32,9 @@ use Rattle.member_server.specs.Machine.{step_of}
 use Rattle.member_server.specs.Outcomes.{key_in, name_in, session_in}
 use Rattle.member_server.specs.Requests.{talk_in}
 use Rattle.logon_steps.specs.Meeting.{bound_for}
-use Rattle.logon_steps.specs.MemberLinks.{asked_talk, logons_at_rest, one_link}
-use Rattle.logon_steps.specs.MemberTurns.{logons_in_turn, member_at, on_turn}
+use Rattle.secret_change.specs.Secrets.{next_of}
+use Rattle.logon_steps.specs.MemberLinks.{asked_talk, logons_resting, one_link}
+use Rattle.logon_steps.specs.MemberTurns.{logons_keeping, member_at, on_turn}
 use Rattle.logon_steps.specs.MemoCalls.{ReplyGoes, RequestGoes, logged_on}
 use Rattle.logon_steps.specs.Turning.{IsTurnReply, turn_response}
 
@@ -68,18 +69,18 @@ pub record LogonsEnd : Type 0 where
       let on : LoggedOn = let_in task shown logon in
       IsTurnReply question.Logon (granting o timestamp moment authoritative sam) → length (name_in shown) ≤ 32767 →
       (who : RequestGoes most task.level 2 0 [] one on.session) (back : ReplyGoes (most + 1) task.level 2 (written_who_reply (name_in shown)) who.next who.later) →
-      step_of (member_at (logons_in_turn plan caller (standing.Open (after_call o timestamp)) info place next number (step.Reply question.Logon) ((place, logon) ∷ []))
+      step_of (member_at (logons_keeping plan caller (standing.Open (after_call o timestamp)) info place next number (step.Reply question.Logon) ((place, logon) ∷ []))
       (one_link logon.link (asked_talk (bound_for task) place (who.sent ∷ []))) (on_turn turn))
       (event.Bytes turn (bytes_of_call (turn_response number (granting o timestamp moment authoritative sam)) 5840)) now left
       ≡ whole_step left left
       (action.Close turn close.CallDone ∷ action.Told logon.link (outcome.In shown.domain shown.effective_name (key_in shown logon)) ∷ action.Send logon.link back.sent ∷ [])
-      (member_at (logons_at_rest plan caller (standing.Open (after_return true (after_call o timestamp))) (after place) next)
+      (member_at (logons_resting plan caller (next_of plan.secrets) (standing.Open (after_return true (after_call o timestamp))) (after place) next)
       (one_link logon.link (talk_in None (logged_on on back.later))) dialling.Nothing)
   -- Echo is answered with the same bytes
-  pub echoed : (plan : MemberPlan) (caller : Caller) (how : Standing) (place next link now most : ℕ) (task : ClientPlan) (on : LoggedOn) (bytes : List ℕ)
+  pub echoed : (plan : MemberPlan) (caller : Caller) (kept : Option (List ℕ)) (how : Standing) (place next link now most : ℕ) (task : ClientPlan) (on : LoggedOn) (bytes : List ℕ)
       (one : Option SessionState) (left : List (List ℕ)) → on.bound ≡ bound_for task → length bytes ≤ 4096 → AreBytes bytes →
       (asks : RequestGoes most task.level 3 1 (written_echo_request bytes) one on.session)
       (back : ReplyGoes (most + 1) task.level 3 (written_echo_reply bytes) asks.next asks.later) →
-      step_of (member_at (logons_at_rest plan caller how place next) (one_link link (talk_in None on)) dialling.Nothing) (event.Bytes link asks.sent) now left
+      step_of (member_at (logons_resting plan caller kept how place next) (one_link link (talk_in None on)) dialling.Nothing) (event.Bytes link asks.sent) now left
       ≡ whole_step left left (action.Send link back.sent ∷ [])
-      (member_at (logons_at_rest plan caller how place next) (one_link link (talk_in None (logged_on on back.later))) dialling.Nothing)
+      (member_at (logons_resting plan caller kept how place next) (one_link link (talk_in None (logged_on on back.later))) dialling.Nothing)

@@ -35,9 +35,9 @@ use Rattle.member_server.specs.declared.state.Talk.{Talk}
 use Rattle.member_server.specs.declared.state.Work.{Work}
 use Rattle.member_server.specs.Machine.{actions_in, at_turn, halted_state, state_in, step_of}
 use Rattle.member_server.specs.State.{State}
-use Rattle.secret_change.specs.Secrets.{alone}
+use Rattle.secret_change.specs.Secrets.{SecretsState, alone, next_of}
 use Rattle.member_server.specs.Turns.{TurnServed, do_taken, next_turn, timestamp_of, turn_talk, with_requester, with_work}
-use Rattle.logon_steps.specs.Asking.{asking}
+use Rattle.logon_steps.specs.Asking.{asking_keeping}
 use Rattle.logon_steps.specs.Turning.{IsTurnReply, turn_ack, turn_request, turn_response}
 
 -- ---- a member
@@ -49,13 +49,22 @@ member_at logons links how = record { running = Some (record { logons = logons; 
 abbrev pub plan_of : MemberPlan → Caller → MemberPlan
 plan_of plan caller = record plan { secrets = alone caller.secret }
 
--- one logon waits, whose turn waits for the answer to its bind or call of that number
-abbrev pub logons_in_turn : MemberPlan → Caller → Standing → NetworkInfo → ℕ → ℕ → ℕ → Step → List (ℕ × Logon) → Logons
-logons_in_turn plan caller how info place next number what asked = record {
-  plan = plan_of plan caller;
-  channel = asking caller how info place next (Some (record { number = number; place = place; step = what }));
+-- the member's plan, with these secrets
+abbrev pub plan_with : SecretsState → MemberPlan → MemberPlan
+plan_with secrets plan = record plan { secrets = secrets }
+
+-- One logon waits, whose turn waits for the answer to its bind or call of that number. Whatever secrets the member
+-- keeps, the channel has the next one.
+abbrev pub logons_keeping : MemberPlan → Caller → Standing → NetworkInfo → ℕ → ℕ → ℕ → Step → List (ℕ × Logon) → Logons
+logons_keeping plan caller how info place next number what asked = record {
+  plan = plan;
+  channel = asking_keeping caller how info place next (Some (record { number = number; place = place; step = what })) (next_of plan.secrets);
   asked = asked;
 }
+
+-- the same of a member with one secret
+abbrev pub logons_in_turn : MemberPlan → Caller → Standing → NetworkInfo → ℕ → ℕ → ℕ → Step → List (ℕ × Logon) → Logons
+logons_in_turn plan caller how info place next number what asked = logons_keeping (plan_of plan caller) caller how info place next number what asked
 
 -- the link of the turn, on which all that came is served
 abbrev pub on_turn : ℕ → Dialling
@@ -72,40 +81,40 @@ IsNew link links = take_out same_number link links ≡ links
 -- ---- its steps
 
 pub record TurnsStep : Type 0 where
-  -- its dial is answered
-  pub dialled : (plan : MemberPlan) (caller : Caller) (how : Standing) (info : NetworkInfo) (place next number link now : ℕ) (c : Call) (asked : List (ℕ × Logon))
+  -- its dial is answered, whichever call it is for
+  pub dialled : (plan : MemberPlan) (caller : Caller) (how : Standing) (info : NetworkInfo) (place next number link now : ℕ) (what : Step) (asked : List (ℕ × Logon))
       (links : List (ℕ × LinkState Talk)) (left : List (List ℕ)) → IsNew link links →
-      step_of (member_at (logons_in_turn plan caller how info place next number (step.Bind c) asked) links (bind_waits number)) (event.Dialled link) now left
+      step_of (member_at (logons_keeping plan caller how info place next number what asked) links (bind_waits number)) (event.Dialled link) now left
       ≡ whole_step left left (action.Send link (written (bind_of netlogon_syntax number)) ∷ [])
-      (member_at (logons_in_turn plan caller how info place next number (step.Bind c) asked) links (on_turn link))
+      (member_at (logons_keeping plan caller how info place next number what asked) links (on_turn link))
   -- its bind is answered, and its call goes out
   pub bound : (plan : MemberPlan) (caller : Caller) (how : Standing) (info : NetworkInfo) (place next number link now : ℕ) (c : Call) (asked : List (ℕ × Logon))
       (links : List (ℕ × LinkState Talk)) (left : List (List ℕ)) → number < 2 ^ 32 →
-      step_of (member_at (logons_in_turn plan caller how info place next number (step.Bind c) asked) links (on_turn link)) (event.Bytes link (written (turn_ack number))) now left
+      step_of (member_at (logons_keeping plan caller how info place next number (step.Bind c) asked) links (on_turn link)) (event.Bytes link (written (turn_ack number))) now left
       ≡ whole_step left left (action.Send link (bytes_of_call (turn_request next c) 5840) ∷ [])
-      (member_at (logons_in_turn plan caller how info place (after next) next (step.Reply (question_of c)) asked) links (on_turn link))
+      (member_at (logons_keeping plan caller how info place (after next) next (step.Reply (question_of c)) asked) links (on_turn link))
   -- both challenges are known: the link is closed, and the turn that proves the secret is dialled
   pub half : (plan : MemberPlan) (caller : Caller) (info : NetworkInfo) (place next number link now : ℕ) (client server : List ℕ) (asked : List (ℕ × Logon))
       (links : List (ℕ × LinkState Talk)) (left : List (List ℕ)) → number < 2 ^ 32 →
       IsTurnReply (question.Challenge client) (reply.Challenge (record { challenge = server; status = 0 })) →
-      step_of (member_at (logons_in_turn plan caller standing.Nothing info place next number (step.Reply (question.Challenge client)) asked) links (on_turn link))
+      step_of (member_at (logons_keeping plan caller standing.Nothing info place next number (step.Reply (question.Challenge client)) asked) links (on_turn link))
       (event.Bytes link (bytes_of_call (turn_response number (reply.Challenge (record { challenge = server; status = 0 }))) 5840)) now left
       ≡ whole_step left left (action.Close link close.CallDone ∷ action.Dial plan.controller ∷ [])
-      (member_at (logons_in_turn plan caller (standing.Half client server) info place (after next) next (step.Bind (auth_call caller client server)) asked) links (bind_waits next))
-  -- the channel stands: the link is closed, and the logon's own turn is dialled
-  pub opened : (plan : MemberPlan) (caller : Caller) (info : NetworkInfo) (place next number link now flags : ℕ) (client server : List ℕ) (asked : List (ℕ × Logon))
+      (member_at (logons_keeping plan caller (standing.Half client server) info place (after next) next (step.Bind (auth_call caller client server)) asked) links (bind_waits next))
+  -- the channel stands, at a member with one secret: the link is closed, and the logon's own turn is dialled
+  pub opened : (plan : MemberPlan) (caller : Caller) (info : NetworkInfo) (place next number link now flags : ℕ) (client server secret : List ℕ) (asked : List (ℕ × Logon))
       (links : List (ℕ × LinkState Talk)) (left : List (List ℕ)) → number < 2 ^ 32 → (has_flag offered_flags flags && has_flag flags rc4_flag) ≡ true →
       let r : Reply = reply.Authenticate (record { credential = server_credential caller.secret client server; flags = flags; status = 0 }) in
       IsTurnReply question.Authenticate r →
-      step_of (member_at (logons_in_turn plan caller (standing.Half client server) info place next number (step.Reply question.Authenticate) asked) links (on_turn link))
+      step_of (member_at (logons_keeping (plan_with (alone secret) plan) caller (standing.Half client server) info place next number (step.Reply question.Authenticate) asked) links (on_turn link))
       (event.Bytes link (bytes_of_call (turn_response number r) 5840)) now left
       ≡ whole_step left left (action.Close link close.CallDone ∷ action.Dial plan.controller ∷ [])
-      (member_at (logons_in_turn plan caller (standing.Open (after_call (fresh_channel caller.secret client server offered_flags) (timestamp_of now))) info place (after next) next
+      (member_at (logons_keeping (plan_with (alone secret) plan) caller (standing.Open (after_call (fresh_channel caller.secret client server offered_flags) (timestamp_of now))) info place (after next) next
       (step.Bind (logon_call caller (fresh_channel caller.secret client server offered_flags) (timestamp_of now) (record info { logon_id = place }))) asked) links (bind_waits next))
   -- any other reply, by what the channel makes of it
   pub replied : (plan : MemberPlan) (caller : Caller) (how : Standing) (info : NetworkInfo) (place next number link now : ℕ) (q : Question) (r : Reply) (asked : List (ℕ × Logon))
       (links : List (ℕ × LinkState Talk)) (left : List (List ℕ)) → number < 2 ^ 32 → IsTurnReply q r →
-      let logons : Logons = logons_in_turn plan caller how info place next number (step.Reply q) asked in
+      let logons : Logons = logons_keeping plan caller how info place next number (step.Reply q) asked in
       let taking : Taking = settle (judge q r how caller.secret) logons.channel in
       let work : Work = record { logons = logons; links = links; actions = [] } in
       let after_unit : TurnServed = do_taken taking.taken None (with_work (at_turn link work) (with_requester work taking.state)) in

@@ -14,6 +14,7 @@ ghost use Rattle.logon_steps.specs.MemberAnswers.{LogonsEnd};
 ghost use Rattle.logon_steps.specs.MemberLinks.{LinksStep};
 ghost use Rattle.logon_steps.specs.MemberTurns.{TurnsStep};
 ghost use Rattle.logon_steps.specs.MemoCalls.{MemoCallsGo};
+ghost use Rattle.logon_steps.specs.SetTurns.{ControllersSet, SecretsAreSet, SetTurnsStep, SetUnitsGo};
 ghost use Rattle.logon_steps.specs.Telling.{LogonsAreShort};
 ghost use Rattle.logon_steps.specs.Turning.{TurnsGoThrough};
 
@@ -115,4 +116,31 @@ pub fn computers_are_known()
 #[tactic(auto, using(crate::proofs::TellingLaws::logons_are_short))]
 pub fn logons_are_short()
     ensures { LogonsAreShort }
+{}
+
+/// The units of a turn that sets a secret go through: the call is heard once and its reply is judged, whatever their
+/// fragments.
+#[tactic(auto, using(crate::proofs::SetTurnLaws::set_units_go))]
+pub fn set_units_go()
+    ensures { SetUnitsGo }
+{}
+
+/// On an open channel the next secret is set before a logon is asked, and the reply that takes it leaves the logon
+/// waiting.
+#[tactic(auto, using(crate::proofs::SetTurnLaws::secrets_are_set))]
+pub fn secrets_are_set()
+    ensures { SecretsAreSet }
+{}
+
+/// A member with two secrets, from the reply that opens the channel to the dial of the logon's own turn: the next
+/// secret is set, or has become the current one, and the text of the one that is left is kept.
+#[tactic(auto, using(crate::proofs::SetTurnLaws::set_turns_step))]
+pub fn set_turns_step()
+    ensures { SetTurnsStep }
+{}
+
+/// A controller that is in step with a member, and has its account, takes the secret that the member sets.
+#[tactic(auto, using(crate::proofs::SetTurnLaws::controllers_set))]
+pub fn controllers_set()
+    ensures { ControllersSet }
 {}

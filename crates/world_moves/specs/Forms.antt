@@ -1,6 +1,6 @@
 -- The forms that the types of a plan give its parts: what a plan of the program has of itself, and a list of numbers
 -- may lack (this project's own choice).
-use Rattle.std.specs.Prelude.{ℕ, ◌<◌, ◌≤◌, ◌^◌, List, length, All}
+use Rattle.std.specs.Prelude.{ℕ, ◌<◌, ◌≤◌, ◌^◌, List, length, All, Option, Some, None}
 use Rattle.wire_base.specs.Names.{IsName}
 use Rattle.wire_base.specs.Sid.{SidParts}
 use Rattle.account_table.specs.AccountTable.{AccountTable}
@@ -9,7 +9,7 @@ use Rattle.account_table.specs.declared.account.Trust.{Trust}
 use Rattle.account_table.specs.TableForms as forms
 use Rattle.logon_client.specs.declared.plan.ClientPlan.{ClientPlan}
 use Rattle.member_server.specs.declared.plan.MemberPlan.{MemberPlan}
-use Rattle.member_server.specs.Secrets.{tried_of}
+use Rattle.member_server.specs.Secrets.{next_of, tried_of}
 use Rattle.world_moves.specs.declared.moves.Move.{Move}
 use Rattle.world_moves.specs.declared.moves.Move.TheVariants as move
 use Rattle.world_moves.specs.declared.plan.Plan.{Plan}
@@ -39,11 +39,17 @@ IsTable table = forms.HasTableForm table
 abbrev pub AreUnits : List ℕ → Type 0
 AreUnits units = All (λ (unit : ℕ). unit < 2 ^ 16) units
 
--- the secret that is tried is an NT hash, and the controller's address has bytes
+-- a next secret is an NT hash, where one is kept
+abbrev pub IsNextHash : Option (List ℕ) → Type 0
+IsNextHash None = Unit {0}
+IsNextHash (Some secret) = IsBlock 16 secret
+
+-- the secret that is tried is an NT hash, and so is the next one; the controller's address has bytes
 pub record IsMemberPlan (plan : MemberPlan) : Type 0 where
   pub computer : IsName plan.computer
   pub domain : IsName plan.domain
   pub secret : IsBlock 16 (tried_of plan.secrets)
+  pub next : IsNextHash (next_of plan.secrets)
   pub controller : All IsByte plan.controller
 
 -- names of users, domains and computers are in units of UTF-16; how many, `CanLogOn` says

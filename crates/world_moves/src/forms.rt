@@ -1,7 +1,7 @@
 //! What the types of a plan's parts give of themselves, which is known by calls that do nothing.
 
 ghost use Rattle.std.specs.Prelude.{◌<◌, ◌^◌, All};
-ghost use Rattle.world_moves.specs.Forms.{AreUnits, IsBlock, IsClientPlan, IsMemberPlan, IsTable};
+ghost use Rattle.world_moves.specs.Forms.{AreUnits, IsBlock, IsClientPlan, IsMemberPlan, IsNextHash, IsTable};
 
 use account_table::{Table, are_bytes, is_hash};
 use logon_client::ClientPlan;
@@ -32,7 +32,17 @@ fn member_has_form(plan: &MemberPlan)
     let _computer = plan.computer.bytes();
     let _domain = plan.domain.bytes();
     is_hash(plan.secrets.tried());
+    next_has_form(plan.secrets.next());
     are_bytes(plan.controller.bytes());
+}
+
+/// A next secret has 16 bytes, where one is kept.
+fn next_has_form(next: Option<[u8; 16]>)
+    ensures { IsNextHash next }
+{
+    if let Some(secret) = next {
+        is_hash(secret);
+    }
 }
 
 /// Each plan of a client has the form that its type gives it.

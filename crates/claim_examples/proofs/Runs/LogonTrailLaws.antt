@@ -41,7 +41,8 @@ use Rattle.world_moves.specs.declared.moves.Move.TheVariants as move
 use Rattle.world_moves.specs.declared.state.State.{State}
 use Rattle.domain_world.specs.Past.{first_of, judged_of, note, onto}
 use Rattle.logon_steps.specs.Answering.{IsInStep}
-use Rattle.logon_steps.specs.Asking.{asking}
+use Rattle.secret_change.specs.Secrets.{next_of}
+use Rattle.logon_steps.specs.Asking.{asking_keeping}
 use Rattle.logon_steps.specs.ControllerTurns.{controller_at, reply_bytes, turn_link}
 use Rattle.logon_steps.specs.MemberAnswers.{granting}
 use Rattle.logon_steps.specs.Turning.{IsTurnCall, IsTurnReply, turn_agreed, turn_request}
@@ -100,8 +101,8 @@ logon_trail s t accounts next number stamp o state info sam how_judged computers
     (calls_are_answered.judges t.caller o state info stamp (turn_line t.link next) (bound_talk None turn_agreed) t.name moment d left found in_step) in
     let takes =
     turns_go_through.takes.reply channel next t.place q r is_reply
-    ∙ ap (λ (h : Standing). settle (judge q r h t.caller.secret) (asking t.caller h t.info t.place (after next) (Some (record { number = next; place = t.place; step = step.Reply q })))) how
-    ∙ logons_are_asked.granted t.caller o t.info sam t.place (after next) next stamp 0 1 in
+    ∙ ap (λ (h : Standing). settle (judge q r h t.caller.secret) (asking_keeping t.caller h t.info t.place (after next) (Some (record { number = next; place = t.place; step = step.Reply q })) (next_of t.plan.secrets))) how
+    ∙ logons_are_asked.granted t.caller o t.info sam t.place (after next) next stamp 0 1 (next_of t.plan.secrets) in
     turn_trail s t (with_accounts accounts t) next number c r computers kept left left moment 0 (Calling named asks.next_call stamp) (Some t.place)
     (λ (b : Book). FineAnd s4 1 (Some named) b × OnlyTravels (key_of_channel o) base b.judged) (FineSo (turned s) 1 Holds) seen between below names
     (ap (λ (h : Standing). asked_note (Some (step.Reply q)) h t.at_controller asks (wait_for asks t.place (step.Reply q))) how)

@@ -23,11 +23,10 @@ use Rattle.world_moves.specs.Moving.{end_of_peer}
 use Rattle.world_moves.specs.World.{IsPlan, World, first_world, happens, run}
 use Rattle.domain_world.specs.Past.{controller_number, controller_of_plan, past, requester_in, running_in, controller_asked}
 use Rattle.logon_steps.specs.Answering.{moved}
-use Rattle.logon_steps.specs.MemberLinks.{logons_at_rest}
 use Rattle.logon_runs.specs.First.FirstLogonRuns.{after_first}
 use Rattle.logon_runs.specs.First.FirstRuns.{channel_as, opened_at, opens_as}
 use Rattle.logon_runs.specs.First.FirstWorlds.{CanComeIn, FirstKeyArrives, draw, first_meeting, logon_moves, no_computers}
-use Rattle.logon_runs.specs.Seen.LinkScenes.{Meeting, joined}
+use Rattle.logon_runs.specs.Seen.LinkScenes.{joined, Meeting, resting}
 use Rattle.logon_runs.specs.Seen.Staying.{HasSameEnds}
 use Rattle.logon_runs.proofs.First.FirstWorldLaws.{first_worlds_run}
 use Rattle.logon_runs.proofs.RunLaws.{same_computer}
@@ -88,7 +87,7 @@ module _ (plan : Plan) (client member controller number : ℕ) (is : IsPlan plan
         o = o;
         c = c;
         stands = record {
-          requester = (logons_at_rest end.plan end.caller end.how end.place end.number).channel;
+          requester = (resting end).channel;
           at = ap (λ (found : Option MemberState). requester_in (running_in found)) rests.member;
           open_so = refl;
           is = ap (λ (k : ℕ). channel_of k can.member_plan.computer o) (sym its_controller);

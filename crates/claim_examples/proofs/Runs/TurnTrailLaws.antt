@@ -33,7 +33,8 @@ use Rattle.world_moves.specs.declared.links.EndId.TheVariants.{Controller}
 use Rattle.world_moves.specs.declared.moves.Move.TheVariants as move
 use Rattle.world_moves.specs.declared.state.State.{State}
 use Rattle.logon_steps.specs.Answering.{auth_value, pair_of}
-use Rattle.logon_steps.specs.Asking.{asking}
+use Rattle.secret_change.specs.Secrets.{next_of}
+use Rattle.logon_steps.specs.Asking.{asking_keeping}
 use Rattle.logon_steps.specs.Calling.{HasShortCaller}
 use Rattle.logon_steps.specs.ControllerTurns.{reply_bytes}
 use Rattle.logon_steps.specs.Turning.{turn_agreed}
@@ -107,11 +108,11 @@ challenge_trail s t next number client server computers kept left moment seen be
     let is_reply = calls_can_go.challenged client server server_block in
     let steps = controllers_step.challenged t.table t.name computers t.link moment next t.caller client server left below_next is_call knows in
     let channel : Requester = channel_in_turn t (after next) next (step.Reply q) in
-    let half : Taking = settle (judge q r standing.Nothing t.caller.secret) (asking t.caller standing.Nothing t.info t.place (after next) (Some (record { number = next; place = t.place; step = step.Reply q }))) in
+    let half : Taking = settle (judge q r standing.Nothing t.caller.secret) (asking_keeping t.caller standing.Nothing t.info t.place (after next) (Some (record { number = next; place = t.place; step = step.Reply q })) (next_of t.plan.secrets)) in
     let takes =
     turns_go_through.takes.reply channel next t.place q r is_reply
-    ∙ ap (λ (h : Standing). settle (judge q r h t.caller.secret) (asking t.caller h t.info t.place (after next) (Some (record { number = next; place = t.place; step = step.Reply q })))) how
-    ∙ logons_are_asked.half t.caller t.info t.place (after next) next client server in
+    ∙ ap (λ (h : Standing). settle (judge q r h t.caller.secret) (asking_keeping t.caller h t.info t.place (after next) (Some (record { number = next; place = t.place; step = step.Reply q })) (next_of t.plan.secrets))) how
+    ∙ logons_are_asked.half t.caller t.info t.place (after next) next client server (next_of t.plan.secrets) in
     turn_trail s t t next number c r computers kept (server ∷ left) left moment 0 Plain None (Fine s4 0) (Fine (turned s) 0) seen between below names
     (ap (λ (h : Standing). asked_note (Some (step.Reply q)) h t.at_controller (channel_in_turn t next number (step.Bind c)) (wait_for (channel_in_turn t next number (step.Bind c)) t.place (step.Reply q))) how)
     (λ k b f. (call_comes s3 t (after next) next (step.Reply q) c computers (server ∷ left) left moment 0 0 _ _ between below_next is_call steps seen.call k b f.fine (λ unit first. refl) (λ unit numbers. omega arith)).has.fine)
@@ -140,8 +141,8 @@ opening_trail s t next number client server account computers kept left moment s
     let named : ChannelIdentity = half_channel t.at_controller channel client server in
     let takes =
     turns_go_through.takes.reply channel next t.place q r is_reply
-    ∙ ap (λ (h : Standing). settle (judge q r h t.caller.secret) (asking t.caller h t.info t.place (after next) (Some (record { number = next; place = t.place; step = step.Reply q })))) how
-    ∙ logons_are_asked.opened t.caller t.info t.place (after next) next offered_flags client server refl in
+    ∙ ap (λ (h : Standing). settle (judge q r h t.caller.secret) (asking_keeping t.caller h t.info t.place (after next) (Some (record { number = next; place = t.place; step = step.Reply q })) (next_of t.plan.secrets))) how
+    ∙ logons_are_asked.opened t.caller t.info t.place (after next) next offered_flags client server (next_of t.plan.secrets) refl in
     turn_trail s t t next number c r computers kept left left moment 0 (Opening named asks.next_call) None (FineAnd s4 0 (Some named)) (Fine (turned s) 0) seen between below names
     (ap (λ (h : Standing). asked_note (Some (step.Reply q)) h t.at_controller asks (wait_for asks t.place (step.Reply q))) how)
     (λ k b f.

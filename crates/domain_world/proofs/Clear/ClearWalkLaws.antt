@@ -263,9 +263,12 @@ module _ (plan : Plan) (is : IsPlan plan) (forms : HasForms plan) (servers : Has
                   controller = elim reaches [ inl there ↦ inl (there, there) | inr nobody ↦ inr nobody ];
                 };
                 planned = record { is_plan = found_but_secret plan.members member work is_work; reach = λ there. there };
-                own = λ there.
-                    own_name_of plan controller member work (own task member work controller table is_task to_member is_work there is_table).1 is_work there
-                    (λ one is_one. (own task member work controller one is_task to_member is_work there is_one).0);
+                own = λ there. record {
+                  member = work;
+                  planned = is_work;
+                  named = own_name_of plan controller member work (own task member work controller table is_task to_member is_work there is_table).1 is_work there
+                      (λ one is_one. (own task member work controller one is_task to_member is_work there is_one).0);
+                };
               })
               (record {
                 phase = On Dials;

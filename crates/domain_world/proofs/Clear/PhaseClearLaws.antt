@@ -52,7 +52,7 @@ use Rattle.logon_steps.specs.Answering.{IsInStep, auth_value}
 use Rattle.logon_steps.specs.Answers.{auth3_for}
 use Rattle.logon_steps.specs.ControllerTurns.{reply_bytes, passed_reply, turn_link}
 use Rattle.logon_steps.specs.Meeting.{ack_for, challenged_talk, fresh_talk}
-use Rattle.logon_steps.specs.MemberTurns.{logons_in_turn, member_at, on_turn}
+use Rattle.logon_steps.specs.MemberTurns.{logons_keeping, member_at, on_turn}
 use Rattle.logon_steps.specs.Turning.{turn_at, turn_response, IsTurnCall, IsTurnReply, turn_agreed}
 use Rattle.logon_steps.proofs.AnswersLaws.{answers_are_asked}
 use Rattle.logon_steps.proofs.CallingLaws.{calls_can_go}
@@ -354,7 +354,7 @@ module _ (plan : Plan) (p : Coming) (s : State) (k : ℕ) (b : Book) (able : IsA
                   found = turns_have_links.own (own p) before (standing_for aim) is.joined_so;
                   hearer = refl;
                 })
-                (λ then_now l. other_quiet (logons_in_turn t.plan t.caller t.how t.info t.place v.next v.number (step.Bind (call_for p a aim)) t.asked) t.accepted (length v.links) (own p).link
+                (λ then_now l. other_quiet (logons_keeping t.plan t.caller t.how t.info t.place v.next v.number (step.Bind (call_for p a aim)) t.asked) t.accepted (length v.links) (own p).link
                 then_now who.sent l (turns_have_links.apart (own p) before is.joined_so)) k b fine);
             waits = tt;
           }
@@ -391,11 +391,11 @@ module _ (plan : Plan) (p : Coming) (s : State) (k : ℕ) (b : Book) (able : IsA
 
       -- the controller answers
       module _ (is : IsTurningBy plan p a v) (there : IsThere plan p) where
-        first_clear : (client : List ℕ) → HasThree s.chances.left → IsBlock 8 client → Shows s (scene_of p (Calls a who v (First client)) left moment) → After NotYet
-        first_clear client three block shows =
+        first_clear : (client : List ℕ) → HasThree s.chances.left → MayAim plan p v (First client) → Shows s (scene_of p (Calls a who v (First client)) left moment) → After NotYet
+        first_clear client three aimed shows =
             let t : Turn = t_on (First client) in
             let more : List (List ℕ) = three.two ∷ three.three ∷ three.more in
-            let can : IsTurnCall (call_for p a (First client)) = calls_can_go.challenge p.meeting.caller client able.caller block in
+            let can : IsTurnCall (call_for p a (First client)) = calls_can_go.challenge p.meeting.caller client able.caller aimed.0 in
             let told : ToldChallenge p.table p.name v.computers (length v.links) moment v.next p.meeting.caller client three.one more =
             controllers_answer.challenge p.table p.name v.computers (length v.links) moment v.next p.meeting.caller client three.one more is.next_below can in
             record {
@@ -415,8 +415,8 @@ module _ (plan : Plan) (p : Coming) (s : State) (k : ℕ) (b : Book) (able : IsA
             let call : Call = call_for p a (Second client server) in
             let r : Reply = reply.Authenticate (record { credential = requester.server_credential p.meeting.caller.secret client server; flags = offered_flags; status = 0 }) in
             let can : IsTurnCall call = calls_can_go.authenticate p.meeting.caller client server able.caller in
-            let secret : machine.hash ≡ p.meeting.caller.secret = able.own_secret (own_so there) client server machine found in
-            let pending = aimed (able.knows client server machine found) in
+            let secret : machine.hash ≡ p.meeting.caller.secret = able.own_secret aimed.1 (own_so there) client server machine found in
+            let pending = aimed.0 (able.knows client server machine found) in
             let steps = controllers_step.proved p.table p.name v.computers (length v.links) moment v.next p.meeting.caller client server machine left is.next_below can
             found secret pending in
             let channel : Requester = channel_in_turn t (after v.next) v.next (step.Reply question.Authenticate) in

@@ -41,7 +41,7 @@ use Rattle.step_notes.specs.Served.{units_if_taken}
 use Rattle.step_notes.specs.TakenWhole.{TakesWhole}
 use Rattle.step_notes.proofs.Members.TurnHeardLaws.{members_take}
 use Rattle.domain_world.proofs.Frames.MarkPlaceLaws.{all_push}
-use Rattle.logon_steps.specs.MemberTurns.{bind_waits, logons_in_turn, member_at, on_turn}
+use Rattle.logon_steps.specs.MemberTurns.{bind_waits, logons_keeping, member_at, on_turn}
 use Rattle.logon_steps.specs.Turning.{IsTurnReply, turn_ack, turn_response}
 use Rattle.logon_steps.proofs.MemberTurnLaws.{turns_step}
 use Rattle.logon_steps.proofs.StreamLaws.{one_unit, read_again, same}
@@ -85,11 +85,11 @@ ack_whole number = refl
 
 pub ack_notes : (controller : ℕ) (plan : MemberPlan) (caller : Caller) (how : Standing) (info : NetworkInfo) (place next number link now : ℕ) (c : Call) (asked : List (ℕ × Logon))
     (links : List (ℕ × LinkState Talk)) (left : List (List ℕ)) → number < 2 ^ 32 →
-    let logons : Logons = logons_in_turn plan caller how info place next number (step.Bind c) asked in
+    let logons : Logons = logons_keeping plan caller how info place next number (step.Bind c) asked in
     map (turn_note controller) (turn_units (member_at logons links (on_turn link)) link (written (turn_ack number)) now left)
     ≡ asked_note (Some (step.Reply (question_of c))) how controller logons.channel (wait_for logons.channel place (step.Reply (question_of c))) ∷ []
 ack_notes controller plan caller how info place next number link now c asked links left below =
-    let logons : Logons = logons_in_turn plan caller how info place next number (step.Bind c) asked in
+    let logons : Logons = logons_keeping plan caller how info place next number (step.Bind c) asked in
     let at : AtTurn = at_turn link (record { logons = logons; links = links; actions = [] }) in
     let bytes : List ℕ = written (turn_ack number) in
     let sends = turn_ack_sends number below in

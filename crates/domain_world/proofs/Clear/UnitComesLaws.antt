@@ -50,15 +50,15 @@ use Rattle.world_moves.specs.MemberPlans.{but_secret}
 use Rattle.world_moves.specs.Moving.{connect, end_of_peer, settle, start}
 use Rattle.domain_world.specs.Past.{Coming, answers_of, any_clash, at_controller, controller_number, controller_of_plan, is_sent_on, judged_of, note, note_at, note_client, note_controller, note_member, numbers_on, onto, controller_asked}
 use Rattle.logon_steps.specs.ControllerTurns.{controller_at, one_link, turn_link}
-use Rattle.logon_steps.specs.MemberLinks.{logons_at_rest, one_link as client_link}
-use Rattle.logon_steps.specs.MemberTurns.{logons_in_turn, member_at, on_turn}
+use Rattle.logon_steps.specs.MemberLinks.{one_link as client_link}
+use Rattle.logon_steps.specs.MemberTurns.{logons_keeping, member_at, on_turn}
 use Rattle.logon_steps.specs.Turning.{IsTurnCall, IsTurnReply, turn_ack, turn_request, turn_response}
 use Rattle.logon_steps.proofs.ControllerTurnLaws.{controllers_step}
 use Rattle.logon_steps.proofs.MemberTurnLaws.{turns_step}
 use Rattle.logon_steps.proofs.StreamLaws.{same}
 use Rattle.logon_steps.proofs.TurningLaws.{ComesAtOnce, request_comes, response_comes, turn_ack_sends, turn_bind_sends, unit_comes}
 use Rattle.logon_runs.specs.Runs.{connects, goes}
-use Rattle.logon_runs.specs.Seen.LinkScenes.{Meeting, meeting_scene, unit_up}
+use Rattle.logon_runs.specs.Seen.LinkScenes.{Meeting, meeting_scene, resting, unit_up}
 use Rattle.logon_runs.specs.Scenes.{HasFirst, Scene, Shows}
 use Rattle.logon_runs.specs.Seen.TurnScenes.{IsBetween, Turn, dial_scene, turn_scene, unit_back, unit_there}
 use Rattle.logon_runs.specs.Seen.WaitingUnits.{after_hearing, with_controller_at, with_member_at}
@@ -190,7 +190,7 @@ named_so s t names =
 
 -- what the turn's channel is
 abbrev pub channel_in_turn : Turn → ℕ → ℕ → Step → Requester
-channel_in_turn t next number what = (logons_in_turn t.plan t.caller t.how t.info t.place next number what t.asked).channel
+channel_in_turn t next number what = (logons_keeping t.plan t.caller t.how t.info t.place next number what t.asked).channel
 
 -- fine, and a unit that was made for that channel waits
 pub record FineAnd (s : State) (count : ℕ) (channel : Option ChannelIdentity) (b : Book) : Type 0 where
@@ -205,9 +205,9 @@ ack_leads s t next number c computers left moment count mark called between belo
     let bytes : List ℕ = written (turn_ack number) in
     let unit : BagUnit = unit_back t bytes in
     let end : EndId = Member t.at_member in
-    let logons = logons_in_turn t.plan t.caller t.how t.info t.place next number (step.Bind c) t.asked in
+    let logons = logons_keeping t.plan t.caller t.how t.info t.place next number (step.Bind c) t.asked in
     let m : MemberState = member_at logons t.accepted (on_turn t.link) in
-    let later : MemberState = member_at (logons_in_turn t.plan t.caller t.how t.info t.place (after next) next (step.Reply (question_of c)) t.asked) t.accepted (on_turn t.link) in
+    let later : MemberState = member_at (logons_keeping t.plan t.caller t.how t.info t.place (after next) next (step.Reply (question_of c)) t.asked) t.accepted (on_turn t.link) in
     let came : Came s unit [] end =
     comes_so s _ unit [] end shows (heard_back t bytes next number (step.Bind c) computers (turn_link t.link) left moment between (unit_comes (turn_ack number) (turn_ack_sends number below))) in
     let s1 : State = settle came.number s in
@@ -351,7 +351,7 @@ pub reply_leads : (s : State) (t : Turn) (next number : ℕ) (q : Question) (r :
 reply_leads s t next number q r computers left moment count between below is names shows k b fine own =
     let bytes : List ℕ = bytes_of_call (turn_response number r) 5840 in
     let unit : BagUnit = unit_back t bytes in
-    let logons = logons_in_turn t.plan t.caller t.how t.info t.place next number (step.Reply q) t.asked in
+    let logons = logons_keeping t.plan t.caller t.how t.info t.place next number (step.Reply q) t.asked in
     let m : MemberState = member_at logons t.accepted (on_turn t.link) in
     let came : Came s unit [] (Member t.at_member) =
     comes_so s _ unit [] (Member t.at_member) shows (heard_back t bytes next number (step.Reply q) computers (turn_link t.link) left moment between (response_comes number q r is)) in
@@ -375,11 +375,11 @@ pub meeting_leads : (s : State) (g : Meeting) (how : ClientPhase) (talk : Talk) 
     Shows s (meeting_scene g how talk (unit_up g bytes ∷ later) left moment) → Leads s move.Onward (Fine s count) (Fine (goes s) count)
 meeting_leads s g how talk bytes later left moment count comes shows =
     quiet_leads s (meeting_scene g how talk (unit_up g bytes ∷ later) left moment) (unit_up g bytes) later count shows (heard_up g how talk bytes later left moment comes)
-    (λ now l. rests_quiet (logons_at_rest g.plan g.caller g.how g.place g.number) (client_link g.link talk) g.link now bytes l)
+    (λ now l. rests_quiet (resting g) (client_link g.link talk) g.link now bytes l)
 
 pub dial_leads : (s : State) (t : Turn) (opened : OpenMap) (how : Standing) (next number : ℕ) (c : Call) (computers : Computers) (unit : BagUnit) (later : List BagUnit) (left : List (List ℕ)) (moment count : ℕ) →
     Shows s (dial_scene t opened how next number c computers (unit ∷ later) left moment) → HasFirst (dial_scene t opened how next number c computers (unit ∷ later) left moment) unit later (Member t.at_member) →
     Leads s move.Onward (Fine s count) (Fine (goes s) count)
 dial_leads s t opened how next number c computers unit later left moment count shows first =
     quiet_leads s (dial_scene t opened how next number c computers (unit ∷ later) left moment) unit later count shows first
-    (λ now l. waits_quiet (logons_in_turn t.plan t.caller how t.info t.place next number (step.Bind c) t.asked) t.accepted number unit.link now unit.bytes l)
+    (λ now l. waits_quiet (logons_keeping t.plan t.caller how t.info t.place next number (step.Bind c) t.asked) t.accepted number unit.link now unit.bytes l)

@@ -29,7 +29,7 @@ use Rattle.logon_runs.specs.Seen.LinkScenes.{rest_scene}
 use Rattle.logon_runs.specs.Phases.{Coming, Dials, scene_of, with_its_controller}
 use Rattle.logon_runs.specs.Rests.{AtRest, ControllerRests, HasOwnComputer, HasOwnName, IsInStepAt, MemberRests, StandsWell}
 use Rattle.logon_runs.specs.Scenes.{Shows}
-use Rattle.logon_runs.specs.Any.AnyPhases.{FitsSecret, HasSecret, IsAble, MayStand, On}
+use Rattle.logon_runs.specs.Any.AnyPhases.{FitsSecret, HasSecret, IsAble, IsOwn, MayStand, On}
 use Rattle.logon_runs.specs.Any.AnyStarts.{AnyLogonsStart, AreThree, HasStarted, coming_from}
 use Rattle.logon_runs.proofs.First.FirstWorldLaws.{are_units, item_has}
 use Rattle.logon_runs.proofs.Seen.StartLaws.{starts_are_seen}
@@ -45,12 +45,16 @@ module _ (plan : Plan) (s : State) (rest : AtRest plan s) (client member control
   abbrev coming : Coming
   coming = coming_from plan s rest client member controller three account machine
 
+  -- its name is its own, by its plan
+  named_so : IsOwn plan coming → HasOwnName plan member work controller
+  named_so is = subst (λ (one : MemberPlan). HasOwnName plan member one controller) (some_same is.member work (sym is.planned ∙ three.is_member_plan)) is.named
+
   -- the channel of a member with its own name is in step
   may_stand : (how : Standing) → StandsWell plan s member work how → MayStand plan coming desk.computers how
   may_stand standing.Nothing well = tt
   may_stand (standing.Half one other) well = absurd well
   may_stand (standing.Open o) well = λ is_own.
-      let there : IsInStepAt s controller work o = well controller is_own in
+      let there : IsInStepAt s controller work o = well controller (named_so is_own) in
       let same : there.computers ≡ desk.computers = computers_same _ there.table desk.table there.name desk.name there.computers desk.computers there.rests desk.rests in
       record {
         channel = there.channel;
@@ -89,13 +93,15 @@ module _ (plan : Plan) (s : State) (rest : AtRest plan s) (client member control
         units = record { domain = are_units three.task.domain is_task.domain; user = are_units three.task.user is_task.user; workstation = are_units three.task.workstation is_task.workstation };
         names = record { domain = is_work.domain.0; computer = is_work.computer.0 };
         caller = calls_can_go.caller work is_work.computer;
+        given = record { tried = λ none. refl; kept = λ o stands. refl; one = λ o stands. rest.alone member work three.is_member_plan };
+        one = rest.alone member work three.is_member_plan;
         place_below = mr.place_below;
         number_below = mr.number_below;
         ranged = desk.ranged;
         named = item_has IsName plan.controllers controller desk.name forms.controllers desk.is_name;
         stands = may_stand mr.how mr.stands;
         knows = λ one other now found. known_found desk.table work one other now found;
-        own_secret = fits_secret;
+        own_secret = λ none is_own. fits_secret (named_so is_own);
       }
 
   -- nothing is open and nothing waits, and the three ends rest

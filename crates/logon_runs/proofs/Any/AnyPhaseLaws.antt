@@ -55,7 +55,7 @@ module _ (plan : Plan) (p : Coming) (s : State) where
   any_comes (On phase) left moment able ready fits shows = inl (on_comes phase left moment able ready fits shows)
   any_comes (Told a who v client server credential status) left moment able ready fits shows =
       inl (any_told plan p s a who v client server credential status left moment able fits.0 fits.1 fits.2 shows)
-  any_comes (Judged a who v o c timestamp accounts answer) left moment able ready fits shows = any_judged plan p s a who v o c timestamp accounts answer left moment fits shows
+  any_comes (Judged a who v o c timestamp accounts answer) left moment able ready fits shows = any_judged plan p s a who v o c timestamp accounts answer left moment able.one fits shows
   any_comes (Away phase) left moment able ready fits shows = inl (any_away plan p s phase left moment fits shows)
 
   -- ---- time passes

@@ -6,6 +6,7 @@ use Rattle.authenticators.specs.SecureChannels.{SecureChannelState}
 use Rattle.rpc_units.specs.Numbers.{rpc_s_server_unavailable}
 use Rattle.logon_stubs.specs.Ranges.{IsBlock}
 use Rattle.account_table.proofs.ChangeLaws.{differs-none}
+use Rattle.channel_client.specs.declared.state.Step.TheVariants as step
 use Rattle.channel_client.specs.declared.state.Standing.{Standing}
 use Rattle.channel_client.specs.declared.state.Standing.TheVariants as standing
 use Rattle.member_server.specs.Outcomes.{session_in}
@@ -30,7 +31,7 @@ use Rattle.logon_runs.proofs.Seen.AskSceneLaws.{logons_are_seen}
 use Rattle.logon_runs.proofs.Failing.FailingLaws.{failings_are_seen}
 use Rattle.logon_runs.proofs.First.FirstTraceLaws.{after_below}
 use Rattle.logon_runs.proofs.Seen.LinkSceneLaws.{meetings_are_seen}
-use Rattle.logon_runs.proofs.Phases.PhaseStartLaws.{left_seen, left_so, turn_first_of}
+use Rattle.logon_runs.proofs.Phases.PhaseStartLaws.{fits_own, left_seen, left_so, turn_first_of}
 use Rattle.logon_runs.proofs.RunLaws.{timestamp_below}
 use Rattle.logon_runs.proofs.Seen.StartLaws.{starts_are_seen}
 use Rattle.logon_runs.proofs.Failing.TurnedAwayLaws.{lost_at}
@@ -92,7 +93,7 @@ module _ (plan : Plan) (p : Coming) (s : State) where
         elim ready.heard.controller [
           | inl there ↦
               leads _ (On (BindsBefore a who v aim)) left moment shows.left (fits.0, fits.1, there.0)
-              (turns_are_seen.dialled s t (its_link (own p)) (standing_for aim) v.next v.number (call_for p a aim) v.computers (unit_up (own p) who.sent ∷ []) left moment there.1
+              (turns_are_seen.dialled s t (its_link (own p)) (standing_for aim) v.next v.number (step.Bind (call_for p a aim)) v.computers (unit_up (own p) who.sent ∷ []) left moment there.1
               (turns_have_links.found (own p) t fits.0.joined_so) (turns_have_links.new (own p) t _ fits.0.joined_so) (turns_have_links.between (own p) t (standing_for aim) fits.0.joined_so) shows)
           | inr nobody ↦
               leads _ (Away (Unheard a who (lost_at p v))) left moment shows.left (lost_left a v able fits.0)
@@ -106,7 +107,7 @@ module _ (plan : Plan) (p : Coming) (s : State) where
         elim ready.heard.controller [
           | inl there ↦
               leads _ (On (BindsHeld a who v aim)) left moment shows.left (fits.0, fits.1, there.0)
-              (turns_are_seen.dialled s t (its_link (own p)) (standing_for aim) v.next v.number (call_for p a aim) v.computers [] left moment there.1
+              (turns_are_seen.dialled s t (its_link (own p)) (standing_for aim) v.next v.number (step.Bind (call_for p a aim)) v.computers [] left moment there.1
               (turns_have_links.found (own p) t fits.0.joined_so) (turns_have_links.new (own p) t _ fits.0.joined_so) (turns_have_links.between (own p) t (standing_for aim) fits.0.joined_so) shows)
           | inr nobody ↦
               leads _ (Away (Faulted a who.later (lost_at p v) rpc_s_server_unavailable)) left moment shows.left (lost_left a v able fits.0, omega arith)
@@ -196,16 +197,16 @@ module _ (plan : Plan) (p : Coming) (s : State) where
   answers_by standing.Nothing so stands a who left moment able ready is shows =
       let three : HasThree s.chances.left = ready.draws in
       leads_less _ (On (DialsBefore a who (turn_first_of p) (First three.one))) (three.one ∷ []) (three.two ∷ three.three ∷ three.more) moment (omega arith) three.are
-      (turns_first a able is, three.first)
+      (turns_first a able is, (three.first, so))
       (logons_are_seen.asks_first s (own p) (waits_for p a who.later) a.challenge a.one a.two a.three three.one who.sent a.then_now p.table p.name p.computers
-      (three.two ∷ three.three ∷ three.more) moment so able.can able.names is.draws
+      (three.two ∷ three.three ∷ three.more) moment so (fits_own p able.given) able.can able.names is.draws
       (left_so s (λ (l : List (List ℕ)). scene_of p (Answers a who) l moment) left _ shows.left three.are shows))
   answers_by (standing.Half client server) so stands a who left moment able ready is shows = absurd stands
   answers_by (standing.Open o) so stands a who left moment able ready is shows =
       leads _ (On (DialsBefore a who (turn_first_of p) (Third o no_channel (timestamp_of moment)))) left moment shows.left
       (turns_first a able is, (timestamp_below moment, stands))
       (logons_are_seen.asks_again s (own p) o (waits_for p a who.later) a.challenge a.one a.two a.three who.sent a.then_now p.table p.name p.computers left moment
-      so able.can able.names is.draws shows)
+      so (fits_own p able.given) able.can able.names is.draws shows)
 
   pub any_answers : (a : Asked) (who : WhoAsked p a) (left : List (List ℕ)) (moment : ℕ) → IsAble plan p → IsReadyBy plan p s → IsAnswering p a →
       Shows s (scene_of p (Answers a who) left moment) → GoesTo plan p NotYet s (onward s).state

@@ -13,6 +13,10 @@ use Rattle.outside.specs.declared.action.DropCause.{DropCause}
 use Rattle.outside.specs.declared.action.DropCause.TheVariants as drop_cause
 use Rattle.outside.specs.Machine.{Stepped}
 use Rattle.rpc_units.specs.Numbers.{error_access_denied, rpc_s_server_unavailable}
+use Rattle.secret_change.specs.Secrets.{SecretsState}
+use Rattle.member_server.specs.Secrets.{is_denied}
+use Rattle.logon_runs.specs.Failing.Failings.{settled_with}
+use Rattle.logon_runs.proofs.Failing.FailingStepLaws.{dropped_one}
 use Rattle.logon_stubs.specs.Ranges.{IsBlock}
 use Rattle.logon_stubs.specs.declared.calls.Reply.{Reply}
 use Rattle.logon_stubs.specs.declared.calls.Reply.TheVariants as reply
@@ -49,12 +53,12 @@ use Rattle.logon_steps.specs.Turning.{IsTurnCall, IsTurnReply}
 use Rattle.logon_steps.proofs.AnsweringLaws.{calls_are_answered}
 use Rattle.logon_steps.proofs.CallingLaws.{calls_can_go}
 use Rattle.logon_steps.proofs.ControllerTurnLaws.{controllers_step}
-use Rattle.logon_runs.specs.Failing.FailingSteps.{out_talk}
-use Rattle.logon_runs.specs.Seen.LinkScenes.{its_link}
-use Rattle.logon_runs.specs.Phases.{Acked, Aim, BindsBefore, BindsHeld, Calls, Coming, DialsBefore, DialsHeld, First, Halved, HasThree, NotYet, Second, Third, TurnAt, WasJudged, WasOpened, WhoAsked, call_for, own, progress_answered, progress_called, scene_of, standing_for, terms_at, turn_before, turn_on, waits_for}
+use Rattle.logon_runs.specs.Failing.FailingSteps.{out_talk, who_fault}
+use Rattle.logon_runs.specs.Seen.LinkScenes.{its_link, meeting_scene, unit_down}
+use Rattle.logon_runs.specs.Phases.{Acked, Aim, BindsBefore, BindsHeld, call_for, Calls, Coming, DialsBefore, DialsHeld, First, Halved, HasThree, NotYet, own, progress_answered, progress_called, scene_of, Second, standing_for, terms_at, Third, turn_before, turn_on, TurnAt, waits_for, WasJudged, WasOpened, WhoAsked}
 use Rattle.logon_runs.specs.Runs.{Asked, info_asked, message_for}
 use Rattle.logon_runs.specs.Scenes.{Shows}
-use Rattle.logon_runs.specs.Failing.TurnedAway.{AwayPhase, Faulted, Refused, Settled, Unheard, away_scene, settled_in}
+use Rattle.logon_runs.specs.Failing.TurnedAway.{away_scene, AwayPhase, Faulted, Refused, Settled, settled_in, Unheard}
 use Rattle.logon_runs.specs.Seen.TurnScenes.{IsBetween, Turn, dial_scene, turn_scene, unit_back, with_accounts}
 use Rattle.logon_runs.specs.Any.AnyPhases.{Away, IsAble, IsGranted, IsJudgedBy, IsLeft, GoesTo, IsLetIn, IsOwn, IsReadyBy, IsThere, IsTurningBy, Judged, KeepsInStep, MayAim, MayFitAway, MayStand, On, Told, any_scene, proof_reply}
 use Rattle.logon_runs.specs.Any.ControllerAnswers.{FindsAccount, ToldChallenge, ToldLogon, ToldProof}
@@ -105,7 +109,7 @@ module _ (plan : Plan) (p : Coming) (s : State) where
     pub any_bound : IsThere plan p → Shows s (scene_of p (BindsHeld a who v aim) left moment) → GoesTo plan p NotYet s (onward s).state
     any_bound there shows =
         leads plan p s _ (On (Acked a who v aim)) left moment shows.left (turning, aimed, there)
-        (turns_are_seen.bound s (turn_on p a who.later (who.sent ∷ []) v aim) v.next v.number (call_for p a aim) v.computers left moment between turning.number_below shows)
+        (turns_are_seen.bound s (turn_on p a who.later (who.sent ∷ []) v aim) v.next v.number (step.Bind (call_for p a aim)) v.computers left moment between turning.number_below shows)
 
     pub any_acked : IsThere plan p → Shows s (scene_of p (Acked a who v aim) left moment) → GoesTo plan p (progress_called aim) s (onward s).state
     any_acked there shows =
@@ -170,22 +174,22 @@ module _ (plan : Plan) (p : Coming) (s : State) where
       }
 
   module _ (a : Asked) (who : WhoAsked p a) (v : TurnAt) (left : List (List ℕ)) (moment : ℕ) (able : IsAble plan p) (turning : IsTurningBy plan p a v) (there : IsThere plan p) where
-    first_answered : (client : List ℕ) → IsReadyBy plan p s → IsBlock 8 client → Shows s (scene_of p (Calls a who v (First client)) left moment) → GoesTo plan p NotYet s (onward s).state
-    first_answered client ready block shows =
+    first_answered : (client : List ℕ) → IsReadyBy plan p s → MayAim plan p v (First client) → Shows s (scene_of p (Calls a who v (First client)) left moment) → GoesTo plan p NotYet s (onward s).state
+    first_answered client ready aimed shows =
         let three : HasThree s.chances.left = ready.draws in
         let more : List (List ℕ) = three.two ∷ three.three ∷ three.more in
-        let can : IsTurnCall (call_for p a (First client)) = calls_can_go.challenge p.meeting.caller client able.caller block in
+        let can : IsTurnCall (call_for p a (First client)) = calls_can_go.challenge p.meeting.caller client able.caller aimed.0 in
         let told : ToldChallenge p.table p.name v.computers (length v.links) moment v.next p.meeting.caller client three.one more =
         controllers_answer.challenge p.table p.name v.computers (length v.links) moment v.next p.meeting.caller client three.one more turning.next_below can in
         leads_less plan p s _ (On (Halved a who (record v { computers = told.later }) client three.one)) (three.one ∷ []) more moment (omega arith) three.are (
           turning_with a v told.later turning (λ other apart. ap (λ (channels : List (List ℕ × SecureChannelState)). lookup same_name other channels) told.kept) there,
           three.first,
-          λ knows. first_kept v moment client three.one more told turning.next_below can knows,
+          (λ knows. first_kept v moment client three.one more told turning.next_below can knows, aimed.1),
           there,
         )
         (turns_are_seen.answers s (turn_on p a who.later (who.sent ∷ []) v (First client)) (after v.next) v.next (step.Reply (question.Challenge client)) (call_for p a (First client))
         (reply.Challenge (record { challenge = three.one; status = 0 })) v.computers told.later (three.one ∷ more) more moment
-        (between a who v (First client) left moment turning block) can told.steps
+        (between a who v (First client) left moment turning aimed) can told.steps
         (left_so s (λ (l : List (List ℕ)). scene_of p (Calls a who v (First client)) l moment) left _ shows.left three.are shows))
 
     second_answered : (client server : List ℕ) → MayAim plan p v (Second client server) → Shows s (scene_of p (Calls a who v (Second client server)) left moment) →
@@ -203,8 +207,8 @@ module _ (plan : Plan) (p : Coming) (s : State) where
                 machine = has.machine;
                 found = has.found;
                 in_step = λ is_own.
-                    second_kept v moment client server left told turning.next_below can has.machine has.found (able.own_secret is_own client server has.machine has.found)
-                    (aimed (able.knows client server has.machine has.found));
+                    second_kept v moment client server left told turning.next_below can has.machine has.found (able.own_secret aimed.1 is_own client server has.machine has.found)
+                    (aimed.0 (able.knows client server has.machine has.found));
               },
           there,
         )
@@ -280,19 +284,22 @@ module _ (plan : Plan) (p : Coming) (s : State) where
     }
 
     -- it is dropped, and the channel with it
-    dropped_on : (q : Question) (r : Reply) (cause : DropCause) → IsTurnReply q r → judge q r (standing_for aim) p.meeting.caller.secret ≡ judgement.Drop cause →
+    dropped_on : p.meeting.plan.secrets.next ≡ None → (q : Question) (r : Reply) (cause : DropCause) → IsTurnReply q r → judge q r (standing_for aim) p.meeting.caller.secret ≡ judgement.Drop cause →
         Shows s (turn_scene (with_accounts accounts (turn_on p a who.later (who.sent ∷ []) v aim)) (after v.next) v.next (step.Reply q) v.computers (turn_link (length v.links))
         (unit_back (with_accounts accounts (turn_on p a who.later (who.sent ∷ []) v aim)) (reply_bytes v.next r) ∷ []) left moment) → GoesTo plan p NotYet s (onward s).state
-    dropped_on q r cause goes judged shows =
+    dropped_on one q r cause goes judged shows =
         let how : Standing = standing_for aim in
         let before : Turn = turn_before p a who.later (who.sent ∷ []) v in
         let out : Turn = turn_on p a who.later (who.sent ∷ []) v aim in
         leads plan p s _ (Away (Faulted a who.later (left_after a who v aim standing.Nothing accounts) rpc_s_server_unavailable)) left moment shows.left
         (left_so_far standing.Nothing tt, omega arith)
+        (subst (λ (secrets : SecretsState). Shows (onward s).state
+        (meeting_scene (settled_with secrets (settled_in p (left_after a who v aim standing.Nothing accounts))) (waits_for p a who.later) (out_talk p.meeting.task rpc_s_server_unavailable)
+        (unit_down (own p) (who_fault rpc_s_server_unavailable) ∷ []) left moment)) (dropped_one (is_denied cause) p.meeting.plan.secrets one)
         (failings_are_seen.dropped s (own p) (waits_for p a who.later) out.info a.challenge (message_for (own p) a) accounts p.name how out.links out.opened (length v.links)
         (after v.next) v.next 1 q r cause v.computers _ _ left moment who turning.next_below
         (between_still out accounts (turns_have_links.between (own p) before how turning.joined_so)) goes judged
-        (turns_have_links.met (own p) before how turning.joined_so) (turns_have_links.taken (own p) before how turning.joined_so) shows)
+        (turns_have_links.met (own p) before how turning.joined_so) (turns_have_links.taken (own p) before how turning.joined_so) shows))
 
     -- the logon is refused, and the channel stands
     refused_on : (r : Reply) (o : SecureChannelState) (status : ℕ) → IsTurnReply question.Logon r →
@@ -311,10 +318,10 @@ module _ (plan : Plan) (p : Coming) (s : State) where
         (turns_have_links.met (own p) before how turning.joined_so) (turns_have_links.taken (own p) before how turning.joined_so) shows)
 
   -- the channel opens by the credential that is awaited
-  opened_on : (a : Asked) (who : WhoAsked p a) (v : TurnAt) (client server : List ℕ) (left : List (List ℕ)) (moment : ℕ) → IsTurningBy plan p a v →
+  opened_on : (a : Asked) (who : WhoAsked p a) (v : TurnAt) (client server : List ℕ) (left : List (List ℕ)) (moment : ℕ) → p.meeting.plan.secrets.next ≡ None → IsTurningBy plan p a v →
       (IsOwn plan p → KeepsInStep p v.computers (fresh_channel p.meeting.caller.secret client server offered_flags)) →
       Shows s (any_scene p (Told a who v client server (server_credential p.meeting.caller.secret client server) 0) left moment) → GoesTo plan p NotYet s (onward s).state
-  opened_on a who v client server left moment turning stands shows =
+  opened_on a who v client server left moment one turning stands shows =
       let t : Turn = turn_before p a who.later (who.sent ∷ []) v in
       let half : Standing = standing.Half client server in
       let out : Turn = turn_on p a who.later (who.sent ∷ []) v (Second client server) in
@@ -326,7 +333,7 @@ module _ (plan : Plan) (p : Coming) (s : State) where
       left moment))
       (turns_have_links.taken (own p) t half turning.joined_so)
       (turns_are_seen.opened s out (after v.next) v.next offered_flags client server v.computers left moment (turns_have_links.between (own p) t half turning.joined_so)
-      turning.next_below refl refl (calls_can_go.proved p.meeting.caller.secret client server) shows))
+      turning.next_below refl one refl (calls_can_go.proved p.meeting.caller.secret client server) shows))
 
   pub any_told : (a : Asked) (who : WhoAsked p a) (v : TurnAt) (client server credential : List ℕ) (status : ℕ) (left : List (List ℕ)) (moment : ℕ) → IsAble plan p → IsTurningBy plan p a v →
       IsTurnReply question.Authenticate (proof_reply credential status) → (status ≡ 0 → IsGranted plan p v client server) → Shows s (any_scene p (Told a who v client server credential status) left moment) → GoesTo plan p NotYet s (onward s).state
@@ -335,14 +342,14 @@ module _ (plan : Plan) (p : Coming) (s : State) where
       let half : Standing = standing.Half client server in
       let awaited : List ℕ = server_credential secret client server in
       let drop : (cause : DropCause) → judge question.Authenticate (proof_reply credential status) half secret ≡ judgement.Drop cause → GoesTo plan p NotYet s (onward s).state =
-      λ cause judged. dropped_on a who v (Second client server) left moment p.table turning (differs-none p.table) able.ranged question.Authenticate (proof_reply credential status) cause goes judged shows in
+      λ cause judged. dropped_on a who v (Second client server) left moment p.table turning (differs-none p.table) able.ranged able.one question.Authenticate (proof_reply credential status) cause goes judged shows in
       elim (cases_Bool (status == 0)) [
         | inr refused ↦ drop drop_cause.Denied (ap (λ (z : Bool). judge_auth z half secret credential offered_flags) refused)
         | inl zeroed ↦
             elim (cases_Bool (bytes_eq credential awaited)) [
               | inr other ↦ drop drop_cause.NotNext
                   (ap (λ (z : Bool). judge_auth z half secret credential offered_flags) zeroed ∙ ap (λ (z : Bool). judge_credential z secret client server offered_flags) other)
-              | inl right ↦ opened_on a who v client server left moment turning (granted ((Decides-eqb status 0).0 zeroed)).in_step
+              | inl right ↦ opened_on a who v client server left moment able.one turning (granted ((Decides-eqb status 0).0 zeroed)).in_step
                   (subst (λ (given : List ℕ). Shows s (any_scene p (Told a who v client server given 0) left moment)) ((bytes_eq-Decides credential awaited).0 right)
                   (subst (λ (n : ℕ). Shows s (any_scene p (Told a who v client server credential n) left moment)) ((Decides-eqb status 0).0 zeroed) shows))
             ]
@@ -350,13 +357,13 @@ module _ (plan : Plan) (p : Coming) (s : State) where
 
   -- by how the reply to the logon's call is judged: the client is refused, or let in
   module _ (a : Asked) (who : WhoAsked p a) (v : TurnAt) (o c : SecureChannelState) (timestamp : ℕ) (accounts : AccountTable) (answer : Reply) (left : List (List ℕ)) (moment : ℕ)
-      (fits : IsJudgedBy plan p a v o timestamp accounts answer) (shows : Shows s (judged_scene p a who v o c timestamp accounts answer left moment)) where
+      (one : p.meeting.plan.secrets.next ≡ None) (fits : IsJudgedBy plan p a v o timestamp accounts answer) (shows : Shows s (judged_scene p a who v o c timestamp accounts answer left moment)) where
     judged_on : (found : ChannelJudgement) → judge question.Logon answer (standing.Open (after_call o timestamp)) p.meeting.caller.secret ≡ found → IsLogonJudged (info_in answer) (after_call o timestamp) found →
         GoesTo plan p NotYet s (onward s).state ⊎ IsLetIn plan p s
     judged_on (judgement.Half client server) judged is = absurd is
     judged_on (judgement.Opened state) judged is = absurd is
     judged_on (judgement.Drop cause) judged is =
-        inl (dropped_on a who v (Third o c timestamp) left moment accounts fits.turning fits.differs fits.ranged question.Logon answer cause fits.goes judged shows)
+        inl (dropped_on a who v (Third o c timestamp) left moment accounts fits.turning fits.differs fits.ranged one question.Logon answer cause fits.goes judged shows)
     judged_on (judgement.Answer state (verdict.Status status)) judged is =
         inl (refused_on a who v (Third o c timestamp) left moment accounts fits.turning fits.differs fits.ranged answer state status fits.goes judged
         (λ is_own. subst (λ (state : SecureChannelState). KeepsInStep p v.computers state) (sym is) (fits.stands is_own)) shows)

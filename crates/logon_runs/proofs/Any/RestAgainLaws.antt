@@ -2,6 +2,7 @@
 -- Of `any_logons_start` and `logons_come_to_rest`.
 use Rattle.std.proofs.Common.{◌≡◌, ◌≢◌, ℕ, zero, suc, false, refl, sym, ap, subst, ◌∙◌, List, [], Option, Some, None, inl, inr, slice_get, ◌<◌, length, arith}
 use Rattle.std.proofs.lemmas.Option.{slice_get_cases}
+use Rattle.std.specs.Option.{option_map}
 use Rattle.std.specs.Prelude.{◌⊎◌}
 use Rattle.wire_base.specs.Maps.{lookup}
 use Rattle.wire_base.specs.Names.{same_name}
@@ -15,6 +16,10 @@ use Rattle.channel_client.specs.Machine.{after as next_place}
 use Rattle.domain_controller.specs.State.{State as ControllerState}
 use Rattle.controller_calls.specs.declared.state.Computers.{Computers}
 use Rattle.domain_controller.specs.declared.state.Running.{Running}
+use Rattle.secret_change.specs.declared.secrets.Next.{Next}
+use Rattle.member_server.specs.Machine.{caller_of}
+use Rattle.logon_steps.specs.MemberTurns.{member_at}
+use Rattle.logon_steps.specs.MemberLinks.{logons_resting}
 use Rattle.logon_client.specs.declared.plan.ClientPlan.{ClientPlan}
 use Rattle.member_server.specs.declared.plan.MemberPlan.{MemberPlan}
 use Rattle.world_moves.specs.declared.links.EndId.{EndId}
@@ -25,6 +30,7 @@ use Rattle.world_moves.specs.Moving.{end_of_peer, route_to}
 use Rattle.world_moves.specs.World.{first_ends}
 use Rattle.logon_steps.specs.ClientSteps.{client_ended}
 use Rattle.logon_steps.specs.ControllerTurns.{controller_at}
+use Rattle.channel_turns.specs.declared.state.Dialling.TheVariants as dialling
 use Rattle.logon_runs.specs.Seen.Others.{OthersStay}
 use Rattle.logon_runs.specs.Rests.{AtRest, ClientRests, ControllerRests, HasOwnName, IsInStepAt, MemberRests, StandsWell, three_of}
 use Rattle.logon_runs.specs.Any.AnyPhases.{IsDone, KeepsInStep, MayStand}
@@ -139,14 +145,18 @@ module _ (plan : Plan) (s : State) (rest : AtRest plan s) (client member control
   member_well : (how : Standing) → MayStand plan (coming_from plan s rest client member controller three account machine) over.settled.computers how → StandsWell plan after member three.member_plan how
   member_well standing.Nothing stands = tt
   member_well (standing.Half one other) stands = absurd stands
-  member_well (standing.Open o) stands = λ at is_own. member_open at o is_own reaches stands
+  member_well (standing.Open o) stands = λ at is_own.
+      member_open at o is_own reaches (λ named. stands (record { member = three.member_plan; planned = three.is_member_plan; named = named }))
 
   member_rests : MemberRests plan after member three.member_plan
   member_rests = record {
     how = over.settled.how;
     place = next_place (rest.members member three.member_plan three.is_member_plan).place;
     number = over.settled.number;
-    rests = over.shows.member;
+    rests = over.shows.member
+        ∙ ap (λ (next : Option (List ℕ)). Some (member_at (logons_resting three.member_plan (caller_of three.member_plan) next over.settled.how
+        (next_place (rest.members member three.member_plan three.is_member_plan).place) over.settled.number) [] dialling.Nothing))
+        (ap (option_map (λ (n : Next). n.secret)) (rest.alone member three.member_plan three.is_member_plan));
     place_below = after_below (rest.members member three.member_plan three.is_member_plan).place;
     number_below = over.fits.number_below;
     stands = member_well over.settled.how over.fits.stands;
@@ -217,6 +227,7 @@ module _ (plan : Plan) (s : State) (rest : AtRest plan s) (client member control
     dials = over.shows.dials;
     units = over.shows.units;
     plans = plans ∙ rest.plans;
+    alone = rest.alone;
     controllers = λ at planned is_table. controllers_rest at planned is_table (same_or_not at controller);
     members = λ at peer is_plan. members_rest at peer is_plan (same_or_not at member);
     clients = λ at task is_task. clients_rest at task is_task (same_or_not at client);

@@ -13,9 +13,13 @@ use Rattle.outside.specs.declared.event.Event.TheVariants as event
 use Rattle.outside.specs.Machine.{whole_step}
 use Rattle.rpc_units.specs.Numbers.{error_access_denied, rpc_s_server_unavailable}
 use Rattle.end_links.specs.Sending.{fault_of}
+use Rattle.channel_client.specs.declared.state.SetStep.TheVariants as set_step
 use Rattle.channel_client.specs.declared.state.Standing.TheVariants as standing
 use Rattle.channel_client.specs.declared.state.Step.TheVariants as step
 use Rattle.domain_controller.specs.State.{State as ControllerState}
+use Rattle.member_server.specs.Secrets.{is_denied, secrets_dropped}
+use Rattle.logon_steps.proofs.SetTurnLaws.{set_reply_comes}
+use Rattle.logon_steps.specs.SetTurns.{set_reply_bytes}
 use Rattle.logon_client.specs.State.{State as ClientState}
 use Rattle.logon_client.specs.Machine.{step_of as client_step_of, fault_outcome}
 use Rattle.logon_client.specs.declared.state.Phase.TheVariants as client_phase
@@ -40,8 +44,8 @@ use Rattle.logon_steps.proofs.ControllerTurnLaws.{controllers_step}
 use Rattle.logon_steps.proofs.MemberLinkLaws.{links_step}
 use Rattle.logon_steps.proofs.TurningLaws.{response_comes, unit_comes}
 use Rattle.logon_runs.specs.Failing.FailingSteps.{out_talk, who_fault}
-use Rattle.logon_runs.specs.Failing.Failings.{FailingsAreSeen, failing_turn, settled_at}
-use Rattle.logon_runs.specs.Seen.LinkScenes.{Meeting, meeting_scene, rest_scene, unit_down, unit_up}
+use Rattle.logon_runs.specs.Failing.Failings.{failing_turn, FailingsAreSeen, settled_at, settled_with}
+use Rattle.logon_runs.specs.Seen.LinkScenes.{given_caller, Meeting, meeting_scene, rest_scene, unit_down, unit_up}
 use Rattle.logon_runs.specs.Scenes.{IsNoClose, Scene, Shows, dials_made, units_sent, with_actions}
 use Rattle.logon_runs.specs.Seen.TurnScenes.{Turn, unit_back}
 use Rattle.logon_runs.specs.Seen.WaitingUnits.{after_hearing, with_client_at, with_member_at}
@@ -120,7 +124,7 @@ failings_are_seen = record {
       (failings_step.dial_fails_held g.plan g.caller how info g.place next number moment most c (logon_for g.link g.task challenge message) g.task one other left who));
   dropped = λ s g waits info challenge message table name how links opened link next number most q r cause computers one other left moment who below between is judged joined taken shows.
       let t : Turn = failing_turn g waits info challenge message (who.sent ∷ []) table name how links opened link in
-      let g1 : Meeting = settled_at g table name computers standing.Nothing next links in
+      let g1 : Meeting = settled_with (secrets_dropped (is_denied cause) g.plan.secrets) (settled_at g table name computers standing.Nothing next links) in
       let talk = out_talk g.task rpc_s_server_unavailable in
       subst (λ (now_open : OpenMap). Shows (onward s).state (record (meeting_scene g1 waits talk (unit_down g (who_fault rpc_s_server_unavailable) ∷ []) left moment) { opened = now_open })) taken
       (subst (λ (units : List BagUnit). Shows (onward s).state (record (meeting_scene g1 waits talk (units ++ []) left moment) { opened = take_out same_number link opened }))
@@ -130,6 +134,19 @@ failings_are_seen = record {
       (heard_back t (reply_bytes number r) next number (step.Reply q) computers (turn_link link) left moment between (response_comes number q r is))
       (closes_turn t next number (step.Reply q) computers (unit_back t (reply_bytes number r) ∷ []) left moment between) (tt, (tt, tt))
       (failings_step.drops g.plan g.caller how info g.place next number link moment most q r cause (logon_for g.link g.task challenge message) g.task one other left below is judged who)
+      (controllers_step.closed table name computers link moment _ left)));
+  set_dropped = λ s g waits info challenge message table name how links opened link next number most r cause computers one other left moment who below between is judged joined taken shows.
+      let t : Turn = failing_turn g waits info challenge message (who.sent ∷ []) table name how links opened link in
+      let g1 : Meeting = settled_with (secrets_dropped (is_denied cause) g.plan.secrets) (settled_at g table name computers standing.Nothing next links) in
+      let talk = out_talk g.task rpc_s_server_unavailable in
+      subst (λ (now_open : OpenMap). Shows (onward s).state (record (meeting_scene g1 waits talk (unit_down g (who_fault rpc_s_server_unavailable) ∷ []) left moment) { opened = now_open })) taken
+      (subst (λ (units : List BagUnit). Shows (onward s).state (record (meeting_scene g1 waits talk (units ++ []) left moment) { opened = take_out same_number link opened }))
+      (sent_down g1 (who_fault rpc_s_server_unavailable) joined)
+      (scenes_turn.member_closes s _ (unit_back t (set_reply_bytes number r)) [] _ _ left link close.CallDone
+      (action.Told g.link (outcome.NoController cause) ∷ action.Send g.link (who_fault rpc_s_server_unavailable) ∷ []) shows
+      (heard_back t (set_reply_bytes number r) next number (step.Set set_step.Reply) computers (turn_link link) left moment between (set_reply_comes number r is))
+      (closes_turn t next number (step.Set set_step.Reply) computers (unit_back t (set_reply_bytes number r) ∷ []) left moment between) (tt, (tt, tt))
+      (failings_step.set_drops g.plan g.caller how info g.place next number link moment most r cause (logon_for g.link g.task challenge message) g.task one other left below is judged who)
       (controllers_step.closed table name computers link moment _ left)));
   refused = λ s g waits info challenge message table name how o links opened link next number most status q r computers one other left moment who below between is judged joined taken shows.
       let t : Turn = failing_turn g waits info challenge message (who.sent ∷ []) table name how links opened link in
@@ -148,7 +165,7 @@ failings_are_seen = record {
       subst (λ (units : List BagUnit). Shows (onward s).state (meeting_scene g waits (out_talk g.task status) (units ++ []) left moment)) (sent_down g (who_fault status) joined)
       (scenes_go_on.to_member s _ (unit_up g who.sent) [] _ left (action.Send g.link (who_fault status) ∷ []) shows
       (heard_up g waits (out_talk g.task status) who.sent [] left moment (record { some = who.some; short = omega (arith, who.short) })) (tt, tt)
-      (failings_step.faults g.plan g.caller g.how g.place g.number g.link moment most status g.task one other left who));
+      (failings_step.faults g.plan (given_caller g) g.given.next g.how g.place g.number g.link moment most status g.task one other left who));
   faulted = λ s g terms talk status left moment known shows.
       let outcome_so = fault_outcome (status == rpc_s_server_unavailable) status in
       subst (λ (opened : OpenMap). Shows (onward s).state (record (rest_scene g (client_ended g.task outcome_so) g.links left moment []) { opened = opened })) (none_left g)
@@ -156,5 +173,5 @@ failings_are_seen = record {
       (heard_down g (client_phase.Asked terms client_question.Who) talk (who_fault status) [] left moment (unit_comes (fault_of 2 0 status) (fault_sends 2 status (omega arith) known)))
       (closes_own g (client_phase.Asked terms client_question.Who) talk (unit_down g (who_fault status) ∷ []) left moment) tt
       (failings_step.faulted g.task terms g.link moment status left known)
-      (links_step.closed g.plan g.caller g.how g.place g.number g.link moment talk left));
+      (links_step.closed g.plan (given_caller g) g.given.next g.how g.place g.number g.link moment talk left));
 }

@@ -19,8 +19,10 @@ use Rattle.end_links.specs.Sending.{fault_of}
 use Rattle.channel_client.specs.declared.judging.Judgement.{Judgement}
 use Rattle.channel_client.specs.declared.state.Standing.TheVariants as standing
 use Rattle.channel_client.specs.declared.state.Step.TheVariants as step
-use Rattle.channel_client.specs.Machine.{after, settle}
+use Rattle.channel_client.specs.declared.state.SetStep.TheVariants as set_step
+use Rattle.channel_client.specs.Machine.{SetOutcome, after, settle, settle_set}
 use Rattle.channel_client.specs.State.{Requester}
+use Rattle.secret_change.specs.declared.secrets.Next.{Next}
 use Rattle.logon_client.specs.declared.plan.ClientPlan.{ClientPlan}
 use Rattle.logon_client.specs.declared.state.Phase.TheVariants as client_phase
 use Rattle.logon_client.specs.declared.state.Question.TheVariants as client_question
@@ -40,19 +42,21 @@ use Rattle.member_server.specs.Machine.{actions_in, at_turn, halted_state, keep_
 use Rattle.member_server.specs.Outcomes.{after_served, at_link, end_found, end_logon, outcome_of, phase_after, reach_link, reach_in_map, reach_waiting, waiting_if}
 use Rattle.member_server.specs.Requests.{body_out, unit_out}
 use Rattle.member_server.specs.Secrets.{SecretsState, is_denied, secrets_dropped}
-use Rattle.secret_change.specs.Secrets.{alone}
+use Rattle.secret_change.specs.Secrets.{denied_by, next_of}
 use Rattle.member_server.specs.Turns.{AtTurn, next_turn, take_by}
 use Rattle.member_server.specs.Units.{serve_held, then_held}
 use Rattle.member_server.specs.Work.{Served, drawless, send_unit, stay}
-use Rattle.logon_steps.specs.Asking.{at_rest}
+use Rattle.logon_steps.specs.Asking.{asking_keeping, at_rest_keeping}
 use Rattle.logon_steps.specs.Meeting.{bound_for}
-use Rattle.logon_steps.specs.MemberLinks.{asked_talk, logons_at_rest, one_link}
-use Rattle.logon_steps.specs.MemberTurns.{logons_in_turn, plan_of}
+use Rattle.logon_steps.specs.MemberLinks.{asked_talk, logons_resting, one_link}
+use Rattle.logon_steps.specs.MemberTurns.{logons_keeping, plan_with}
 use Rattle.logon_steps.specs.MemoCalls.{RequestGoes}
 use Rattle.logon_steps.proofs.ClientStepLaws.{link_hears}
 use Rattle.logon_steps.proofs.MemberLinkLaws.{link_serves}
-use Rattle.logon_steps.proofs.MemberTurnLaws.{replied_steps}
+use Rattle.logon_steps.proofs.MemberTurnLaws.{replied_by}
+use Rattle.logon_steps.proofs.SetTurnLaws.{set_replied}
 use Rattle.logon_steps.proofs.StreamLaws.{read_again, same}
+use Rattle.logon_steps.specs.Turning.{turn_at}
 use Rattle.logon_runs.specs.Failing.FailingSteps.{FailingsStep, out_talk, who_fault}
 
 -- ---- WhoAmI is answered with a fault
@@ -98,9 +102,9 @@ held_work plan channel task how logon place status most one other first who out 
     (who_faulted task (at_link logon.link alone) most status one other who)
 
 -- a member with one secret keeps it, whyever its turn is dropped
-dropped_one : (denied : Bool) (secret : List ℕ) → secrets_dropped denied (alone secret) ≡ alone secret
-dropped_one false secret = refl
-dropped_one true secret = refl
+pub dropped_one : (denied : Bool) (secrets : SecretsState) → secrets.next ≡ None → secrets_dropped denied secrets ≡ secrets
+dropped_one false secrets one = refl
+dropped_one true secrets one = ap (λ (next : Option Next). denied_by next secrets) one
 
 -- ---- a fault can be sent
 
@@ -114,37 +118,46 @@ fault_sends call status below known = record {
 pub failings_step : FailingsStep
 failings_step = record {
   drops = λ plan caller how info place next number turn now most q r cause logon task one other left below is dropped who.
-      let logons : Logons = logons_in_turn plan caller how info place next number (step.Reply q) ((place, logon) ∷ []) in
+      let logons : Logons = logons_keeping plan caller how info place next number (step.Reply q) ((place, logon) ∷ []) in
       let links : List (ℕ × LinkState Talk) = one_link logon.link (asked_talk (bound_for task) place (who.sent ∷ [])) in
       let at : AtTurn = at_turn turn (record { logons = logons; links = links; actions = [] }) in
-      replied_steps plan caller how info place next number turn now q r ((place, logon) ∷ []) links left below is
+      replied_by plan (asking_keeping caller how info place next None (next_of plan.secrets)) ((place, logon) ∷ []) number place turn now q r links left below is
       ∙ ap (λ (j : Judgement). step_by actions_in state_in halted_state left
       (next_turn now ((take_by (settle j logons.channel) None at).0.work, keep_turn (take_by (settle j logons.channel) None at).1 [] turn) left)) dropped
       ∙ ap (λ (work : Work). step_by actions_in state_in halted_state left (next_turn now (work, dialling.Nothing) left))
-      (ap (λ (secrets : SecretsState). end_logon place (ending.NoController cause)
-      (waiting_work (record plan { secrets = secrets }) (at_rest caller standing.Nothing (after place) next) ((place, logon) ∷ []) links (action.Close turn close.CallDone ∷ [])))
-      (dropped_one (is_denied cause) caller.secret)
-      ∙ held_work (plan_of plan caller) (at_rest caller standing.Nothing (after place) next) task (ending.NoController cause) logon place rpc_s_server_unavailable most one other
-      (action.Close turn close.CallDone ∷ []) who refl);
+      (held_work (plan_with (secrets_dropped (is_denied cause) plan.secrets) plan) (at_rest_keeping caller standing.Nothing (after place) next (next_of plan.secrets)) task (ending.NoController cause) logon
+      place rpc_s_server_unavailable most one other (action.Close turn close.CallDone ∷ []) who refl);
+  set_drops = λ plan caller how info place next number turn now most r cause logon task one other left below is dropped who.
+      let kept : Option (List ℕ) = next_of plan.secrets in
+      let s : Requester = asking_keeping caller how info place next None kept in
+      let channel : Requester = turn_at number place (step.Set set_step.Reply) s in
+      let links : List (ℕ × LinkState Talk) = one_link logon.link (asked_talk (bound_for task) place (who.sent ∷ [])) in
+      let at : AtTurn = at_turn turn (record { logons = record { plan = plan; channel = channel; asked = (place, logon) ∷ [] }; links = links; actions = [] }) in
+      set_replied plan s ((place, logon) ∷ []) number place turn now r links left below is
+      ∙ ap (λ (j : SetOutcome). step_by actions_in state_in halted_state left
+      (next_turn now ((take_by (settle_set j channel) None at).0.work, keep_turn (take_by (settle_set j channel) None at).1 [] turn) left)) dropped
+      ∙ ap (λ (work : Work). step_by actions_in state_in halted_state left (next_turn now (work, dialling.Nothing) left))
+      (held_work (plan_with (secrets_dropped (is_denied cause) plan.secrets) plan) (at_rest_keeping caller standing.Nothing (after place) next kept) task (ending.NoController cause) logon place
+      rpc_s_server_unavailable most one other (action.Close turn close.CallDone ∷ []) who refl);
   refuses = λ plan caller how o info place next number turn now most status q r logon task one other left below is answered who.
-      let logons : Logons = logons_in_turn plan caller how info place next number (step.Reply q) ((place, logon) ∷ []) in
+      let logons : Logons = logons_keeping plan caller how info place next number (step.Reply q) ((place, logon) ∷ []) in
       let links : List (ℕ × LinkState Talk) = one_link logon.link (asked_talk (bound_for task) place (who.sent ∷ [])) in
       let at : AtTurn = at_turn turn (record { logons = logons; links = links; actions = [] }) in
-      replied_steps plan caller how info place next number turn now q r ((place, logon) ∷ []) links left below is
+      replied_by plan (asking_keeping caller how info place next None (next_of plan.secrets)) ((place, logon) ∷ []) number place turn now q r links left below is
       ∙ ap (λ (j : Judgement). step_by actions_in state_in halted_state left
       (next_turn now ((take_by (settle j logons.channel) None at).0.work, keep_turn (take_by (settle j logons.channel) None at).1 [] turn) left)) answered
       ∙ ap (λ (work : Work). step_by actions_in state_in halted_state left (next_turn now (work, dialling.Nothing) left))
-      (held_work (plan_of plan caller) (at_rest caller (standing.Open o) (after place) next) task (ending.Refused status) logon place error_access_denied most one other
+      (held_work plan (at_rest_keeping caller (standing.Open o) (after place) next (next_of plan.secrets)) task (ending.Refused status) logon place error_access_denied most one other
       (action.Close turn close.CallDone ∷ []) who refl);
   dial_fails = λ plan caller how info place next number now c logon task left.
       ap (λ (work : Work). step_by actions_in state_in halted_state left (next_turn now (work, dialling.Nothing) left))
-      (ended_work (plan_of plan caller) (at_rest caller standing.Nothing (after place) next) task (ending.NoController drop_cause.DialFailed) logon place
+      (ended_work plan (at_rest_keeping caller standing.Nothing (after place) next (next_of plan.secrets)) task (ending.NoController drop_cause.DialFailed) logon place
       (phase.Out (bound_for task) rpc_s_server_unavailable) [] [] refl);
   dial_fails_held = λ plan caller how info place next number now most c logon task one other left who.
       ap (λ (work : Work). step_by actions_in state_in halted_state left (next_turn now (work, dialling.Nothing) left))
-      (held_work (plan_of plan caller) (at_rest caller standing.Nothing (after place) next) task (ending.NoController drop_cause.DialFailed) logon place rpc_s_server_unavailable most one other [] who refl);
-  faults = λ plan caller how place number link now most status task one other left who.
-      let logons : Logons = logons_at_rest plan caller how place number in
+      (held_work plan (at_rest_keeping caller standing.Nothing (after place) next (next_of plan.secrets)) task (ending.NoController drop_cause.DialFailed) logon place rpc_s_server_unavailable most one other [] who refl);
+  faults = λ plan caller kept how place number link now most status task one other left who.
+      let logons : Logons = logons_resting plan caller kept how place number in
       let at : AtLink = record { link = link; logons = logons; actions = [] } in
       link_serves logons dialling.Nothing link now (out_talk task status) who.sent who.unit left
       (drawless (stay (send_unit at (fault_of 2 0 status)) (out_talk task status)) left) tt who.read

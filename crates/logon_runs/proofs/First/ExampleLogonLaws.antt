@@ -91,6 +91,7 @@ member_form = record {
       ((omega arith, omega arith), ((omega arith, omega arith), ((omega arith, omega arith), ((omega arith, omega arith), ((omega arith, omega arith), tt)))));
   domain = corp_name;
   secret = hash_form 3 (omega arith);
+  next = tt;
   controller = All-from_recursion IsByte (0 ∷ []) (omega arith, tt);
 }
 

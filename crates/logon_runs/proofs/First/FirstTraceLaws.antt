@@ -108,13 +108,13 @@ first_turns_are_seen = record {
       let same3 : HasSameEnds s s3 = both_same s s2 s3 same2 (turned_same s2) in
       let same4 : HasSameEnds s s4 = both_same s s3 s4 same3 (turned_same s3) in
       let asked : Shows (goes s) (dial_scene t (its_link g) standing.Nothing n1 g.number first computers (unit_up g who.sent ∷ []) (server ∷ left) moment) =
-      logons_are_seen.asks_first s g waits a.challenge a.one a.two a.three client who.sent a.then_now table name computers (server ∷ left) moment is.stands is.can is.names is.draws shows in
+      logons_are_seen.asks_first s g waits a.challenge a.one a.two a.three client who.sent a.then_now table name computers (server ∷ left) moment is.stands is.fits is.can is.names is.draws shows in
       let dial1 : Shows s2 (dial_scene held (its_link g) standing.Nothing n1 g.number first computers [] (server ∷ left) moment) =
       logons_are_seen.held_before (goes s) g t (its_link g) standing.Nothing n1 g.number 1 2 0 first computers [] _ _ who [] (server ∷ left) moment refl (found_here g) asked in
       let bind1 =
-      turns_are_seen.dialled s2 held (its_link g) standing.Nothing n1 g.number first computers [] (server ∷ left) moment (reach_still peer at s s2 same2 reach) (turns_have_links.found g held is.joined)
+      turns_are_seen.dialled s2 held (its_link g) standing.Nothing n1 g.number (step.Bind first) computers [] (server ∷ left) moment (reach_still peer at s s2 same2 reach) (turns_have_links.found g held is.joined)
       (turns_have_links.new g held _ is.joined) between1 dial1 in
-      let ack1 = turns_are_seen.bound _ t1 n1 g.number first computers (server ∷ left) moment between1 is.number bind1 in
+      let ack1 = turns_are_seen.bound _ t1 n1 g.number (step.Bind first) computers (server ∷ left) moment between1 is.number bind1 in
       let call1 = turns_are_seen.asks _ t1 n1 g.number first computers (server ∷ left) moment between1 is.number ack1 in
       let reply1 =
       turns_are_seen.answers _ t1 n2 n1 (step.Reply (question.Challenge client)) first first_reply computers paired (server ∷ left) left moment between1 can_first
@@ -123,9 +123,9 @@ first_turns_are_seen = record {
       subst (λ (map : OpenMap). Shows s3 (dial_scene t1 map half n3 n2 second paired [] left moment)) (turns_have_links.taken g held standing.Nothing is.joined)
       (turns_are_seen.half _ t1 n2 n1 client server paired left moment between1 (after_below g.number) refl (calls_can_go.challenged client server is.server_block) reply1) in
       let bind2 =
-      turns_are_seen.dialled s3 t1 (its_link g) half n3 n2 second paired [] left moment (reach_still peer at s s3 same3 reach) (turns_have_links.found g t1 met1)
+      turns_are_seen.dialled s3 t1 (its_link g) half n3 n2 (step.Bind second) paired [] left moment (reach_still peer at s s3 same3 reach) (turns_have_links.found g t1 met1)
       (turns_have_links.new g t1 _ met1) between2 dial2 in
-      let ack2 = turns_are_seen.bound _ t2 n3 n2 second paired left moment between2 (after_below n1) bind2 in
+      let ack2 = turns_are_seen.bound _ t2 n3 n2 (step.Bind second) paired left moment between2 (after_below n1) bind2 in
       let call2 = turns_are_seen.asks _ t2 n3 n2 second paired left moment between2 (after_below n1) ack2 in
       let reply2 =
       turns_are_seen.answers _ t2 n4 n3 (step.Reply question.Authenticate) second second_reply paired opened left left moment between2 can_second
@@ -133,11 +133,11 @@ first_turns_are_seen = record {
       (lookup-put_same same_name g.caller.computer (pair_of client server) computers.pending (same_computer g.caller.computer))) call2 in
       let dial3 : Shows s4 (dial_scene t2 (its_link g) how n5 n4 third opened [] left moment) =
       subst (λ (map : OpenMap). Shows s4 (dial_scene t2 map how n5 n4 third opened [] left moment)) (turns_have_links.taken g t1 half met1)
-      (turns_are_seen.opened _ t2 n4 n3 offered_flags client server opened left moment between2 (after_below n2) refl refl (calls_can_go.proved g.caller.secret client server) reply2) in
+      (turns_are_seen.opened _ t2 n4 n3 offered_flags client server opened left moment between2 (after_below n2) refl is.one refl (calls_can_go.proved g.caller.secret client server) reply2) in
       let bind3 =
-      turns_are_seen.dialled s4 t2 (its_link g) how n5 n4 third opened [] left moment (reach_still peer at s s4 same4 reach) (turns_have_links.found g t2 met2)
+      turns_are_seen.dialled s4 t2 (its_link g) how n5 n4 (step.Bind third) opened [] left moment (reach_still peer at s s4 same4 reach) (turns_have_links.found g t2 met2)
       (turns_have_links.new g t2 _ met2) between3 dial3 in
-      let ack3 = turns_are_seen.bound _ t3 n5 n4 third opened left moment between3 (after_below n3) bind3 in
+      let ack3 = turns_are_seen.bound _ t3 n5 n4 (step.Bind third) opened left moment between3 (after_below n3) bind3 in
       let call3 = turns_are_seen.asks _ t3 n5 n4 third opened left moment between3 (after_below n3) ack3 in
       record {
         asked = asked;

@@ -37,7 +37,6 @@ use Rattle.logon_steps.specs.Meeting.{HasShortNames}
 use Rattle.logon_steps.proofs.CallingLaws.{calls_can_go}
 use Rattle.logon_steps.proofs.KnowingLaws.{computers_are_known}
 use Rattle.logon_steps.proofs.TellingLaws.{logons_are_short}
-use Rattle.logon_steps.proofs.MemberLinkLaws.{fresh_rests}
 use Rattle.logon_runs.specs.Seen.AskScenes.{with_controller}
 use Rattle.logon_runs.specs.First.FirstLogonRuns.{ComesInFirst, after_first, first_turns}
 use Rattle.logon_runs.specs.First.FirstRuns.{IsToBeOpened}
@@ -114,7 +113,7 @@ module _ (plan : Plan) (client member controller : ℕ) (can : CanComeIn plan cl
       (draw plan 0 ∷ draw plan 1 ∷ draw plan 2 ∷ draw plan 3 ∷ draw plan 4 ∷ draw plan 5 ∷ left_then plan) plan.now [])
   first_shows = record {
     client = got_mapped fresh_client plan.clients client can.task can.is_task;
-    member = got_mapped fresh_member plan.members member can.member_plan can.is_member_plan ∙ ap Some (fresh_rests can.member_plan can.one);
+    member = got_mapped fresh_member plan.members member can.member_plan can.is_member_plan;
     controller = got_controller plan.tables plan.controllers controller can.table can.name can.is_table can.is_name;
     links = refl;
     opened = refl;
@@ -172,6 +171,8 @@ module _ (plan : Plan) (client member controller : ℕ) (can : CanComeIn plan cl
       info = logons_are_short.info can.member_plan can.task (draw plan 0) (draw plan 1) (draw plan 2) (draw plan 3) plan.now 0 follows has_units has_short are_draws
           (draw_block plan.seed 0).0 (draw_block plan.seed 0).1 (draw_block plan.seed 1).1 (omega arith);
       stands = refl;
+      fits = record { tried = λ none. refl; kept = λ o stands. refl; one = λ o stands. can.one };
+      one = can.one;
       block = draw_block plan.seed 4;
       knows = computers_are_known.knows can.table can.member_plan.computer can.machine can.machine_found can.kind;
       machine_found = computers_are_known.machine can.table can.member_plan (draw plan 4) (draw plan 5) can.machine can.machine_found can.kind can.enabled;

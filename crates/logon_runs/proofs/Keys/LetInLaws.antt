@@ -63,7 +63,7 @@ use Rattle.logon_steps.proofs.TurningLaws.{response_comes}
 use Rattle.logon_runs.specs.Failing.Failings.{failing_turn, settled_at}
 use Rattle.logon_runs.specs.Keys.Differing.{AreTerms, AsksEcho, HasItsOutcome, HasSent, IsLetIn, IsReplied, IsRequest, IsShut, IsSingle}
 use Rattle.logon_runs.specs.Keys.LetIn.{Asks, FitsLetIn, GoesOn, GrantsGoOn, HasEndedAt, Hears, IsOnLink, LetInPhase, answered_by, asked_by, let_in_scene}
-use Rattle.logon_runs.specs.Seen.LinkScenes.{IsJoined, Meeting, its_link, meeting_scene, rest_scene, unit_down, unit_up}
+use Rattle.logon_runs.specs.Seen.LinkScenes.{given_caller, IsJoined, its_link, Meeting, meeting_scene, rest_scene, unit_down, unit_up}
 use Rattle.logon_runs.specs.Seen.Others.{AreAmong, IsStepOn}
 use Rattle.logon_runs.specs.Phases.{Coming, WhoAsked, key_at, terms_at}
 use Rattle.logon_runs.specs.Rests.{three_of}
@@ -117,7 +117,7 @@ asked_on g left s terms question on bytes moment can joined fits (inl is) shows 
     (member_shuts s _ (unit_up g bytes) [] _ _ left g.link is.cause [] shows
     (heard_up g phase (talk_in None on) bytes [] left moment (record { some = fits.0.some; short = omega (arith, fits.0.short) }))
     (closes_back g phase (talk_in None on) (unit_up g bytes ∷ []) left moment) tt
-    (let_in_shuts g.plan g.caller g.how g.place g.number g.link moment _ _ on bytes left fits.0 is)
+    (let_in_shuts g.plan (given_caller g) g.given.next g.how g.place g.number g.link moment _ _ on bytes left fits.0 is)
     (clients_step.closed g.task g.link moment phase left)))
 asked_on g left s terms question on bytes moment can joined fits (inr is) shows =
     let phase : ClientPhase = client_phase.Asked terms question in
@@ -130,7 +130,7 @@ asked_on g left s terms question on bytes moment can joined fits (inr is) shows 
       shows = subst (λ (units : List BagUnit). Shows (onward s).state (meeting_scene g phase (talk_in None is.later) (units ++ []) left moment)) (sent_down g is.reply joined)
           (scenes_go_on.to_member s _ (unit_up g bytes) [] _ left (action.Send g.link is.reply ∷ []) shows
           (heard_up g phase (talk_in None on) bytes [] left moment (record { some = fits.0.some; short = omega (arith, fits.0.short) })) (tt, tt)
-          (let_in_replies g.plan g.caller g.how g.place g.number g.link moment _ _ g.task (answered_by question) on bytes left fits.0 is));
+          (let_in_replies g.plan (given_caller g) g.given.next g.how g.place g.number g.link moment _ _ g.task (answered_by question) on bytes left fits.0 is));
     }) where
       answered_next : (g : Meeting) (question : Question) (on : LoggedOn) → IsLetIn g.task (suc (answered_by question)) on → IsLetIn g.task (asked_by question) on
       answered_next g client_question.Who on is = is
@@ -147,7 +147,7 @@ has_outcome g left s terms question on bytes moment single is shows =
     (heard_down g phase (talk_in None on) bytes [] left moment (record { some = single.some; short = omega (arith, single.short) }))
     (closes_own g phase (talk_in None on) (unit_down g bytes ∷ []) left moment) tt
     (is.ends g.link moment left)
-    (links_step.closed g.plan g.caller g.how g.place g.number g.link moment (talk_in None on) left)))
+    (links_step.closed g.plan (given_caller g) g.given.next g.how g.place g.number g.link moment (talk_in None on) left)))
 
 asks_its_echo : (g : Meeting) (left : List (List ℕ)) (s : State) (terms : Terms) (on : LoggedOn) (bytes : List ℕ) (moment : ℕ) → CanLogOn g.task → IsJoined g → IsSingle bytes →
     IsLetIn g.task 1 on → AsksEcho g.task 1 terms client_question.Who bytes → Shows s (let_in_scene g (Hears terms client_question.Who on bytes) left moment) → GoesOn g left (onward s).state

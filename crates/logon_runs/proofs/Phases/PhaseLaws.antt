@@ -41,7 +41,7 @@ comes_on p s (BindsHeld a who v aim) left moment known ready fits user arrives s
 comes_on p s (Acked a who v aim) left moment known ready fits user arrives shows = acked_on p s a who v aim left moment fits shows
 comes_on p s (Calls a who v aim) left moment known ready fits user arrives shows = calls_on p s a who v aim left moment known ready fits user arrives shows
 comes_on p s (Halved a who v client server) left moment known ready fits user arrives shows = halved_on p s a who v client server left moment fits shows
-comes_on p s (Proved a who v client server) left moment known ready fits user arrives shows = proved_on p s a who v client server left moment fits shows
+comes_on p s (Proved a who v client server) left moment known ready fits user arrives shows = proved_on p s a who v client server left moment known.one fits shows
 comes_on p s (Granted a who v o c timestamp judged_at accounts) left moment known ready fits user arrives shows =
     granted_on p s a who v o c timestamp judged_at accounts left moment known fits shows
 comes_on p s (Named a e on one other back) left moment known ready fits user arrives shows = named_on p s a e on one other back left moment known fits shows

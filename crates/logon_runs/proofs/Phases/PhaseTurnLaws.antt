@@ -89,7 +89,7 @@ module _ (p : Coming) (s : State) (a : Asked) (who : WhoAsked p a) (v : TurnAt) 
   pub bound_on : Shows s (scene_of p (BindsHeld a who v aim) left moment) → ComesBy p NotYet s (onward s).state
   bound_on shows =
       under p s _ (Acked a who v aim) left moment shows.left fits
-      (turns_are_seen.bound s (turn_on p a who.later (who.sent ∷ []) v aim) v.next v.number (call_for p a aim) v.computers left moment between fits.0.number_below shows)
+      (turns_are_seen.bound s (turn_on p a who.later (who.sent ∷ []) v aim) v.next v.number (step.Bind (call_for p a aim)) v.computers left moment between fits.0.number_below shows)
 
   pub acked_on : Shows s (scene_of p (Acked a who v aim) left moment) → ComesBy p (progress_called aim) s (onward s).state
   acked_on shows =
@@ -102,13 +102,13 @@ first_answered : (p : Coming) (s : State) (a : Asked) (who : WhoAsked p a) (v : 
     IsTurning p a v × IsAimed p v (First client) → Shows s (scene_of p (Calls a who v (First client)) left moment) → ComesBy p NotYet s (onward s).state
 first_answered p s a who v client left moment known ready fits shows =
     let three : HasThree s.chances.left = ready.draws in
-    let can : IsTurnCall (call_for p a (First client)) = calls_can_go.challenge p.meeting.caller client known.caller fits.1 in
+    let can : IsTurnCall (call_for p a (First client)) = calls_can_go.challenge p.meeting.caller client known.caller fits.1.0 in
     let later : Computers = with_pair (own p) client three.one v.computers in
     let more : List (List ℕ) = three.two ∷ three.three ∷ three.more in
     under_less p s _ (Halved a who (record v { computers = later }) client three.one) (three.one ∷ []) more moment (omega arith) three.are (
       record { answering = fits.0.answering; joined_so = fits.0.joined_so; number_below = fits.0.number_below; next_below = fits.0.next_below; others = fits.0.others },
       three.first,
-      lookup-put_same same_name p.meeting.caller.computer (pair_of client three.one) v.computers.pending (same_computer p.meeting.caller.computer),
+      (lookup-put_same same_name p.meeting.caller.computer (pair_of client three.one) v.computers.pending (same_computer p.meeting.caller.computer), fits.1.1),
     )
     (turns_are_seen.answers s (turn_on p a who.later (who.sent ∷ []) v (First client)) (after v.next) v.next (step.Reply (question.Challenge client)) (call_for p a (First client))
     (reply.Challenge (record { challenge = three.one; status = 0 })) v.computers later (three.one ∷ more) more moment
@@ -142,13 +142,13 @@ second_answered p s a who v client server left moment known fits shows =
         next_below = fits.0.next_below;
         others = λ other apart. put_others same_name name other c v.computers.channels IsSameness-same_name apart ∙ fits.0.others other apart;
       },
-      (c, lookup-put_same same_name name c v.computers.channels (same_computer name), calls_are_answered.in_step p.meeting.caller client server p.machine known.secret),
+      (c, lookup-put_same same_name name c v.computers.channels (same_computer name), calls_are_answered.in_step p.meeting.caller client server p.machine (known.secret fits.1.1)),
     )
     (turns_are_seen.answers s (turn_on p a who.later (who.sent ∷ []) v (Second client server)) (after v.next) v.next (step.Reply question.Authenticate) (call_for p a (Second client server))
     (reply.Authenticate (record { credential = server_credential p.meeting.caller.secret client server; flags = offered_flags; status = 0 })) v.computers later left left moment
     (between p s a who v (Second client server) left moment fits) can
     (controllers_step.proved p.table p.name v.computers (length v.links) moment v.next p.meeting.caller client server p.machine left fits.0.next_below can
-    (known.machine_found client server) known.secret fits.1) shows)
+    (known.machine_found client server) (known.secret fits.1.1) fits.1.0) shows)
 
 -- accounts stay in their ranges where a count is 0
 counted_range : (place : ℕ) (accounts : List Account) → AllByRecursion InRangeAccount accounts → AllByRecursion InRangeAccount (at_place place (with_count 0) accounts)
@@ -239,7 +239,7 @@ turn_after p v = record {
   links = v.links ++ ToController p.meeting.at_member p.meeting.at_controller ∷ [];
 }
 
-turning_after : (p : Coming) (a : Asked) (who : WhoAsked p a) (v : TurnAt) (aim : Aim) → IsTurning p a v → IsTurning p a (turn_after p v)
+pub turning_after : (p : Coming) (a : Asked) (who : WhoAsked p a) (v : TurnAt) (aim : Aim) → IsTurning p a v → IsTurning p a (turn_after p v)
 turning_after p a who v aim is = record {
   answering = is.answering;
   joined_so = turns_have_links.met (own p) (turn_before p a who.later (who.sent ∷ []) v) (standing_for aim) is.joined_so;
@@ -260,9 +260,9 @@ halved_on p s a who v client server left moment fits shows =
     (turns_are_seen.half s out (after v.next) v.next client server v.computers left moment (turns_have_links.between (own p) t standing.Nothing fits.0.joined_so)
     fits.0.next_below refl (calls_can_go.challenged client server fits.1) shows))
 
-pub proved_on : (p : Coming) (s : State) (a : Asked) (who : WhoAsked p a) (v : TurnAt) (client server : List ℕ) (left : List (List ℕ)) (moment : ℕ) →
+pub proved_on : (p : Coming) (s : State) (a : Asked) (who : WhoAsked p a) (v : TurnAt) (client server : List ℕ) (left : List (List ℕ)) (moment : ℕ) → p.meeting.plan.secrets.next ≡ None →
     Fits p (Proved a who v client server) → Shows s (scene_of p (Proved a who v client server) left moment) → ComesBy p NotYet s (onward s).state
-proved_on p s a who v client server left moment fits shows =
+proved_on p s a who v client server left moment one fits shows =
     let t : Turn = turn_before p a who.later (who.sent ∷ []) v in
     let half : Standing = standing.Half client server in
     let out : Turn = turn_on p a who.later (who.sent ∷ []) v (Second client server) in
@@ -274,4 +274,4 @@ proved_on p s a who v client server left moment fits shows =
     left moment))
     (turns_have_links.taken (own p) t half fits.0.joined_so)
     (turns_are_seen.opened s out (after v.next) v.next offered_flags client server v.computers left moment (turns_have_links.between (own p) t half fits.0.joined_so)
-    fits.0.next_below refl refl (calls_can_go.proved p.meeting.caller.secret client server) shows))
+    fits.0.next_below refl one refl (calls_can_go.proved p.meeting.caller.secret client server) shows))

@@ -1,6 +1,6 @@
 -- How a logon goes over into the member's turns, and out of them.
 -- Of `logons_are_seen`.
-use Rattle.std.proofs.Common.{◌≡◌, ℕ, ◌≤◌, ◌<◌, ◌+◌, ◌^◌, true, List, [], ◌∷◌, ◌++◌, length, Option, Some, None, refl, sym, ap, subst, ◌∙◌, arith, append-nil, slice_get}
+use Rattle.std.proofs.Common.{◌≡◌, ℕ, ◌≤◌, ◌<◌, ◌+◌, ◌^◌, true, List, [], ◌∷◌, ◌++◌, length, Option, Some, None, refl, sym, ap, subst, ◌∙◌, arith, append-nil, slice_get, ap₂}
 use Rattle.wire_base.specs.Maps.{same_number, take_out}
 use Rattle.authenticators.specs.SecureChannels.{SecureChannelState, after_call, after_return}
 use Rattle.ntlm_messages.specs.declared.messages.Authenticate.{Authenticate}
@@ -10,6 +10,11 @@ use Rattle.outside.specs.declared.action.Outcome.TheVariants as outcome
 use Rattle.outside.specs.declared.event.Event.TheVariants as event
 use Rattle.ntlm_seal.specs.Sessions.{SessionState}
 use Rattle.rpc_units.specs.Writing.{written}
+use Rattle.secret_change.specs.declared.secrets.Next.{Next}
+use Rattle.outside.specs.Machine.{whole_step}
+use Rattle.member_server.specs.Turns.{timestamp_of}
+use Rattle.member_server.specs.Messages.{info_of}
+use Rattle.logon_steps.specs.Asking.{info_at}
 use Rattle.logon_stubs.specs.declared.info.NetworkInfo.{NetworkInfo}
 use Rattle.logon_stubs.specs.declared.info.SamInfo.{SamInfo}
 use Rattle.memo_stubs.specs.Memo.{written_who_reply}
@@ -18,7 +23,7 @@ use Rattle.channel_client.specs.declared.state.Question.TheVariants as question
 use Rattle.channel_client.specs.declared.state.Standing.{Standing}
 use Rattle.channel_client.specs.declared.state.Standing.TheVariants as standing
 use Rattle.channel_client.specs.declared.state.Step.TheVariants as step
-use Rattle.channel_client.specs.Machine.{after}
+use Rattle.channel_client.specs.Machine.{after, challenge_call, logon_call}
 use Rattle.controller_calls.specs.declared.state.Computers.{Computers}
 use Rattle.logon_client.specs.declared.state.Phase.{Phase as ClientPhase}
 use Rattle.member_server.specs.declared.state.LoggedOn.{LoggedOn}
@@ -38,23 +43,23 @@ use Rattle.logon_steps.specs.MemoCalls.{ReplyGoes, RequestGoes, logged_on}
 use Rattle.logon_steps.specs.Turning.{IsTurnReply}
 use Rattle.logon_steps.specs.Answers.{answer_for, auth3_for, drawn_of, logon_for}
 use Rattle.logon_steps.specs.ControllerTurns.{reply_bytes, turn_link}
-use Rattle.logon_steps.specs.Meeting.{bound_for, challenged_talk}
+use Rattle.logon_steps.specs.Meeting.{bound_for, challenged_talk, flags_agreed}
 use Rattle.logon_steps.specs.MemberAnswers.{granting, let_in, sam_shown}
-use Rattle.logon_steps.specs.MemberLinks.{asked_talk, logons_at_rest, one_link}
-use Rattle.logon_steps.specs.MemberTurns.{bind_waits, member_at, on_turn}
+use Rattle.logon_steps.specs.MemberLinks.{asked_talk, logons_resting, one_link}
+use Rattle.logon_steps.specs.MemberTurns.{bind_waits, logons_keeping, member_at, on_turn, plan_with}
 use Rattle.logon_steps.proofs.AnswersLaws.{answers_are_asked}
 use Rattle.logon_steps.proofs.ControllerTurnLaws.{controllers_step}
 use Rattle.logon_steps.proofs.MemberAnswerLaws.{logons_end}
 use Rattle.logon_steps.proofs.MemberLinkLaws.{links_step}
 use Rattle.logon_steps.proofs.TurningLaws.{response_comes, unit_comes}
 use Rattle.logon_runs.specs.Seen.AskScenes.{LogonsAreSeen, turn_within, with_controller, with_talk}
-use Rattle.logon_runs.specs.Seen.LinkScenes.{Meeting, its_link, meeting_scene, unit_down, unit_up}
+use Rattle.logon_runs.specs.Seen.LinkScenes.{given_after, given_caller, its_link, Meeting, meeting_scene, unit_down, unit_up}
 use Rattle.logon_runs.specs.Scenes.{Shows}
 use Rattle.logon_runs.specs.Seen.TurnScenes.{IsBetween, Turn, dial_scene, turn_scene, unit_back}
 use Rattle.logon_runs.proofs.Seen.LinkSceneLaws.{heard_up, sent_down}
 use Rattle.logon_runs.proofs.Seen.SceneLaws.{scenes_go_on}
 use Rattle.logon_runs.proofs.Seen.TurningSceneLaws.{scenes_turn}
-use Rattle.logon_runs.proofs.Seen.TurnSceneLaws.{closes_turn, heard_back}
+use Rattle.logon_runs.proofs.Seen.TurnSceneLaws.{closes_turn, heard_back, with_next}
 
 -- the same where the turn is written out
 granted_at : (s : State) (g : Meeting) (info : NetworkInfo) (table : AccountTable) (name : List ℕ) (links : List Route) (opened : OpenMap) (link : ℕ) (o : SecureChannelState) (waits : ClientPhase)
@@ -70,6 +75,7 @@ granted_at : (s : State) (g : Meeting) (info : NetworkInfo) (table : AccountTabl
     Shows s (turn_scene t next number (step.Reply question.Logon) computers (turn_link link) (unit_back t (reply_bytes number (granting o timestamp stamp authoritative sam)) ∷ []) left moment) →
     Shows (onward s).state
     (meeting_scene (record (with_controller g table name computers) {
+      given = given_after g;
       how = standing.Open (after_return true (after_call o timestamp));
       place = after g.place;
       number = next;
@@ -81,6 +87,7 @@ granted_at s g info table name links opened link o waits challenge message sam n
     let on : LoggedOn = let_in g.task shown logon in
     let t : Turn = turn_within g waits info logon (asked_talk (bound_for g.task) g.place (who.sent ∷ [])) table name (standing.Open (after_call o timestamp)) links opened link in
     let g1 : Meeting = record (with_controller g table name computers) {
+      given = given_after g;
       how = standing.Open (after_return true (after_call o timestamp));
       place = after g.place;
       number = next;
@@ -100,22 +107,32 @@ granted_at s g info table name links opened link o waits challenge message sam n
 
 pub logons_are_seen : LogonsAreSeen
 logons_are_seen = record {
-  asks_first = λ s g waits challenge one two three other sent then_now table name computers left moment how can short are shows.
+  asks_first = λ s g waits challenge one two three other sent then_now table name computers left moment how fits can short are shows.
       let message : Authenticate = (answer_for g.plan g.task challenge then_now (drawn_of one two three)).message in
       scenes_go_on.to_member s _ (unit_up g (written (auth3_for g.task message))) (unit_up g sent ∷ []) _ left (action.Dial g.plan.controller ∷ []) shows
       (heard_up (with_controller g table name computers) waits (challenged_talk g.task challenge) (written (auth3_for g.task message)) (unit_up g sent ∷ []) (other ∷ left) moment
       (unit_comes (auth3_for g.task message) (answers_are_asked.sends g.plan g.task challenge one two three then_now can short are))) (tt, tt)
-      (ap (λ (h : Standing). member_step_of (member_at (logons_at_rest g.plan g.caller h g.place g.number) (one_link g.link (challenged_talk g.task challenge)) dialling.Nothing)
+      (ap (λ (h : Standing). member_step_of (member_at (logons_resting g.plan (given_caller g) g.given.next h g.place g.number) (one_link g.link (challenged_talk g.task challenge)) dialling.Nothing)
       (event.Bytes g.link (written (auth3_for g.task message))) moment (other ∷ left)) how
-      ∙ links_step.asks_first g.plan g.plan g.caller g.place g.number g.link moment then_now g.task challenge one two three other left can short are);
-  asks_again = λ s g o waits challenge one two three sent then_now table name computers left moment how can short are shows.
+      ∙ links_step.asks_first g.plan g.plan (given_caller g) g.given.next g.place g.number g.link moment then_now g.task challenge one two three other left can short are
+      ∙ ap (λ (secret : List ℕ). whole_step (other ∷ left) left (action.Dial g.plan.controller ∷ [])
+      (member_at (logons_keeping g.plan (record g.caller { secret = secret }) standing.Nothing (info_of message (flags_agreed g.task) challenge) g.place (after g.number) g.number
+      (step.Bind (challenge_call g.caller other)) ((g.place, logon_for g.link g.task challenge message) ∷ [])) (one_link g.link (asked_talk (bound_for g.task) g.place [])) (bind_waits g.number)))
+      (fits.tried how));
+  asks_again = λ s g o waits challenge one two three sent then_now table name computers left moment how fits can short are shows.
       let message : Authenticate = (answer_for g.plan g.task challenge then_now (drawn_of one two three)).message in
       scenes_go_on.to_member s _ (unit_up g (written (auth3_for g.task message))) (unit_up g sent ∷ []) _ left (action.Dial g.plan.controller ∷ []) shows
       (heard_up (with_controller g table name computers) waits (challenged_talk g.task challenge) (written (auth3_for g.task message)) (unit_up g sent ∷ []) left moment
       (unit_comes (auth3_for g.task message) (answers_are_asked.sends g.plan g.task challenge one two three then_now can short are))) (tt, tt)
-      (ap (λ (h : Standing). member_step_of (member_at (logons_at_rest g.plan g.caller h g.place g.number) (one_link g.link (challenged_talk g.task challenge)) dialling.Nothing)
-      (event.Bytes g.link (written (auth3_for g.task message))) moment left) how
-      ∙ links_step.asks_again g.plan g.plan g.caller o g.place g.number g.link moment then_now g.task challenge one two three left can short are);
+      (ap₂ (λ (h : Standing) (n : Option Next). member_step_of
+      (member_at (logons_resting (plan_with (with_next n g.plan.secrets) g.plan) (given_caller g) g.given.next h g.place g.number) (one_link g.link (challenged_talk g.task challenge)) dialling.Nothing)
+      (event.Bytes g.link (written (auth3_for g.task message))) moment left) how (fits.one o how)
+      ∙ links_step.asks_again g.plan g.plan (given_caller g) g.given.next o g.place g.number g.link moment then_now g.task g.plan.secrets.current challenge one two three left can short are
+      ∙ ap₂ (λ (n : Option Next) (secret : List ℕ). whole_step left left (action.Dial g.plan.controller ∷ [])
+      (member_at (logons_keeping (plan_with (with_next n g.plan.secrets) g.plan) (record g.caller { secret = secret }) (standing.Open (after_call o (timestamp_of moment)))
+      (info_of message (flags_agreed g.task) challenge) g.place (after g.number) g.number
+      (step.Bind (logon_call g.caller o (timestamp_of moment) (info_at g.place (info_of message (flags_agreed g.task) challenge)))) ((g.place, logon_for g.link g.task challenge message) ∷ []))
+      (one_link g.link (asked_talk (bound_for g.task) g.place [])) (bind_waits g.number))) (sym (fits.one o how)) (fits.kept o how));
   held_before = λ s g t opened how next number most call opnum c computers stub one other goes later left moment same_member own shows.
       subst (λ (units : List BagUnit). Shows (onward s).state (dial_scene (with_talk g.link (asked_talk (bound_for g.task) t.place (goes.sent ∷ [])) t) opened how next number c computers units left moment)) (append-nil later)
       (scenes_go_on.to_member s _ (unit_up g goes.sent) later _ left [] shows

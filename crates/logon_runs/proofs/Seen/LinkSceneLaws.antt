@@ -34,7 +34,7 @@ use Rattle.logon_steps.proofs.MemberAnswerLaws.{logons_end}
 use Rattle.logon_steps.proofs.MemberLinkLaws.{links_step}
 use Rattle.logon_steps.proofs.StreamLaws.{same}
 use Rattle.logon_steps.proofs.TurningLaws.{ComesAtOnce, unit_comes}
-use Rattle.logon_runs.specs.Seen.LinkScenes.{IsJoined, Meeting, MeetingsAreSeen, its_link, joined, meeting_scene, rest_scene, unit_down, unit_up}
+use Rattle.logon_runs.specs.Seen.LinkScenes.{given_caller, IsJoined, its_link, joined, Meeting, meeting_scene, MeetingsAreSeen, rest_scene, unit_down, unit_up}
 use Rattle.logon_runs.specs.Scenes.{HasFirst, Shows}
 use Rattle.logon_runs.specs.Seen.Turnings.{ClosesTo}
 use Rattle.logon_runs.proofs.Seen.SceneLaws.{scenes_go_on}
@@ -99,14 +99,14 @@ meetings_are_seen = record {
       })) (sent_up later bind is)
       (scenes_turn.client_dials s (rest_scene g (client_at g.task client_standing.Dialling) links left moment (record { end = Client g.at_client; peer = g.task.server } ∷ [])) g.task.server [] _ _
       (action.Send (length links) bind ∷ []) shows refl reach (ap (λ (b : Bool). if b then Some (accepted route) else None) (same (length links))) (tt, tt)
-      (links_step.opened g.plan g.caller g.how g.place g.number (length links) moment left) (clients_step.dialled g.task (length links) moment left)));
+      (links_step.opened g.plan (given_caller g) g.given.next g.how g.place g.number (length links) moment left) (clients_step.dialled g.task (length links) moment left)));
   challenged = λ s g challenge left moment is can short eight shows.
       subst (λ (units : List BagUnit). Shows (onward s).state (meeting_scene g client_phase.Bound (challenged_talk g.task challenge) (units ++ []) left moment))
       (sent_down g (written (ack_for g.plan g.task challenge)) is)
       (scenes_go_on.to_member s _ (unit_up g (written (bind_for g.task.level g.task.auth))) [] _ left (action.Send g.link (written (ack_for g.plan g.task challenge)) ∷ []) shows
       (heard_up g client_phase.Bound fresh_talk (written (bind_for g.task.level g.task.auth)) [] (challenge ∷ left) moment
       (unit_comes (bind_for g.task.level g.task.auth) (bind_sends g.task.level g.task.auth))) (tt, tt)
-      (links_step.bound g.plan g.caller g.how g.place g.number g.link moment g.task challenge left can short eight));
+      (links_step.bound g.plan (given_caller g) g.given.next g.how g.place g.number g.link moment g.task challenge left can short eight));
   answered = λ s g challenge one two three sending left moment is can short eight are sent shows.
       let drawn : Drawn = drawn_of one two three in
       let terms : Terms = terms_for g.plan g.task challenge moment drawn in
@@ -129,19 +129,19 @@ meetings_are_seen = record {
       (sent_down g back.sent is)
       (scenes_go_on.to_member s _ (unit_up g asks.sent) [] _ left (action.Send g.link back.sent ∷ []) shows
       (heard_up g how (talk_in None on) asks.sent [] left moment (record { some = asks.some; short = omega (arith, asks.short) })) (tt, tt)
-      (logons_end.echoed g.plan g.caller g.how g.place g.number g.link moment most g.task on bytes one left bound short are asks back));
+      (logons_end.echoed g.plan (given_caller g) g.given.next g.how g.place g.number g.link moment most g.task on bytes one left bound short are asks back));
   ends_named = λ s g terms name most other talk left moment is back short are none shows.
       subst (λ (opened : OpenMap). Shows (onward s).state (record (rest_scene g (client_ended g.task (In name terms.key 0)) g.links left moment []) { opened = opened })) (none_left g)
       (scenes_turn.client_closes s _ (unit_down g back.sent) [] _ _ left g.link close.CallDone [] shows
       (heard_down g (client_phase.Asked terms client_question.Who) talk back.sent [] left moment (record { some = back.some; short = omega (arith, back.short) }))
       (closes_own g (client_phase.Asked terms client_question.Who) talk (unit_down g back.sent ∷ []) left moment) tt
       (clients_step.named g.task terms name g.link moment most other left back short are none)
-      (links_step.closed g.plan g.caller g.how g.place g.number g.link moment talk left));
+      (links_step.closed g.plan (given_caller g) g.given.next g.how g.place g.number g.link moment talk left));
   ends_echoed = λ s g terms name most other talk left moment is can back shows.
       subst (λ (opened : OpenMap). Shows (onward s).state (record (rest_scene g (client_ended g.task (In name terms.key g.task.echo)) g.links left moment []) { opened = opened })) (none_left g)
       (scenes_turn.client_closes s _ (unit_down g back.sent) [] _ _ left g.link close.CallDone [] shows
       (heard_down g (client_phase.Asked terms (client_question.Echo name)) talk back.sent [] left moment (record { some = back.some; short = omega (arith, back.short) }))
       (closes_own g (client_phase.Asked terms (client_question.Echo name)) talk (unit_down g back.sent ∷ []) left moment) tt
       (clients_step.echoed g.task terms name g.link moment most other left back can)
-      (links_step.closed g.plan g.caller g.how g.place g.number g.link moment talk left));
+      (links_step.closed g.plan (given_caller g) g.given.next g.how g.place g.number g.link moment talk left));
 }

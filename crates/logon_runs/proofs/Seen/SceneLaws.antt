@@ -63,7 +63,7 @@ pub record Leaves (end : EndId) (actions : List Action) (s after : State) : Type
   pub moment : after.moment ≡ s.moment
 
 -- the units that an action sends wait behind the others
-sends_leave : (end : EndId) (what : Action) (s : State) → waiting (perform_quietly end what s).bag ≡ waiting s.bag ++ units_of_action s.links end what
+pub sends_leave : (end : EndId) (what : Action) (s : State) → waiting (perform_quietly end what s).bag ≡ waiting s.bag ++ units_of_action s.links end what
 sends_leave end what s =
     units_by (λ (units : List BagUnit). waiting (s.bag ++ units) ≡ waiting s.bag ++ units) s.links end what
     (ap (λ (bag : List BagUnit). waiting bag) (append-nil s.bag) ∙ sym (append-nil (waiting s.bag)))

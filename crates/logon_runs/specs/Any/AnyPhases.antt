@@ -1,7 +1,7 @@
 -- The phases of a logon at any member, whatever its controller answers. Each move leads from one to another, to the
 -- end, or to where the member lets the client in (MS-NLMP 3.2.5.1.2; MS-NRPC 3.1.4.1 to 3.1.4.5; the order of moves is
 -- any).
-use Rattle.std.specs.Prelude.{ℕ, ◌≡◌, ◌<◌, ◌^◌, ◌⊎◌, true, false, List, [], ◌∷◌, length, None, Some}
+use Rattle.std.specs.Prelude.{ℕ, ◌≡◌, ◌<◌, ◌^◌, ◌⊎◌, true, false, List, [], ◌∷◌, length, None, Some, slice_get}
 use Rattle.wire_base.specs.Maps.{lookup}
 use Rattle.wire_base.specs.Names.{IsName, same_name}
 use Rattle.authenticators.specs.SecureChannels.{SecureChannelState, after_call, after_return, fresh_channel}
@@ -24,6 +24,7 @@ use Rattle.domain_controller.specs.Machine.{account_for}
 use Rattle.domain_controller.specs.Whole.{InRangeTable}
 use Rattle.controller_calls.specs.declared.state.Computers.{Computers}
 use Rattle.logon_client.specs.Plans.{CanLogOn}
+use Rattle.member_server.specs.declared.plan.MemberPlan.{MemberPlan}
 use Rattle.logon_client.specs.declared.outcome.ClientOutcome.{ClientOutcome}
 use Rattle.world_moves.specs.declared.links.EndId.TheVariants.{Controller, Member}
 use Rattle.world_moves.specs.declared.moves.Move.{Move}
@@ -39,7 +40,7 @@ use Rattle.logon_steps.specs.ClientSteps.{client_ended}
 use Rattle.logon_steps.specs.ControllerTurns.{reply_bytes, turn_link}
 use Rattle.logon_steps.specs.Meeting.{HasShortNames}
 use Rattle.logon_steps.specs.Turning.{IsTurnReply}
-use Rattle.logon_runs.specs.Seen.LinkScenes.{rest_scene}
+use Rattle.logon_runs.specs.Seen.LinkScenes.{FitsGiven, rest_scene}
 use Rattle.logon_runs.specs.Seen.Others.{IsStepOn}
 use Rattle.logon_runs.specs.Phases.{Acked, Aim, Answers, Binds, BindsBefore, BindsHeld, Calls, Challenged, Coming, Dials, DialsBefore, DialsHeld, DrawsFew, Echoed, Echoes, First, Granted, Halved, HasJoined, HasThree, IsAnswering, LogonPhase, Named, NotYet, Progress, Proved, Second, Third, TurnAt, WasJudged, WasOpened, WhoAsked, progress_of, progress_onward, scene_of, turn_on}
 use Rattle.logon_runs.specs.Rests.{HasOwnName}
@@ -71,9 +72,11 @@ pub record KeepsInStep (p : Coming) (computers : Computers) (o : SecureChannelSt
   pub keeps : lookup same_name p.meeting.caller.computer computers.channels ≡ Some channel
   pub in_step : IsInStep o channel
 
--- by the plan: it has its own name and its secret, and its dial reaches the controller
-abbrev pub IsOwn : Plan → Coming → Type 0
-IsOwn plan p = HasOwnName plan p.meeting.at_member p.meeting.plan p.meeting.at_controller
+-- by the plan of its number: it has its own name and its secret, and its dial reaches the controller
+pub record IsOwn (plan : Plan) (p : Coming) : Type 0 where
+  pub member : MemberPlan
+  pub planned : slice_get plan.members p.meeting.at_member ≡ Some member
+  pub named : HasOwnName plan p.meeting.at_member member p.meeting.at_controller
 
 abbrev pub IsThere : Plan → Coming → Type 0
 IsThere plan p = end_of_peer p.meeting.plan.controller (first_ends plan) ≡ Some (Controller p.meeting.at_controller)
@@ -95,6 +98,8 @@ pub record IsAble (plan : Plan) (p : Coming) : Type 0 where
   pub units : HasUnits p.meeting.task
   pub names : HasShortNames p.meeting.plan
   pub caller : HasShortCaller p.meeting.caller
+  pub given : FitsGiven p.meeting
+  pub one : p.meeting.plan.secrets.next ≡ None
   pub place_below : p.meeting.place < 2 ^ 32
   pub number_below : p.meeting.number < 2 ^ 32
   pub ranged : InRangeTable p.table
@@ -102,7 +107,7 @@ pub record IsAble (plan : Plan) (p : Coming) : Type 0 where
   pub stands : MayStand plan p p.computers p.meeting.how
   pub knows : (client server : List ℕ) (machine : Account) → account_for p.table (auth_value p.meeting.caller client server) ≡ Some machine →
       knows_in p.table.accounts p.meeting.caller.computer ≡ true
-  pub own_secret : IsOwn plan p → FitsSecret p
+  pub own_secret : p.meeting.how ≡ standing.Nothing → IsOwn plan p → FitsSecret p
 
 -- the client's dial reaches its member, and the member's a controller or nobody
 pub record IsHeard (plan : Plan) (p : Coming) (s : State) : Type 0 where
@@ -159,11 +164,13 @@ pub record IsTurningBy (plan : Plan) (p : Coming) (a : Asked) (v : TurnAt) : Typ
   pub next_below : v.next < 2 ^ 32
   pub others : KeepsApart plan p v.computers
 
--- the call can be made; the controller keeps what it needs of the computer, where it knows it, or its name is the
--- member's own
+-- The call can be made. The controller keeps what it needs of the computer, where it knows it, or its name is the
+-- member's own. The calls that open a channel are made where there was none.
 abbrev pub MayAim : Plan → Coming → TurnAt → Aim → Type 0
-MayAim plan p v (First client) = IsBlock 8 client
-MayAim plan p v (Second client server) = knows_in p.table.accounts p.meeting.caller.computer ≡ true → lookup same_name p.meeting.caller.computer v.computers.pending ≡ Some (pair_of client server)
+MayAim plan p v (First client) = IsBlock 8 client × (p.meeting.how ≡ standing.Nothing)
+MayAim plan p v (Second client server) =
+    (knows_in p.table.accounts p.meeting.caller.computer ≡ true → lookup same_name p.meeting.caller.computer v.computers.pending ≡ Some (pair_of client server))
+    × (p.meeting.how ≡ standing.Nothing)
 MayAim plan p v (Third o c timestamp) = (timestamp < 2 ^ 32) × (IsOwn plan p → KeepsInStep p v.computers o)
 
 -- The call that opens the channel was granted: by an account that the controller has for it, and by which the channel

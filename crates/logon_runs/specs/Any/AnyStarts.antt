@@ -2,6 +2,7 @@
 use Rattle.std.specs.Prelude.{ℕ, ◌≡◌, ◌⊎◌, [], length, None, Some, slice_get}
 use Rattle.account_table.specs.AccountTable.{AccountTable}
 use Rattle.account_table.specs.declared.account.Account.{Account}
+use Rattle.member_server.specs.Secrets.{tried_of}
 use Rattle.logon_client.specs.declared.plan.ClientPlan.{ClientPlan}
 use Rattle.member_server.specs.Machine.{caller_of}
 use Rattle.member_server.specs.declared.plan.MemberPlan.{MemberPlan}
@@ -40,6 +41,7 @@ coming_from plan s rest client member controller three account machine =
         task = three.task;
         plan = three.member_plan;
         caller = caller_of three.member_plan;
+        given = record { secret = tried_of three.member_plan.secrets; next = None };
         how = work.how;
         place = work.place;
         number = work.number;

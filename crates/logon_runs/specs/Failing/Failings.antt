@@ -1,12 +1,18 @@
 -- A logon that fails, as it is seen of a scene: a dial that reaches nobody, a turn that is dropped or refused, and the
 -- fault that the client then hears (this project's own choice).
-use Rattle.std.specs.Prelude.{ℕ, ◌≡◌, ◌<◌, ◌^◌, ◌==◌, List, [], ◌∷◌, Option, None, Some, slice_get}
+use Rattle.std.specs.Prelude.{ℕ, ◌≡◌, ◌<◌, ◌^◌, ◌==◌, List, [], ◌∷◌, Option, None, Some, slice_get, Err}
 use Rattle.wire_base.specs.Maps.{same_number, take_out}
 use Rattle.authenticators.specs.SecureChannels.{SecureChannelState}
 use Rattle.ntlm_messages.specs.declared.messages.Authenticate.{Authenticate}
 use Rattle.ntlm_seal.specs.Sessions.{SessionState}
 use Rattle.outside.specs.declared.action.DropCause.{DropCause}
 use Rattle.rpc_units.specs.Numbers.{error_access_denied, rpc_s_server_unavailable}
+use Rattle.secret_change.specs.Secrets.{SecretsState}
+use Rattle.secret_change.specs.Ranges.{InRangeSetReply}
+use Rattle.secret_change.specs.declared.calls.SetReply.{SetReply}
+use Rattle.member_server.specs.Secrets.{is_denied, secrets_dropped}
+use Rattle.logon_steps.specs.SetTurns.{set_reply_bytes}
+use Rattle.logon_steps.specs.MemberTurns.{plan_with}
 use Rattle.logon_stubs.specs.declared.calls.Call.{Call}
 use Rattle.logon_stubs.specs.declared.calls.Reply.{Reply}
 use Rattle.logon_stubs.specs.declared.info.NetworkInfo.{NetworkInfo}
@@ -17,7 +23,8 @@ use Rattle.channel_client.specs.declared.state.Question.{Question}
 use Rattle.channel_client.specs.declared.state.Standing.{Standing}
 use Rattle.channel_client.specs.declared.state.Standing.TheVariants as standing
 use Rattle.channel_client.specs.declared.state.Step.TheVariants as step
-use Rattle.channel_client.specs.Machine.{after, judge}
+use Rattle.channel_client.specs.declared.state.SetStep.TheVariants as set_step
+use Rattle.channel_client.specs.Machine.{after, judge, judge_set}
 use Rattle.controller_calls.specs.declared.state.Computers.{Computers}
 use Rattle.logon_client.specs.declared.outcome.ClientOutcome.TheVariants.{NoAnswer}
 use Rattle.logon_client.specs.declared.outcome.NoAnswerCause.TheVariants as no_answer
@@ -43,7 +50,7 @@ use Rattle.logon_steps.specs.MemoCalls.{RequestGoes}
 use Rattle.logon_steps.specs.Turning.{IsTurnReply}
 use Rattle.logon_runs.specs.Seen.AskScenes.{turn_within, with_controller}
 use Rattle.logon_runs.specs.Failing.FailingSteps.{out_talk, who_fault}
-use Rattle.logon_runs.specs.Seen.LinkScenes.{IsJoined, Meeting, its_link, meeting_scene, rest_scene, unit_down, unit_up}
+use Rattle.logon_runs.specs.Seen.LinkScenes.{given_after, IsJoined, its_link, Meeting, meeting_scene, rest_scene, unit_down, unit_up}
 use Rattle.logon_runs.specs.Scenes.{Shows}
 use Rattle.logon_runs.specs.Seen.TurnScenes.{IsBetween, Turn, dial_scene, turn_scene, unit_back}
 
@@ -55,11 +62,16 @@ failing_turn g waits info challenge message held table name how links opened lin
 -- the member's channel rests, and stands so
 abbrev pub settled_at : Meeting → AccountTable → List ℕ → Computers → Standing → ℕ → List Route → Meeting
 settled_at g table name computers how next links = record (with_controller g table name computers) {
+  given = given_after g;
   how = how;
   place = after g.place;
   number = next;
   links = links;
 }
+
+-- it keeps these secrets then
+abbrev pub settled_with : SecretsState → Meeting → Meeting
+settled_with secrets g = record g { plan = plan_with secrets g.plan }
 
 pub record FailingsAreSeen : Type 0 where
   -- a client's dial reaches no member
@@ -89,7 +101,17 @@ pub record FailingsAreSeen : Type 0 where
       slice_get links g.link ≡ Some (ToMember g.at_client g.at_member) → take_out same_number link opened ≡ its_link g →
       Shows s (turn_scene t next number (step.Reply q) computers (turn_link link) (unit_back t (reply_bytes number r) ∷ []) left moment) →
       Shows (onward s).state
-      (meeting_scene (settled_at g table name computers standing.Nothing next links) waits (out_talk g.task rpc_s_server_unavailable) (unit_down g (who_fault rpc_s_server_unavailable) ∷ []) left moment)
+      (meeting_scene (settled_with (secrets_dropped (is_denied cause) g.plan.secrets) (settled_at g table name computers standing.Nothing next links)) waits (out_talk g.task rpc_s_server_unavailable) (unit_down g (who_fault rpc_s_server_unavailable) ∷ []) left moment)
+  -- so it is with the turn that sets the next secret
+  pub set_dropped : (s : State) (g : Meeting) (waits : ClientPhase) (info : NetworkInfo) (challenge : List ℕ) (message : Authenticate) (table : AccountTable) (name : List ℕ)
+      (how : Standing) (links : List Route) (opened : OpenMap) (link next number most : ℕ) (r : SetReply) (cause : DropCause) (computers : Computers) (one other : Option SessionState)
+      (left : List (List ℕ)) (moment : ℕ) → (who : RequestGoes most g.task.level 2 0 [] one other) →
+      let t : Turn = failing_turn g waits info challenge message (who.sent ∷ []) table name how links opened link in
+      number < 2 ^ 32 → IsBetween t → InRangeSetReply r → judge_set r how ≡ Err cause →
+      slice_get links g.link ≡ Some (ToMember g.at_client g.at_member) → take_out same_number link opened ≡ its_link g →
+      Shows s (turn_scene t next number (step.Set set_step.Reply) computers (turn_link link) (unit_back t (set_reply_bytes number r) ∷ []) left moment) →
+      Shows (onward s).state
+      (meeting_scene (settled_with (secrets_dropped (is_denied cause) g.plan.secrets) (settled_at g table name computers standing.Nothing next links)) waits (out_talk g.task rpc_s_server_unavailable) (unit_down g (who_fault rpc_s_server_unavailable) ∷ []) left moment)
   pub refused : (s : State) (g : Meeting) (waits : ClientPhase) (info : NetworkInfo) (challenge : List ℕ) (message : Authenticate) (table : AccountTable) (name : List ℕ)
       (how : Standing) (o : SecureChannelState) (links : List Route) (opened : OpenMap) (link next number most status : ℕ) (q : Question) (r : Reply) (computers : Computers) (one other : Option SessionState)
       (left : List (List ℕ)) (moment : ℕ) → (who : RequestGoes most g.task.level 2 0 [] one other) →

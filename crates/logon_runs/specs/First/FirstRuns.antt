@@ -38,7 +38,7 @@ use Rattle.logon_steps.specs.MemberAnswers.{granting, sam_shown}
 use Rattle.logon_steps.specs.MemoCalls.{ReplyGoes, RequestGoes, logged_on}
 use Rattle.logon_steps.specs.Turning.{IsTurnReply}
 use Rattle.logon_runs.specs.Seen.AskScenes.{with_controller}
-use Rattle.logon_runs.specs.Seen.LinkScenes.{IsJoined, Meeting, meeting_scene, unit_down, unit_up}
+use Rattle.logon_runs.specs.Seen.LinkScenes.{FitsGiven, given_after, IsJoined, Meeting, meeting_scene, unit_down, unit_up}
 use Rattle.logon_runs.specs.Runs.{Asked, StandsInStep, connects, goes, hidden, info_asked, message_for, on_for, sam_for, with_moved}
 use Rattle.logon_runs.specs.Scenes.{Shows}
 
@@ -59,6 +59,8 @@ pub record IsToBeOpened (g : Meeting) (a : Asked) (client server : List ℕ) (ta
   pub caller : HasShortCaller g.caller
   pub info : HasShortInfo (info_asked g a)
   pub stands : g.how ≡ standing.Nothing
+  pub fits : FitsGiven g
+  pub one : g.plan.secrets.next ≡ None
   pub block : IsBlock 8 client
   pub knows : knows_in table.accounts g.caller.computer ≡ true
   pub machine_found : account_for table (auth_value g.caller client server) ≡ Some machine
@@ -98,6 +100,7 @@ one_more g links = links ++ ToController g.at_member g.at_controller ∷ []
 -- the member's channel rests, after three turns
 abbrev pub rested_first : Meeting → SecureChannelState → ℕ → Meeting
 rested_first g o timestamp = record g {
+  given = given_after g;
   how = standing.Open (after_return true (after_call o timestamp));
   place = after g.place;
   number = after (after (after (after (after (after g.number)))));

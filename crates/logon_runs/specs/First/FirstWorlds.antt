@@ -106,6 +106,7 @@ first_meeting plan client member controller can = record {
   task = can.task;
   plan = can.member_plan;
   caller = caller_of can.member_plan;
+  given = record { secret = tried_of can.member_plan.secrets; next = None };
   how = standing.Nothing;
   place = 0;
   number = 1;

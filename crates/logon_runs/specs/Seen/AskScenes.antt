@@ -43,7 +43,7 @@ use Rattle.logon_steps.specs.MemberAnswers.{granting, let_in, sam_shown}
 use Rattle.logon_steps.specs.MemberLinks.{asked_talk, one_link}
 use Rattle.logon_steps.specs.MemoCalls.{ReplyGoes, RequestGoes, logged_on}
 use Rattle.logon_steps.specs.Turning.{IsTurnReply}
-use Rattle.logon_runs.specs.Seen.LinkScenes.{IsJoined, Meeting, its_link, meeting_scene, unit_down, unit_up}
+use Rattle.logon_runs.specs.Seen.LinkScenes.{FitsGiven, given_after, IsJoined, its_link, Meeting, meeting_scene, unit_down, unit_up}
 use Rattle.logon_runs.specs.Scenes.{Shows}
 use Rattle.logon_runs.specs.Seen.TurnScenes.{IsBetween, Turn, dial_scene, turn_scene, unit_back}
 
@@ -105,7 +105,7 @@ HasOwnLink g opened =
 pub record LogonsAreSeen : Type 0 where
   -- the logon is asked, and its first turn is dialled: the one that opens the channel, or its own
   pub asks_first : (s : State) (g : Meeting) (waits : ClientPhase) (challenge one two three other sent : List ℕ) (then_now : ℕ) (table : AccountTable) (name : List ℕ)
-      (computers : Computers) (left : List (List ℕ)) (moment : ℕ) → g.how ≡ standing.Nothing → CanLogOn g.task → HasShortNames g.plan → AreDraws one two three →
+      (computers : Computers) (left : List (List ℕ)) (moment : ℕ) → g.how ≡ standing.Nothing → FitsGiven g → CanLogOn g.task → HasShortNames g.plan → AreDraws one two three →
       let message : Authenticate = (answer_for g.plan g.task challenge then_now (drawn_of one two three)).message in
       let info : NetworkInfo = info_of message (flags_agreed g.task) challenge in
       Shows s (meeting_scene (with_controller g table name computers) waits (challenged_talk g.task challenge)
@@ -114,7 +114,7 @@ pub record LogonsAreSeen : Type 0 where
       (dial_scene (turn_of g waits info (logon_for g.link g.task challenge message) (asked_talk (bound_for g.task) g.place []) table name) (its_link g) standing.Nothing
       (after g.number) g.number (challenge_call g.caller other) computers (unit_up g sent ∷ []) left moment)
   pub asks_again : (s : State) (g : Meeting) (o : SecureChannelState) (waits : ClientPhase) (challenge one two three sent : List ℕ) (then_now : ℕ) (table : AccountTable) (name : List ℕ)
-      (computers : Computers) (left : List (List ℕ)) (moment : ℕ) → g.how ≡ standing.Open o → CanLogOn g.task → HasShortNames g.plan → AreDraws one two three →
+      (computers : Computers) (left : List (List ℕ)) (moment : ℕ) → g.how ≡ standing.Open o → FitsGiven g → CanLogOn g.task → HasShortNames g.plan → AreDraws one two three →
       let message : Authenticate = (answer_for g.plan g.task challenge then_now (drawn_of one two three)).message in
       let info : NetworkInfo = info_of message (flags_agreed g.task) challenge in
       Shows s (meeting_scene (with_controller g table name computers) waits (challenged_talk g.task challenge)
@@ -147,6 +147,7 @@ pub record LogonsAreSeen : Type 0 where
       Shows s (turn_scene t next number (step.Reply question.Logon) computers (turn_link t.link) (unit_back t (reply_bytes number (granting o timestamp stamp authoritative sam)) ∷ []) left moment) →
       Shows (onward s).state
       (meeting_scene (record (with_controller g t.table t.name computers) {
+        given = given_after g;
         how = standing.Open (after_return true (after_call o timestamp));
         place = after g.place;
         number = next;

@@ -11,7 +11,11 @@ use Rattle.end_links.specs.Sending.{request_of}
 use Rattle.memo_stubs.specs.Memo.{written_echo_reply, written_echo_request, written_who_reply}
 use Rattle.channel_client.specs.declared.caller.Caller.{Caller}
 use Rattle.channel_client.specs.declared.state.Standing.{Standing}
+use Rattle.channel_client.specs.declared.state.Standing.TheVariants as standing
 use Rattle.domain_controller.specs.State.{State as ControllerState}
+use Rattle.secret_change.specs.Secrets.{next_of, tried_of}
+use Rattle.member_server.specs.declared.state.Logons.{Logons}
+use Rattle.authenticators.specs.SecureChannels.{SecureChannelState}
 use Rattle.logon_client.specs.declared.answering.Drawn.{Drawn}
 use Rattle.logon_client.specs.declared.outcome.ClientOutcome.TheVariants.{In}
 use Rattle.logon_client.specs.declared.plan.ClientPlan.{ClientPlan}
@@ -43,12 +47,18 @@ use Rattle.world_moves.specs.Moving.{connect, end_of_peer, onward}
 use Rattle.logon_steps.specs.Answers.{AreDraws, answer_for, auth3_for, drawn_of, terms_for}
 use Rattle.logon_steps.specs.ClientSteps.{client_at, client_ended, on_link}
 use Rattle.logon_steps.specs.Meeting.{HasShortNames, ack_for, bound_for, challenged_talk, fresh_talk}
-use Rattle.logon_steps.specs.MemberLinks.{logons_at_rest, one_link}
+use Rattle.logon_steps.specs.MemberLinks.{logons_resting, one_link}
 use Rattle.logon_steps.specs.MemberTurns.{member_at}
 use Rattle.logon_steps.specs.MemoCalls.{ReplyGoes, RequestGoes, logged_on, with_session}
 use Rattle.logon_runs.specs.Scenes.{Scene, Shows}
 
--- what stays while the member's channel rests
+-- what a turn gave the channel last: the secret of who asks, and the next one
+pub record Given : Type 0 where
+  pub secret : List ℕ
+  pub next : Option (List ℕ)
+
+-- What stays while the member's channel rests. Its plan has the secrets that it keeps, and who asks has the one by
+-- which it asks in its next turns.
 pub record Meeting : Type 0 where
   pub at_client : ℕ
   pub at_member : ℕ
@@ -56,6 +66,7 @@ pub record Meeting : Type 0 where
   pub task : ClientPlan
   pub plan : MemberPlan
   pub caller : Caller
+  pub given : Given
   pub how : Standing
   pub place : ℕ
   pub number : ℕ
@@ -78,6 +89,25 @@ unit_up g bytes = record { bytes = bytes; link = g.link; kind = kind.ToMember; b
 abbrev pub unit_down : Meeting → List ℕ → BagUnit
 unit_down g bytes = record { bytes = bytes; link = g.link; kind = kind.ToMember; back = true; is_settled = false }
 
+-- who asks, as long as no other turn starts
+abbrev pub given_caller : Meeting → Caller
+given_caller g = record g.caller { secret = g.given.secret }
+
+-- the member's logons while its channel rests
+abbrev pub resting : Meeting → Logons
+resting g = logons_resting g.plan (given_caller g) g.given.next g.how g.place g.number
+
+-- what a turn has given the channel
+abbrev pub given_after : Meeting → Given
+given_after g = record { secret = g.caller.secret; next = next_of g.plan.secrets }
+
+-- Who asks has the secret that is tried, where it is to open a channel. Where one is open, it goes on as it did, and
+-- the member keeps one secret.
+pub record FitsGiven (g : Meeting) : Type 0 where
+  pub tried : g.how ≡ standing.Nothing → tried_of g.plan.secrets ≡ g.caller.secret
+  pub kept : (o : SecureChannelState) → g.how ≡ standing.Open o → g.given.secret ≡ g.caller.secret
+  pub one : (o : SecureChannelState) → g.how ≡ standing.Open o → g.plan.secrets.next ≡ None
+
 -- both are so far on it
 abbrev pub meeting_scene : Meeting → ClientPhase → Talk → List BagUnit → List (List ℕ) → ℕ → Scene
 meeting_scene g how talk units left moment = record {
@@ -85,7 +115,7 @@ meeting_scene g how talk units left moment = record {
   at_member = g.at_member;
   at_controller = g.at_controller;
   client = client_at g.task (on_link g.link how);
-  member = member_at (logons_at_rest g.plan g.caller g.how g.place g.number) (one_link g.link talk) dialling.Nothing;
+  member = member_at (resting g) (one_link g.link talk) dialling.Nothing;
   controller = g.controller;
   links = g.links;
   opened = its_link g;
@@ -102,7 +132,7 @@ rest_scene g state links left moment dials = record {
   at_member = g.at_member;
   at_controller = g.at_controller;
   client = state;
-  member = member_at (logons_at_rest g.plan g.caller g.how g.place g.number) [] dialling.Nothing;
+  member = member_at (resting g) [] dialling.Nothing;
   controller = g.controller;
   links = links;
   opened = [];

@@ -1,7 +1,7 @@
 -- One turn of a member with its controller, as it is seen of a scene: its bind, the answer, its
 -- call and the reply, whichever call it is (MS-NRPC 3.5.4; C706 12.6.3, 12.6.4). What the turn was
 -- dialled for, and the reply, are others' subject.
-use Rattle.std.specs.Prelude.{ℕ, ◌≡◌, ◌<◌, ◌^◌, ◌&&◌, true, false, List, [], ◌∷◌, ◌++◌, length, Some, slice_get}
+use Rattle.std.specs.Prelude.{ℕ, ◌≡◌, ◌<◌, ◌^◌, ◌&&◌, true, false, List, [], ◌∷◌, ◌++◌, length, Some, None, slice_get}
 use Rattle.wire_base.specs.Maps.{lookup, put, same_number, take_out}
 use Rattle.ntlm_flags.specs.Flags.{has_flag}
 use Rattle.channel_keys.specs.Flags.{rc4_flag}
@@ -44,7 +44,8 @@ use Rattle.world_moves.specs.declared.state.State.{State}
 use Rattle.world_moves.specs.Links.{OpenMap, accepted, answered}
 use Rattle.world_moves.specs.Moving.{connect, end_of_peer, onward}
 use Rattle.logon_steps.specs.ControllerTurns.{controller_at, one_link, reply_bytes, turn_link}
-use Rattle.logon_steps.specs.MemberTurns.{IsNew, bind_waits, logons_in_turn, member_at, on_turn}
+use Rattle.secret_change.specs.Secrets.{SecretsState}
+use Rattle.logon_steps.specs.MemberTurns.{IsNew, bind_waits, logons_keeping, member_at, on_turn, plan_with}
 use Rattle.logon_steps.specs.Turning.{IsTurnCall, IsTurnReply, turn_ack, turn_request}
 use Rattle.logon_runs.specs.Scenes.{Scene, Shows}
 
@@ -54,7 +55,7 @@ pub record Turn : Type 0 where
   pub at_member : ℕ
   pub at_controller : ℕ
   pub client : ClientState
-  -- the member: its plan, its channel, the logon that waits, and its accepted links
+  -- the member: its plan with the secrets that it keeps, its channel, the logon that waits, and its accepted links
   pub plan : MemberPlan
   pub caller : Caller
   pub how : Standing
@@ -90,7 +91,7 @@ turn_scene t next number what computers there units left moment = record {
   at_member = t.at_member;
   at_controller = t.at_controller;
   client = t.client;
-  member = member_at (logons_in_turn t.plan t.caller t.how t.info t.place next number what t.asked) t.accepted (on_turn t.link);
+  member = member_at (logons_keeping t.plan t.caller t.how t.info t.place next number what t.asked) t.accepted (on_turn t.link);
   controller = controller_at t.table t.name computers there;
   links = t.links;
   opened = t.opened;
@@ -101,13 +102,13 @@ turn_scene t next number what computers there units left moment = record {
 }
 
 -- the turn's dial waits, behind no other; the links that are open, and the channel's standing
-abbrev pub dial_scene : Turn → OpenMap → Standing → ℕ → ℕ → Call → Computers → List BagUnit → List (List ℕ) → ℕ → Scene
-dial_scene t opened how next number c computers units left moment = record {
+abbrev pub waiting_scene : Turn → OpenMap → Standing → ℕ → ℕ → Step → Computers → List BagUnit → List (List ℕ) → ℕ → Scene
+waiting_scene t opened how next number what computers units left moment = record {
   at_client = t.at_client;
   at_member = t.at_member;
   at_controller = t.at_controller;
   client = t.client;
-  member = member_at (logons_in_turn t.plan t.caller how t.info t.place next number (step.Bind c) t.asked) t.accepted (bind_waits number);
+  member = member_at (logons_keeping t.plan t.caller how t.info t.place next number what t.asked) t.accepted (bind_waits number);
   controller = controller_at t.table t.name computers [];
   links = t.links;
   opened = opened;
@@ -116,6 +117,10 @@ dial_scene t opened how next number c computers units left moment = record {
   left = left;
   moment = moment;
 }
+
+-- the same where it is for a call of a logon
+abbrev pub dial_scene : Turn → OpenMap → Standing → ℕ → ℕ → Call → Computers → List BagUnit → List (List ℕ) → ℕ → Scene
+dial_scene t opened how next number c computers units left moment = waiting_scene t opened how next number (step.Bind c) computers units left moment
 
 -- the turn on the next link
 abbrev pub next_turn : Turn → OpenMap → Standing → Turn
@@ -127,23 +132,27 @@ next_turn t opened how = record t {
   link = length t.links;
 }
 
+-- the member keeps other secrets
+abbrev pub with_secrets : SecretsState → Turn → Turn
+with_secrets secrets t = record t { plan = plan_with secrets t.plan }
+
 -- the controller's accounts are others
 abbrev pub with_accounts : AccountTable → Turn → Turn
 with_accounts accounts t = record t { table = accounts }
 
 pub record TurnsAreSeen : Type 0 where
-  -- a dial is answered on the next link, and the bind goes out behind what waits
-  pub dialled : (s : State) (t : Turn) (opened : OpenMap) (how : Standing) (next number : ℕ) (c : Call) (computers : Computers) (units : List BagUnit) (left : List (List ℕ)) (moment : ℕ) →
+  -- a dial is answered on the next link, and the bind goes out behind what waits, whichever call the turn is for
+  pub dialled : (s : State) (t : Turn) (opened : OpenMap) (how : Standing) (next number : ℕ) (what : Step) (computers : Computers) (units : List BagUnit) (left : List (List ℕ)) (moment : ℕ) →
       end_of_peer t.plan.controller s.ends ≡ Some (Controller t.at_controller) →
       lookup same_number (length t.links) (opened ++ (length t.links, accepted (ToController t.at_member t.at_controller)) ∷ [])
       ≡ Some (accepted (ToController t.at_member t.at_controller)) →
       IsNew (length t.links) t.accepted → IsBetween (next_turn t opened how) →
-      Shows s (dial_scene t opened how next number c computers units left moment) →
+      Shows s (waiting_scene t opened how next number what computers units left moment) →
       Shows (connect s).state
-      (turn_scene (next_turn t opened how) next number (step.Bind c) computers (one_link (length t.links) first_talk)
+      (turn_scene (next_turn t opened how) next number what computers (one_link (length t.links) first_talk)
       (units ++ unit_there (next_turn t opened how) (written (bind_of netlogon_syntax number)) ∷ []) left moment)
-  -- after the first call that opens the channel, and after the second, the link is closed, and the next turn is
-  -- dialled
+  -- after the first call that opens the channel, and at a member with one secret after the second, the link is closed,
+  -- and the next turn is dialled
   pub half : (s : State) (t : Turn) (next number : ℕ) (client server : List ℕ) (computers : Computers) (left : List (List ℕ)) (moment : ℕ) → IsBetween t → number < 2 ^ 32 →
       t.how ≡ standing.Nothing →
       let r : Reply = reply.Challenge (record { challenge = server; status = 0 }) in
@@ -152,7 +161,7 @@ pub record TurnsAreSeen : Type 0 where
       Shows (onward s).state
       (dial_scene t (take_out same_number t.link t.opened) (standing.Half client server) (after next) next (auth_call t.caller client server) computers [] left moment)
   pub opened : (s : State) (t : Turn) (next number flags : ℕ) (client server : List ℕ) (computers : Computers) (left : List (List ℕ)) (moment : ℕ) → IsBetween t → number < 2 ^ 32 →
-      t.how ≡ standing.Half client server → (has_flag offered_flags flags && has_flag flags rc4_flag) ≡ true →
+      t.how ≡ standing.Half client server → t.plan.secrets.next ≡ None → (has_flag offered_flags flags && has_flag flags rc4_flag) ≡ true →
       let r : Reply = reply.Authenticate (record { credential = server_credential t.caller.secret client server; flags = flags; status = 0 }) in
       let o : SecureChannelState = fresh_channel t.caller.secret client server offered_flags in
       IsTurnReply question.Authenticate r →
@@ -160,10 +169,10 @@ pub record TurnsAreSeen : Type 0 where
       Shows (onward s).state
       (dial_scene t (take_out same_number t.link t.opened) (standing.Open (after_call o (timestamp_of moment))) (after next) next
       (logon_call t.caller o (timestamp_of moment) (record t.info { logon_id = t.place })) computers [] left moment)
-  -- the controller answers the bind
-  pub bound : (s : State) (t : Turn) (next number : ℕ) (c : Call) (computers : Computers) (left : List (List ℕ)) (moment : ℕ) → IsBetween t → number < 2 ^ 32 →
-      Shows s (turn_scene t next number (step.Bind c) computers (one_link t.link first_talk) (unit_there t (written (bind_of netlogon_syntax number)) ∷ []) left moment) →
-      Shows (onward s).state (turn_scene t next number (step.Bind c) computers (turn_link t.link) (unit_back t (written (turn_ack number)) ∷ []) left moment)
+  -- the controller answers the bind, whichever call the turn is for
+  pub bound : (s : State) (t : Turn) (next number : ℕ) (what : Step) (computers : Computers) (left : List (List ℕ)) (moment : ℕ) → IsBetween t → number < 2 ^ 32 →
+      Shows s (turn_scene t next number what computers (one_link t.link first_talk) (unit_there t (written (bind_of netlogon_syntax number)) ∷ []) left moment) →
+      Shows (onward s).state (turn_scene t next number what computers (turn_link t.link) (unit_back t (written (turn_ack number)) ∷ []) left moment)
   -- the member's call goes out
   pub asks : (s : State) (t : Turn) (next number : ℕ) (c : Call) (computers : Computers) (left : List (List ℕ)) (moment : ℕ) → IsBetween t → number < 2 ^ 32 →
       Shows s (turn_scene t next number (step.Bind c) computers (turn_link t.link) (unit_back t (written (turn_ack number)) ∷ []) left moment) →
