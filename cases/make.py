@@ -56,6 +56,7 @@ PROGRAMS = {
         "channel_turns",
         "controller_calls",
         "domain_controller",
+        "trusts",
         "logon_client",
         "member_server",
         "domain_world",

@@ -8,9 +8,10 @@ what the file `c` of changed secrets holds then, `none` where there is none. Cal
 
 The bind is one of C706 12.6.4.3 for Netlogon's interface (MS-NRPC 3.5), and its answer and the fault are units of C706
 12.6.4.4 and 12.6.4.7, written here byte by byte. What is sent and put for calls is worked out by the controller of
-`domain_controller.py`, from the rules of docs/FORMATS.md, MS-NRPC 3.1.4 and 3.5.4 and the layouts of C706 12.6. What a
-member sends and puts is worked out by the member of `member_server.py`, beside that controller and clients of
-`logon_client.py`: bytes are carried between them, and the member's events are given to the program.
+`domain_controller.py`, from the rules of docs/FORMATS.md, MS-NRPC 3.1.4 and 3.5.4 and the layouts of C706 12.6. With
+trusts it is that of `trusts.py`, beside a controller of the other domain. What a member sends and puts is worked out by
+the member of `member_server.py`, beside that controller and clients of `logon_client.py`: bytes are carried between
+them, and the member's events are given to the program.
 """
 
 import re
@@ -23,6 +24,7 @@ from forms import line
 from logon_client import Client
 from logon_stubs import AUTHENTICATE, LOGON as LOGON_CALL
 from member_server import Member, answer_of_controller, authenticate, controller_of, turns
+from trusts import CORP, OWN_DRAWS, ROAM, SAM, THIRD, Trusting, hop, hops, other
 
 from nt_top import MEMBER, ending, text
 from nt_words import CONTROLLER, SEED, SERVE, SERVE_MEMBER, ascii_hex, files_of, words_of
@@ -113,13 +115,15 @@ def of_the_files():
     return out
 
 
-JUDGED = {"judged NoChannel": "no channel\n", "judged Barred": "barred\n"}
+JUDGED = {"judged NoChannel": "no channel\n", "judged Barred": "barred\n", "judged Forwarded": "forwarded\n"}
+WITH_STATUS = {"judged Passed(": "passed", "judged Answered(": "answered"}
 
 
 def line_put(action):
     """The line that is put for an action."""
-    if action.startswith("judged Passed("):
-        return f"passed {int(action[14:-1]):08x}\n"
+    for told, word in WITH_STATUS.items():
+        if action.startswith(told):
+            return f"{word} {int(action[len(told):-1]):08x}\n"
     return JUDGED.get(action, "")
 
 
@@ -251,28 +255,20 @@ def of_lines():
     ]
 
 
-# ---- a member server that serves
-
-MEMBER_SECRET = "41" * 16
-MEMBER_DRAWS = member_server.DRAWS
-MEMBER_FILES = {"k": ascii_hex(MEMBER_SECRET), "s": SEED}
+# ---- ends that dial
 
 
-def member_line(given, failing="", reads="", puts="", draws="", files=None, **options):
-    """A line that runs a member server."""
-    held = MEMBER_FILES if files is None else files
-    words = words_of("serve", {**SERVE_MEMBER, "controller": "there", **options})
-    return line("serves.run", given, failing, reads, puts, draws, files_of(**held), MEMBER, *words)
-
-
-class Served(Member):
-    """A member over a scripted port: the events of its dials, and of its sends that fail, are made and not given. What
-    is done has the number of its call of the port, of which `listen` is 0 and the `next` of each event given the one
-    before its actions."""
+class OverPort:
+    """An end over a scripted port: the events of its dials, and of its sends that fail, are made and not given. What is
+    done has the number of its call of the port, of which `listen` is 0 and the `next` of each event given the one
+    before its actions. An action is a tuple of its kind and what it has."""
 
     def __init__(self, **plan):
-        super().__init__(**{"draws": MEMBER_DRAWS, **plan})
+        super().__init__(**plan)
         self.given, self.done, self.last, self.calls, self.failing = [], [], [], 1, []
+
+    def parts(self, action):
+        return action
 
     def event(self, word, run=lambda: None, made=False):
         # What a dial makes is stepped before the port is asked for an event.
@@ -282,16 +278,10 @@ class Served(Member):
             self.given.append(word.replace("/", ":"))
             self.calls += 1
         self.last = []
-        for action in [] if self.stopped else self.actions:
+        for action in [] if self.stopped else map(self.parts, self.actions):
             self.last.append((self.calls, action))
             self.calls += action[0] in ("dial", "send")
         self.done += self.last
-        return self
-
-    def begins(self, secret):
-        """It begins with a change to that secret, once the port listens; nothing is done where one is under way."""
-        self.change(secret)
-        self.done += [(0, action) for action in self.actions]
         return self
 
     def failed(self):
@@ -308,6 +298,197 @@ class Served(Member):
 
     def sends(self, done=None):
         return ",".join(f"{action[1]}:{action[2].hex()}" for _, action in self.done[:done] if action[0] == "send") or "-"
+
+
+# ---- a controller with trusts that serves
+
+
+class ServedTrusting(OverPort, Trusting):
+    """A controller with trusts over a scripted port, on whose link 1 FILE1 has a channel."""
+
+    def __init__(self, **how):
+        super().__init__(**how)
+        self.bound().channel_open()
+
+    def parts(self, action):
+        kind, *rest = action.split(" ")
+        return (kind, int(rest[0]), bytes.fromhex(rest[1])) if kind == "send" else (kind, *rest)
+
+    def puts(self, done=None):
+        return "".join(line_put(" ".join(action)) for _, action in self.done[:done] if action[0] == "judged")
+
+    def put(self, *lines):
+        """It has put these lines."""
+        assert self.puts() == "".join(each + "\n" for each in lines), self.puts()
+        return self
+
+
+def asked(end, exit_text=DONE, done=None, puts="", failing=None, **options):
+    """A case of a served controller with trusts: of its actions that many are done, or all."""
+    words = words_of("serve", {**SERVE, "name": end.words[1].decode(), **options})
+    failing = ",".join(map(str, end.failing)) if failing is None else failing
+    files = files_of(t=end.words[0].hex(), s=SEED)
+    return (
+        line("serves.run", ",".join(end.given + ["stop"]), failing, "", puts, end.words[2], files, CONTROLLER, *words),
+        ";".join([exit_text, text(end.puts(done)), end.sends(done), "told"]),
+    )
+
+
+def roamed(there=None, **how):
+    """Sam's logon is handed on, and the other domain's controller judges it."""
+    end = ServedTrusting().roams(**how)
+    hops(end, other() if there is None else there, 1000)
+    return end
+
+
+FORWARDED, GRANTED, LOST = "forwarded", "answered 00000000", "answered c000005e"
+
+
+def of_trusts():
+    """A logon of a trusted domain's user is asked of its controller: by three links where no channel is open, and by
+    one where one is."""
+    out = [asked(roamed(validation=level).put(FORWARDED, GRANTED)) for level in (2, 3)]
+    # those who may not log on there, and a domain that isn't that controller's
+    elsewhere = {"domain": "ELSE", "sid": "S-1-5-21-4-5-6"}
+    for how, status in [
+        ({"users": (SAM | {"disabled": True},)}, "c0000072"),
+        ({"users": (SAM | {"hash": "45" * 16},)}, "c000006a"),
+        ({"users": ()}, "c0000064"),
+        ({"head": elsewhere}, "c00000df"),
+    ]:
+        out.append(asked(roamed(other(**how)).put(FORWARDED, f"answered {status}")))
+    # no such account there, another secret, another controller's account, and a disabled one
+    for machines in [(), (CORP | {"hash": "99" * 16},), (CORP | {"controllers": ["PDC9"]},), (CORP | {"disabled": True},)]:
+        out.append(asked(roamed(other(machines=machines)).put(FORWARDED, LOST)))
+    # again on the open channel, and then a user of this domain
+    end, there = ServedTrusting().roams(), other()
+    link = hops(end, there, 1000)
+    assert hops(end.roams(timestamp=1_700_000_001), there, link) == link + 1
+    out.append(asked(end.logs_on(timestamp=1_700_000_002).put(FORWARDED, GRANTED, FORWARDED, GRANTED, "passed 00000000")))
+    # a domain that nobody knows, and a logon that comes by a trust
+    out.append(asked(ServedTrusting().roams(domain="NOWHERE").put("passed c00000df")))
+    trust = ServedTrusting().channel_open("NDC1", account=utf16("NORTH$"), channel=4).roams(computer="NDC1")
+    return out + [asked(trust.put("passed c00000df"))]
+
+
+def hop_around(end, there, link, what):
+    """A turn on a link to the other controller, with something done once the link was dialled."""
+    request = answer_of_controller(end.dialled(link), link)
+    what(end)
+    there.opened(link)
+    while request:
+        end.bytes(answer_of_controller(there.bytes(request, link), link), link)
+        request = answer_of_controller(end, link)
+    there.closed(link)
+
+
+def of_two_trusts():
+    """One turn is out over all trusts, and the first trust's logon goes first, whichever came first."""
+    end = ServedTrusting(trusts=(ROAM, THIRD)).roams(domain="THIRD")
+    third = other(head={"domain": "THIRD", "sid": "S-1-5-21-7-8-9"}, machines=(CORP | {"hash": "52" * 16},), name="TDC")
+    there, asks, link = [other(), third], [], 1001
+    # a logon for the first trust comes while the turn of the second is out
+    hop_around(end, third, 1000, lambda end: end.roams(number=3, timestamp=1))
+    while end.dials():
+        asks.append(end.turn_of)
+        hop(end, there[end.turn_of], link)
+        link += 1
+    assert asks == [0, 0, 0, 1, 1], asks
+    return [asked(end.put(FORWARDED, FORWARDED, GRANTED, GRANTED))]
+
+
+def of_lost_turns():
+    """A turn is lost at its dial, at the close of its link, or at a send on it that fails; the next logon has turns of
+    its own."""
+    out = []
+    for lose, dialled in [
+        (lambda end, link: end.failed(), 0),
+        (lambda end, link: end.dialled(link).closed(link), 1),
+        (lambda end, link: end.dialled(link).cut(link), 1),
+    ]:
+        for before in range(3):
+            end, there = ServedTrusting().roams(), other()
+            link = hops(end, there, 1000, before)
+            lose(end, link)
+            hops(end.roams(number=3, timestamp=5), there, link + dialled)
+            out.append(asked(end.put(FORWARDED, LOST, FORWARDED, GRANTED)))
+    # the reply to the Logon is lost, and the link shut
+    end, there = ServedTrusting().roams(), other()
+    hops(end, there, 1000, 2)
+    request = answer_of_controller(end.dialled(1002), 1002)
+    end.bytes(answer_of_controller(there.opened(1002).bytes(request, 1002), 1002), 1002)
+    there.bytes(answer_of_controller(end, 1002), 1002)
+    assert there.actions[0] == "judged Passed(0)", there.actions
+    out.append(asked(end.closed(1002).put(FORWARDED, LOST)))
+    # the other controller was started anew: it knows no channel
+    end, there = ServedTrusting().roams(), other()
+    link = hops(end, there, 1000)
+    there = other()
+    link = hops(end.roams(number=3, timestamp=5), there, link)
+    assert there.answers[-2].startswith("judged NoChannel"), there.answers[-2]
+    hops(end.roams(number=4, timestamp=6), there, link)
+    out.append(asked(end.put(FORWARDED, GRANTED, FORWARDED, LOST, FORWARDED, GRANTED)))
+    return out
+
+
+def of_lost_lines():
+    """The link of the call closes while its logon waits, or the reply doesn't go out: the outcome is told, and sent to
+    nobody, also where the link's number comes again."""
+    out = []
+    for what in (lambda end: end.closed(1), lambda end: end.closed(1).bound(1)):
+        end, there = ServedTrusting().roams(), other()
+        hops(end, there, 1000, 2)
+        hop_around(end, there, 1002, what)
+        out.append(asked(end.put(FORWARDED, GRANTED)))
+    out.append(asked(roamed().cut(1).put(FORWARDED, GRANTED)))
+    return out
+
+
+def of_stopped_trusts():
+    """Where the sink fails, the challenges are spent, or the port fails or has no more events, nothing later is
+    done."""
+    end = roamed()
+    told = [place for place, (_, action) in enumerate(end.done) if action[0] == "judged"]
+    out = [asked(end, ending("SinkFault"), place, str(number)) for number, place in enumerate(told)]
+    # its own channel takes a challenge, and so does each that it opens
+    out.append(asked(ServedTrusting(challenges=OWN_DRAWS[:1]).roams().put(), ending("Spent")))
+    out.append(asked(ServedTrusting(challenges=OWN_DRAWS[:2]).roams().failed().roams(number=3, timestamp=5).put(FORWARDED, LOST), ending("Spent")))
+    dialled = ServedTrusting().roams().dialled(1000).put(FORWARDED)
+    out.append(asked(dialled, ending("PortFault"), failing=str(dialled.calls)))
+    out.append(asked(end, done=len(dialled.done), events=str(len(dialled.given))))
+    return out
+
+
+def of_controllers_with_trusts():
+    """A controller that asks the controllers of trusted domains."""
+    return of_trusts() + of_two_trusts() + of_lost_turns() + of_lost_lines() + of_stopped_trusts()
+
+
+# ---- a member server that serves
+
+MEMBER_SECRET = "41" * 16
+MEMBER_DRAWS = member_server.DRAWS
+MEMBER_FILES = {"k": ascii_hex(MEMBER_SECRET), "s": SEED}
+
+
+def member_line(given, failing="", reads="", puts="", draws="", files=None, **options):
+    """A line that runs a member server."""
+    held = MEMBER_FILES if files is None else files
+    words = words_of("serve", {**SERVE_MEMBER, "controller": "there", **options})
+    return line("serves.run", given, failing, reads, puts, draws, files_of(**held), MEMBER, *words)
+
+
+class Served(OverPort, Member):
+    """A member over a scripted port."""
+
+    def __init__(self, **plan):
+        super().__init__(**{"draws": MEMBER_DRAWS, **plan})
+
+    def begins(self, secret):
+        """It begins with a change to that secret, once the port listens; nothing is done where one is under way."""
+        self.change(secret)
+        self.done += [(0, action) for action in self.actions]
+        return self
 
     def puts(self, done=None):
         return "".join(line_told(*action[1:]) for _, action in self.done[:done] if action[0] == "told")
@@ -610,4 +791,4 @@ def of_members():
 
 def cases():
     """The cases of commands that serve."""
-    return of_the_port() + of_counts() + of_the_files() + of_challenges() + of_lines() + of_kept_secrets() + of_members()
+    return of_the_port() + of_counts() + of_the_files() + of_challenges() + of_lines() + of_kept_secrets() + of_controllers_with_trusts() + of_members()
