@@ -9,6 +9,8 @@ demo: programs
 	@demo/few_descriptors.sh bin
 	@demo/kept_secret.sh bin
 	@demo/changed_secret.sh bin
+	@demo/trusted_logon.sh bin
+	@demo/lost_trust.sh bin
 
 # How long each operation takes on this machine: lines `ours OPERATION NANOSECONDS`, and where their headers are there,
 # the same of OpenSSL and nettle for the operations on DES.

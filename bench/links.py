@@ -1,7 +1,8 @@
 #!/usr/bin/env python3
 """How the servers do over TCP: logons a second and processor time a logon at a controller, over one link and over many
-at once, beside those of a bare loop in C (bench/bare.c) in the same run; the time of nt_logon from its start to `in`;
-and how long a dial that hangs holds the other links of a member server.
+at once, beside those of a bare loop in C (bench/bare.c) in the same run; of logons that it hands on to a trusted
+domain's controller; the time of nt_logon from its start to `in`; and how long a dial that hangs holds the other links
+of a member server.
 
 usage: links.py FOLDER [one]      FOLDER has the three programs; `one`: over one link alone, for programs that serve no
 more
@@ -82,12 +83,12 @@ class Member:
         self.link.sendall(self.request(opnum, fields))
         return read("reply", opnum, read_unit(unit_from(self.link))["stub"])[0]
 
-    def prepare(self, count):
+    def prepare(self, count, **names):
         """Makes the logon of the user that is asked for so many times. By its timestamp the next authenticator is the
         same again."""
         self.left, self.held = count, b""
         made = credential(self.key, plus(self.seed, 2**32 - 1)), 2**32 - 1
-        info = plain_info(challenge=ASKED, nt=desl(HASH, ASKED), lm=b"")
+        info = plain_info(challenge=ASKED, nt=desl(HASH, ASKED), lm=b"", **names)
         call = plain_logon(computer=utf16(self.name), authenticator=made, info=info, validation=3)
         self.logon = self.request(LOGON, call)
 
@@ -120,7 +121,7 @@ class Exchanges:
     def __init__(self, port):
         self.link = connect(port)
 
-    def prepare(self, count):
+    def prepare(self, count, **names):
         self.left, self.held = count, 0
 
     def send(self, count):
@@ -136,14 +137,14 @@ class Exchanges:
         return count
 
 
-def run(server, members, depth, count):
-    """Logons a second, and microseconds of the server's processor for each."""
+def run(servers, members, depth, count, **names):
+    """Logons a second, and microseconds of the servers' processors for each."""
     for member in members:
-        member.prepare(count)
+        member.prepare(count, **names)
     waits = selectors.DefaultSelector()
     for member in members:
         waits.register(member.link, selectors.EVENT_READ, member)
-    used, begun = processor(server), time.perf_counter()
+    used, begun = sum(map(processor, servers)), time.perf_counter()
     for member in members:
         member.send(depth)
     left = count * len(members)
@@ -155,13 +156,13 @@ def run(server, members, depth, count):
             left -= answers
             key.data.send(answers)
     passed = time.perf_counter() - begun
-    used = processor(server) - used
+    used = sum(map(processor, servers)) - used
     return count * len(members) / passed, used / (count * len(members)) * 1e6
 
 
-def best(server, members, depth, count):
+def best(server, members, depth, count, *others, **names):
     """The best of some rounds, and their median."""
-    rounds = [run(server, members, depth, count) for _ in range(ROUNDS)]
+    rounds = [run([server, *others], members, depth, count, **names) for _ in range(ROUNDS)]
     rates, times = sorted(rate for rate, _ in rounds), sorted(time for _, time in rounds)
     return f"{rates[-1]:8.0f} a second at best, median {rates[ROUNDS // 2]:8.0f}; processor {times[0]:.1f} us at best, median {times[ROUNDS // 2]:.1f}"
 
@@ -181,12 +182,14 @@ class Domain:
 
     def __init__(self, programs, folder):
         self.programs, self.folder, self.started = programs, folder, []
-        self.port, self.member_port = free_port(), free_port()
+        self.port, self.member_port, self.trusted_port = free_port(), free_port(), free_port()
         machines = "".join(f'[[machine]]\nname = "M{number}$"\nkind = "workstation"\nhash = "{SECRET.hex()}"\n' for number in range(MANY))
-        self.file("table", f'domain = "CORP"\nsid = "S-1-5-21-1-2-3"\n[[user]]\nname = "ann"\nrid = 1001\nhash = "{HASH.hex()}"\n{machines}')
+        self.file("table", f'domain = "CORP"\nsid = "S-1-5-21-1-2-3"\n[[user]]\nname = "ann"\nrid = 1001\nhash = "{HASH.hex()}"\n{machines}[[trust]]\ndomain = "ROAM"\nhash = "{SECRET.hex()}"\naddress = "127.0.0.1:{self.trusted_port}"\n')
+        self.file("trusted", f'domain = "ROAM"\nsid = "S-1-5-21-4-5-6"\n[[user]]\nname = "sam"\nrid = 1001\nhash = "{HASH.hex()}"\n'
+                  f'[[machine]]\nname = "CORP$"\nkind = "trust"\nhash = "{SECRET.hex()}"\ncontrollers = ["PDC"]\n')
         self.file("hash", HASH.hex())
         self.file("secret", SECRET.hex())
-        for name in ("seed1", "seed2", "seed3"):
+        for name in ("seed1", "seed2", "seed3", "seed4"):
             with open(self.path(name), "wb") as out:
                 out.write(os.urandom(32))
 
@@ -205,6 +208,10 @@ class Domain:
     def controller(self):
         return self.start("nt_controller", "serve", "--listen", f"127.0.0.1:{self.port}", "--name", "PDC", "--table", self.path("table"),
                           "--seed", self.path("seed1"), "--boot", "1")
+
+    def trusted_controller(self):
+        return self.start("nt_controller", "serve", "--listen", f"127.0.0.1:{self.trusted_port}", "--name", "RDC", "--table",
+                          self.path("trusted"), "--seed", self.path("seed4"), "--boot", "1")
 
     def member(self, controller, port, boot):
         return self.start("nt_member", "serve", "--listen", f"127.0.0.1:{port}", "--computer", "M0", "--domain", "CORP", "--secret",
@@ -276,6 +283,10 @@ def main():
                 print("bare loop, 16 under way:         ", best(bare, [loop], 16, 30000))
             print("one link, 16 under way:          ", best(server, [first], 16, 30000))
             if not alone:
+                trusted = domain.trusted_controller()
+                connect(domain.trusted_port).close()
+                sam = {"domain": utf16("ROAM"), "user": utf16("sam")}
+                print("one that is handed on, under way: ", best(server, [first], 1, 1000, trusted, **sam))
                 first.link.close()
                 members = [Member(domain.port, number) for number in range(MANY)]
                 first = members[0]

@@ -11,6 +11,8 @@ failed=0
 finish() {
     for process in $silent $member $controller; do
         kill "$process" 2>/dev/null
+        # one that was stopped ends once it goes on
+        kill -CONT "$process" 2>/dev/null
     done
     wait 2>/dev/null
     rm -rf "$folder"
@@ -76,8 +78,9 @@ free_port() {
 controller_port=$(free_port $((20000 + $$ % 20000)))
 member_port=$(free_port $((controller_port + 1)))
 
-# what a member server is started with: the port at which it asks its controller, the file of its secrets, its number of
-# the boot, and further words
+# the number of the boot that a controller is started with; and of a member server the port at which it asks its
+# controller, the file of its secrets, its number of the boot, and further words
+controller_boot=1
 asked_port=$controller_port
 member_secrets=$folder/file1.secret
 member_boot=1
@@ -110,7 +113,7 @@ TABLE
 # starts the controller, with these words beside the usual ones, and waits until it listens
 start_controller() {
     "$bin/nt_controller" serve --listen "127.0.0.1:$controller_port" --name PDC --table "$folder/accounts.toml" \
-        --seed "$folder/controller.seed" --boot 1 "$@" > "$folder/controller.out" 2> "$folder/controller.err" &
+        --seed "$folder/controller.seed" --boot "$controller_boot" "$@" > "$folder/controller.out" 2> "$folder/controller.err" &
     controller=$!
     wait_for $controller "$controller_port" || { echo "nt_controller doesn't listen"; cat "$folder/controller.err"; exit 1; }
 }
@@ -127,8 +130,12 @@ start_member() {
     wait_for $member "$member_port" || { echo "nt_member doesn't listen"; cat "$folder/member.err"; exit 1; }
 }
 
-# logs ann on with the hash in a file: FILE BOOT OUTPUT. Gives the status, 124 where it lasts more than 30 seconds
-log_on() {
-    timeout 30 "$bin/nt_logon" logon --server "127.0.0.1:$member_port" --domain CORP --user ann --workstation WS \
-        --hash "$1" --level privacy --auth v2 --echo 16 --seed "$folder/client.seed" --boot "$2" > "$3" 2>&1
+# logs a user on with the hash in a file: PORT DOMAIN USER FILE BOOT OUTPUT. Gives the status, 124 where it lasts more
+# than 30 seconds
+log_on_at() {
+    timeout 30 "$bin/nt_logon" logon --server "127.0.0.1:$1" --domain "$2" --user "$3" --workstation WS \
+        --hash "$4" --level privacy --auth v2 --echo 16 --seed "$folder/client.seed" --boot "$5" > "$6" 2>&1
 }
+
+# logs ann on: FILE BOOT OUTPUT
+log_on() { log_on_at "$member_port" CORP ann "$@"; }
