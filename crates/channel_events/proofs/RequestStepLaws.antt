@@ -24,7 +24,7 @@ use Rattle.channel_events.proofs.RequestLaws.{calls_stay_apart, more_used}
 
 -- ---- one is seen otherwise
 
-cases_if : (hit : Bool) (who j : ℕ) (v w : View) (other : Option View) → (j == who) ≡ hit → seen_if hit v other ≡ Some w → ((j ≡ who) × (w ≡ v)) ⊎ (other ≡ Some w)
+pub cases_if : (hit : Bool) (who j : ℕ) (v w : View) (other : Option View) → (j == who) ≡ hit → seen_if hit v other ≡ Some w → ((j ≡ who) × (w ≡ v)) ⊎ (other ≡ Some w)
 cases_if false who j v w other is there = inr there
 cases_if true who j v w other is there = inl ((Decides-eqb j who).0 is, sym (some_is v w there))
 

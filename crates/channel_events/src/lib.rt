@@ -4,4 +4,7 @@
 
 mod laws;
 
-pub use laws::{calls_stay_apart, requesters_keep_calls_apart};
+pub use laws::{
+    accepted_channels_stay_in_order, calls_stay_apart, requesters_keep_accepted_in_order,
+    requesters_keep_calls_apart, secrets_stay_together,
+};

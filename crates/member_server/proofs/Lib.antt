@@ -22,6 +22,8 @@ pub mod SharingLaws
 pub mod StepFrame
 pub mod StepLaws
 pub mod StepRules
+pub mod TextLaws
+pub mod TryingLaws
 pub mod TurnLaws
 pub mod UnitSteps
 pub mod WholeLaws

@@ -1,14 +1,16 @@
 -- What stands in the file of a member's secrets after what it does (this project's own choice): the text that was kept
 -- last.
 use Rattle.std.specs.Prelude.{ℕ, ◌≡◌, List, [], ◌∷◌, Option, Some, None, Result, Ok, Err}
+use Rattle.std.specs.List.{AllByRecursion}
 use Rattle.outside.specs.declared.action.Action.{Action}
 use Rattle.outside.specs.declared.action.Action.TheVariants as action
 use Rattle.outside.specs.declared.event.Event.{Event}
+use Rattle.outside.specs.declared.event.Event.TheVariants as event
 use Rattle.end_loop.specs.Runs.{actions_of}
 use Rattle.member_server.specs.declared.change.ChangeRefused.{ChangeRefused}
 use Rattle.member_server.specs.declared.state.Running.{Running}
 use Rattle.member_server.specs.Machine.{change_of, step_of}
-use Rattle.member_server.specs.Secrets.{written_secrets}
+use Rattle.member_server.specs.Secrets.{AreSecrets, SecretsState, written_secrets}
 use Rattle.member_server.specs.State.{State}
 
 -- the text after an action, behind the one that stood there
@@ -43,3 +45,45 @@ pub record KeepsWhatIsHeld : Type 0 where
       IsKeptUnlessStopped (kept_after (actions_of (step_of s what now left)) (held_text running)) (step_of s what now left).state.running
   pub change : (s : State) (running : Running) (new : List ℕ) → s.running ≡ Some running →
       IsKeptUnlessStopped (kept_after (actions_begun (change_of s new).answer) (held_text running)) (change_of s new).state.running
+
+-- ---- which texts these are
+
+-- a text that is kept is that of secrets of 16 bytes
+abbrev pub IsSecretsText : Action → Type 0
+IsSecretsText (action.Keep text) = (s : SecretsState) × AreSecrets s × (text ≡ written_secrets s)
+IsSecretsText (action.Send link bytes) = Unit {0}
+IsSecretsText (action.Dial peer) = Unit {0}
+IsSecretsText (action.Close link cause) = Unit {0}
+IsSecretsText (action.Told link outcome) = Unit {0}
+IsSecretsText (action.Judged how) = Unit {0}
+
+abbrev pub HasSecretsUnlessStopped : Option Running → Type 0
+HasSecretsUnlessStopped None = Unit {0}
+HasSecretsUnlessStopped (Some running) = AreSecrets running.logons.plan.secrets
+
+-- no text is kept
+abbrev pub KeepsNoText : Action → Type 0
+KeepsNoText (action.Keep text) = ⊥
+KeepsNoText (action.Send link bytes) = Unit {0}
+KeepsNoText (action.Dial peer) = Unit {0}
+KeepsNoText (action.Close link cause) = Unit {0}
+KeepsNoText (action.Told link outcome) = Unit {0}
+KeepsNoText (action.Judged how) = Unit {0}
+
+abbrev pub BringsNoBytes : Event → Type 0
+BringsNoBytes (event.Opened link) = Unit {0}
+BringsNoBytes (event.Bytes link piece) = ⊥
+BringsNoBytes (event.Closed link) = Unit {0}
+BringsNoBytes (event.Dialled link) = Unit {0}
+BringsNoBytes event.DialFailed = Unit {0}
+BringsNoBytes event.Stop = Unit {0}
+
+-- Secrets of 16 bytes stay such through each step, and each text that is kept is that of such. Where no bytes come, no
+-- text is kept, and it is the same as before.
+pub record KeepsTextsOfSecrets : Type 0 where
+  pub secrets : (s : State) (running : Running) (what : Event) (now : ℕ) (left : List (List ℕ)) → s.running ≡ Some running → AreSecrets running.logons.plan.secrets →
+      HasSecretsUnlessStopped (step_of s what now left).state.running
+  pub texts : (s : State) (running : Running) (what : Event) (now : ℕ) (left : List (List ℕ)) → s.running ≡ Some running → AreSecrets running.logons.plan.secrets →
+      AllByRecursion IsSecretsText (actions_of (step_of s what now left))
+  pub quiet : (s : State) (running : Running) (what : Event) (now : ℕ) (left : List (List ℕ)) → s.running ≡ Some running → BringsNoBytes what →
+      AllByRecursion KeepsNoText (actions_of (step_of s what now left)) × IsKeptUnlessStopped (held_text running) (step_of s what now left).state.running

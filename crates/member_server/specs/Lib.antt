@@ -16,6 +16,7 @@ pub mod Rests
 pub mod Secrets
 pub mod Sharing
 pub mod State
+pub mod Trying
 pub mod Turns
 pub mod Units
 pub mod Whole

@@ -1,12 +1,13 @@
 //! Laws of the member's machine, over its definitions. Each function does nothing, and its clause is the law.
 
 ghost use Rattle.member_server.specs.Laws.{AsksWhatWaits, ClosesNothing, KeepsRequests, LeavesOtherLinks, LetsInTheGranted, ReachesItsLink, ServesOneMessage};
-ghost use Rattle.member_server.specs.Keeping.{KeepsWhatIsHeld};
+ghost use Rattle.member_server.specs.Keeping.{KeepsTextsOfSecrets, KeepsWhatIsHeld};
 ghost use Rattle.member_server.specs.Pending.{Settles};
 ghost use Rattle.member_server.specs.ChannelSteps.{ChannelStepsKnown};
 ghost use Rattle.member_server.specs.Dials.{TurnsAreDialled};
 ghost use Rattle.member_server.specs.Secrets.{TellsTextsApart};
 ghost use Rattle.member_server.specs.Sharing.{SharesTurns};
+ghost use Rattle.member_server.specs.Trying.{TriesItsSecrets};
 ghost use Rattle.member_server.specs.Whole.{MembersSendWhole};
 
 /// The events that the step for a closed or dialled link makes, with those that may come of it, are no more than
@@ -105,4 +106,19 @@ pub fn what_is_kept_is_held()
 #[tactic(auto, using(crate::proofs::SecretLaws::tells_texts_apart))]
 pub fn texts_that_change_are_kept()
     ensures { TellsTextsApart }
+{}
+
+/// Where the secrets have 16 bytes, so they have after each step, and each text that is kept is that of such secrets.
+/// Where no bytes come none is kept, and the text of what is held is the same.
+#[tactic(auto, using(crate::proofs::TextLaws::keeps_texts))]
+pub fn texts_are_of_secrets()
+    ensures { KeepsTextsOfSecrets }
+{}
+
+/// A member opens its channel under the secret that is tried, from the turn on that asks for the server's challenge.
+/// While a turn is out that sets a secret there is a next one, and the call that waits for its bind hides it under the
+/// key of the channel. So it is at first, after each step, and after each change that begins.
+#[tactic(auto, using(crate::proofs::TryingLaws::tries_its_secrets))]
+pub fn what_is_tried_opens()
+    ensures { TriesItsSecrets }
 {}
