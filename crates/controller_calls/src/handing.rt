@@ -21,8 +21,8 @@ use outside::{Action, Judged};
 use std::alloc::Global;
 use wire_base::NoMemory;
 
-/// A logon that passed, to be asked of the controller of a trusted domain: the number of the trust in the table, the
-/// logon, and what its answer needs.
+/// A logon that passed, to be asked of the controller of a trusted domain (MS-NRPC 3.3.5.1; what is kept for its answer
+/// is this project's own choice): the number of the trust in the table, the logon, and what its answer needs.
 #[derive(Drop)]
 pub struct HandOn {
     pub trust: u32,

@@ -52,7 +52,8 @@ pub(crate) fn send_reply(
     send_stub(alloc, work, line, stub)
 }
 
-/// The same of a reply of any length, in one send of at most 589,824 bytes.
+/// A reply of any length goes out on the line, in fragments of the line's limit and in one send of at most 589,824
+/// bytes.
 pub(crate) fn send_long_reply(
     alloc: Global,
     work: Work,
@@ -101,7 +102,7 @@ fn read_long_stub(answer: &Reply, stub: &[u8])
     ensures { length stub.now ≤ 551263 }
 {}
 
-/// The same by the stub of the reply.
+/// The call is answered by the reply with that stub, all of its frames in one send of at most 131,123 bytes.
 pub(crate) fn send_stub(alloc: Global, work: Work, line: Line, stub: Blob) -> Result<Work, NoMemory>
     requires short { length stub ≤ 65536 }
     requires line { IsLine line }

@@ -15,7 +15,7 @@ use Rattle.end_links.specs.Links.{LinkState}
 use Rattle.end_links.specs.Serving.{ServedPart, served_cut}
 use Rattle.channel_client.specs.State.{Requester}
 use Rattle.channel_turns.specs.Dials.{NextTurn, next_turn as channel_turn}
-use Rattle.channel_turns.specs.Turning.{Turned, after_piece, answer_by, close_if, dial_for, dial_part, fail_by, hear_by, hear_if, is_on, is_waiting, keep_link, link_answers, link_closes, link_hears, no_dial}
+use Rattle.channel_turns.specs.Turning.{Turned, answer_by, close_if, dial_for, dial_part, fail_by, hear_by, hear_if, is_on, is_waiting, keep_link, link_answers, link_closes, link_hears, no_dial}
 use Rattle.channel_turns.specs.declared.state.Dialling.{Dialling}
 use Rattle.channel_turns.specs.declared.state.Dialling.TheVariants as dialling
 use Rattle.channel_turns.specs.declared.state.TurnTalk.{TurnTalk}

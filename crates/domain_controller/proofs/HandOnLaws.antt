@@ -1,15 +1,12 @@
 -- Which calls on a channel are handed on. It serves `a_logon_goes_by_its_domain`.
-use Rattle.std.proofs.Common.{◌≡◌, ◌↔◌, ◌<◌, ◌≤◌, ◌++◌, ℕ, zero, suc, Bool, true, false, nat_le, nat_lt, List, [], ◌∷◌, length, Option, Some, None, Result, Ok, Err, slice_get, slice_set, refl, sym, ap, subst, ◌∙◌, arith}
+use Rattle.std.proofs.Common.{◌≡◌, ◌↔◌, ◌<◌, ℕ, zero, suc, Bool, true, false, nat_le, nat_lt, List, [], ◌∷◌, length, Option, Some, None, Ok, slice_get, slice_set, refl, sym, ap, subst, ◌∙◌, arith}
 use Rattle.std.proofs.lemmas.Bool.Decides.{nat_tests}
-use Rattle.std.proofs.lemmas.Option.{slice_get_past}
 use Rattle.std.proofs.lemmas.Slice.Eq.{bytes_eq-Decides}
 use Rattle.wire_base.specs.Maps.{lookup}
 use Rattle.wire_base.specs.Names.{same_name}
 use Rattle.wire_base.specs.declared.authenticator.Authenticator.{Authenticator}
 use Rattle.authenticators.specs.Sequences.{return_of}
-use Rattle.authenticators.specs.SecureChannels.{SecureChannelState, channel_by, key_of_channel, passes_on, return_by}
-use Rattle.outside.specs.declared.action.Action.{Action}
-use Rattle.outside.specs.declared.action.Action.TheVariants as action
+use Rattle.authenticators.specs.SecureChannels.{SecureChannelState, key_of_channel, passes_on, return_by}
 use Rattle.outside.specs.declared.action.Judged.{Judged}
 use Rattle.outside.specs.declared.action.Judged.TheVariants as judged
 use Rattle.logon_stubs.specs.declared.info.NetworkInfo.{NetworkInfo}
@@ -24,7 +21,7 @@ use Rattle.controller_calls.specs.Asking.{answer_judged, answers_to, pass_asked}
 use Rattle.controller_calls.specs.Calls.{asked_of, computer_named, given_in}
 use Rattle.controller_calls.specs.Desk.{Desk, desk, take_channel}
 use Rattle.controller_calls.specs.Doing.{move_on}
-use Rattle.controller_calls.specs.Forwarded.{ForwardedState, forwarded_call}
+use Rattle.controller_calls.specs.Forwarded.{forwarded_call}
 use Rattle.controller_calls.specs.Handing.{CallPlace, Handing, hand_on, hands_on, judge_call, judge_named, judge_on, judge_returned, pass_or_hand, trust_asked, trust_below, trust_by}
 use Rattle.controller_calls.specs.Judging.{answer_named, answer_on, answer_return}
 use Rattle.controller_calls.specs.Logons.{serves_level}
@@ -35,10 +32,11 @@ use Rattle.controller_calls.specs.declared.calls.JudgedCall.{JudgedCall}
 use Rattle.controller_calls.specs.declared.handing.HandOn.{HandOn}
 use Rattle.controller_calls.specs.declared.line.Line.{Line}
 use Rattle.controller_calls.specs.declared.state.Computers.{Computers}
+use Rattle.logon_stubs.specs.Status.{no_logon_servers}
+use Rattle.controller_calls.proofs.DoneLaws.{does_what_passes}
 use Rattle.controller_calls.proofs.OutcomeLaws.{JudgedComes, Passes, Refused, WhyRefused, Bare, Barred, judged_comes, not_both, one_channel, one_given, texts_kept, two}
-use Rattle.domain_controller.specs.Forwarding.{TrustDesk, after_handing, answer_trust_call, ask_trust, asked_of_found, base_desk, fits_on, forward_handed, forward_if, leave_unasked, place_of_call, trust_desk, wait_at, wait_or_leave}
+use Rattle.domain_controller.specs.Forwarding.{TrustDesk, after_handing, answer_trust_call, ask_trust, base_desk, fits_on, forward_handed, forward_if, leave_unasked, place_of_call, trust_desk, wait_at, wait_or_leave, with_queues}
 use Rattle.domain_controller.specs.TrustLaws.{ForwardsByTrust, IsAnsweredHere, IsForTrust, IsForwarded, IsLeftUnasked, IsToBeForwarded, is_forwarded}
-use Rattle.domain_controller.specs.declared.trusting.Queues.{Queues}
 use Rattle.domain_controller.specs.declared.trusting.TrustWork.{TrustWork}
 use Rattle.domain_controller.proofs.ForwardLaws.{asked_none, asked_place}
 
@@ -194,7 +192,12 @@ inside [] at item is = absurd (let x = is in cc)
 inside (first ∷ items) zero item is = grind (arith, nat_tests)
 inside (first ∷ items) (suc at) item is = let below = inside items at item is in grind (arith, nat_tests)
 
-not_full : (waiting : ℕ) → waiting < 64 → nat_le 64 waiting ≡ false
+missing : {T : Type 0} (items : List T) (at : ℕ) → at < length items → slice_get items at ≡ None → ⊥
+missing [] at lt none = absurd (omega arith)
+missing (first ∷ items) zero lt none = absurd (let x = none in cc)
+missing (first ∷ items) (suc at) lt none = missing items at (omega arith) none
+
+pub not_full : (waiting : ℕ) → waiting < 64 → nat_le 64 waiting ≡ false
 not_full waiting lt = grind (arith, nat_tests)
 
 has_room : (waiting : ℕ) → nat_le 64 waiting ≡ false → waiting < 64
@@ -207,12 +210,20 @@ not_forwarded (judged.Answered status) not = refl
 not_forwarded judged.Barred not = refl
 not_forwarded judged.NoChannel not = refl
 
+-- A call is handed on; or nobody is asked for it, though it is for a trust; or it comes to what it comes to where
+-- nobody is asked.
+pub data CallGoes (c : JudgedCall) (name : List ℕ) (now : ℕ) (line : Line) (before after : TrustDesk) : Type 0 where
+  GoesOn : (is : IsToBeForwarded c before) → IsForwarded c line before after is → CallGoes c name now line before after
+  IsLeft : (goes : IsForTrust c before) → IsLeftUnasked c line before after goes → CallGoes c name now line before after
+  StaysHere : (IsForTrust c before → ⊥) → after ≡ with_queues before.work.queues (answer_judged c name now line (base_desk before)) →
+      CallGoes c name now line before after
+
 -- a call is handed on, or it is answered here
 pub data CallComes (c : JudgedCall) (line : Line) (before after : TrustDesk) : Type 0 where
   ForwardedOn : (is : IsToBeForwarded c before) → IsForwarded c line before after is → CallComes c line before after
   AnsweredHere : IsAnsweredHere c line before after → CallComes c line before after
 
-judges_refused : (c : JudgedCall) (computers : Computers) (how : Judged) (channels : List (List ℕ × SecureChannelState)) → WhyRefused c computers how channels → judges_call how ≡ true
+pub judges_refused : (c : JudgedCall) (computers : Computers) (how : Judged) (channels : List (List ℕ × SecureChannelState)) → WhyRefused c computers how channels → judges_call how ≡ true
 judges_refused c computers how channels (Bare none is same) = ap judges_call is
 judges_refused c computers how channels (Barred by is back) = ap judges_call is
 
@@ -274,42 +285,52 @@ module _ (c : JudgedCall) (name : List ℕ) (now : ℕ) (line : Line) (d : Trust
       ∙ ap (λ (asks : List Requester × Option ℕ). trust_desk d.table (wait_or_leave asks goes.trust logon.call line (moved goes.next)))
       (asked_place goes.info goes.trust goes.requester.next_place d.work.queues.requesters goes.requester (ask_of goes.requester goes.info).state goes.at answer refl) in
       subst (λ (after : TrustDesk). IsForwarded c line d after is) (sym same)
-      (record { table = refl; actions = refl; requesters = refl; place = goes.requester.next_place; call = logon.call; answers = refl; forwarded = refl })
+      (record { table = refl; computers = refl; actions = refl; requesters = refl; forwarded = refl })
 
   -- ---- nobody is asked for one that finds no room, or is too long
 
-  abbrev Unasked : TrustDesk → Type 0
-  Unasked after = IsLeftUnasked line d after
+  abbrev Unasked : IsForTrust c d → TrustDesk → Type 0
+  Unasked goes after = IsLeftUnasked c line d after goes
 
-  unasked_so : (goes : IsForTrust c d) → Unasked (trust_desk d.table (leave_unasked (logon_for goes).call line (moved goes.next)))
-  unasked_so goes = record { table = refl; answer = _; actions = two d.work.work.actions _ _; queues = refl }
+  unasked_so : (goes : IsForTrust c d) → Unasked goes (trust_desk d.table (leave_unasked (logon_for goes).call line (moved goes.next)))
+  unasked_so goes = record { table = refl; computers = refl; actions = two d.work.work.actions _ _; queues = refl }
 
-  full_by : (goes : IsForTrust c d) (is_full : Bool) → (IsToBeForwarded c d → ⊥) → fits_on goes.info ≡ true → nat_le 64 (length goes.requester.waiting) ≡ is_full →
-      Unasked (answer_trust_call c name now line d)
-  full_by goes false not fits room = absurd (not (record { goes = goes; room = has_room (length goes.requester.waiting) room; fits = fits }))
-  full_by goes true not fits room =
+  long_so : (goes : IsForTrust c d) → fits_on goes.info ≡ false → Unasked goes (answer_trust_call c name now line d)
+  long_so goes fits = subst (λ (after : TrustDesk). Unasked goes after) (sym (goes_so goes false fits)) (unasked_so goes)
+
+  no_room : (goes : IsForTrust c d) → fits_on goes.info ≡ true → nat_le 64 (length goes.requester.waiting) ≡ true → Unasked goes (answer_trust_call c name now line d)
+  no_room goes fits room =
       let none : ask_trust goes.info goes.trust d.work.queues.requesters ≡ (d.work.queues.requesters, None) =
       asked_none goes.info goes.trust d.work.queues.requesters goes.requester ask_refused.QueueFull goes.at
       (ap (λ (b : Bool). (ask_by b goes.requester goes.info).answer) room) in
       let same : answer_trust_call c name now line d ≡ trust_desk d.table (leave_unasked (logon_for goes).call line (moved goes.next)) =
       goes_so goes true fits
       ∙ ap (λ (asks : List Requester × Option ℕ). trust_desk d.table (wait_or_leave asks goes.trust (logon_for goes).call line (moved goes.next))) none in
-      subst Unasked (sym same) (unasked_so goes)
+      subst (λ (after : TrustDesk). Unasked goes after) (sym same) (unasked_so goes)
 
-  length_by : (goes : IsForTrust c d) (fits : Bool) → (IsToBeForwarded c d → ⊥) → fits_on goes.info ≡ fits → Unasked (answer_trust_call c name now line d)
-  length_by goes false not fits = subst Unasked (sym (goes_so goes false fits)) (unasked_so goes)
-  length_by goes true not fits = full_by goes (nat_le 64 (length goes.requester.waiting)) not fits refl
+  goes_by : (goes : IsForTrust c d) (fits is_full : Bool) → fits_on goes.info ≡ fits → nat_le 64 (length goes.requester.waiting) ≡ is_full →
+      CallGoes c name now line d (answer_trust_call c name now line d)
+  goes_by goes false is_full fits room = IsLeft goes (long_so goes fits)
+  goes_by goes true true fits room = IsLeft goes (no_room goes fits room)
+  goes_by goes true false fits room =
+      let there : IsToBeForwarded c d = record { goes = goes; room = has_room (length goes.requester.waiting) room; fits = fits } in
+      GoesOn there (waits_so there)
 
-  full_so : (goes : IsForTrust c d) → (IsToBeForwarded c d → ⊥) → Unasked (answer_trust_call c name now line d)
-  full_so goes not = length_by goes (fits_on goes.info) not refl
+  full_by : (goes : IsForTrust c d) (fits is_full : Bool) → (IsToBeForwarded c d → ⊥) → fits_on goes.info ≡ fits → nat_le 64 (length goes.requester.waiting) ≡ is_full →
+      Unasked goes (answer_trust_call c name now line d)
+  full_by goes false is_full not fits room = long_so goes fits
+  full_by goes true true not fits room = no_room goes fits room
+  full_by goes true false not fits room = absurd (not (record { goes = goes; room = has_room (length goes.requester.waiting) room; fits = fits }))
+
+  full_so : (goes : IsForTrust c d) → (IsToBeForwarded c d → ⊥) → Unasked goes (answer_trust_call c name now line d)
+  full_so goes not = full_by goes (fits_on goes.info) (nat_le 64 (length goes.requester.waiting)) not refl refl
 
   -- ---- any other is answered here
 
   never : (how : Judged) → is_passed how ≡ false → (Next → ⊥) → (is_passed how ≡ true) ↔ Next
   never how not none = (λ is. absurd (let x : false ≡ true = sym not ∙ is in cc), λ next. absurd (none next))
 
-  judged_so : (here : Desk) → JudgedComes c name now line (base_desk d) here →
-      IsAnsweredHere c line d (trust_desk here.table (record { work = here.work; queues = d.work.queues }))
+  judged_so : (here : Desk) → JudgedComes c name now line (base_desk d) here → IsAnsweredHere c line d (with_queues d.work.queues here)
   judged_so here (Passes next is) = record {
     kept = _;
     texts = texts_kept (asked_of c) _;
@@ -317,6 +338,7 @@ module _ (c : JudgedCall) (name : List ℕ) (now : ℕ) (line : Line) (d : Trust
     judges = refl;
     not = refl;
     passes = (λ so. next, λ other. refl);
+    refused = λ not. absurd (let x = not in cc);
     answer = _;
     actions = is.actions;
     queues = refl;
@@ -328,89 +350,80 @@ module _ (c : JudgedCall) (name : List ℕ) (now : ℕ) (line : Line) (d : Trust
     judges = judges_refused c d.work.work.computers how here.work.computers.channels away.why;
     not = not_forwarded how away.not_passed;
     passes = never how away.not_passed away.not_next;
+    refused = λ not. away.is_how;
     answer = _;
     actions = away.actions;
     queues = refl;
   }
 
-  left_so : (next : Next) (call : ForwardedState) → IsAnsweredHere c line d (trust_desk d.table (leave_unasked call line (moved next)))
-  left_so next call = record {
+  left_so : (after : TrustDesk) (goes : IsForTrust c d) → Unasked goes after → IsAnsweredHere c line d after
+  left_so after goes so = record {
     kept = [];
     texts = tt;
-    how = _;
+    how = judged.Passed no_logon_servers;
     judges = refl;
     not = refl;
-    passes = (λ so. next, λ other. refl);
+    passes = (λ passed. goes.next, λ other. refl);
+    refused = λ not. absurd (let x = not in cc);
     answer = _;
-    actions = two d.work.work.actions _ _;
-    queues = refl;
+    actions = so.actions;
+    queues = so.queues;
   }
 
-  module _ (is : IsHandedOn c place (base_desk d)) (asks : AsksTrust (asked_of c) is.next.channel.kind d.table (length d.work.queues.requesters) is.trust) where
-    abbrev logon : HandOn
-    logon = logon_on is.next asks.info asks.validation is.trust
+  -- ---- by what it comes to where nobody is asked
 
-    abbrev LeftBy : List Requester × Option ℕ → Type 0
-    LeftBy asking = CallComes c line d (trust_desk d.table (wait_or_leave asking is.trust logon.call line (moved is.next)))
+  goes_with : (is : IsHandedOn c place (base_desk d)) (asks : AsksTrust (asked_of c) is.next.channel.kind d.table (length d.work.queues.requesters) is.trust)
+      (requester : Requester) → slice_get d.work.queues.requesters is.trust ≡ Some requester → IsForTrust c d
+  goes_with is asks requester at = record {
+    next = is.next;
+    info = asks.info;
+    validation = asks.validation;
+    asks = asks.asks;
+    hands = asks.hands;
+    level = asks.level;
+    trust = is.trust;
+    routed = asks.routed;
+    requester = requester;
+    at = at;
+  }
 
-    left : CallComes c line d (trust_desk d.table (leave_unasked logon.call line (moved is.next)))
-    left = AnsweredHere (left_so is.next logon.call)
+  handed_goes : (is : IsHandedOn c place (base_desk d)) (asks : AsksTrust (asked_of c) is.next.channel.kind d.table (length d.work.queues.requesters) is.trust)
+      (found : Option Requester) → slice_get d.work.queues.requesters is.trust ≡ found → CallGoes c name now line d (answer_trust_call c name now line d)
+  handed_goes is asks None none = absurd (missing d.work.queues.requesters is.trust asks.below none)
+  handed_goes is asks (Some requester) at =
+      let goes : IsForTrust c d = goes_with is asks requester at in
+      goes_by goes (fits_on goes.info) (nat_le 64 (length goes.requester.waiting)) refl refl
 
-    abbrev AskedBy : List Requester × Option ℕ → Type 0
-    AskedBy asking =
-        answer_trust_call c name now line d ≡ trust_desk d.table (wait_or_leave asking is.trust logon.call line (moved is.next)) → LeftBy asking
+  goes_so_by : (here : Desk) (handing : Handing) → judge_call c place (base_desk d) ≡ handing → answer_judged c name now line (base_desk d) ≡ here →
+      HandingComes c place (base_desk d) here handing → CallGoes c name now line d (answer_trust_call c name now line d)
+  goes_so_by here handing same is (Here none comes) =
+      StaysHere (λ goes. none (handed_with goes))
+      (ap (λ (h : Handing). after_handing h line d.work.queues) (same ∙ comes) ∙ ap (λ (desk : Desk). with_queues d.work.queues desk) (sym is))
+  goes_so_by here handing same is (HandsOn handed comes) =
+      handed_goes handed (asks_from (asked_of c) handed.next.channel.kind d.table (length d.work.queues.requesters) handed.trust handed.asks)
+      (slice_get d.work.queues.requesters handed.trust) refl
 
-    by_room : (is_full : Bool) (requester : Requester) → slice_get d.work.queues.requesters is.trust ≡ Some requester → fits_on asks.info ≡ true →
-        nat_le 64 (length requester.waiting) ≡ is_full → AskedBy (ask_trust asks.info is.trust d.work.queues.requesters)
-    by_room true requester at fits room = λ same.
-        subst LeftBy
-        (sym (asked_none asks.info is.trust d.work.queues.requesters requester ask_refused.QueueFull at (ap (λ (b : Bool). (ask_by b requester asks.info).answer) room)))
-        left
-    by_room false requester at fits room = λ same.
-        let goes : IsForTrust c d = record {
-          next = is.next;
-          info = asks.info;
-          validation = asks.validation;
-          asks = asks.asks;
-          hands = asks.hands;
-          level = asks.level;
-          trust = is.trust;
-          routed = asks.routed;
-          requester = requester;
-          at = at;
-        } in
-        let there : IsToBeForwarded c d = record { goes = goes; room = has_room (length requester.waiting) room; fits = fits } in
-        subst (λ (after : TrustDesk). CallComes c line d after) same (ForwardedOn there (waits_so there))
+  pub call_goes : CallGoes c name now line d (answer_trust_call c name now line d)
+  call_goes =
+      goes_so_by (answer_judged c name now line (base_desk d)) (judge_call c place (base_desk d)) refl refl (handing_comes c place (base_desk d))
 
-    by_requester : (found : Option Requester) → slice_get d.work.queues.requesters is.trust ≡ found → fits_on asks.info ≡ true →
-        AskedBy (ask_trust asks.info is.trust d.work.queues.requesters)
-    by_requester None at fits = λ same.
-        subst LeftBy (sym (ap (λ (found : Option Requester). asked_of_found found asks.info is.trust d.work.queues.requesters) at)) left
-    by_requester (Some requester) at fits = by_room (nat_le 64 (length requester.waiting)) requester at fits refl
-
-    by_length : (fits : Bool) → fits_on asks.info ≡ fits →
-        answer_trust_call c name now line d ≡ trust_desk d.table (forward_if fits logon line (moved is.next)) →
-        CallComes c line d (trust_desk d.table (forward_if fits logon line (moved is.next)))
-    by_length false fits same = left
-    by_length true fits same = by_requester (slice_get d.work.queues.requesters is.trust) refl fits same
-
-    handed_comes : CallComes c line d (answer_trust_call c name now line d)
-    handed_comes =
-        let same = handed_is is asks.info asks.validation asks.asks in
-        subst (λ (after : TrustDesk). CallComes c line d after) (sym same) (by_length (fits_on asks.info) refl same)
-
-  comes_so : (here : Desk) (handing : Handing) → judge_call c place (base_desk d) ≡ handing → JudgedComes c name now line (base_desk d) here →
-      HandingComes c place (base_desk d) here handing → CallComes c line d (after_handing handing line d.work.queues)
-  comes_so here handing same comes (Here none is) =
-      subst (λ (h : Handing). CallComes c line d (after_handing h line d.work.queues)) (sym is) (AnsweredHere (judged_so here comes))
-  comes_so here handing same comes (HandsOn handed is) =
-      subst (λ (h : Handing). CallComes c line d (after_handing h line d.work.queues)) same
-      (handed_comes handed (asks_from (asked_of c) handed.next.channel.kind d.table (length d.work.queues.requesters) handed.trust handed.asks))
+  comes_from : (after : TrustDesk) → CallGoes c name now line d after → CallComes c line d after
+  comes_from after (GoesOn is so) = ForwardedOn is so
+  comes_from after (IsLeft goes so) = AnsweredHere (left_so after goes so)
+  comes_from after (StaysHere not is) =
+      AnsweredHere (subst (λ (other : TrustDesk). IsAnsweredHere c line d other) (sym is)
+      (judged_so (answer_judged c name now line (base_desk d)) (judged_comes c name now line (base_desk d))))
 
   pub call_comes : CallComes c line d (answer_trust_call c name now line d)
-  call_comes =
-      comes_so (answer_judged c name now line (base_desk d)) (judge_call c place (base_desk d)) refl (judged_comes c name now line (base_desk d))
-      (handing_comes c place (base_desk d))
+  call_comes = comes_from (answer_trust_call c name now line d) call_goes
+
+  here_from : (after : TrustDesk) → (IsForTrust c d → ⊥) → CallGoes c name now line d after → after ≡ with_queues d.work.queues (answer_judged c name now line (base_desk d))
+  here_from after not (GoesOn is so) = absurd (not is.goes)
+  here_from after not (IsLeft goes so) = absurd (not goes)
+  here_from after not (StaysHere other is) = is
+
+  pub here_so : (IsForTrust c d → ⊥) → answer_trust_call c name now line d ≡ with_queues d.work.queues (answer_judged c name now line (base_desk d))
+  here_so not = here_from (answer_trust_call c name now line d) not call_goes
 
 answered_so : (c : JudgedCall) (line : Line) (d after : TrustDesk) → (IsToBeForwarded c d → ⊥) → CallComes c line d after → IsAnsweredHere c line d after
 answered_so c line d after not (ForwardedOn is so) = absurd (not is)
@@ -421,4 +434,8 @@ forwards_by_trust = record {
   forwards = λ c name now line d is. waits_so c name now line d is;
   other = λ c name now line d not. answered_so c line d (answer_trust_call c name now line d) not (call_comes c name now line d);
   full = λ c name now line d goes not. full_so c name now line d goes not;
+  here = λ c name now line d not. here_so c name now line d not;
+  denied = λ c name now line d not.
+      ap (λ (after : TrustDesk). after.work.work.actions) (here_so c name now line d (λ goes. not goes.next))
+      ∙ does_what_passes.denied c name now line (base_desk d) not;
 }

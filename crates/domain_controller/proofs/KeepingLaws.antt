@@ -2,6 +2,7 @@
 -- It serves `what_is_kept_stands`.
 use Rattle.std.proofs.Common.{◌≡◌, ◌==◌, ℕ, List, [], ◌∷◌, ◌++◌, Option, Some, None, refl, sym, ap, ◌∙◌, append_assoc}
 use Rattle.std.proofs.lemmas.List.{append-nil}
+use Rattle.std.specs.List.{AllByRecursion}
 use Rattle.authenticators.specs.SecureChannels.{key_of_channel}
 use Rattle.outside.specs.declared.action.Action.{Action}
 use Rattle.outside.specs.declared.action.Action.TheVariants as action
@@ -29,7 +30,8 @@ use Rattle.controller_calls.proofs.OutcomeLaws.{JudgedComes, Passes, Refused}
 use Rattle.controller_calls.specs.declared.calls.JudgedCall.{JudgedCall}
 use Rattle.domain_controller.specs.Keeping.{KeepsSecrets, text_after}
 use Rattle.domain_controller.proofs.UnsetLaws.{interactive_levels, levels}
-use Rattle.domain_controller.proofs.WalkLaws.{DeskWalks, desk_leads}
+use Rattle.domain_controller.proofs.TrustWalkLaws.{TrustWalks, trust_leads}
+use Rattle.domain_controller.proofs.WalkLaws.{DeskWalks, IsQuiet, desk_leads}
 
 -- ---- what is told and kept, by the calls
 
@@ -111,6 +113,22 @@ kept_walks name now = record {
   judged = λ line c d after comes. passed_kept c name now line d after comes;
 }
 
+-- what is sent beside keeps no text
+quiet_text : (new : List Action) (text : List ℕ) → AllByRecursion IsQuiet new → text_after text new ≡ text
+quiet_text [] text all = refl
+quiet_text (what ∷ new) text all = ap (λ (kept : List ℕ). text_after kept new) (all.0.text text) ∙ quiet_text new text all.1
+
+trust_kept_walk : (name : List ℕ) (now : ℕ) → TrustWalks name now KeptTrail
+trust_kept_walk name now = record {
+  base = kept_walks name now;
+  moved = λ c d after is. record {
+    new = action.Judged is.how ∷ is.new;
+    actions = is.actions;
+    text = quiet_text is.new (secrets_of d.table.accounts) is.quiet ∙ ap (λ (table : AccountTable). secrets_of table.accounts) (sym is.table);
+  };
+  turns = λ d what is. record { new = what ∷ []; actions = refl; text = is.text (secrets_of d.table.accounts) };
+}
+
 pub keeps_secrets : KeepsSecrets
 keeps_secrets = record {
   text = λ s what now left.
@@ -118,5 +136,11 @@ keeps_secrets = record {
         stopped = λ none. refl;
         spent = λ running is. refl;
         taken = λ running after links rest is leads. ap (λ (actions : List Action). text_after (secrets_of s.table.accounts) actions) leads.actions ∙ leads.text;
+      });
+  trusting = λ s what now left.
+      trust_leads (λ stepped. text_after (secrets_of s.table.accounts) (actions_of stepped) ≡ secrets_of stepped.state.table.accounts) KeptTrail s what now left (trust_kept_walk s.name now) (record {
+        stopped = λ none. refl;
+        spent = λ running is. refl;
+        taken = λ running after rest is leads. ap (λ (actions : List Action). text_after (secrets_of s.table.accounts) actions) leads.actions ∙ leads.text;
       });
 }

@@ -1,6 +1,6 @@
 -- A logon that was asked is answered on the link on which it came, while that is open. It serves
 -- `replies_go_to_open_links`.
-use Rattle.std.proofs.Common.{◌≡◌, ◌==◌, ◌++◌, ◌⊎◌, ℕ, Bool, true, false, List, [], ◌∷◌, Option, Some, None, is_some, Result, Ok, Err, slice_get, inl, inr, refl, sym, ap, subst, ◌∙◌, arith, if◌then◌else◌}
+use Rattle.std.proofs.Common.{◌≡◌, ◌==◌, ◌++◌, ℕ, Bool, true, false, List, [], ◌∷◌, Option, Some, None, is_some, Result, Ok, Err, refl, sym, ap, subst, ◌∙◌, arith, if◌then◌else◌}
 use Rattle.std.proofs.lemmas.Bool.Decides.{nat_tests}
 use Rattle.std.specs.List.{AllByRecursion}
 use Rattle.wire_base.proofs.MapLaws.{lookup-put_other, lookup-put_same, lookup-take_out_other}
@@ -27,8 +27,7 @@ use Rattle.channel_turns.specs.declared.state.TurnEnd.TheVariants as turn_end
 use Rattle.channel_turns.specs.declared.state.TurnEnded.{TurnEnded}
 use Rattle.channel_turns.specs.declared.state.Turning.{Turning}
 use Rattle.controller_calls.specs.Desk.{Desk}
-use Rattle.controller_calls.specs.Forwarded.{ForwardedState, call_without, line_unless, line_without}
-use Rattle.controller_calls.specs.declared.calls.ControllerCall.{ControllerCall}
+use Rattle.controller_calls.specs.Forwarded.{ForwardedState, line_unless, line_without}
 use Rattle.controller_calls.specs.declared.calls.ControllerCall.TheVariants as call
 use Rattle.controller_calls.specs.declared.calls.JudgedCall.{JudgedCall}
 use Rattle.controller_calls.specs.declared.line.Line.{Line}
@@ -38,7 +37,7 @@ use Rattle.domain_controller.specs.Machine.{by_call, by_heard}
 use Rattle.domain_controller.specs.State.{State}
 use Rattle.domain_controller.specs.Step.{LinkMap}
 use Rattle.domain_controller.specs.TrustLaws.{AnswersOpenLinks, AreApart, AreLinesOpen, AreNotOn, IsLineOpen, IsNotOn, OpenUnlessStopped}
-use Rattle.domain_controller.specs.TrustStep.{TrustPart, TrustParts, after_turned, after_units, answer_dial, by_trust_event, close_by, close_number, event_and_turn, fail_dial, first_waiting, is_idle, link_with, next_if, next_part, next_turn, on_turn, open_by, parts_of, put_open, serve_bytes, serve_on, start_at, start_on, trust_halted, trust_part, trust_state_after, trust_step_on, turn_at, turning_of, without_link}
+use Rattle.domain_controller.specs.TrustStep.{TrustPart, TrustParts, after_turned, after_units, answer_dial, by_trust_event, close_by, close_number, event_and_turn, fail_dial, first_waiting, is_idle, link_with, next_if, next_part, next_turn, open_by, parts_of, put_open, serve_bytes, serve_on, start_at, start_on, trust_halted, trust_part, trust_state_after, trust_step_on, turn_at, turning_of, without_link}
 use Rattle.domain_controller.specs.Trusting.{ForwardedCalls, same_place}
 use Rattle.domain_controller.specs.declared.hearing.Heard.{Heard}
 use Rattle.domain_controller.specs.declared.hearing.Heard.TheVariants as heard
@@ -232,8 +231,7 @@ module _ (Has : ℕ → Type 0) where
   call_has : (c : JudgedCall) (line : Line) (before after : TrustDesk) → CallComes c line before after → Has line.link → WorkHas Has before.work → WorkHas Has after.work
   call_has c line before after (ForwardedOn is so) has have =
       subst (λ (calls : ForwardedCalls). LinesHave Has calls) (sym so.forwarded)
-      (lines_push Has before.work.queues.forwarded (is.goes.trust, so.place) so.call have
-      (subst (λ (l : Option Line). LineHas Has l) (sym so.answers) has))
+      (lines_push Has before.work.queues.forwarded (is.goes.trust, is.goes.requester.next_place) _ have has)
   call_has c line before after (AnsweredHere so) has have = subst (λ (queues : Queues). LinesHave Has queues.forwarded) (sym so.queues) have
 
   unit_has : (h : Heard) (link : ℕ) (name : List ℕ) (now : ℕ) (d : TrustDesk) (left : List (List ℕ)) → IsOn link h → Has link → WorkHas Has d.work →

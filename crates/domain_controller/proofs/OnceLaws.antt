@@ -1,5 +1,5 @@
 -- At most one logon that was asked is answered in a step. It serves `one_logon_is_answered`.
-use Rattle.std.proofs.Common.{◌≡◌, ◌+◌, ◌≤◌, ◌++◌, ℕ, Bool, true, false, List, [], ◌∷◌, Option, Some, None, Result, Ok, Err, slice_get, refl, sym, ap, subst, ◌∙◌, arith}
+use Rattle.std.proofs.Common.{◌≡◌, ◌+◌, ◌≤◌, ◌++◌, ℕ, Bool, true, false, List, [], ◌∷◌, Option, Some, None, Result, Ok, Err, slice_get, refl, ap, ◌∙◌, arith}
 use Rattle.std.specs.List.{AllByRecursion}
 use Rattle.wire_base.specs.Maps.{lookup, same_number, take_out}
 use Rattle.outside.specs.Machine.{Part, step_by, then_part}
@@ -27,7 +27,7 @@ use Rattle.channel_client.specs.Machine.{take_of}
 use Rattle.channel_client.specs.State.{Requester}
 use Rattle.channel_turns.proofs.KeepLaws.{StaysOnTurns, taken_by, turn_stays}
 use Rattle.channel_turns.specs.Dials.{NextTurn, next_turn as channel_turn}
-use Rattle.channel_turns.specs.Turning.{Turned, answer_by, close_if, dial_for, dial_part, fail_by, hear_by, hear_if, is_on, is_waiting, link_answers, link_closes, link_hears, next_dial, no_dial}
+use Rattle.channel_turns.specs.Turning.{Turned, answer_by, close_if, dial_for, dial_part, fail_by, hear_by, hear_if, is_on, is_waiting, link_answers, link_closes, link_hears, no_dial}
 use Rattle.channel_turns.specs.Turns.{TurnServed}
 use Rattle.channel_turns.specs.declared.state.Dialling.{Dialling}
 use Rattle.channel_turns.specs.declared.state.Dialling.TheVariants as dialling
@@ -42,7 +42,6 @@ use Rattle.controller_calls.specs.Forwarded.{ForwardedState}
 use Rattle.controller_calls.specs.Handing.{forwarded_reply, reply_if}
 use Rattle.controller_calls.specs.Logons.{status_of}
 use Rattle.controller_calls.specs.Passing.{IsKeep, judges_call}
-use Rattle.controller_calls.specs.declared.calls.ControllerCall.{ControllerCall}
 use Rattle.controller_calls.specs.declared.calls.ControllerCall.TheVariants as call
 use Rattle.controller_calls.specs.declared.calls.JudgedCall.{JudgedCall}
 use Rattle.controller_calls.specs.declared.line.Line.{Line}
@@ -53,7 +52,7 @@ use Rattle.domain_controller.specs.Machine.{by_heard}
 use Rattle.domain_controller.specs.State.{State}
 use Rattle.domain_controller.specs.Step.{LinkMap}
 use Rattle.domain_controller.specs.TrustLaws.{AnswersOnce, answers_in, answers_judged, told_answers}
-use Rattle.domain_controller.specs.TrustStep.{TrustPart, TrustParts, after_units, answer_dial, by_trust_event, close_by, close_number, event_and_turn, fail_dial, first_waiting, is_idle, link_with, next_if, next_part, next_turn, after_turned, on_turn, open_by, open_number, parts_of, put_open, serve_bytes, serve_on, start_at, start_on, trust_halted, trust_part, trust_state_after, trust_step_on, turn_at, turned_work, turning_of, without_link}
+use Rattle.domain_controller.specs.TrustStep.{TrustPart, TrustParts, after_units, answer_dial, by_trust_event, close_by, close_number, event_and_turn, fail_dial, first_waiting, is_idle, link_with, next_if, next_part, next_turn, after_turned, open_by, parts_of, put_open, serve_bytes, serve_on, start_at, start_on, trust_halted, trust_part, trust_state_after, trust_step_on, turn_at, turned_work, turning_of, without_link}
 use Rattle.domain_controller.specs.declared.hearing.Heard.{Heard}
 use Rattle.domain_controller.specs.declared.hearing.Heard.TheVariants as heard
 use Rattle.domain_controller.specs.declared.state.Running.{Running}
@@ -66,14 +65,14 @@ use Rattle.domain_controller.proofs.UnitLaws.{UnitCases, heard_comes}
 
 -- ---- actions
 
-more : (actions others : List Action) → told_answers (actions ++ others) ≡ told_answers actions + told_answers others
+pub more : (actions others : List Action) → told_answers (actions ++ others) ≡ told_answers actions + told_answers others
 more [] others = omega arith
 more (what ∷ actions) others = omega (arith, more actions others)
 
 none_more : (actions : List Action) (what : Action) → answers_in what ≡ 0 → told_answers (actions ++ what ∷ []) ≡ told_answers actions
 none_more actions what none = omega (arith, more actions (what ∷ []), none)
 
-texts_none : (kept : List Action) → AllByRecursion IsKeep kept → told_answers kept ≡ 0
+pub texts_none : (kept : List Action) → AllByRecursion IsKeep kept → told_answers kept ≡ 0
 texts_none [] are = refl
 texts_none (action.Keep text ∷ kept) are = omega (arith, texts_none kept are.1)
 texts_none (action.Send at bytes ∷ kept) are = absurd are.0
@@ -82,7 +81,7 @@ texts_none (action.Close at cause ∷ kept) are = absurd are.0
 texts_none (action.Told at outcome ∷ kept) are = absurd are.0
 texts_none (action.Judged how ∷ kept) are = absurd are.0
 
-judged_none : (how : Judged) → judges_call how ≡ true → answers_judged how ≡ 0
+pub judged_none : (how : Judged) → judges_call how ≡ true → answers_judged how ≡ 0
 judged_none (judged.Passed status) judges = refl
 judged_none judged.Forwarded judges = refl
 judged_none (judged.Answered status) judges = absurd (let x = judges in cc)
@@ -95,7 +94,7 @@ abbrev BaseSame : Desk → ServedPart Desk Talk → Type 0
 BaseSame d (Err why) = Unit {0}
 BaseSame d (Ok part) = told_answers part.value.0.work.actions ≡ told_answers d.work.actions
 
-abbrev UnlessJudged : Heard → Type 0 → Type 0
+abbrev pub UnlessJudged : Heard → Type 0 → Type 0
 UnlessJudged (heard.Close cause) Fact = Fact
 UnlessJudged (heard.Answer bytes talk) Fact = Fact
 UnlessJudged (heard.Waits talk) Fact = Fact

@@ -7,7 +7,7 @@ use Rattle.wire_base.proofs.MapLaws.{put_others, taken_others}
 use Rattle.wire_base.proofs.NameLaws.{IsSameness-same_name}
 use Rattle.authenticators.specs.SecureChannels.{SecureChannelState, passes_on, channel_by}
 use Rattle.controller_calls.specs.declared.calls.ControllerCall.{ControllerCall}
-use Rattle.domain_controller.specs.Laws.{calls_of, names_by, names, KeepsComputer, KeepsUnlessStopped, KeepsOthers}
+use Rattle.domain_controller.specs.Laws.{calls_of, names_by, names, trust_calls_of, KeepsComputer, KeepsUnlessStopped, KeepsOthers}
 use Rattle.controller_calls.specs.Desk.{Desk, put_pair, take_pair, put_channel, take_channel}
 use Rattle.controller_calls.specs.Opening.{channel_for}
 use Rattle.controller_calls.specs.Calls.{computer_named}
@@ -19,6 +19,7 @@ use Rattle.controller_calls.specs.declared.state.Work.{Work}
 use Rattle.controller_calls.specs.declared.calls.JudgedCall.{JudgedCall}
 use Rattle.controller_calls.proofs.DoneLaws.{channels_left}
 use Rattle.controller_calls.proofs.OutcomeLaws.{JudgedComes, Passes, Refused, pair_for}
+use Rattle.domain_controller.proofs.TrustWalkLaws.{IsMovedOn, TrustWalks, trust_leads}
 use Rattle.domain_controller.proofs.WalkLaws.{DeskTrail, DeskWalks, behind_all, desk_leads, front_all}
 
 -- ---- what is kept of computers
@@ -89,6 +90,22 @@ others_walks n name now = record {
   judged = λ line c d after comes others. judged_keeps n c name now line d after others.0 comes;
 }
 
+-- a logon for a trust moves the channel of the computer that it names alone
+moved_keeps : (n : List ℕ) (c : JudgedCall) (d after : Desk) → names_by (computer_named c) n ≡ false → IsMovedOn c d after → KeepsComputer n d.work.computers after.work.computers
+moved_keeps n c d after other is =
+    let moved : SecureChannelState = channel_by (passes_on is.next.channel is.next.given) is.next.channel is.next.given in
+    let apart : same_name is.next.computer n ≡ false = sym (ap (λ (named : Option (List ℕ)). names_by named n) is.next.named) ∙ other in
+    subst (λ (computers : Computers). KeepsComputer n d.work.computers computers) (sym is.computers)
+    (both n d.work.computers (take_channel is.next.computer d.work).computers (put_channel is.next.computer moved (take_channel is.next.computer d.work)).computers
+    (channel_taken n is.next.computer d.work apart) (channel_put n is.next.computer moved (take_channel is.next.computer d.work) apart))
+
+trust_others_walk : (n name : List ℕ) (now : ℕ) → TrustWalks name now (OthersTrail n)
+trust_others_walk n name now = record {
+  base = others_walks n name now;
+  moved = λ c d after is others. moved_keeps n c d after others.0 is;
+  turns = λ d what is others. same n d.work.computers;
+}
+
 pub keeps_others : KeepsOthers
 keeps_others = record {
   keeps = λ s running what now left n is others.
@@ -98,5 +115,14 @@ keeps_others = record {
         taken = λ other after links rest so leads.
             let one : other ≡ running = let both : Some other ≡ Some running = sym so ∙ is in cc in
             subst (λ (r : Running). KeepsComputer n r.computers after.work.computers) one (leads (subst (λ (r : Running). Others n (calls_of what r.links)) (sym one) others));
+      });
+  trusting = λ s running what now left n is others.
+      trust_leads (λ stepped. KeepsUnlessStopped n running.computers stepped.state.running) (OthersTrail n) s what now left (trust_others_walk n s.name now) (record {
+        stopped = λ none. absurd (let never : None ≡ Some running = sym none ∙ is in cc);
+        spent = λ other so. tt;
+        taken = λ other after rest so leads.
+            let one : other ≡ running = let both : Some other ≡ Some running = sym so ∙ is in cc in
+            subst (λ (r : Running). KeepsComputer n r.computers after.parts.work.work.computers) one
+            (leads (subst (λ (r : Running). Others n (trust_calls_of what r.links s.trusting.dialling)) (sym one) others));
       });
 }

@@ -44,17 +44,17 @@ use Rattle.domain_controller.proofs.WalkLaws.{EventCases, acts_of, acts_step, ev
 
 -- ---- the stub of a reply
 
-abbrev IsStub : List ℕ → Type 0
+abbrev pub IsStub : List ℕ → Type 0
 IsStub stub = ((answer : Reply) × (stub ≡ written_reply answer)) ⊎ ((answer : SetReply) × (stub ≡ written_set_reply answer))
 
-passed_stub : (what : Asked) (key credential : List ℕ) (done : Done) → IsStub (stub_asked what key credential done)
+pub passed_stub : (what : Asked) (key credential : List ℕ) (done : Done) → IsStub (stub_asked what key credential done)
 passed_stub (asked.Network info validation) key credential done = inl (_, refl)
 passed_stub (asked.Interactive info validation) key credential done = inl (_, refl)
 passed_stub (asked.Logoff info) key credential done = inl (_, refl)
 passed_stub asked.NetworkLogoff key credential done = inl (_, refl)
 passed_stub (asked.Set account kind hidden) key credential done = inr (_, refl)
 
-barred_stub : (what : Asked) → IsStub (refused_stub what)
+pub barred_stub : (what : Asked) → IsStub (refused_stub what)
 barred_stub (asked.Network info validation) = inl (_, refl)
 barred_stub (asked.Interactive info validation) = inl (_, refl)
 barred_stub (asked.Logoff info) = inl (_, refl)
@@ -75,11 +75,11 @@ answers_it link unit talk bytes later (Faults status line small at same) =
 
 module _ (link : ℕ) (all : List (List ℕ)) where
   -- what is answered on that line answers one of these units
-  record AnswersOn (line : Line) : Type 0 where
-    on : line.link ≡ link
-    answers : (stub : List ℕ) → IsStub stub → AnswersOne all (bytes_of_call (response_of line.call line.context stub) line.limit)
+  pub record AnswersOn (line : Line) : Type 0 where
+    pub on : line.link ≡ link
+    pub answers : (stub : List ℕ) → IsStub stub → AnswersOne all (bytes_of_call (response_of line.call line.context stub) line.limit)
 
-  abbrev IsFor : Heard → Type 0
+  abbrev pub IsFor : Heard → Type 0
   IsFor (heard.Close cause) = Unit {0}
   IsFor (heard.Answer bytes talk) = AnswersOne all bytes
   IsFor (heard.Waits talk) = Unit {0}
@@ -95,7 +95,7 @@ module _ (link : ℕ) (all : List (List ℕ)) where
         | inr answer ↦ inr (inr (inr (inr (answer.0, line.limit, same ∙ ap (λ s. bytes_of_call (response_of unit.call (context_of unit.body) s) line.limit) answer.1))))
       ]
 
-  unit_for : (unit : RpcUnit) (talk : Talk) (bytes : List ℕ) → Contains all bytes → unit_of bytes ≡ Ok unit → (h : Heard) → IsHeardAs link unit talk h → IsFor h
+  pub unit_for : (unit : RpcUnit) (talk : Talk) (bytes : List ℕ) → Contains all bytes → unit_of bytes ≡ Ok unit → (h : Heard) → IsHeardAs link unit talk h → IsFor h
   unit_for unit talk bytes has is (heard.Close cause) known = tt
   unit_for unit talk bytes has is (heard.Answer sent later) known = (has.0, bytes, has.1, has.2, (unit, is, answers_it link unit talk sent later known))
   unit_for unit talk bytes has is (heard.Waits later) known = tt
@@ -182,7 +182,7 @@ module _ (link : ℕ) (all : List (List ℕ)) where
   link_adds (Ok part) rest links adds = subst (λ actions. AllByRecursion On actions) (sym adds.1) adds.2
 
 -- each unit is among the units
-all_of : (P : List ℕ → Type 0) (units : List (List ℕ)) → ((bytes : List ℕ) → Contains units bytes → P bytes) → AllByRecursion P units
+pub all_of : (P : List ℕ → Type 0) (units : List (List ℕ)) → ((bytes : List ℕ) → Contains units bytes → P bytes) → AllByRecursion P units
 all_of P [] has = tt
 all_of P (bytes ∷ units) has =
     (has bytes (0, omega arith, refl), all_of P units (λ other is. has other (suc is.0, (let less = is.1 in omega arith), is.2)))

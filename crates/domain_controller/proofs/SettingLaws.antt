@@ -23,6 +23,7 @@ use Rattle.controller_calls.specs.declared.calls.JudgedCall.{JudgedCall}
 use Rattle.controller_calls.specs.declared.calls.JudgedCall.TheVariants.{Interactive, Logoff, Network, NetworkLogoff, Set}
 use Rattle.domain_controller.specs.Keeping.{HashesAreSet, SetsHashes, secret_if, user_secret}
 use Rattle.domain_controller.proofs.UnsetLaws.{interactive_levels, levels}
+use Rattle.domain_controller.proofs.TrustWalkLaws.{trust_leads, trust_table_walks}
 use Rattle.domain_controller.proofs.WalkLaws.{OfTables, TableTrail, TableWalks, desk_leads, table_walks}
 use Rattle.interactive_logon.specs.declared.sessions.Session.{Session}
 
@@ -200,6 +201,12 @@ hashes_are_set = record {
         stopped = λ none. sets_none s.table s.table (differs-none s.table);
         spent = λ running is. sets_none s.table s.table (differs-none s.table);
         taken = λ running after links rest is leads. leads;
+      });
+  trusting = λ s what now left.
+      trust_leads (λ stepped. SetsHashes s.table stepped.state.table) (OfTables SetTrail) s what now left (trust_table_walks s.name now SetTrail (set_walks s.name now)) (record {
+        stopped = λ none. sets_none s.table s.table (differs-none s.table);
+        spent = λ running is. sets_none s.table s.table (differs-none s.table);
+        taken = λ running after rest is leads. leads;
       });
   joined = sets_joined;
   users = users_stay;

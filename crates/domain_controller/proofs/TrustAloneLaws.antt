@@ -1,12 +1,11 @@
 -- A controller that can ask nobody steps as one that trusts no domain. It serves `what_asks_nobody_steps_alone`.
-use Rattle.std.proofs.Common.{◌≡◌, ◌++◌, ℕ, Bool, true, false, nat_le, List, [], ◌∷◌, length, map, Option, Some, None, Result, Ok, Err, refl, sym, ap, subst, ◌∙◌}
+use Rattle.std.proofs.Common.{◌≡◌, ◌++◌, ℕ, Bool, true, false, nat_le, List, [], ◌∷◌, length, map, Option, Some, None, Ok, Err, refl, sym, ap, ◌∙◌}
 use Rattle.wire_base.specs.Maps.{lookup, same_number, take_out}
 use Rattle.account_table.specs.AccountTable.{AccountTable}
 use Rattle.account_table.specs.declared.account.Trust.{Trust}
 use Rattle.outside.specs.declared.event.Event.{Event}
 use Rattle.outside.specs.declared.event.Event.TheVariants as event
-use Rattle.outside.specs.declared.action.StepRefused.{StepRefused}
-use Rattle.outside.specs.Machine.{Part, Stepped, spent_step, step_by, then_part, whole_step}
+use Rattle.outside.specs.Machine.{Stepped, spent_step, step_by, then_part, whole_step}
 use Rattle.rpc_units.specs.declared.refused.UnitRefused.{UnitRefused}
 use Rattle.rpc_units.specs.Stream.{cut_stream}
 use Rattle.channel_client.specs.Machine.{fresh_requester}
@@ -14,7 +13,7 @@ use Rattle.channel_turns.specs.declared.state.Dialling.TheVariants as dialling
 use Rattle.end_links.specs.Links.{LinkState}
 use Rattle.end_links.specs.Serving.{ServedPart, served_by, then_open, then_talk}
 use Rattle.controller_calls.proofs.HandingLaws.{judges_here}
-use Rattle.controller_calls.specs.Desk.{Desk, desk}
+use Rattle.controller_calls.specs.Desk.{Desk}
 use Rattle.controller_calls.specs.Handing.{Handing}
 use Rattle.controller_calls.specs.declared.calls.ControllerCall.{ControllerCall}
 use Rattle.controller_calls.specs.declared.calls.ControllerCall.TheVariants as call
@@ -29,7 +28,7 @@ use Rattle.domain_controller.specs.Step.{LinkMap, StepPart, by_event, first_desk
 use Rattle.domain_controller.specs.TrustLaws.{StepsAlone}
 use Rattle.domain_controller.specs.TrustStep as trust_step
 use Rattle.domain_controller.specs.TrustStep.{TrustPart, TrustParts, after_units, by_trust_event, event_and_turn, first_trust_state, next_turn, parts_of, trust_halted, trust_part, trust_state_after, trust_step_of, trust_step_on}
-use Rattle.domain_controller.specs.Trusting.{first_trusting, no_queues, no_trusting, trust_caller}
+use Rattle.domain_controller.specs.Trusting.{no_queues, no_trusting, trust_caller}
 use Rattle.domain_controller.specs.declared.hearing.Heard.{Heard}
 use Rattle.domain_controller.specs.declared.hearing.Heard.TheVariants as heard
 use Rattle.domain_controller.specs.declared.state.Running.{Running}

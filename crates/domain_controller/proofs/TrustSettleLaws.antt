@@ -26,17 +26,17 @@ use Rattle.outside.specs.Machine.{Part}
 use Rattle.end_links.specs.Links.{LinkState}
 use Rattle.end_loop.specs.Acts.{is_made, most_made_by}
 use Rattle.end_loop.specs.Runs.{actions_of}
-use Rattle.channel_client.specs.Machine.{Starting, can_start, later_logons, lose_of, needs_challenge, start_by as start_turn_by, start_of}
+use Rattle.channel_client.specs.Machine.{Starting, can_start, later_logons, lose_of, needs_challenge, start_by as start_turn_by}
 use Rattle.channel_client.specs.State.{Requester}
 use Rattle.channel_client.specs.declared.state.Pending.{Pending}
 use Rattle.channel_client.specs.declared.state.Waiting.{Waiting}
-use Rattle.channel_turns.specs.Dials.{begun, next_by}
-use Rattle.channel_turns.specs.Turning.{close_if, dial_for, dial_part, drop_turn, is_on, is_waiting, link_answers, link_closes, next_dial, no_dial}
+use Rattle.channel_turns.specs.Dials.{next_by}
+use Rattle.channel_turns.specs.Turning.{close_if, dial_for, dial_part, drop_turn, is_on, is_waiting, link_answers, link_closes, no_dial}
 use Rattle.channel_turns.specs.declared.state.Dialling.{Dialling}
 use Rattle.channel_turns.specs.declared.state.Dialling.TheVariants as dialling
 use Rattle.channel_turns.specs.declared.state.Turning.{Turning}
 use Rattle.controller_calls.specs.Forwarded.{ForwardedState}
-use Rattle.controller_calls.specs.Handing.{answer_forwarded, forwarded_reply, reply_if}
+use Rattle.controller_calls.specs.Handing.{forwarded_reply, reply_if}
 use Rattle.controller_calls.specs.Desk.{tell}
 use Rattle.controller_calls.specs.Logons.{status_of}
 use Rattle.controller_calls.specs.declared.line.Line.{Line}
@@ -44,7 +44,7 @@ use Rattle.controller_calls.specs.declared.state.Work.{Work}
 use Rattle.domain_controller.specs.Forwarding.{answer_found, answer_place, calls_without}
 use Rattle.domain_controller.specs.State.{State}
 use Rattle.domain_controller.specs.TrustLaws.{ClosesNone, IsQuiet, IsWithin, Settles}
-use Rattle.domain_controller.specs.TrustStep.{TrustPart, TrustParts, after_turned, answer_dial, close_by, close_number, dial_weight, event_and_turn, fail_dial, first_waiting, idle_by, is_idle, next_if, next_part, next_turn, on_turn, parts_of, start_at, start_on, trust_halted, trust_part, trust_state_after, trust_step_on, trusting_after, trusting_weight, turn_at, turn_weight, turned_work, turning_of, waiting_weight, without_link}
+use Rattle.domain_controller.specs.TrustStep.{TrustPart, TrustParts, after_turned, answer_dial, close_by, close_number, dial_weight, event_and_turn, fail_dial, first_waiting, idle_by, is_idle, next_if, next_part, next_turn, parts_of, start_at, start_on, trust_halted, trust_part, trust_state_after, trust_step_on, trusting_after, trusting_weight, turn_at, turn_weight, turned_work, turning_of, waiting_weight, without_link}
 use Rattle.domain_controller.specs.Trusting.{ForwardedCalls, same_place}
 use Rattle.domain_controller.specs.declared.state.Running.{Running}
 use Rattle.domain_controller.specs.declared.trusting.Parts.{Parts}
@@ -78,7 +78,7 @@ got_same (s ∷ requesters) (suc at) old new there = got_same requesters at old 
 
 -- ---- logons that were asked
 
-same_count : (number : ℕ) (calls : ForwardedCalls) → length (calls_without number calls) ≡ length calls
+pub same_count : (number : ℕ) (calls : ForwardedCalls) → length (calls_without number calls) ≡ length calls
 same_count number [] = refl
 same_count number (entry ∷ calls) = omega (arith, same_count number calls)
 
@@ -88,7 +88,7 @@ out_by : (b : Bool) (entry : (ℕ × ℕ) × ForwardedState) (calls taken : Forw
 out_by true entry calls taken found f ih is = omega arith
 out_by false entry calls taken found f ih is = omega (arith, ih is)
 
-taken_count : (key : ℕ × ℕ) (calls : ForwardedCalls) (f : ForwardedState) → lookup same_place key calls ≡ Some f →
+pub taken_count : (key : ℕ × ℕ) (calls : ForwardedCalls) (f : ForwardedState) → lookup same_place key calls ≡ Some f →
     length (take_out same_place key calls) + 1 ≡ length calls
 taken_count key [] f is = absurd (let x = is in cc)
 taken_count key (entry ∷ calls) f is =

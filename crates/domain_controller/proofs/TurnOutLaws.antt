@@ -1,8 +1,7 @@
 -- One turn is out at a time, over all trusts. It serves `one_turn_is_out`.
-use Rattle.std.proofs.Common.{◌≡◌, ◌<◌, ◌++◌, ℕ, zero, suc, Bool, true, false, not, List, [], ◌∷◌, length, map, Option, Some, None, is_some, Result, Ok, Err, slice_get, slice_set, refl, sym, ap, subst, ◌∙◌, arith}
+use Rattle.std.proofs.Common.{◌≡◌, ◌<◌, ◌++◌, ℕ, zero, suc, Bool, true, false, not, List, [], ◌∷◌, length, map, Option, Some, None, is_some, Result, Ok, Err, slice_get, slice_set, refl, sym, ap, ◌∙◌, arith}
 use Rattle.wire_base.specs.Maps.{lookup, same_number, take_out}
 use Rattle.outside.specs.Machine.{Part, step_by, then_part}
-use Rattle.outside.specs.declared.action.DropCause.{DropCause}
 use Rattle.outside.specs.declared.action.StepRefused.{StepRefused}
 use Rattle.outside.specs.declared.event.Event.{Event}
 use Rattle.outside.specs.declared.event.Event.TheVariants as event
@@ -18,7 +17,7 @@ use Rattle.channel_client.specs.Machine.{can_start, fresh_requester, needs_chall
 use Rattle.channel_client.specs.State.{Requester}
 use Rattle.channel_client.specs.Turns.{is_out}
 use Rattle.channel_turns.proofs.TurnLaws.{turns_end}
-use Rattle.channel_turns.specs.Dials.{NextTurn, begun, next_by, next_part as turn_part, next_turn as channel_turn}
+use Rattle.channel_turns.specs.Dials.{NextTurn, next_by, next_turn as channel_turn}
 use Rattle.channel_turns.specs.Turning.{Turned, answer_by, close_if, dial_for, dial_part, fail_by, hear_by, hear_if, is_on, is_waiting, keep_link, link_answers, link_closes, link_hears, no_dial}
 use Rattle.channel_turns.specs.Turns.{keep_turn, turn_served}
 use Rattle.channel_turns.specs.declared.state.Dialling.{Dialling}
@@ -31,7 +30,6 @@ use Rattle.channel_turns.specs.declared.state.TurnWork.{TurnWork}
 use Rattle.channel_turns.specs.declared.state.Turning.{Turning}
 use Rattle.controller_calls.specs.Desk.{Desk}
 use Rattle.controller_calls.specs.Forwarded.{ForwardedState}
-use Rattle.controller_calls.specs.declared.calls.ControllerCall.{ControllerCall}
 use Rattle.controller_calls.specs.declared.calls.ControllerCall.TheVariants as call
 use Rattle.controller_calls.specs.declared.calls.JudgedCall.{JudgedCall}
 use Rattle.controller_calls.specs.declared.line.Line.{Line}
@@ -44,7 +42,7 @@ use Rattle.domain_controller.specs.Machine.{by_call, by_heard}
 use Rattle.domain_controller.specs.State.{State}
 use Rattle.domain_controller.specs.Step.{LinkMap}
 use Rattle.domain_controller.specs.TrustLaws.{OneIsOut, OneTurnIsOut, none_out, one_out, outs}
-use Rattle.domain_controller.specs.TrustStep.{TrustPart, TrustParts, after_turned, after_units, answer_dial, by_trust_event, close_by, close_number, event_and_turn, fail_dial, first_trust_state, first_waiting, is_idle, link_with, next_if, next_part, next_turn, on_turn, open_by, parts_of, put_open, serve_bytes, serve_on, start_at, start_on, trust_halted, trust_part, trust_state_after, trust_step_on, trusting_after, turn_at, turned_work, turning_of, without_link}
+use Rattle.domain_controller.specs.TrustStep.{TrustPart, TrustParts, after_turned, after_units, answer_dial, by_trust_event, close_by, close_number, event_and_turn, fail_dial, first_waiting, is_idle, link_with, next_if, next_part, next_turn, on_turn, open_by, parts_of, put_open, serve_bytes, serve_on, start_at, start_on, trust_halted, trust_part, trust_state_after, trust_step_on, trusting_after, turn_at, turned_work, turning_of, without_link}
 use Rattle.domain_controller.specs.Trusting.{trust_caller}
 use Rattle.domain_controller.specs.declared.hearing.Heard.{Heard}
 use Rattle.domain_controller.specs.declared.hearing.Heard.TheVariants as heard
@@ -79,17 +77,17 @@ got_map f [] at item is = absurd (let x = is in cc)
 got_map f (first ∷ items) zero item is = let same : first ≡ item = (let x = is in cc) in ap (λ it. Some (f it)) same
 got_map f (first ∷ items) (suc at) item is = got_map f items at item is
 
-got_set : {A : Type 0} (items : List A) (at : ℕ) (old new : A) → slice_get items at ≡ Some old → slice_get (slice_set items at new) at ≡ Some new
+pub got_set : {A : Type 0} (items : List A) (at : ℕ) (old new : A) → slice_get items at ≡ Some old → slice_get (slice_set items at new) at ≡ Some new
 got_set [] at old new is = absurd (let x = is in cc)
 got_set (first ∷ items) zero old new is = refl
 got_set (first ∷ items) (suc at) old new is = got_set items at old new is
 
-got_inside : {A : Type 0} (items : List A) (at : ℕ) (item : A) → slice_get items at ≡ Some item → at < length items
+pub got_inside : {A : Type 0} (items : List A) (at : ℕ) (item : A) → slice_get items at ≡ Some item → at < length items
 got_inside [] at item is = absurd (let x = is in cc)
 got_inside (first ∷ items) zero item is = omega arith
 got_inside (first ∷ items) (suc at) item is = let lt = got_inside items at item is in omega arith
 
-set_length : {A : Type 0} (items : List A) (at : ℕ) (item : A) → length (slice_set items at item) ≡ length items
+pub set_length : {A : Type 0} (items : List A) (at : ℕ) (item : A) → length (slice_set items at item) ≡ length items
 set_length [] at item = refl
 set_length (first ∷ items) zero item = refl
 set_length (first ∷ items) (suc at) item = ap suc (set_length items at item)
@@ -116,7 +114,7 @@ one_by : (idle : Bool) (turn : ℕ) (one other : List Requester) → none_out on
 one_by true turn one other same = same
 one_by false turn one other same = ap (λ all. slice_set all turn true) same
 
-alike : (before after : Trusting) → outs after.queues.requesters ≡ outs before.queues.requesters → after.turn_of ≡ before.turn_of → after.dialling ≡ before.dialling →
+pub alike : (before after : Trusting) → outs after.queues.requesters ≡ outs before.queues.requesters → after.turn_of ≡ before.turn_of → after.dialling ≡ before.dialling →
     OneIsOut before → OneIsOut after
 alike before after same turn how stands =
     let none : none_out before.queues.requesters ≡ none_out after.queues.requesters = none_alike before.queues.requesters after.queues.requesters (sym same) in
@@ -133,7 +131,7 @@ alike before after same turn how stands =
 -- ---- a requester whose turn changes
 
 -- a turn is out exactly while it is dialled
-abbrev Agrees : Turning → Type 0
+abbrev pub Agrees : Turning → Type 0
 Agrees turning = is_out turning.channel ≡ not (is_idle turning.dialling)
 
 set_by : (idle : Bool) (at : ℕ) (requesters : List Requester) (b : Bool) → outs requesters ≡ one_out idle at requesters →
@@ -155,7 +153,7 @@ placed idle at requesters channel how is agrees =
     ∙ one_set (is_idle how) at requesters
     ∙ one_by (is_idle how) at requesters (slice_set requesters at channel) (sym (none_set requesters at channel))
 
-found_by : (idle : Bool) (at : ℕ) (requesters : List Requester) (channel : Requester) → slice_get requesters at ≡ Some channel →
+pub found_by : (idle : Bool) (at : ℕ) (requesters : List Requester) (channel : Requester) → slice_get requesters at ≡ Some channel →
     outs requesters ≡ one_out idle at requesters → is_out channel ≡ not idle
 found_by true at requesters channel is same =
     let both : Some (is_out channel) ≡ Some false =
@@ -189,7 +187,7 @@ ended_keeps : (ended : Option TurnEnded) (trust : ℕ) (w : TrustWork) → (afte
 ended_keeps None trust w = refl
 ended_keeps (Some ended) trust w = end_keeps ended.how trust (close_ended ended.closes w) ∙ closed_keeps ended.closes w
 
-abbrev Stands : Parts → Type 0
+abbrev pub Stands : Parts → Type 0
 Stands parts = OneIsOut (trusting_after parts)
 
 turned_stands : (idle : Bool) (trust : ℕ) (turned : Turned) (channel : Requester) (parts : Parts) → slice_get parts.work.queues.requesters trust ≡ Some channel →
@@ -350,7 +348,7 @@ units_alike name now link first = record {
 
 -- ---- an event, and a step
 
-abbrev StandsAll : TrustPart → Type 0
+abbrev pub StandsAll : TrustPart → Type 0
 StandsAll (Err why) = Unit {0}
 StandsAll (Ok part) = Stands part.value.parts
 
@@ -403,7 +401,7 @@ bytes_stand true number piece name now table parts left stands =
 bytes_stand false number piece name now table parts left stands =
     serve_stands (lookup same_number number parts.links) number piece name now (take_out same_number number parts.links) table parts left stands
 
-event_stands : (what : Event) (name : List ℕ) (now : ℕ) (table : AccountTable) (parts : Parts) (left : List (List ℕ)) → Stands parts →
+pub event_stands : (what : Event) (name : List ℕ) (now : ℕ) (table : AccountTable) (parts : Parts) (left : List (List ℕ)) → Stands parts →
     StandsAll (by_trust_event what name now table parts left)
 event_stands (event.Opened number) name now table parts left stands =
     opened_stands _ number (close_number number parts) (closed_stands (is_on number parts.dialling) number parts stands)

@@ -16,9 +16,10 @@ use Rattle.controller_calls.specs.Interactive.{judge_interactive_level, shown_ha
 use Rattle.controller_calls.specs.Logons.{judge_level, serves_level}
 use Rattle.controller_calls.specs.declared.calls.ControllerCall.{ControllerCall}
 use Rattle.controller_calls.specs.Doing.{done_asked}
-use Rattle.domain_controller.specs.Laws.{calls_of}
+use Rattle.domain_controller.specs.Laws.{calls_of, trust_calls_of}
 use Rattle.domain_controller.specs.Sessions.{HashesStayUnset, asks_set}
 use Rattle.domain_controller.specs.declared.state.Running.{Running}
+use Rattle.domain_controller.proofs.TrustWalkLaws.{trust_leads, trust_table_walks}
 use Rattle.domain_controller.proofs.WalkLaws.{OfTables, TableTrail, TableWalks, desk_leads, table_walks, front_all, behind_all}
 
 -- ---- a call that sets no secret
@@ -66,5 +67,12 @@ hashes_stay = record {
         stopped = λ none. differs-none s.table;
         spent = λ other so. differs-none s.table;
         taken = λ other after links rest so leads. leads (subst (λ (r : Running). AreUnset (calls_of what r.links)) (some_is running other (sym is ∙ so)) all);
+      });
+  trusting = λ s running what now left is all.
+      trust_leads (λ stepped. DifferInCounts s.table stepped.state.table) (OfTables UnsetTrail) s what now left (trust_table_walks s.name now UnsetTrail (unset_walks s.name now)) (record {
+        stopped = λ none. differs-none s.table;
+        spent = λ other so. differs-none s.table;
+        taken = λ other after rest so leads.
+            leads (subst (λ (r : Running). AreUnset (trust_calls_of what r.links s.trusting.dialling)) (some_is running other (sym is ∙ so)) all);
       });
 }

@@ -183,11 +183,11 @@ module _ (Said : Talk → Type 0) where
   either true one other is that = is
   either false one other is that = that
 
-  taken_said : (number : ℕ) (links : LinkMap) → AreSaid Said links → AreSaid Said (take_out same_number number links)
+  pub taken_said : (number : ℕ) (links : LinkMap) → AreSaid Said links → AreSaid Said (take_out same_number number links)
   taken_said number [] said = tt
   taken_said number (entry ∷ links) said = either (has_key same_number number entry) links (entry ∷ take_out same_number number links) said.1 (said.0, taken_said number links said.1)
 
-  put_said : (number : ℕ) (link : LinkState Talk) (links : LinkMap) → Said link.talk → AreSaid Said links → AreSaid Said (put same_number number link links)
+  pub put_said : (number : ℕ) (link : LinkState Talk) (links : LinkMap) → Said link.talk → AreSaid Said links → AreSaid Said (put same_number number link links)
   put_said number link [] is said = (is, tt)
   put_said number link (entry ∷ links) is said =
       either (has_key same_number number entry) ((number, link) ∷ links) (entry ∷ put same_number number link links) (is, said.1) (said.0, put_said number link links is said.1)

@@ -67,7 +67,7 @@ use Rattle.domain_controller.proofs.WalkLaws.{Trail, UnitLeads, Walks, found_sai
 
 -- ---- what is heard of a unit
 
-abbrev HeardFits : ℕ → Heard → Type 0
+abbrev pub HeardFits : ℕ → Heard → Type 0
 HeardFits link (heard.Close cause) = Unit {0}
 HeardFits link (heard.Answer bytes talk) = IsWholeSend bytes × InRangeTalk talk
 HeardFits link (heard.Waits talk) = InRangeTalk talk
@@ -103,7 +103,7 @@ unit_fits link unit talk few limit (heard.Waits later) known = bound_limit talk 
 unit_fits link unit talk few limit (heard.Asked line c later) known =
     (line_of link unit talk line later limit known.0, bound_limit talk later known.0.agreed _ limit known.0.bound known.0.said)
 
-heard_fits : (link : ℕ) (bytes : List ℕ) (talk : Talk) → InRangeTalk talk → HeardFits link (hear link bytes talk)
+pub heard_fits : (link : ℕ) (bytes : List ℕ) (talk : Talk) → InRangeTalk talk → HeardFits link (hear link bytes talk)
 heard_fits link bytes talk limit =
     bytes_heard (HeardFits link) link bytes talk (λ cause. tt)
     (λ unit h is known. unit_fits link unit talk (contexts_fit bytes unit (IsUnit-unit_of bytes unit is)) limit h known)
@@ -111,7 +111,7 @@ heard_fits link bytes talk limit =
 line_fits : (link : ℕ) (bytes : List ℕ) (talk later : Talk) (line : Line) (c : ControllerCall) → InRangeTalk talk → hear link bytes talk ≡ heard.Asked line c later → IsLine line
 line_fits link bytes talk later line c limit is = (subst (HeardFits link) is (heard_fits link bytes talk limit)).0
 
-says : (h : Heard) (link : ℕ) → HeardFits link h → IfThere InRangeTalk (talk_after h)
+pub says : (h : Heard) (link : ℕ) → HeardFits link h → IfThere InRangeTalk (talk_after h)
 says (heard.Close cause) link fits = tt
 says (heard.Answer bytes talk) link fits = fits.1
 says (heard.Waits talk) link fits = fits
@@ -119,7 +119,7 @@ says (heard.Asked line c talk) link fits = fits.1
 
 -- ---- a desk at which each send so far is whole
 
-abbrev AreWhole : List Action → Type 0
+abbrev pub AreWhole : List Action → Type 0
 AreWhole actions = AllByRecursion IsWholeIfSent actions
 
 with_one : (actions : List Action) (what : Action) → AreWhole actions → IsWholeIfSent what → AreWhole (actions ++ what ∷ [])
@@ -160,11 +160,11 @@ set_in_range : (place : Option ℕ) (hash : List ℕ) (table : AccountTable) (se
 set_in_range None hash table sessions fits = fits
 set_in_range (Some place) hash table sessions fits = hash_table place hash table fits
 
-both_whole : (one two : List Action) → AreWhole one → AreWhole two → AreWhole (one ++ two)
+pub both_whole : (one two : List Action) → AreWhole one → AreWhole two → AreWhole (one ++ two)
 both_whole [] two first second = second
 both_whole (what ∷ one) two first second = (first.0, both_whole one two first.1 second)
 
-stub_whole : (line : Line) (stub : List ℕ) → IsLine line → IsRoomy stub → IsWholeSend (bytes_of_call (response_of line.call line.context stub) line.limit)
+pub stub_whole : (line : Line) (stub : List ℕ) → IsLine line → IsRoomy stub → IsWholeSend (bytes_of_call (response_of line.call line.context stub) line.limit)
 stub_whole line stub range roomy = reply_whole line.call line.context line.limit stub range.least range.most roomy.few roomy.are
 
 module _ (name : List ℕ) (now : ℕ) (is_name : IsName name) (moment : now < 2 ^ 64) where
@@ -191,7 +191,7 @@ module _ (name : List ℕ) (now : ℕ) (is_name : IsName name) (moment : now < 2
   done_roomy (Set c) computer key credential table sessions fits block =
       set_roomy credential _ block (set_status (machine_in table.accounts c.account c.channel computer) (show_of key c.hidden) table sessions)
 
-  judged_in_range : (line : Line) (c : JudgedCall) (d after : Desk) → IsLine line → InRangeDesk d → JudgedComes c name now line d after → InRangeDesk after
+  pub judged_in_range : (line : Line) (c : JudgedCall) (d after : Desk) → IsLine line → InRangeDesk d → JudgedComes c name now line d after → InRangeDesk after
   judged_in_range line c d after range fits (Refused how away) = record {
     sends = subst (λ (actions : List Action). AreWhole actions) (sym away.actions)
         (both_whole d.work.actions _ fits.sends (tt, (stub_whole line (refused_stub (asked_of c)) range (refused_roomy (asked_of c)), tt)));
@@ -213,10 +213,10 @@ module _ (name : List ℕ) (now : ℕ) (is_name : IsName name) (moment : now < 2
 
   -- ---- all units, and a step
 
-  abbrev InRange : Trail
+  abbrev pub InRange : Trail
   InRange calls before left after rest = InRangeDesk before × AreChallenges left → InRangeDesk after × AreChallenges rest
 
-  range_walks : Walks name now InRangeTalk HeardFits InRange
+  pub range_walks : Walks name now InRangeTalk HeardFits InRange
   range_walks = record {
     hears = heard_fits;
     says = λ link h fits. says h link fits;

@@ -263,7 +263,7 @@ module _ (table : AccountTable) (name : List ℕ) (now : ℕ) (range : InRangeTa
   pub interactive_fit : (info : InteractiveInfo) (validation : ℕ) (key : List ℕ) → IfGranted (judge_interactive table name now info validation key).verdict Fits
   interactive_fit info validation key = interactive_level_fits (serves_level validation) info key
 
-served_level : (validation : ℕ) → serves_level validation ≡ true → IsServedLevel validation
+pub served_level : (validation : ℕ) → serves_level validation ≡ true → IsServedLevel validation
 served_level validation is =
     elim (cases_Bool (validation == 2)) [
       | inl two ↦ inl ((Decides-eqb validation 2).0 two)

@@ -1,6 +1,6 @@
 -- How a controller that trusts other domains answers what is heard on an accepted link, and what an answer of a trusted
 -- domain's controller comes to (this project's own choice). Where no logon is handed on it is as in `Machine`.
-use Rattle.std.specs.Prelude.{ℕ, ◌+◌, ◌*◌, ◌==◌, Bool, true, false, nat_le, List, [], ◌∷◌, ◌++◌, length, map, Option, Some, None, Result, Ok, Err, slice_get, slice_set}
+use Rattle.std.specs.Prelude.{ℕ, ◌+◌, ◌*◌, Bool, true, false, nat_le, List, [], ◌∷◌, ◌++◌, length, map, Option, Some, None, Result, Ok, Err, slice_get, slice_set}
 use Rattle.wire_base.specs.Maps.{lookup, take_out}
 use Rattle.account_table.specs.AccountTable.{AccountTable}
 use Rattle.outside.specs.declared.action.Action.{Action}
@@ -63,8 +63,9 @@ told what w = record w { work = tell w.work what }
 
 -- ---- a logon that is handed on
 
--- Its texts and responses have at most so many bytes, so that the call that asks for it, in its frames, is heard whole:
--- it has fewer than 65,536. (None that a member makes has more: a message that it takes has at most 5,840.)
+-- A logon's texts and responses have at most so many bytes, so that the call that asks for it, in its frames, is heard
+-- whole: it has at most 65,536. (None that a member makes has more: each of the five is a field of a message of at most
+-- 5,840 bytes, and as fields may lie over one another, they have 29,200 in all.)
 abbrev pub logon_bytes : NetworkInfo → ℕ
 logon_bytes info =
     2 * length info.domain + (2 * length info.user + (2 * length info.workstation + (length info.nt + length info.lm)))

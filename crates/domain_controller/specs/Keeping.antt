@@ -11,6 +11,7 @@ use Rattle.account_table.specs.declared.account.Account.{Account}
 use Rattle.end_loop.specs.Runs.{actions_of}
 use Rattle.domain_controller.specs.State.{State}
 use Rattle.domain_controller.specs.Step.{step_of}
+use Rattle.domain_controller.specs.TrustStep.{trust_step_of}
 
 -- the text that is kept after an action, where that text was kept before it
 abbrev pub text_by : Action → List ℕ → List ℕ
@@ -32,6 +33,10 @@ pub record KeepsSecrets : Type 0 where
   pub text : (s : State) (what : Event) (now : ℕ) (left : List (List ℕ)) →
       text_after (secrets_of s.table.accounts) (actions_of (step_of s what now left))
       ≡ secrets_of (step_of s what now left).state.table.accounts
+  -- so it is at a controller that asks others
+  pub trusting : (s : State) (what : Event) (now : ℕ) (left : List (List ℕ)) →
+      text_after (secrets_of s.table.accounts) (actions_of (trust_step_of s what now left))
+      ≡ secrets_of (trust_step_of s what now left).state.table.accounts
 
 -- ---- which hashes are set
 
@@ -56,6 +61,8 @@ user_secret account = secret_if (is_user account.kind) account.hash account.chan
 -- is there twice.
 pub record HashesAreSet : Type 0 where
   pub step : (s : State) (what : Event) (now : ℕ) (left : List (List ℕ)) → SetsHashes s.table (step_of s what now left).state.table
+  pub trusting : (s : State) (what : Event) (now : ℕ) (left : List (List ℕ)) →
+      SetsHashes s.table (trust_step_of s what now left).state.table
   pub joined : (one two three : AccountTable) → SetsHashes one two → SetsHashes two three → SetsHashes one three
   pub users : (old new : AccountTable) → SetsHashes old new → map user_secret new.accounts ≡ map user_secret old.accounts
   pub again : (table new : AccountTable) → IsTrue (has_distinct_names table.accounts) → AllByRecursion IsFresh table.accounts → SetsHashes table new →

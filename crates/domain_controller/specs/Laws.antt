@@ -1,4 +1,5 @@
--- What holds of a controller's steps, whatever comes, from whomever (this project's own choice).
+-- What holds of a controller's steps, whatever comes, from whomever (this project's own choice). `step_of` is the step
+-- of one that asks nobody, and `trust_step_of` that of each controller, by the law `StepsAlone`.
 use Rattle.std.specs.Prelude.{ℕ, ◌≡◌, ◌⊎◌, Bool, true, false, List, [], ◌∷◌, ◌++◌, length, nat_le, Option, Some, None, Ok, Err}
 use Rattle.std.specs.List.{AllByRecursion, Any}
 use Rattle.wire_base.specs.Maps.{lookup, take_out, same_number}
@@ -32,6 +33,8 @@ use Rattle.end_links.specs.Sending.{fault_of, response_of}
 use Rattle.logon_stubs.specs.Interface.{netlogon_syntax}
 use Rattle.end_loop.specs.Acts.{is_made}
 use Rattle.end_loop.specs.Runs.{actions_of}
+use Rattle.channel_turns.specs.Turning.{is_on}
+use Rattle.channel_turns.specs.declared.state.Dialling.{Dialling}
 use Rattle.domain_controller.specs.Hearing.{hear}
 use Rattle.controller_calls.specs.ChannelKinds.{HaveKinds}
 use Rattle.controller_calls.specs.Asking.{answer_judged}
@@ -40,7 +43,9 @@ use Rattle.controller_calls.specs.Desk.{Desk}
 use Rattle.controller_calls.specs.Interactive.{judge_interactive}
 use Rattle.controller_calls.specs.Logons.{judge_info}
 use Rattle.domain_controller.specs.State.{State}
+use Rattle.domain_controller.specs.Forwarding.{TrustDesk, answer_trust_call, base_desk}
 use Rattle.domain_controller.specs.Step.{LinkMap, first_state, step_of}
+use Rattle.domain_controller.specs.TrustStep.{first_trust_state, trust_step_of}
 use Rattle.controller_calls.specs.declared.calls.ControllerCall.{ControllerCall}
 use Rattle.controller_calls.specs.declared.calls.JudgedCall.{JudgedCall}
 use Rattle.controller_calls.specs.declared.calls.JudgedCall.TheVariants.{Interactive, Logoff, Network, NetworkLogoff, Set}
@@ -156,6 +161,16 @@ abbrev pub calls_of : Event → LinkMap → List ControllerCall
 calls_of (event.Bytes number piece) links = calls_on (lookup same_number number links) number piece
 calls_of _ links = []
 
+-- those of an event where a turn is at that point: none are heard on its link
+abbrev pub calls_if : (is_turn_link : Bool) (calls : List ControllerCall) → List ControllerCall
+calls_if false calls = calls
+calls_if true calls = []
+
+abbrev pub trust_calls_of : Event → LinkMap → Dialling → List ControllerCall
+trust_calls_of (event.Bytes number piece) links how =
+    calls_if (is_on number how) (calls_on (lookup same_number number links) number piece)
+trust_calls_of _ links how = []
+
 -- the computer that a call names
 abbrev pub computer_of : ControllerCall → Option (List ℕ)
 computer_of (call.Challenge c) = Some c.computer
@@ -185,6 +200,10 @@ pub record KeepsOthers : Type 0 where
   pub keeps : (s : State) (running : Running) (what : Event) (now : ℕ) (left : List (List ℕ)) (computer : List ℕ) → s.running ≡ Some running →
       AllByRecursion (λ (c : ControllerCall). names c computer ≡ false) (calls_of what running.links) →
       KeepsUnlessStopped computer running.computers (step_of s what now left).state.running
+  pub trusting : (s : State) (running : Running) (what : Event) (now : ℕ) (left : List (List ℕ)) (computer : List ℕ) →
+      s.running ≡ Some running →
+      AllByRecursion (λ (c : ControllerCall). names c computer ≡ false) (trust_calls_of what running.links s.trusting.dialling) →
+      KeepsUnlessStopped computer running.computers (trust_step_of s what now left).state.running
 
 -- ---- of which types channels are
 
@@ -198,6 +217,9 @@ pub record KeptHaveKinds : Type 0 where
   pub first : (table : AccountTable) (name : List ℕ) → HaveKindsAtWork (first_state table name).running
   pub stays : (s : State) (what : Event) (now : ℕ) (left : List (List ℕ)) → HaveKindsAtWork s.running →
       HaveKindsAtWork (step_of s what now left).state.running
+  pub trusting_first : (table : AccountTable) (name : List ℕ) → HaveKindsAtWork (first_trust_state table name).running
+  pub trusting_stays : (s : State) (what : Event) (now : ℕ) (left : List (List ℕ)) → HaveKindsAtWork s.running →
+      HaveKindsAtWork (trust_step_of s what now left).state.running
 
 -- ---- what changes of the accounts
 
@@ -209,7 +231,8 @@ set_table (Some place) hash table = with_hash place hash table
 -- Of the accounts a step changes counts of bad passwords and hashes alone, and nothing where it isn't taken. A call on
 -- a channel whose authenticator isn't the next one leaves them. Where it is the next one, a logon, network or
 -- interactive, is judged by the accounts as they stand, and leaves what the judgement does; a change of a secret leaves
--- the hash that it shows, of the account that it names, where that one is the computer's. A logoff leaves them.
+-- the hash that it shows, of the account that it names, where that one is the computer's. A logoff leaves them. A call
+-- at a controller that asks others leaves the accounts as it would where nobody is asked, also where it is handed on.
 pub record CountsByVerdict : Type 0 where
   pub states : (s : State) (what : Event) (now : ℕ) (left : List (List ℕ)) → DifferInStates s.table (step_of s what now left).state.table
   pub given_up : (s : State) (what : Event) (now : ℕ) (left : List (List ℕ)) (why : StepRefused) →
@@ -232,3 +255,9 @@ pub record CountsByVerdict : Type 0 where
       (next : IsNext d.work.computers (Some c.computer) (Some c.authenticator)) →
       (answer_judged (Set c) name now line d).table
       ≡ set_table (machine_in d.table.accounts c.account c.channel c.computer) (show_of (key_of_channel next.channel) c.hidden) d.table
+  pub trusting_states : (s : State) (what : Event) (now : ℕ) (left : List (List ℕ)) →
+      DifferInStates s.table (trust_step_of s what now left).state.table
+  pub trusting_given_up : (s : State) (what : Event) (now : ℕ) (left : List (List ℕ)) (why : StepRefused) →
+      (trust_step_of s what now left).answer ≡ Err why → (trust_step_of s what now left).state.table ≡ s.table
+  pub trusting_call : (c : JudgedCall) (name : List ℕ) (now : ℕ) (line : Line) (d : TrustDesk) →
+      (answer_trust_call c name now line d).table ≡ (answer_judged c name now line (base_desk d)).table

@@ -8,8 +8,11 @@ pub mod ReadBack
 pub mod Sessions
 pub mod State
 pub mod Step
+pub mod TrustActions
 pub mod TrustLaws
+pub mod TrustOrder
 pub mod TrustStep
+pub mod TrustWhole
 pub mod Trusting
 pub mod TurnApart
 pub mod Whole

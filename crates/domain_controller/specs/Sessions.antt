@@ -13,14 +13,16 @@ use Rattle.account_table.specs.AccountTable.{AccountTable}
 use Rattle.account_table.specs.Changes.{DifferInCounts}
 use Rattle.end_loop.specs.Runs.{actions_of}
 use Rattle.controller_calls.specs.Calls.{is_set}
+use Rattle.controller_calls.specs.Passing.{judges_call}
 use Rattle.controller_calls.specs.declared.calls.JudgedCall.{JudgedCall}
 use Rattle.controller_calls.specs.declared.calls.JudgedCall.TheVariants.{Interactive, Logoff, Network, NetworkLogoff, Set}
 use Rattle.controller_calls.specs.Doing.{computer_or_none}
 use Rattle.controller_calls.specs.declared.calls.ControllerCall.{ControllerCall}
 use Rattle.controller_calls.specs.declared.calls.ControllerCall.TheVariants as call
-use Rattle.domain_controller.specs.Laws.{calls_of}
+use Rattle.domain_controller.specs.Laws.{calls_of, trust_calls_of}
 use Rattle.domain_controller.specs.State.{State}
 use Rattle.domain_controller.specs.Step.{first_state, step_of}
+use Rattle.domain_controller.specs.TrustStep.{trust_step_of}
 use Rattle.domain_controller.specs.declared.state.Running.{Running}
 
 -- ---- the sessions behind a call
@@ -68,6 +70,22 @@ told_in (action.Told link outcome) = []
 abbrev pub told_among : List Action → List Judged
 told_among actions = flat_map told_in actions
 
+-- those that are of calls which were heard: that a logon was answered which another controller was asked for is of none
+abbrev pub judgement_if : (of_call : Bool) → Judged → List Judged
+judgement_if false how = []
+judgement_if true how = how ∷ []
+
+abbrev pub call_told_in : Action → List Judged
+call_told_in (action.Judged how) = judgement_if (judges_call how) how
+call_told_in (action.Keep bytes) = []
+call_told_in (action.Send link bytes) = []
+call_told_in (action.Dial peer) = []
+call_told_in (action.Close link cause) = []
+call_told_in (action.Told link outcome) = []
+
+abbrev pub calls_told : List Action → List Judged
+calls_told actions = flat_map call_told_in actions
+
 -- the calls in order, each with how it was judged
 abbrev pub sessions_from : List JudgedCall → List Judged → List Session → List Session
 sessions_from [] told sessions = sessions
@@ -94,6 +112,15 @@ pub record SessionsFollowCalls : Type 0 where
       (step_of s what now left).state.running
   pub once : (s : State) (running : Running) (what : Event) (now : ℕ) (left : List (List ℕ)) → s.running ≡ Some running →
       AreJudgedOnce (judged_among (calls_of what running.links)) (told_among (actions_of (step_of s what now left))) (step_of s what now left).state.running
+  -- so it is at a controller that asks others, by how calls were judged that were heard in the step
+  pub trusting_step : (s : State) (running : Running) (what : Event) (now : ℕ) (left : List (List ℕ)) → s.running ≡ Some running →
+      HasSessions
+      (sessions_from (judged_among (trust_calls_of what running.links s.trusting.dialling)) (calls_told (actions_of (trust_step_of s what now left)))
+      running.computers.sessions)
+      (trust_step_of s what now left).state.running
+  pub trusting_once : (s : State) (running : Running) (what : Event) (now : ℕ) (left : List (List ℕ)) → s.running ≡ Some running →
+      AreJudgedOnce (judged_among (trust_calls_of what running.links s.trusting.dialling)) (calls_told (actions_of (trust_step_of s what now left)))
+      (trust_step_of s what now left).state.running
 
 -- ---- the accounts
 
@@ -108,3 +135,7 @@ pub record HashesStayUnset : Type 0 where
   pub unset : (s : State) (running : Running) (what : Event) (now : ℕ) (left : List (List ℕ)) → s.running ≡ Some running →
       AllByRecursion (λ (c : ControllerCall). asks_set c ≡ false) (calls_of what running.links) →
       DifferInCounts s.table (step_of s what now left).state.table
+  -- so it is at a controller that asks others, where no call is heard on the link of the turn
+  pub trusting : (s : State) (running : Running) (what : Event) (now : ℕ) (left : List (List ℕ)) → s.running ≡ Some running →
+      AllByRecursion (λ (c : ControllerCall). asks_set c ≡ false) (trust_calls_of what running.links s.trusting.dialling) →
+      DifferInCounts s.table (trust_step_of s what now left).state.table

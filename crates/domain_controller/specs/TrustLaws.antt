@@ -2,8 +2,14 @@
 use Rattle.std.specs.Prelude.{ℕ, ◌≡◌, ◌+◌, ◌≤◌, ◌<◌, ◌==◌, ◌↔◌, Bool, true, false, List, [], ◌∷◌, ◌++◌, length, map, Option, Some, None, is_some, Ok, Err, slice_get, slice_set}
 use Rattle.std.specs.List.{AllByRecursion}
 use Rattle.wire_base.specs.Maps.{IsMap, lookup, same_number}
+use Rattle.wire_base.specs.declared.authenticator.Authenticator.{Authenticator}
+use Rattle.authenticators.specs.Sequences.{return_of}
+use Rattle.authenticators.specs.SecureChannels.{SecureChannelState, key_of_channel}
 use Rattle.logon_stubs.specs.declared.info.NetworkInfo.{NetworkInfo}
+use Rattle.logon_stubs.specs.declared.info.Verdict.TheVariants.{Status}
 use Rattle.logon_stubs.specs.Status.{no_logon_servers}
+use Rattle.logon_stubs.specs.Writing.{written_reply}
+use Rattle.rpc_units.specs.Calls.{bytes_of_call}
 use Rattle.account_table.specs.AccountTable.{AccountTable}
 use Rattle.account_table.specs.LookUps.{route_in}
 use Rattle.account_table.specs.declared.table.Route.TheVariants as route
@@ -13,6 +19,7 @@ use Rattle.outside.specs.declared.action.Judged.{Judged}
 use Rattle.outside.specs.declared.action.Judged.TheVariants as judged
 use Rattle.outside.specs.declared.event.Event.{Event}
 use Rattle.outside.specs.declared.event.Event.TheVariants as event
+use Rattle.end_links.specs.Sending.{response_of}
 use Rattle.end_loop.specs.Acts.{is_made, most_made_by}
 use Rattle.end_loop.specs.Runs.{actions_of}
 use Rattle.channel_client.specs.Machine.{ask_of}
@@ -20,15 +27,18 @@ use Rattle.channel_client.specs.State.{Requester}
 use Rattle.channel_client.specs.Turns.{is_out}
 use Rattle.channel_turns.specs.Turning.{is_on}
 use Rattle.channel_turns.specs.declared.state.Dialling.{Dialling}
+use Rattle.controller_calls.specs.Asking.{answer_judged}
 use Rattle.controller_calls.specs.Calls.{asked_of, computer_named, given_in}
-use Rattle.controller_calls.specs.Forwarded.{ForwardedState}
+use Rattle.controller_calls.specs.Doing.{how_refused, move_on, refused_stub}
+use Rattle.controller_calls.specs.Forwarded.{ForwardedState, forwarded_call}
 use Rattle.controller_calls.specs.Handing.{hands_on}
-use Rattle.controller_calls.specs.Logons.{serves_level}
+use Rattle.controller_calls.specs.Logons.{reply_to, serves_level}
 use Rattle.controller_calls.specs.Passing.{IsKeep, IsNext, is_passed, judges_call}
 use Rattle.controller_calls.specs.declared.calls.Asked.TheVariants as asked
 use Rattle.controller_calls.specs.declared.calls.JudgedCall.{JudgedCall}
 use Rattle.controller_calls.specs.declared.line.Line.{Line}
-use Rattle.domain_controller.specs.Forwarding.{TrustDesk, answer_trust_call, fits_on}
+use Rattle.controller_calls.specs.declared.state.Computers.{Computers}
+use Rattle.domain_controller.specs.Forwarding.{TrustDesk, answer_trust_call, base_desk, fits_on, with_queues}
 use Rattle.domain_controller.specs.State.{State}
 use Rattle.domain_controller.specs.Step.{LinkMap, first_state, halted, step_of}
 use Rattle.domain_controller.specs.TrustStep.{TrustPart, first_trust_state, is_idle, trust_halted, trust_step_of, trust_step_part, trusting_after, trusting_weight}
@@ -99,25 +109,48 @@ pub record IsToBeForwarded (c : JudgedCall) (d : TrustDesk) : Type 0 where
   pub room : length goes.requester.waiting < 64
   pub fits : fits_on goes.info ≡ true
 
--- it is told so, and nothing is sent; the accounts stay, and the logon waits at that requester alone, to be answered on
--- its line
+-- what the answer to a logon needs that came on a channel: its line, the validation level that was asked for, the
+-- channel's session key, and the credential that is returned, by the channel's seed as it stood
+abbrev pub kept_call : (line : Line) (validation : ℕ) (channel : SecureChannelState) (given : Authenticator) → ForwardedState
+kept_call line validation channel given =
+    forwarded_call line validation (key_of_channel channel)
+    (return_of (key_of_channel channel) channel.seed given.timestamp)
+
+-- what is kept of computers once a call has passed: the seed of its channel has moved on
+abbrev pub moved_computers : {named : Option (List ℕ)} {given : Option Authenticator} → (d : TrustDesk) →
+    IsNext d.work.work.computers named given → Computers
+moved_computers d next = (move_on next.computer next.channel next.given (base_desk d)).work.computers
+
+-- It is told so, and nothing is sent; the accounts stay, and the channel has moved on. The logon waits at that
+-- requester alone, at its next place, and is answered by what is kept with that place.
 pub record IsForwarded (c : JudgedCall) (line : Line) (before after : TrustDesk) (is : IsToBeForwarded c before) : Type 0 where
   pub table : after.table ≡ before.table
+  pub computers : after.work.work.computers ≡ moved_computers before is.goes.next
   pub actions : after.work.work.actions ≡ before.work.work.actions ++ action.Judged judged.Forwarded ∷ []
   pub requesters : after.work.queues.requesters
       ≡ slice_set before.work.queues.requesters is.goes.trust (ask_of is.goes.requester is.goes.info).state
-  pub place : ℕ
-  pub call : ForwardedState
-  pub answers : call.line ≡ Some line
-  pub forwarded : after.work.queues.forwarded ≡ before.work.queues.forwarded ++ ((is.goes.trust, place), call) ∷ []
+  pub forwarded : after.work.queues.forwarded
+      ≡ before.work.queues.forwarded
+      ++ ((is.goes.trust, is.goes.requester.next_place), kept_call line is.goes.validation is.goes.next.channel is.goes.next.given)
+      ∷ []
 
--- nobody is asked for it: it passed with NO_LOGON_SERVERS, and that is its reply; the accounts stay
-pub record IsLeftUnasked (line : Line) (before after : TrustDesk) : Type 0 where
+-- the stub of the reply to a logon for which nobody is asked
+abbrev pub unasked_stub : ForwardedState → List ℕ
+unasked_stub f = written_reply (reply_to (Status no_logon_servers) f.validation f.key f.credential)
+
+-- Nobody is asked for it: it passed with NO_LOGON_SERVERS, and that is its reply, at the level that was asked for and
+-- with the credential that is returned. The accounts stay, and the channel has moved on.
+pub record IsLeftUnasked (c : JudgedCall) (line : Line) (before after : TrustDesk) (goes : IsForTrust c before) : Type 0 where
   pub table : after.table ≡ before.table
-  pub answer : List ℕ
+  pub computers : after.work.work.computers ≡ moved_computers before goes.next
   pub actions : after.work.work.actions
       ≡ before.work.work.actions
-      ++ action.Judged (judged.Passed no_logon_servers) ∷ action.Send line.link answer ∷ []
+      ++ action.Judged (judged.Passed no_logon_servers)
+      ∷ action.Send line.link
+      (bytes_of_call
+      (response_of line.call line.context (unasked_stub (kept_call line goes.validation goes.next.channel goes.next.given)))
+      line.limit)
+      ∷ []
   pub queues : after.work.queues ≡ before.work.queues
 
 abbrev pub is_forwarded : Judged → Bool
@@ -128,7 +161,8 @@ is_forwarded judged.Barred = false
 is_forwarded judged.NoChannel = false
 
 -- It is told otherwise how it was judged, and its reply is sent; nobody is asked. Its authenticator passes exactly
--- where it is the next one of the channel of the computer that it names.
+-- where it is the next one of the channel of the computer that it names; where it doesn't, it is told whether that
+-- computer has a channel.
 pub record IsAnsweredHere (c : JudgedCall) (line : Line) (before after : TrustDesk) : Type 0 where
   pub kept : List Action
   pub texts : AllByRecursion IsKeep kept
@@ -136,20 +170,32 @@ pub record IsAnsweredHere (c : JudgedCall) (line : Line) (before after : TrustDe
   pub judges : judges_call how ≡ true
   pub not : is_forwarded how ≡ false
   pub passes : (is_passed how ≡ true) ↔ IsNext before.work.work.computers (computer_named c) (given_in c)
+  pub refused : is_passed how ≡ false → how ≡ how_refused (computer_named c) (given_in c) before.work.work.computers
   pub answer : List ℕ
   pub actions : after.work.work.actions
       ≡ before.work.work.actions ++ (kept ++ action.Judged how ∷ action.Send line.link answer ∷ [])
   pub queues : after.work.queues ≡ before.work.queues
 
 -- A call on a secure channel is handed on exactly where it is to be. Nobody is asked for one that would be, but that it
--- finds no room or is too long.
+-- finds no room or is too long. Any other comes to what it comes to at a controller that trusts no domain.
 pub record ForwardsByTrust : Type 0 where
   pub forwards : (c : JudgedCall) (name : List ℕ) (now : ℕ) (line : Line) (d : TrustDesk) (is : IsToBeForwarded c d) →
       IsForwarded c line d (answer_trust_call c name now line d) is
   pub other : (c : JudgedCall) (name : List ℕ) (now : ℕ) (line : Line) (d : TrustDesk) → (IsToBeForwarded c d → ⊥) →
       IsAnsweredHere c line d (answer_trust_call c name now line d)
-  pub full : (c : JudgedCall) (name : List ℕ) (now : ℕ) (line : Line) (d : TrustDesk) → IsForTrust c d →
-      (IsToBeForwarded c d → ⊥) → IsLeftUnasked line d (answer_trust_call c name now line d)
+  pub full : (c : JudgedCall) (name : List ℕ) (now : ℕ) (line : Line) (d : TrustDesk) (goes : IsForTrust c d) →
+      (IsToBeForwarded c d → ⊥) → IsLeftUnasked c line d (answer_trust_call c name now line d) goes
+  pub here : (c : JudgedCall) (name : List ℕ) (now : ℕ) (line : Line) (d : TrustDesk) → (IsForTrust c d → ⊥) →
+      answer_trust_call c name now line d ≡ with_queues d.work.queues (answer_judged c name now line (base_desk d))
+  -- one whose authenticator isn't the next is told `Barred` where the computer that it names has a channel, else
+  -- `NoChannel`, and its reply returns no authenticator
+  pub denied : (c : JudgedCall) (name : List ℕ) (now : ℕ) (line : Line) (d : TrustDesk) →
+      (IsNext d.work.work.computers (computer_named c) (given_in c) → ⊥) →
+      (answer_trust_call c name now line d).work.work.actions
+      ≡ d.work.work.actions
+      ++ action.Judged (how_refused (computer_named c) (given_in c) d.work.work.computers)
+      ∷ action.Send line.link (bytes_of_call (response_of line.call line.context (refused_stub (asked_of c))) line.limit)
+      ∷ []
 
 -- ---- how many logons are answered
 

@@ -1,6 +1,6 @@
 //! The controller.
 
-ghost use Rattle.std.specs.Prelude.{◌≡◌, ◌≤◌, ◌+◌, ◌↔◌, OnErr, ◌++◌, [], length, IfOk, OnOk, Err, IsTrue, false, true};
+ghost use Rattle.std.specs.Prelude.{◌≡◌, ◌≤◌, ◌+◌, ◌*◌, ◌↔◌, OnErr, ◌++◌, [], length, IfOk, OnOk, Err, IsTrue, false, true};
 ghost use Rattle.account_table.specs.Changes.{DifferInStates, with_changes};
 ghost use Rattle.outside.specs.Drawing.{DrawsSome};
 ghost use Rattle.outside.specs.Machine.{AnswersBy, StepsBy};
@@ -64,7 +64,8 @@ impl Controller {
         Controller::make(alloc, table, name, trusting)
     }
 
-    /// The same, but that it asks the controllers of the table's trusted domains for logons of their users.
+    /// A controller of that name over these accounts, which keeps nothing of computers yet, and has no links. It asks
+    /// the controllers of the table's trusted domains for logons of their users.
     pub fn with_trusts(alloc: Global, table: Table, name: Name) -> Result<Controller, NoMemory>
         ensures { IfOk result (λ controller. controller ≡ first_trust_state table name) }
     {
@@ -141,7 +142,8 @@ impl Controller {
         self.step_once(alloc, event, now, chances)
     }
 
-    /// The same, but for what follows of the answer alone.
+    /// The step, with those of its clauses that don't follow of `answer` alone. It stands apart from `step` for the
+    /// prover alone, for which the goals of one function with all clauses are too large.
     #[tactic(auto, using(crate::proofs::TrustStepLaws::stepping, crate::proofs::ChangeLaws::differing))]
     fn step_once<Q: Chances>(
         &mut self,
@@ -215,7 +217,7 @@ impl Controller {
     /// They are at most what 256 accepted links hold, and the link of the turn. It takes no memory.
     pub fn held(&self) -> u64
         ensures count { result ≡ trust_held_of self.now }
-        ensures most { result ≤ 18343375 }
+        ensures most { result ≤ 257 * (5839 + 65536) }
     {
         let turn = self.trusting.dialling.held();
         match &self.running {

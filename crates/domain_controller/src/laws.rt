@@ -5,24 +5,28 @@ ghost use Rattle.domain_controller.specs.Laws.{ClosesNothing, AnswersUnits, Keep
 ghost use Rattle.domain_controller.specs.ReadBack.{RepliesAreReadBack};
 ghost use Rattle.domain_controller.specs.Sessions.{HashesStayUnset, SessionsFollowCalls};
 ghost use Rattle.domain_controller.specs.TrustLaws.{AnswersOnce, AnswersOpenLinks, ClosesNone, ForwardsByTrust, LinksAreApart, OneTurnIsOut, StepsAlone};
+ghost use Rattle.domain_controller.specs.TrustActions.{ActsInOrder};
+ghost use Rattle.domain_controller.specs.TrustOrder.{EachIsAnswered, StaysInOrder};
+ghost use Rattle.domain_controller.specs.TrustWhole.{TrustsSendWhole, WhatFitsIsWhole};
 ghost use Rattle.domain_controller.specs.Whole.{SendsAreWhole};
 
-/// A step for a link that was closed, or for a dial's answer, has no actions.
+/// A step of a controller that asks nobody, for a link that was closed or for a dial's answer, has no actions.
 #[tactic(auto, using(crate::proofs::QuietLaws::closes_nothing))]
 pub fn what_is_closed_closes_nothing()
     ensures { ClosesNothing }
 {}
 
-/// What bytes on a link make is done on that link, and each send is a bind_ack, a bind_nak, a fault or a response to a
-/// unit that was read on it, with its call number and context.
+/// What bytes on a link make at a controller that asks nobody is done on that link, and each send is a bind_ack, a
+/// bind_nak, a fault or a response to a unit that was read on it, with its call number and context. Of one that asks
+/// others `actions_stand_in_order` says it.
 #[tactic(auto, using(crate::proofs::SendLaws::answers_units))]
 pub fn each_send_answers_a_unit()
     ensures { AnswersUnits }
 {}
 
-/// Each send is the bytes of one whole unit, in one fragment or more, and has at most 65,536, whatever comes, where the
-/// controller's table and name and the limits of its links have their ranges, the moment has 64 bits, and challenges
-/// have 8 bytes. Each unit leaves them so.
+/// Each send of a controller that asks nobody is the bytes of one whole unit, in one fragment or more, and has at most
+/// 65,536, whatever comes, where the controller's table and name and the limits of its links have their ranges, the
+/// moment has 64 bits, and challenges have 8 bytes. Each unit leaves them so.
 #[tactic(auto, using(crate::proofs::WholeLaws::sends_are_whole))]
 pub fn what_is_sent_is_whole()
     ensures { SendsAreWhole }
@@ -35,14 +39,16 @@ pub fn replies_are_read_as_made()
     ensures { RepliesAreReadBack }
 {}
 
-/// A step leaves the challenges and the channel of every computer that no call answered in it names.
+/// A step leaves the challenges and the channel of every computer that no call answered in it names, also at a
+/// controller that asks others.
 #[tactic(auto, using(crate::proofs::OtherLaws::keeps_others))]
 pub fn other_channels_stay()
     ensures { KeepsOthers }
 {}
 
 /// Each channel that a controller keeps has a type: at first it keeps none, and each step leaves it so. What an
-/// accepted opening leaves has the type of its call (`kept_channels_have_kinds` of `controller_calls`).
+/// accepted opening leaves has the type of its call (`kept_channels_have_kinds` of `controller_calls`). So it is at a
+/// controller that asks others too.
 #[tactic(auto, using(crate::proofs::ChannelKindLaws::kept_have_kinds))]
 pub fn kept_channels_have_kinds()
     ensures { KeptHaveKinds }
@@ -50,7 +56,8 @@ pub fn kept_channels_have_kinds()
 
 /// Of the accounts a step changes counts of bad passwords and hashes alone, and nothing where it isn't taken. A call on
 /// a channel whose authenticator doesn't pass leaves them. Where it passes, a logon is judged by the accounts as they
-/// stand, and leaves what the judgement does; a change of a secret leaves the hash that it shows.
+/// stand, and leaves what the judgement does; a change of a secret leaves the hash that it shows. A controller that
+/// asks others leaves the accounts so too, also where it hands a logon on.
 #[tactic(auto, using(crate::proofs::CountLaws::counts_by_verdict))]
 pub fn counts_change_by_verdicts()
     ensures { CountsByVerdict }
@@ -58,27 +65,30 @@ pub fn counts_change_by_verdicts()
 
 /// A controller has no sessions at first. A step leaves those before it, to which each interactive logon that passed
 /// with status 0 added one, and from which each logoff that did took the first one of its computer, user and logon, in
-/// the order of the calls. A step that is taken tells once of each call on a channel that it heard.
+/// the order of the calls. A step that is taken tells once of each call on a channel that it heard. So it is at a
+/// controller that asks others too: what another controller's answer came to is told beside that.
 #[tactic(auto, using(crate::proofs::SessionLaws::sessions_follow))]
 pub fn sessions_follow_the_calls()
     ensures { SessionsFollowCalls }
 {}
 
-/// A step in which no NetrServerPasswordSet is heard changes counts of bad passwords alone.
+/// A step in which no NetrServerPasswordSet is heard changes counts of bad passwords alone, also at a controller that
+/// asks others.
 #[tactic(auto, using(crate::proofs::UnsetLaws::hashes_stay))]
 pub fn hashes_stay_where_none_is_set()
     ensures { HashesStayUnset }
 {}
 
 /// The text that a step keeps last is that of all accounts whose hash was set, as the step leaves them. Where it keeps
-/// none, that text is as it was.
+/// none, that text is as it was. So it is at a controller that asks others too.
 #[tactic(auto, using(crate::proofs::KeepingLaws::keeps_secrets))]
 pub fn what_is_kept_stands()
     ensures { KeepsSecrets }
 {}
 
-/// A step sets hashes of machine and trust accounts alone: those of users stay. So the text that is kept, applied to
-/// the accounts as they were read, gives the hashes that stand after any steps, where no name is there twice.
+/// A step sets hashes of machine and trust accounts alone, also at a controller that asks others: those of users stay.
+/// So the text that is kept, applied to the accounts as they were read, gives the hashes that stand after any steps,
+/// where no name is there twice.
 #[tactic(auto, using(crate::proofs::SettingLaws::hashes_are_set))]
 pub fn what_is_kept_is_read_again()
     ensures { HashesAreSet }
@@ -101,8 +111,9 @@ pub fn what_is_closed_closes_none()
 /// A call on a secure channel is handed on to the controller of a trusted domain exactly where its authenticator is the
 /// channel's next one, it asks for a network logon of that domain at a level that is served, on a channel of type 2 or
 /// 6, and there is room at that trust and in one call: then nothing is sent, the accounts stay, and the logon waits
-/// there. Where there is no room it is told as passed, and answered, with STATUS_NO_LOGON_SERVERS. Any other call is
-/// told otherwise, and answered; its authenticator passes exactly where it is the channel's next one.
+/// there, with the line, the level, the key and the credential of its answer. Where there is no room it is told as
+/// passed, and answered, with STATUS_NO_LOGON_SERVERS. Any other call comes to what it comes to where nobody is asked;
+/// where its authenticator isn't the channel's next one, it is told whether its computer has a channel.
 #[tactic(auto, using(crate::proofs::HandOnLaws::forwards_by_trust))]
 pub fn a_logon_goes_by_its_domain()
     ensures { ForwardsByTrust }
@@ -134,4 +145,44 @@ pub fn links_have_their_own_numbers()
 #[tactic(auto, using(crate::proofs::LineLaws::answers_open))]
 pub fn replies_go_to_open_links()
     ensures { AnswersOpenLinks }
+{}
+
+/// The logons that a controller asked the controller of a trusted domain for are, in order, those that wait at the end
+/// that asks it, and no two have one place; a turn that is out is for the first of them, and while no turn is out,
+/// nobody waits. So it is at first, and each step leaves it so.
+#[tactic(auto, using(crate::proofs::TrustOrderLaws::stays_in_order))]
+pub fn what_is_asked_waits()
+    ensures { StaysInOrder }
+{}
+
+/// Each logon that is told to be handed on is among those that were asked until a step tells that it is answered, and
+/// no longer: in each step as many more are among them as were handed on, less those that were answered.
+#[tactic(auto, using(crate::proofs::TrustCountLaws::each_is_answered))]
+pub fn each_logon_is_answered()
+    ensures { EachIsAnswered }
+{}
+
+/// The order of a step's actions: where bytes come on the link of a turn, requests there, the close of that link, how
+/// the logon of the turn is told to be answered, and its reply; where they come on an accepted link, what answers the
+/// units that were read there; last the dial for the next turn. A logon that is answered is one that was asked of the
+/// trust whose turn it was, and its reply is made of what was kept with it.
+#[tactic(auto, using(crate::proofs::TrustActionLaws::acts_in_order))]
+pub fn actions_stand_in_order()
+    ensures { ActsInOrder }
+{}
+
+/// The call that asks another controller for a logon whose texts and responses have at most 57,000 bytes is heard
+/// whole: its request is one unit of at most 65,536 bytes, in fragments of whatever size is agreed on.
+#[tactic(auto, using(crate::proofs::FitLaws::what_fits))]
+pub fn what_fits_is_heard_whole()
+    ensures { WhatFitsIsWhole }
+{}
+
+/// At a controller that asks others, too, each send is the bytes of one whole unit, in one fragment or more, and has at
+/// most 65,536, but for the reply to a logon that another controller granted, which is whole where the texts that were
+/// granted have at most 64 units. That holds where what the controller keeps has its ranges, the moment has 64 bits,
+/// and challenges have 8 bytes. A step leaves it so, where the calls that it hears were read of bytes.
+#[tactic(auto, using(crate::proofs::TrustWholeLaws::trusts_send_whole))]
+pub fn what_trusts_send_is_whole()
+    ensures { TrustsSendWhole }
 {}

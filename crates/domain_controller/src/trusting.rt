@@ -19,15 +19,16 @@ const TRUSTED_DOMAIN_CHANNEL: u16 = 4;
 /// Logons that were asked, each by the number of the trust and the place there.
 pub type ForwardedCalls = List<((usize, u32), ForwardedCall)>;
 
-/// Who asks, one for each trust in the table's order; and what was asked.
+/// Who asks the controllers of trusted domains (the client of MS-NRPC 3.1.4 and 3.5.4), one for each trust in the
+/// table's order; and which logons were asked (this project's own choice).
 #[derive(Drop)]
 pub struct Queues {
     pub requesters: List<Channel>,
     pub forwarded: ForwardedCalls,
 }
 
-/// The queues, and the turn that is out: the number of the trust whose turn it is, which says nothing where none is
-/// out, and its link.
+/// What a controller keeps of logons that it asks of others (this project's own choice): the queues, and the turn that
+/// is out, with the number of the trust whose turn it is, which says nothing where none is out, and its link.
 #[derive(Drop)]
 pub struct Trusting {
     pub queues: Queues,
@@ -35,14 +36,15 @@ pub struct Trusting {
     pub dialling: Dialling,
 }
 
-/// What answers calls, and the queues beside it.
+/// What answers calls at a controller, and the queues beside it (this project's own choice).
 #[derive(Drop)]
 pub struct TrustWork {
     pub work: Work,
     pub queues: Queues,
 }
 
-/// What a controller at work has beside its accounts.
+/// What a controller at work has beside its accounts (this project's own choice): what answers calls, the links, and
+/// the turn that is out.
 #[derive(Drop)]
 pub struct Parts {
     pub work: TrustWork,
@@ -51,7 +53,7 @@ pub struct Parts {
     pub dialling: Dialling,
 }
 
-/// That of a controller that can ask nobody.
+/// What is kept of logons that are asked of others at a controller that can ask nobody: nothing.
 pub(crate) fn no_trusting(alloc: Global) -> Trusting
     ensures { result ≡ no_trusting }
 {
@@ -65,8 +67,8 @@ pub(crate) fn no_trusting(alloc: Global) -> Trusting
     }
 }
 
-/// That of a controller of that name over these accounts at first: one end that asks for each trust, at which nobody
-/// waits.
+/// What a controller of that name over these accounts keeps at first of logons that it asks of others: one end that
+/// asks for each trust, at which nobody waits.
 pub(crate) fn first_trusting(
     alloc: Global,
     table: &Table,
@@ -84,7 +86,8 @@ pub(crate) fn first_trusting(
     })
 }
 
-/// Who asks at first.
+/// The ends that ask the controllers of the table's trusts at first: one for each, in the table's order, with no
+/// channel yet.
 fn fresh_requesters(alloc: Global, table: &Table, name: &Name) -> Result<List<Channel>, NoMemory>
     ensures { IfOk result (λ requesters. requesters ≡ fresh_requesters table.now name.now) }
 {
@@ -95,7 +98,7 @@ fn fresh_requesters(alloc: Global, table: &Table, name: &Name) -> Result<List<Ch
     Ok(List::from_vec(requesters))
 }
 
-/// Who asks the controller of the trusted domain at first.
+/// The end that asks the controller of a trusted domain at first: it has no channel yet.
 fn fresh_requester(
     alloc: Global,
     table: &Table,
