@@ -1,6 +1,6 @@
 -- Logons one at a time, of which some come to something else than success.
 -- It serves `claims_tell_apart`, `grants_tell_apart`, `replies_tell_apart`, `success_tells_apart`.
-use Rattle.std.proofs.Common.{◌≡◌, ◌≢◌, ℕ, zero, suc, List, [], ◌∷◌, length, Some, None, refl, sym, ap, ◌∙◌, subst, arith, ◌<◌, Bool, true, false, inl, inr, slice_get}
+use Rattle.std.proofs.Common.{◌≡◌, ◌≢◌, ℕ, List, [], ◌∷◌, length, Some, None, refl, sym, ap, ◌∙◌, subst, arith, ◌<◌, Bool, true, false, inl, inr, slice_get}
 use Rattle.std.specs.Prelude.{◌^◌, codes, ◌≤◌, AllPairs, replicate}
 use Rattle.std.specs.List.{AllByRecursion}
 use Rattle.std.proofs.lemmas.List.Elements.{All-from_recursion, All-nil, All-replicate}
@@ -17,6 +17,7 @@ use Rattle.sam_logon.specs.MayLogOn.{MayLogOn}
 use Rattle.world_moves.specs.declared.links.EndId.TheVariants.{Controller, Member}
 use Rattle.world_moves.specs.declared.moves.Move.{Move}
 use Rattle.world_moves.specs.declared.moves.Move.TheVariants as move
+use Rattle.secret_change.specs.Secrets.{tried_by}
 use Rattle.world_moves.specs.declared.plan.Plan.{Plan}
 use Rattle.world_moves.specs.declared.state.State.{State}
 use Rattle.world_moves.specs.Ends.{EndStates}
@@ -28,9 +29,8 @@ use Rattle.world_moves.specs.World.{IsMove, first_ends, first_world, happens}
 use Rattle.domain_world.specs.Claims.Completeness.{CanSucceed, ComesOneAtATime, HasComputer, MayLogOnIn, OwnKeysArrive, Succeeds, info_planned, members_of}
 use Rattle.domain_world.specs.Claims.OneByOne.{AreApart, HasOwnMember}
 use Rattle.domain_world.specs.Past.{past}
-use Rattle.logon_runs.specs.Rests.{AreAlone}
 use Rattle.claim_examples.specs.ClaimExamples.{small_account, small_hash, small_table}
-use Rattle.claim_examples.specs.CompletenessExamples.{OfCompleteness, OfOwnMembers, OfSuccess, able_client, able_member, able_plan, able_table, alike_plan, ann_accounts, ann_plan, ann_starts, lost_client, lost_moves, lost_plan, machine_account, machine_secret, plan_by, policy_plan, policy_table}
+use Rattle.claim_examples.specs.CompletenessExamples.{OfCompleteness, OfOwnMembers, OfSuccess, able_client, able_member, able_plan, able_table, alike_plan, ann_accounts, ann_plan, ann_starts, lost_client, lost_moves, lost_plan, machine_account, machine_secret, plan_by, policy_plan, policy_table, two_member, two_plan}
 use Rattle.claim_examples.proofs.SequenceLaws.{one_apart}
 
 -- ---- a client that can succeed
@@ -76,6 +76,27 @@ ann_can = record {
   is_table = refl;
   apart = one_apart (λ (one other : MemberPlan). SameName one.computer other.computer → ⊥) (able_member machine_secret);
   computer = record { account = machine_account; found = machine_found; kind = refl; enabled = refl; secret = refl };
+  account = small_account;
+  found = ann_found;
+  hash = refl;
+  may = (ann_may 0, ann_may 0);
+}
+
+-- so can she where FILE1 keeps two secrets, of which it tries that of its account
+two_can : (current next : List ℕ) (tried : Bool) → machine_secret ≡ tried_by tried next current → CanSucceed (two_plan current next tried) ann_starts 0
+two_can current next tried secret = record {
+  task = able_client small_hash;
+  is_task = refl;
+  member = 0;
+  is_member = refl;
+  member_plan = two_member current next tried;
+  is_member_plan = refl;
+  controller = 0;
+  is_controller = refl;
+  table = able_table ann_accounts;
+  is_table = refl;
+  apart = one_apart (λ (one other : MemberPlan). SameName one.computer other.computer → ⊥) (two_member current next tried);
+  computer = record { account = machine_account; found = machine_found; kind = refl; enabled = refl; secret = secret };
   account = small_account;
   found = ann_found;
   hash = refl;
@@ -206,6 +227,28 @@ not_alike can =
     let zero : 0 ≡ can.controller = cc in
     not_apart (first_ends alike_plan) 0 refl (subst (λ (controller : ℕ). AllPairs (λ (one other : MemberPlan). SameName one.computer other.computer → ⊥) (members_of (first_ends alike_plan) controller alike_plan.members)) (sym zero) can.apart)
 
+not_untried : HasComputer (able_table ann_accounts) (two_member (replicate 16 4) machine_secret false) → ⊥
+not_untried computer =
+    let is : Some machine_account ≡ Some computer.account = sym machine_found ∙ computer.found in
+    let account : machine_account ≡ computer.account = cc in
+    absurd (let never : machine_secret ≡ replicate 16 4 = ap Account.hash account ∙ computer.secret in cc)
+
+two_not : CanSucceed (two_plan (replicate 16 4) machine_secret false) ann_starts 0 → ⊥
+two_not can =
+    let plan : Plan = two_plan (replicate 16 4) machine_secret false in
+    let own : MemberPlan = two_member (replicate 16 4) machine_secret false in
+    let is_task : Some (able_client small_hash) ≡ Some can.task = can.is_task in
+    let task : able_client small_hash ≡ can.task = cc in
+    let at : Some (Member 0) ≡ Some (Member can.member) = ap (λ (one : ClientPlan). end_of_peer one.server (first_ends plan)) task ∙ can.is_member in
+    let first : 0 ≡ can.member = cc in
+    let is : Some own ≡ Some can.member_plan = ap (λ (member : ℕ). slice_get plan.members member) first ∙ can.is_member_plan in
+    let member : own ≡ can.member_plan = cc in
+    let of : Some (Controller 0) ≡ Some (Controller can.controller) = ap (λ (one : MemberPlan). end_of_peer one.controller (first_ends plan)) member ∙ can.is_controller in
+    let zero : 0 ≡ can.controller = cc in
+    let found : Some (able_table ann_accounts) ≡ Some can.table = ap (λ (controller : ℕ). slice_get plan.tables controller) zero ∙ can.is_table in
+    let table : able_table ann_accounts ≡ can.table = cc in
+    not_untried (subst (λ (one : MemberPlan). HasComputer (able_table ann_accounts) one) (sym member) (subst (λ (one : AccountTable). HasComputer one can.member_plan) (sym table) can.computer))
+
 pub of_success : OfSuccess
 of_success = record {
   can = ann_can;
@@ -218,6 +261,9 @@ of_success = record {
   fails_locked_out = λ can. not_locked_out (policy_may 2 false 2 can);
   fails_short = λ can. not_short (policy_may 0 true 0 can);
   fails_alike = not_alike;
+  can_current = two_can machine_secret (replicate 16 4) false refl;
+  can_next = two_can (replicate 16 4) machine_secret true refl;
+  fails_untried = two_not;
   fails_later = λ can. not_later (the_may (record small_account { expires = 10 } ∷ machine_account ∷ []) machine_secret small_hash (move.Start 0 ∷ move.Tick 10 ∷ [])
       (happens (happens (first_world (plan_by (record small_account { expires = 10 }) machine_account)) (move.Start 0)) (move.Tick 10)).state can can.may.1.1);
   meets = record { key = 1 ∷ []; is_in = refl; told = inl (refl, refl, refl) };
@@ -304,15 +350,9 @@ lost_schedule = record {
   move_forms = All-from_recursion HasMoveForm lost_moves (omega arith, (tt, tt));
 }
 
--- a plan without members
-pub none_alone : AreAlone []
-none_alone zero member is = absurd cc
-none_alone (suc at) member is = absurd cc
-
 lost_comes : ComesOneAtATime (past lost_plan lost_moves) lost_moves
 lost_comes = record {
   schedule = lost_schedule;
-  alone = none_alone;
   plain = (tt, (tt, tt));
   once = one_apart (λ (one other : ℕ). one ≢ other) 0;
   quiet = (record { dials = refl; units = refl }, (tt, record { dials = refl; units = refl }));

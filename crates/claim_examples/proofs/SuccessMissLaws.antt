@@ -32,7 +32,7 @@ use Rattle.domain_world.specs.Past.{past}
 use Rattle.claim_examples.specs.ClaimExamples.{small_account, small_hash}
 use Rattle.claim_examples.specs.CompletenessExamples.{able_client, able_member, able_table, ann_accounts, machine_account, machine_secret}
 use Rattle.claim_examples.specs.SuccessMisses.{IsOther, LosesKey, OfEachClient, OfMoves, OfOwnKeys, OfSucceeding, SuccessTellsApart, asking_plan, beside_plan, bind_moves, strict_plan, strict_table, two_lost, two_moves}
-use Rattle.claim_examples.proofs.CompletenessLaws.{ann_can, ann_found, ann_may, client_follows, client_form, lost_schedule, machine_found, none_alone}
+use Rattle.claim_examples.proofs.CompletenessLaws.{ann_can, ann_found, ann_may, client_follows, client_form, lost_schedule, machine_found}
 use Rattle.claim_examples.proofs.SequenceLaws.{one_apart}
 
 -- ---- what a client succeeds by
@@ -180,7 +180,6 @@ two_apart (suc i) j d before within = absurd (omega (arith, before, within))
 two_come : ComesOneAtATime (past two_lost two_moves) two_moves
 two_come = record {
   schedule = two_schedule;
-  alone = none_alone;
   plain = (tt, (tt, (tt, (tt, (tt, (tt, tt))))));
   once = two_apart;
   quiet = (record { dials = refl; units = refl }, (tt, (tt, (record { dials = refl; units = refl }, (tt, (tt, record { dials = refl; units = refl }))))));

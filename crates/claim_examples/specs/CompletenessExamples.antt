@@ -76,6 +76,13 @@ alike_plan = record ann_plan {
   members = able_member machine_secret ∷ record (able_member machine_secret) { computer = codes "file1" } ∷ [];
 }
 
+-- FILE1 keeps two secrets, and tries the next one or the current one
+abbrev pub two_member : (current next : List ℕ) → Bool → MemberPlan
+two_member current next tried = record small_member { secrets = record { current = current; next = Some (record { secret = next; is_tried = tried }) } }
+
+abbrev pub two_plan : (current next : List ℕ) → Bool → Plan
+two_plan current next tried = record ann_plan { members = two_member current next tried ∷ [] }
+
 abbrev pub ann_starts : List Move
 ann_starts = move.Start 0 ∷ []
 
@@ -96,8 +103,9 @@ ann_run echoed told =
     }
 
 -- Ann can succeed; not with another hash than hers, another secret of FILE1, her account or FILE1's disabled, FILE1's
--- of another kind, a second member of the controller of that name, or her account past its end at a later moment. She
--- does where she is in, with her whole echo, and the member told so of her link.
+-- of another kind, a second member of the controller of that name, or her account past its end at a later moment. FILE1
+-- may keep two secrets, of which it tries that of its account. She does where she is in, with her whole echo, and the
+-- member told so of her link.
 pub record OfSuccess : Type 0 where
   pub can : CanSucceed ann_plan ann_starts 0
   pub fails_hash : CanSucceed (able_plan ann_accounts machine_secret (replicate 16 8)) ann_starts 0 → ⊥
@@ -109,6 +117,10 @@ pub record OfSuccess : Type 0 where
   pub fails_locked_out : CanSucceed (policy_plan 2 false 2) ann_starts 0 → ⊥
   pub fails_short : CanSucceed (policy_plan 0 true 0) ann_starts 0 → ⊥
   pub fails_alike : CanSucceed alike_plan ann_starts 0 → ⊥
+  -- she can where FILE1 keeps two secrets, of which its account has the one that FILE1 tries
+  pub can_current : CanSucceed (two_plan machine_secret (replicate 16 4) false) ann_starts 0
+  pub can_next : CanSucceed (two_plan (replicate 16 4) machine_secret true) ann_starts 0
+  pub fails_untried : CanSucceed (two_plan (replicate 16 4) machine_secret false) ann_starts 0 → ⊥
   pub fails_later : CanSucceed (plan_by (record small_account { expires = 10 }) machine_account) (move.Start 0 ∷ move.Tick 10 ∷ []) 0 → ⊥
   pub meets : Succeeds (ann_run 16 (told_of_link 0 ∷ [])) ann_starts 0 can
   pub fails_echo : Succeeds (ann_run 15 (told_of_link 0 ∷ [])) ann_starts 0 can → ⊥

@@ -3,6 +3,7 @@ pub mod ClearWalkLaws
 pub mod NoServersLaws
 pub mod NotedLaws
 pub mod NotedOnLaws
+pub mod OwnTakingLaws
 pub mod PhaseClearLaws
 pub mod TakenOnceLaws
 pub mod UnitComesLaws

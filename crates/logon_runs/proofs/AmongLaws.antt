@@ -10,7 +10,7 @@ use Rattle.world_moves.specs.declared.state.State.{State}
 use Rattle.world_moves.specs.declared.state.WaitingDial.{WaitingDial}
 use Rattle.world_moves.specs.Links.{accepted, answered}
 use Rattle.logon_runs.specs.Failing.TurnedAway.{AwayPhase, Faulted, Refused, Unheard, away_scene}
-use Rattle.logon_runs.specs.Phases.{Acked, Answers, Binds, BindsBefore, BindsHeld, Calls, Challenged, Coming, Dials, DialsBefore, DialsHeld, Echoed, Echoes, Granted, Halved, IsReached, LogonPhase, Named, Proved, TurnAt, own, scene_of}
+use Rattle.logon_runs.specs.Phases.{Acked, Answers, Binds, BindsBefore, BindsHeld, Calls, Challenged, Coming, Dials, DialsBefore, DialsHeld, Echoed, Echoes, Granted, Halved, IsReached, LogonPhase, Named, Proved, Sets, TurnAt, own, scene_of}
 use Rattle.logon_runs.specs.Rests.{three_in}
 use Rattle.logon_runs.specs.Seen.LinkScenes.{its_link}
 use Rattle.logon_runs.specs.Seen.Others.{AreAmong, IsDialAmong}
@@ -46,6 +46,7 @@ links_among p (Calls a who v aim) left moment = turn_among p v
 links_among p (Halved a who v one other) left moment = turn_among p v
 links_among p (Proved a who v one other) left moment = turn_among p v
 links_among p (Granted a who v o c timestamp judged_at accounts) left moment = turn_among p v
+links_among p (Sets a who v o c timestamp new accounts) left moment = turn_among p v
 links_among p (Named a e on one other back) left moment = own_among p
 links_among p (Echoes a e on one asks) left moment = own_among p
 links_among p (Echoed a e talk one other back) left moment = own_among p

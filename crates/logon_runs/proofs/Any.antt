@@ -2,6 +2,7 @@
 pub mod AnyBeginLaws
 pub mod AnyLogonLaws
 pub mod AnyPhaseLaws
+pub mod AnyReplyLaws
 pub mod AnyRunLaws
 pub mod AnyStartLaws
 pub mod AnyTurnLaws

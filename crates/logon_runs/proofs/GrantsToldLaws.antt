@@ -20,6 +20,7 @@ use Rattle.logon_steps.specs.Answers.{AreDraws}
 use Rattle.logon_steps.specs.ControllerTurns.{reply_bytes, turn_link}
 use Rattle.logon_steps.specs.Granting.{base_key}
 use Rattle.logon_steps.specs.MemberAnswers.{granting, sam_shown}
+use Rattle.logon_steps.specs.MemberTurns.{plan_with}
 use Rattle.logon_steps.specs.MemoCalls.{ReplyGoes, RequestGoes}
 use Rattle.logon_steps.specs.Turning.{IsTurnReply}
 use Rattle.logon_steps.proofs.MemoCallLaws.{memo_calls_go}
@@ -56,7 +57,7 @@ use Rattle.logon_steps.proofs.MemberAnswerLaws.{logons_end}
 use Rattle.logon_steps.proofs.TurningLaws.{response_comes}
 use Rattle.logon_runs.specs.GrantsTold.{GrantsTell, TellsIn}
 use Rattle.logon_runs.specs.Seen.WaitingUnits.{Comes}
-use Rattle.logon_runs.proofs.Phases.PhaseEndLaws.{granted_scene, reply_then, sent_same, told_then}
+use Rattle.logon_runs.proofs.Phases.PhaseEndLaws.{domain_same, granted_scene, reply_then, sent_same, told_then}
 use Rattle.logon_runs.proofs.Seen.SceneLaws.{first_comes}
 use Rattle.logon_runs.proofs.Seen.TurnSceneLaws.{heard_back}
 use Rattle.logon_runs.proofs.Seen.WaitingLaws.{waiting_comes}
@@ -107,14 +108,14 @@ tells_so : (p : Coming) (s : State) (a : Asked) (who : WhoAsked p a) (v : TurnAt
     (moment : ℕ) → IsKnown p → Fits p (Granted a who v o c timestamp judged_at accounts) → (TravelsAsZeros (key_of_channel o) (base_key p.meeting.task (message_for (own p) a)) → ⊥) →
     Shows s (scene_of p (Granted a who v o c timestamp judged_at accounts) left moment) → TellsIn p s a v
 tells_so p s a who v o c timestamp judged_at accounts left moment known fits arrives shows =
-    let sam : SamInfo = sam_for (own p) a p.table p.name p.account judged_at in
+    let sam : SamInfo = sam_for (own p) a v.table p.name p.account judged_at in
     let shown : SamInfo = sam_shown o (hidden o sam) in
     let on : LoggedOn = on_for (own p) a o sam in
     let draws : AreDraws a.one a.two a.three = fits.0.answering.draws in
-    let told : CanBeTold (own p) a o p.table p.name p.account judged_at = told_then p a o timestamp judged_at known fits.1 in
+    let told : CanBeTold (own p) a o v.table p.name p.account judged_at = told_then p a v o timestamp judged_at known fits.0.ranged fits.1 in
     let again : RequestGoes 1 p.meeting.task.level 2 0 [] (terms_at p a).session on.session =
     memo_calls_go.request 1 p.meeting.task.level 2 0 [] (terms_at p a).session on.session (omega arith) (omega arith) (omega arith) (omega arith)
-    (grants_are_told.sessions (own p) a o p.table p.name p.account judged_at known.can draws fits.3) in
+    (grants_are_told.sessions (own p) a o v.table p.name p.account judged_at known.can draws fits.3) in
     let sending : Sending = record { bytes = again.sent; session = again.later } in
     let same : record { bytes = who.sent; session = who.later } ≡ sending = sent_same (record { bytes = who.sent; session = who.later }) sending (sym who.goes ∙ again.goes) in
     let now_shows : Shows s (granted_scene p a sending v o c timestamp judged_at accounts left moment) =
@@ -126,7 +127,7 @@ tells_so p s a who v o c timestamp judged_at accounts left moment known fits arr
     let back : ReplyGoes 2 p.meeting.task.level 2 (written_who_reply name_told) again.next again.later =
     memo_calls_go.reply 2 p.meeting.task.level 2 (written_who_reply name_told) again.later again.next (omega arith) (omega arith)
     (omega (arith, told.short, (who_stub name_told (omega (arith, told.short)) told.units).short)) again.sessions in
-    let is_reply : IsTurnReply question.Logon (granting o timestamp 0 1 (hidden o sam)) = reply_then p a o timestamp judged_at known fits.1 in
+    let is_reply : IsTurnReply question.Logon (granting o timestamp 0 1 (hidden o sam)) = reply_then p a v o timestamp judged_at known fits.0.ranged fits.1 in
     let bytes : List ℕ = reply_bytes v.next (granting o timestamp 0 1 (hidden o sam)) in
     let unit : BagUnit = unit_back out bytes in
     let m : ℕ = p.meeting.at_member in
@@ -138,7 +139,7 @@ tells_so p s a who v o c timestamp judged_at accounts left moment known fits arr
     member_gives s scene unit [] _ left _ now_shows
     (heard_back out bytes (after v.next) v.next (step.Reply question.Logon) v.computers (turn_link (length v.links)) left moment between
     (response_comes v.next question.Logon (granting o timestamp 0 1 (hidden o sam)) is_reply))
-    (logons_end.granted p.meeting.plan p.meeting.caller o out.info (hidden o sam) logon p.meeting.task p.meeting.place
+    (logons_end.granted (plan_with v.secrets p.meeting.plan) p.meeting.caller o out.info (hidden o sam) logon p.meeting.task p.meeting.place
     (after v.next) v.next (length v.links) moment timestamp 0 1 1 _ left fits.0.next_below is_reply (omega (arith, told.short)) again back) in
     record {
       answer = back.sent;
@@ -146,9 +147,9 @@ tells_so p s a who v o c timestamp judged_at accounts left moment known fits arr
       are = gives.is
           ∙ told_given m (length v.links) (own p).link back.sent (outcome.In shown.domain shown.effective_name (key_in shown logon)) (outcome.In p.table.domain p.account.name (key_at p a)) gives.state
           (outcome_so shown.domain shown.effective_name (key_in shown logon) p.table.domain p.account.name (key_at p a)
-          (sam_domain p.table p.name p.account (base_key p.meeting.task (message_for (own p) a)) judged_at)
-          (sam_user p.table p.name p.account (base_key p.meeting.task (message_for (own p) a)) judged_at)
-          (grants_are_told.key (own p) a o p.table p.name p.account judged_at draws arrives));
+          (sam_domain v.table p.name p.account (base_key p.meeting.task (message_for (own p) a)) judged_at ∙ domain_same p v.table fits.0.set)
+          (sam_user v.table p.name p.account (base_key p.meeting.task (message_for (own p) a)) judged_at)
+          (grants_are_told.key (own p) a o v.table p.name p.account judged_at draws arrives));
     }
 
 pub grants_tell : GrantsTell

@@ -3,4 +3,3 @@ pub mod PhaseEndLaws
 pub mod PhaseLaws
 pub mod PhaseStartLaws
 pub mod PhaseTurnLaws
-pub mod SetPhaseLaws

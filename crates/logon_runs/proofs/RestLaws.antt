@@ -1,18 +1,23 @@
 -- A world between two logons, and that a granted one leads from one to another.
 -- Of `logons_come_to_rest`.
-use Rattle.std.proofs.Common.{◌≡◌, ℕ, refl, sym, ap, subst, ◌∙◌, List, [], length, Some, arith, inl, inr, slice_get}
-use Rattle.std.specs.Prelude.{◌⊎◌}
+use Rattle.std.proofs.Common.{◌≡◌, ℕ, refl, sym, ap, subst, ◌∙◌, List, [], length, Option, None, Some, arith, inl, inr, slice_get}
+use Rattle.std.specs.Prelude.{IsSomeAnd, ◌⊎◌}
 use Rattle.std.proofs.lemmas.Option.{slice_get_within}
 use Rattle.authenticators.specs.SecureChannels.{SecureChannelState}
+use Rattle.secret_change.specs.Secrets.{tried_of}
 use Rattle.account_table.specs.Changes.{with_count}
 use Rattle.account_table.specs.AccountTable.{AccountTable}
 use Rattle.account_table.specs.LookUps.{account_in, machine_name, place_in}
 use Rattle.account_table.specs.Ranges.{InRangeAccount}
 use Rattle.account_table.specs.declared.account.Account.{Account}
-use Rattle.account_table.proofs.ChangeLaws.{differs-none}
+use Rattle.account_table.specs.declared.account.Kind.TheVariants.{User}
+use Rattle.account_table.proofs.ChangeLaws.{states-none}
+use Rattle.sam_logon.specs.MayLogOn.{MayLogOn}
 use Rattle.channel_client.specs.declared.state.Standing.{Standing}
 use Rattle.channel_client.specs.declared.state.Standing.TheVariants as standing
+use Rattle.domain_controller.specs.State.{State as ControllerState}
 use Rattle.logon_steps.specs.Answering.{IsInStep}
+use Rattle.logon_steps.specs.Granting.{info_told}
 use Rattle.logon_client.specs.Machine.{fresh_client}
 use Rattle.logon_client.specs.declared.plan.ClientPlan.{ClientPlan}
 use Rattle.member_server.specs.declared.plan.MemberPlan.{MemberPlan}
@@ -20,21 +25,23 @@ use Rattle.member_server.specs.Machine.{fresh_member}
 use Rattle.world_moves.specs.declared.plan.Plan.{Plan}
 use Rattle.world_moves.specs.declared.state.State.{State}
 use Rattle.world_moves.specs.Choosing.{chosen_place}
-use Rattle.world_moves.specs.Forms.{HasForms, IsTable}
+use Rattle.world_moves.specs.Forms.{HasForms, IsMemberPlan, IsTable}
+use Rattle.world_moves.specs.Moving.{start}
 use Rattle.world_moves.specs.World.{IsPlan, first_world}
 use Rattle.world_moves.proofs.RangeLaws.{table_in_range}
 use Rattle.logon_steps.specs.Knowing.{StandsLater}
 use Rattle.logon_steps.proofs.KnowingLaws.{computers_are_known}
 use Rattle.logon_runs.specs.Seen.Others.{OthersStay}
 use Rattle.logon_runs.specs.Phases.{Coming}
-use Rattle.logon_runs.specs.Rests.{AreAlone, AtRest, CanBeGranted, CanCome, ClientRests, ControllerRests, HasBegun, HasCome, HasOwnComputer, HasOwnName, LogonsComeToRest, channel_account, coming_at, three_of}
+use Rattle.logon_runs.specs.Rests.{AtRest, CanBeGranted, CanCome, ClientRests, ControllerRests, HasBegun, HasCome, HasOwnComputer, HasOwnName, LogonsComeToRest, channel_account, coming_at, three_of}
 use Rattle.logon_runs.specs.Runs.{StandsInStep}
 use Rattle.logon_runs.specs.Failing.TurnedAway.{HasEnded, Settled, settled_in}
-use Rattle.logon_runs.specs.Any.AnyPhases.{HasSecret, IsAble, IsOwn, KeepsInStep, MayStand}
+use Rattle.logon_runs.specs.Any.AnyPhases.{IsAble, IsOwn, KeepsInStep, KnowsComputer, MayStand}
 use Rattle.logon_runs.specs.Any.AnyStarts.{AreThree, coming_from}
 use Rattle.logon_runs.proofs.First.FirstWorldLaws.{at_place, got_controller, got_mapped, item_has}
-use Rattle.logon_runs.proofs.Phases.PhaseLaws.{phases_go_on}
-use Rattle.logon_runs.proofs.Any.AnyBeginLaws.{able_so, has_secret, rests_seen}
+use Rattle.logon_runs.proofs.Phases.PhaseLaws.{kind_so, phases_go_on}
+use Rattle.logon_runs.proofs.Any.AnyBeginLaws.{IsStated, able_so, begins_seen, knows_computer, next_form, rests_seen, stands_stated}
+use Rattle.logon_runs.proofs.Failing.TurnedAwayLaws.{nothing_not_open}
 use Rattle.logon_runs.proofs.Any.RestAgainLaws.{HasItem, item_at, rests_again, some_same}
 
 -- ---- how a channel stands
@@ -53,32 +60,45 @@ half_not_open one other o is = absurd cc
 
 -- ---- the first world
 
-first_so : (plan : Plan) → IsPlan plan → HasForms plan → AreAlone plan.members → AtRest plan (first_world plan).state
-first_so plan is forms alone = record {
+first_so : (plan : Plan) → IsPlan plan → HasForms plan → AtRest plan (first_world plan).state
+first_so plan is forms = record {
   opened = refl;
   dials = refl;
   units = refl;
   plans = refl;
-  alone = alone;
   controllers = λ at planned is_table.
       let named : HasItem plan.controllers at = item_at plan.controllers at (omega (arith, is.tables, slice_get_within plan.tables at planned is_table)) in
       record {
         name = named.item;
         is_name = named.is;
         table = planned;
-        differs = differs-none planned;
+        states = states-none planned;
+        users = λ user account found kind. record { count = account.bad_count; found = found };
         ranged = table_in_range planned (item_has IsTable plan.tables at planned forms.tables is_table);
         computers = record { pending = []; channels = []; sessions = [] };
         rests = got_controller plan.tables plan.controllers at planned named.item is_table named.is;
       };
   members = λ at member is_plan. record {
+    secrets = member.secrets;
+    given = record { secret = tried_of member.secrets; next = None };
     how = standing.Nothing;
     place = 0;
     number = 1;
     rests = got_mapped fresh_member plan.members at member is_plan;
+    next = next_form member.secrets.next (item_has IsMemberPlan plan.members at member forms.members is_plan).next;
+    one = λ o stands. absurd (nothing_not_open o stands);
     place_below = omega arith;
     number_below = omega arith;
     stands = tt;
+    fits = λ controller planned is_table is_own.
+        let named : HasItem plan.controllers controller = item_at plan.controllers controller (omega (arith, is.tables, slice_get_within plan.tables controller planned is_table)) in
+        record {
+          table = planned;
+          name = named.item;
+          computers = record { pending = []; channels = []; sessions = [] };
+          rests = got_controller plan.tables plan.controllers controller planned named.item is_table named.is;
+          fits = is_own.secret planned is_table;
+        };
   };
   clients = λ at task is_task. record {
     client = fresh_client task;
@@ -125,10 +145,12 @@ comes_so : (plan : Plan) (s : State) (rest : AtRest plan s) (client member contr
     HasForms plan → InRangeAccount account → chosen_place number (length s.ends.clients) ≡ Some client → HasCome plan s rest client member controller can account number
 comes_so plan s rest client member controller can account number is forms account_so chosen =
     let three : AreThree plan client member controller = three_for plan client member controller can in
-    let secret : HasSecret (coming_from plan s rest client member controller three account account) = has_secret plan s rest client member controller three account account can.computer in
+    let secret : KnowsComputer (coming_from plan s rest client member controller three account account) =
+    knows_computer plan s rest client member controller three account account can.computer in
     let coming : Coming = coming_at plan s rest client member controller can account secret.machine in
     let able : IsAble plan coming = able_so plan s rest client member controller three account secret.machine is forms in
     let lr : ClientRests s client can.task = rest.clients client can.task can.is_task in
+    let is_own : IsOwn plan coming = record { member = can.member_plan; planned = can.is_member_plan; named = own_name plan member can.member_plan controller can.computer } in
     record {
       machine = secret.machine;
       known = record {
@@ -137,14 +159,13 @@ comes_so plan s rest client member controller can account number is forms accoun
         names = able.names;
         caller = able.caller;
         given = able.given;
-        one = able.one;
+        next = able.next;
         place_below = able.place_below;
         number_below = able.number_below;
-        stands = stands_by plan coming coming.meeting.how refl
-            (record { member = can.member_plan; planned = can.is_member_plan; named = own_name plan member can.member_plan controller can.computer }) able.stands;
+        stands = stands_by plan coming coming.meeting.how refl is_own able.stands;
         knows = secret.knows;
         machine_found = secret.found;
-        secret = λ none. secret.secret;
+        secret = λ none. able.own_secret none is_own [] [] secret.machine (secret.found [] []);
         ranged = able.ranged;
         named = able.named;
         account_so = account_so;
@@ -157,15 +178,25 @@ begins_so : (plan : Plan) (s : State) (rest : AtRest plan s) (client member cont
     chosen_place number (length s.ends.clients) ≡ Some client → HasBegun plan s rest client member controller can number
 begins_so plan s rest client member controller can number is forms chosen =
     let cr : ControllerRests plan s controller can.come.computer.table = rest.controllers controller can.come.computer.table can.come.computer.is_table in
-    let user : StandsLater cr.table can.come.task.user can.account = computers_are_known.stands can.come.computer.table cr.table can.come.task.user can.account cr.differs can.found in
-    let account_now : Account = with_count user.count can.account in
+    let later : IsStated (account_in cr.table.accounts can.come.task.user) can.account = stands_stated can.come.computer.table cr.table cr.states can.come.task.user can.account can.found in
+    let come : HasCome plan s rest client member controller can.come later.now number =
+    comes_so plan s rest client member controller can.come later.now number is forms
+    (at_place InRangeAccount cr.table.accounts (place_in cr.table.accounts can.come.task.user) later.now cr.ranged.accounts later.found) chosen in
+    let seen = begins_seen plan s rest client member controller (three_for plan client member controller can.come) later.now come.machine number chosen in
     record {
-      account = account_now;
-      come = comes_so plan s rest client member controller can.come account_now number is forms
-          (at_place InRangeAccount cr.table.accounts (place_in cr.table.accounts can.come.task.user) account_now cr.ranged.accounts user.found) chosen;
-      domain = cr.differs.domain;
-      name = refl;
-      user = record { found = user.found; hash = can.hash };
+      account = later.now;
+      come = come;
+      domain = cr.states.domain;
+      name = ap (λ (account : Account). account.name) later.same;
+      user = λ may.
+          let may_then : MayLogOn cr.table (info_told can.come.task) (start number s).state.moment =
+          subst (λ (found : Option ControllerState). IsSomeAnd found (λ (k : ControllerState). MayLogOn k.table (info_told can.come.task) (start number s).state.moment)) seen.controller may in
+          let is_user : later.now.kind ≡ User =
+          subst (λ (found : Option Account). IsSomeAnd found (λ (account : Account). account.kind ≡ User)) later.found
+          (kind_so (account_in cr.table.accounts can.come.task.user) cr.table.policy can.come.task.workstation (start number s).state.moment may_then.there.account) in
+          let kept : StandsLater cr.table can.come.task.user can.account =
+          cr.users can.come.task.user can.account can.found (sym (ap (λ (account : Account). account.kind) later.same) ∙ is_user) in
+          record { found = later.found; hash = ap Account.hash (some_same later.now (with_count kept.count can.account) (sym later.found ∙ kept.found)) ∙ can.hash };
     }
 
 -- ---- a logon is over
@@ -195,8 +226,13 @@ ends_so plan s rest client member controller can account machine after others pl
       fits = record {
         joined_so = over.fits.joined_so;
         number_below = over.fits.number_below;
+        next = over.fits.next;
+        one = over.fits.one;
+        before = over.fits.before;
+        set = elim over.fits.set [ inl same ↦ inl same | inr set ↦ inr (can.computer.reaches, set) ];
         differs = over.fits.differs;
         ranged = over.fits.ranged;
+        fits = λ is_own. over.fits.fits;
         others = λ other apart. over.fits.others other (apart can.computer.reaches);
         stands = may_stand plan p over.settled over.settled.how refl over.fits.stands;
       };

@@ -14,7 +14,7 @@ use Rattle.world_moves.specs.Acting.{Acted}
 use Rattle.world_moves.specs.Ends.{EndStates}
 use Rattle.world_moves.specs.Moving.{act, connect_first, tick, without_first}
 use Rattle.logon_runs.specs.Seen.Others.{IsStepOn}
-use Rattle.logon_runs.specs.Rests.{AtRest, ClientRests, ControllerRests, IsInStepAt, MemberRests, RestsStay, StandsWell}
+use Rattle.logon_runs.specs.Rests.{AtRest, ClientRests, ControllerRests, FitsSecretAt, IsInStepAt, MemberRests, RestsStay, StandsWell}
 use Rattle.logon_runs.specs.Seen.WaitingUnits.{waiting}
 use Rattle.logon_runs.proofs.Seen.WaitingLaws.{waiting_comes}
 use Rattle.logon_runs.proofs.Seen.StepOnLaws.{by_step}
@@ -44,14 +44,14 @@ rest_with plan s after controllers members clients opened dials units plans rest
   dials = dials;
   units = units;
   plans = plans ∙ rest.plans;
-  alone = rest.alone;
   controllers = λ at planned is_table.
       let cr : ControllerRests plan s at planned = rest.controllers at planned is_table in
       record {
         name = cr.name;
         is_name = cr.is_name;
         table = cr.table;
-        differs = cr.differs;
+        states = cr.states;
+        users = cr.users;
         ranged = cr.ranged;
         computers = cr.computers;
         rests = controllers at ∙ cr.rests;
@@ -59,13 +59,20 @@ rest_with plan s after controllers members clients opened dials units plans rest
   members = λ at member is_plan.
       let mr : MemberRests plan s at member = rest.members at member is_plan in
       record {
+        secrets = mr.secrets;
+        given = mr.given;
         how = mr.how;
         place = mr.place;
         number = mr.number;
         rests = members at ∙ mr.rests;
+        next = mr.next;
+        one = mr.one;
         place_below = mr.place_below;
         number_below = mr.number_below;
         stands = well_still plan s after at member mr.how controllers mr.stands;
+        fits = λ k planned is_table is_own.
+            let there : FitsSecretAt s k member mr.secrets = mr.fits k planned is_table is_own in
+            record { table = there.table; name = there.name; computers = there.computers; rests = controllers k ∙ there.rests; fits = there.fits };
       };
   clients = clients;
 }

@@ -134,7 +134,7 @@ turns_run = record {
       (turns_are_seen.dialled s2 held (its_link g) how (after g.number) g.number (step.Bind call) computers [] left moment
       (reach_still g.plan.controller (Controller g.at_controller) s s2 (twice_same s) reach) (turns_have_links.found g held is.joined)
       (turns_have_links.new g held _ is.joined) (turns_have_links.between g held how is.joined)
-      (logons_are_seen.held_before s1 g t (its_link g) how (after g.number) g.number 1 2 0 call computers [] _ _ who [] left moment refl (found_here g)
+      (logons_are_seen.held_before s1 g t (its_link g) how (after g.number) g.number 1 2 0 (step.Bind call) computers [] _ _ who [] left moment refl (found_here g)
       (logons_are_seen.asks_again s g o waits a.challenge a.one a.two a.three who.sent a.then_now table name computers left moment is.stands is.fits is.can is.names is.draws shows))))));
   stays = λ g o c computers timestamp in_step. record {
     member = after_return true (after_call o timestamp);

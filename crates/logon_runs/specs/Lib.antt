@@ -10,5 +10,4 @@ pub mod Any
 pub mod AnyLogons
 pub mod GrantsTold
 pub mod Keys
-pub mod SetPhases
 pub mod SecretRests

@@ -1,29 +1,33 @@
 -- The phases of one logon that is granted, as they are seen of a scene: in whichever order the moves come, and whenever
 -- time passes (MS-NLMP 3.1.5.1, 3.2.5.1; MS-NRPC 3.1.4.1 to 3.1.4.5; the memo interface is this project's own).
 use Rattle.std.specs.Prelude.{ℕ, ◌≡◌, ◌≤◌, ◌<◌, ◌^◌, ◌⊎◌, ◌++◌, true, false, IsSomeAnd, List, [], ◌∷◌, length, Option, Some, None, slice_get, Bool}
+use Rattle.std.specs.Option.{option_and_then}
 use Rattle.wire_base.specs.Maps.{lookup}
 use Rattle.wire_base.specs.Names.{IsName, same_name}
-use Rattle.authenticators.specs.SecureChannels.{SecureChannelState, after_call, fresh_channel}
+use Rattle.authenticators.specs.SecureChannels.{SecureChannelState, after_call, after_return, fresh_channel}
 use Rattle.ntlm_seal.specs.Sessions.{SessionState}
 use Rattle.rpc_units.specs.Calls.{bytes_of_call}
 use Rattle.rpc_units.specs.Writing.{written}
 use Rattle.end_links.specs.Binding.{bind_of}
 use Rattle.logon_stubs.specs.Ranges.{IsBlock}
-use Rattle.logon_stubs.specs.declared.calls.Call.{Call}
 use Rattle.logon_stubs.specs.declared.calls.Reply.TheVariants as reply
 use Rattle.logon_stubs.specs.Interface.{netlogon_syntax}
+use Rattle.secret_change.specs.Secrets.{IsNextSecret, SecretsState, tried_of}
 use Rattle.memo_stubs.specs.Memo.{written_echo_reply, written_echo_request, written_who_reply}
 use Rattle.account_table.specs.AccountTable.{AccountTable}
-use Rattle.account_table.specs.Changes.{DifferInCounts}
-use Rattle.account_table.specs.LookUps.{account_in, knows_in}
+use Rattle.account_table.specs.Changes.{DifferInCounts, with_hash}
+use Rattle.account_table.specs.LookUps.{account_in, knows_in, machine_in}
 use Rattle.account_table.specs.Ranges.{InRangeAccount}
 use Rattle.account_table.specs.declared.account.Account.{Account}
 use Rattle.sam_logon.specs.MayLogOn.{MayLogOn}
+use Rattle.channel_client.specs.declared.caller.Caller.{Caller}
 use Rattle.channel_client.specs.declared.state.Question.TheVariants as question
 use Rattle.channel_client.specs.declared.state.Standing.{Standing}
 use Rattle.channel_client.specs.declared.state.Standing.TheVariants as standing
+use Rattle.channel_client.specs.declared.state.SetStep.TheVariants as set_step
+use Rattle.channel_client.specs.declared.state.Step.{Step}
 use Rattle.channel_client.specs.declared.state.Step.TheVariants as step
-use Rattle.channel_client.specs.Machine.{after, auth_call, challenge_call, logon_call, offered_flags, question_of, server_credential}
+use Rattle.channel_client.specs.Machine.{after, auth_call, challenge_call, change_call, logon_call, offered_flags, server_credential}
 use Rattle.domain_controller.specs.Hearing.{first_talk}
 use Rattle.domain_controller.specs.Machine.{account_for}
 use Rattle.domain_controller.specs.State.{State as ControllerState}
@@ -61,15 +65,17 @@ use Rattle.logon_steps.specs.Meeting.{HasShortNames, ack_for, bound_for, challen
 use Rattle.logon_steps.specs.MemberAnswers.{granting}
 use Rattle.logon_steps.specs.MemberLinks.{asked_talk}
 use Rattle.logon_steps.specs.MemoCalls.{ReplyGoes, RequestGoes, logged_on, with_session}
+use Rattle.logon_steps.specs.SetTurns.{set_reply_bytes, set_request, set_taken}
 use Rattle.logon_steps.specs.Turning.{turn_ack, turn_request}
 use Rattle.logon_runs.specs.Seen.AskScenes.{turn_within, with_controller}
 use Rattle.logon_runs.specs.Grants.{KeyArrives}
+use Rattle.logon_runs.specs.Failing.Failings.{settled_with}
 use Rattle.logon_runs.specs.Seen.LinkScenes.{FitsGiven, given_after, its_link, joined, Meeting, meeting_scene, rest_scene, unit_down, unit_up}
 use Rattle.logon_runs.specs.Seen.Others.{IfSo, IsStepOn, is_onward}
 use Rattle.logon_runs.specs.Runs.{Asked, StandsInStep, hidden, info_asked, message_for, sam_for}
 use Rattle.logon_runs.specs.Scenes.{Scene, Shows}
 use Rattle.logon_runs.specs.Seen.WaitingUnits.{waiting}
-use Rattle.logon_runs.specs.Seen.TurnScenes.{Turn, dial_scene, next_turn, turn_scene, unit_back, unit_there, with_accounts}
+use Rattle.logon_runs.specs.Seen.TurnScenes.{Turn, next_turn, waiting_scene, turn_scene, unit_back, unit_there, with_accounts}
 
 -- ---- what stays
 
@@ -110,35 +116,59 @@ told_of p = p.table.domain ++ 0x5C ∷ p.account.name
 
 -- ---- a turn
 
--- what the controller keeps of computers, the number of the turn's bind and the next one, and all links before the
--- turn's own
+-- what the controller keeps of computers, the number of the turn's bind and the next one, all links before the turn's
+-- own, the secrets that the member keeps, and the controller's accounts
 pub record TurnAt : Type 0 where
   pub computers : Computers
   pub number : ℕ
   pub next : ℕ
   pub links : List Route
+  pub secrets : SecretsState
+  pub table : AccountTable
 
--- what it is for: the two calls that open the channel, or the logon's own, with the timestamp of its authenticator
+-- on the client's link, where the member keeps these secrets
+abbrev pub own_keeping : Coming → SecretsState → Meeting
+own_keeping p secrets = settled_with secrets (own p)
+
+-- what it is for: the two calls that open the channel, the logon's own, with the timestamp of its authenticator, or the
+-- one that sets the member's next secret before that
 pub data Aim : Type 0 where
   First : (client : List ℕ) → Aim
   Second : (client server : List ℕ) → Aim
   Third : (o c : SecureChannelState) (timestamp : ℕ) → Aim
+  Fourth : (o c : SecureChannelState) (timestamp : ℕ) (new : List ℕ) → Aim
 
 abbrev pub standing_for : Aim → Standing
 standing_for (First client) = standing.Nothing
 standing_for (Second client server) = standing.Half client server
 standing_for (Third o c timestamp) = standing.Open (after_call o timestamp)
+standing_for (Fourth o c timestamp new) = standing.Open (after_call o timestamp)
 
-abbrev pub call_for : Coming → Asked → Aim → Call
-call_for p a (First client) = challenge_call p.meeting.caller client
-call_for p a (Second client server) = auth_call p.meeting.caller client server
-call_for p a (Third o c timestamp) = logon_call p.meeting.caller o timestamp (info_asked (own p) a)
+-- the step that its bind is for, the bytes of its call, and the step that waits for the reply
+abbrev pub step_for : Coming → Asked → Aim → Step
+step_for p a (First client) = step.Bind (challenge_call p.meeting.caller client)
+step_for p a (Second client server) = step.Bind (auth_call p.meeting.caller client server)
+step_for p a (Third o c timestamp) = step.Bind (logon_call p.meeting.caller o timestamp (info_asked (own p) a))
+step_for p a (Fourth o c timestamp new) = step.Set (set_step.Bind (change_call p.meeting.caller o timestamp new))
+
+abbrev pub bytes_for : Coming → Asked → ℕ → Aim → List ℕ
+bytes_for p a number (First client) = bytes_of_call (turn_request number (challenge_call p.meeting.caller client)) 5840
+bytes_for p a number (Second client server) = bytes_of_call (turn_request number (auth_call p.meeting.caller client server)) 5840
+bytes_for p a number (Third o c timestamp) =
+    bytes_of_call (turn_request number (logon_call p.meeting.caller o timestamp (info_asked (own p) a))) 5840
+bytes_for p a number (Fourth o c timestamp new) = bytes_of_call (set_request number (change_call p.meeting.caller o timestamp new)) 5840
+
+abbrev pub reply_for : Aim → Step
+reply_for (First client) = step.Reply (question.Challenge client)
+reply_for (Second client server) = step.Reply question.Authenticate
+reply_for (Third o c timestamp) = step.Reply question.Logon
+reply_for (Fourth o c timestamp new) = step.Set set_step.Reply
 
 -- the turn before its link is made, and on it: the client's session, and the requests that the member holds
 abbrev pub turn_before : Coming → Asked → Option SessionState → List (List ℕ) → TurnAt → Turn
 turn_before p a later held v =
-    turn_within (own p) (waits_for p a later) (info_of (message_for (own p) a) (flags_agreed p.meeting.task) a.challenge)
-    (logon_for (own p).link p.meeting.task a.challenge (message_for (own p) a)) (asked_talk (bound_for p.meeting.task) p.meeting.place held) p.table p.name
+    turn_within (own_keeping p v.secrets) (waits_for p a later) (info_of (message_for (own p) a) (flags_agreed p.meeting.task) a.challenge)
+    (logon_for (own p).link p.meeting.task a.challenge (message_for (own p) a)) (asked_talk (bound_for p.meeting.task) p.meeting.place held) v.table p.name
     standing.Nothing v.links (its_link (own p)) (own p).link
 
 abbrev pub turn_on : Coming → Asked → Option SessionState → List (List ℕ) → TurnAt → Aim → Turn
@@ -146,8 +176,9 @@ turn_on p a later held v aim = next_turn (turn_before p a later held v) (its_lin
 
 -- ---- what the logon comes to
 
--- the channel's state at the member, the next number, all links, and what the controller keeps
+-- the secrets that the member keeps, its channel's state, the next number, all links, and what the controller keeps
 pub record Ending : Type 0 where
+  pub secrets : SecretsState
   pub member : SecureChannelState
   pub number : ℕ
   pub links : List Route
@@ -155,8 +186,8 @@ pub record Ending : Type 0 where
   pub computers : Computers
 
 abbrev pub meeting_at : Coming → Ending → Meeting
-meeting_at p e = record (with_controller (own p) e.table p.name e.computers) {
-  given = given_after (own p);
+meeting_at p e = record (with_controller (own_keeping p e.secrets) e.table p.name e.computers) {
+  given = given_after (own_keeping p e.secrets);
   how = standing.Open e.member;
   place = after p.meeting.place;
   number = e.number;
@@ -183,6 +214,8 @@ pub data LogonPhase (p : Coming) : Type 0 where
   Halved : (a : Asked) (who : WhoAsked p a) (v : TurnAt) (client server : List ℕ) → LogonPhase p
   Proved : (a : Asked) (who : WhoAsked p a) (v : TurnAt) (client server : List ℕ) → LogonPhase p
   Granted : (a : Asked) (who : WhoAsked p a) (v : TurnAt) (o c : SecureChannelState) (timestamp judged_at : ℕ) (accounts : AccountTable) → LogonPhase p
+  -- the reply waits that takes the secret; these accounts have it
+  Sets : (a : Asked) (who : WhoAsked p a) (v : TurnAt) (o c : SecureChannelState) (timestamp : ℕ) (new : List ℕ) (accounts : AccountTable) → LogonPhase p
   -- the answer of WhoAmI waits, Echo, and its answer
   Named : (a : Asked) (e : Ending) (on : LoggedOn) (one other : Option SessionState)
       (back : ReplyGoes 2 p.meeting.task.level 2 (written_who_reply (told_of p)) other one) → LogonPhase p
@@ -206,22 +239,22 @@ scene_of p (Answers a who) left moment =
     meeting_scene (with_its_controller p (own p)) (waits_for p a who.later) (challenged_talk p.meeting.task a.challenge)
     (unit_up (own p) (written (auth3_for p.meeting.task (message_for (own p) a))) ∷ unit_up (own p) who.sent ∷ []) left moment
 scene_of p (DialsBefore a who v aim) left moment =
-    dial_scene (turn_before p a who.later [] v) (its_link (own p)) (standing_for aim) v.next v.number (call_for p a aim) v.computers
+    waiting_scene (turn_before p a who.later [] v) (its_link (own p)) (standing_for aim) v.next v.number (step_for p a aim) v.computers
     (unit_up (own p) who.sent ∷ []) left moment
 scene_of p (DialsHeld a who v aim) left moment =
-    dial_scene (turn_before p a who.later (who.sent ∷ []) v) (its_link (own p)) (standing_for aim) v.next v.number (call_for p a aim) v.computers [] left moment
+    waiting_scene (turn_before p a who.later (who.sent ∷ []) v) (its_link (own p)) (standing_for aim) v.next v.number (step_for p a aim) v.computers [] left moment
 scene_of p (BindsBefore a who v aim) left moment =
-    turn_scene (turn_on p a who.later [] v aim) v.next v.number (step.Bind (call_for p a aim)) v.computers (one_link (length v.links) first_talk)
+    turn_scene (turn_on p a who.later [] v aim) v.next v.number (step_for p a aim) v.computers (one_link (length v.links) first_talk)
     (unit_up (own p) who.sent ∷ unit_there (turn_on p a who.later [] v aim) (written (bind_of netlogon_syntax v.number)) ∷ []) left moment
 scene_of p (BindsHeld a who v aim) left moment =
-    turn_scene (turn_on p a who.later (who.sent ∷ []) v aim) v.next v.number (step.Bind (call_for p a aim)) v.computers (one_link (length v.links) first_talk)
+    turn_scene (turn_on p a who.later (who.sent ∷ []) v aim) v.next v.number (step_for p a aim) v.computers (one_link (length v.links) first_talk)
     (unit_there (turn_on p a who.later (who.sent ∷ []) v aim) (written (bind_of netlogon_syntax v.number)) ∷ []) left moment
 scene_of p (Acked a who v aim) left moment =
-    turn_scene (turn_on p a who.later (who.sent ∷ []) v aim) v.next v.number (step.Bind (call_for p a aim)) v.computers (turn_link (length v.links))
+    turn_scene (turn_on p a who.later (who.sent ∷ []) v aim) v.next v.number (step_for p a aim) v.computers (turn_link (length v.links))
     (unit_back (turn_on p a who.later (who.sent ∷ []) v aim) (written (turn_ack v.number)) ∷ []) left moment
 scene_of p (Calls a who v aim) left moment =
-    turn_scene (turn_on p a who.later (who.sent ∷ []) v aim) (after v.next) v.next (step.Reply (question_of (call_for p a aim))) v.computers
-    (turn_link (length v.links)) (unit_there (turn_on p a who.later (who.sent ∷ []) v aim) (bytes_of_call (turn_request v.next (call_for p a aim)) 5840) ∷ []) left moment
+    turn_scene (turn_on p a who.later (who.sent ∷ []) v aim) (after v.next) v.next (reply_for aim) v.computers
+    (turn_link (length v.links)) (unit_there (turn_on p a who.later (who.sent ∷ []) v aim) (bytes_for p a v.next aim) ∷ []) left moment
 scene_of p (Halved a who v client server) left moment =
     turn_scene (turn_on p a who.later (who.sent ∷ []) v (First client)) (after v.next) v.next (step.Reply (question.Challenge client)) v.computers
     (turn_link (length v.links))
@@ -235,7 +268,11 @@ scene_of p (Granted a who v o c timestamp judged_at accounts) left moment =
     turn_scene (with_accounts accounts (turn_on p a who.later (who.sent ∷ []) v (Third o c timestamp))) (after v.next) v.next (step.Reply question.Logon) v.computers
     (turn_link (length v.links))
     (unit_back (with_accounts accounts (turn_on p a who.later (who.sent ∷ []) v (Third o c timestamp)))
-    (reply_bytes v.next (granting o timestamp 0 1 (hidden o (sam_for (own p) a p.table p.name p.account judged_at)))) ∷ []) left moment
+    (reply_bytes v.next (granting o timestamp 0 1 (hidden o (sam_for (own p) a v.table p.name p.account judged_at)))) ∷ []) left moment
+scene_of p (Sets a who v o c timestamp new accounts) left moment =
+    turn_scene (with_accounts accounts (turn_on p a who.later (who.sent ∷ []) v (Fourth o c timestamp new))) (after v.next) v.next (step.Set set_step.Reply) v.computers
+    (turn_link (length v.links))
+    (unit_back (with_accounts accounts (turn_on p a who.later (who.sent ∷ []) v (Fourth o c timestamp new))) (set_reply_bytes v.next (set_taken o timestamp)) ∷ []) left moment
 scene_of p (Named a e on one other back) left moment =
     meeting_scene (meeting_at p e) (client_phase.Asked (with_session (terms_at p a) one) client_question.Who) (talk_in None (logged_on on back.later))
     (unit_down (own p) back.sent ∷ []) left moment
@@ -262,26 +299,72 @@ pub record IsAnswering (p : Coming) (a : Asked) : Type 0 where
   pub draws : AreDraws a.one a.two a.three
   pub info : HasShortInfo (info_asked (own p) a)
 
+-- the member keeps the secrets with which the logon began, and its controller the accounts
+abbrev pub IsPlanned : Coming → TurnAt → Type 0
+IsPlanned p v = (v.secrets ≡ p.meeting.plan.secrets) × (v.table ≡ p.table)
+
+-- the account of that channel has another hash
+pub record IsSetAt (caller : Caller) (table accounts : AccountTable) : Type 0 where
+  pub place : ℕ
+  pub hash : List ℕ
+  pub found : machine_in table.accounts caller.account caller.kind caller.computer ≡ Some place
+  pub is : accounts ≡ with_hash place hash table
+
+-- the controller's accounts are those with which the logon began, or the member's own has another hash
+abbrev pub IsSetOrNot : Coming → AccountTable → Type 0
+IsSetOrNot p table = (table ≡ p.table) ⊎ IsSetAt p.meeting.caller p.table table
+
+-- the member is to set that secret first
+abbrev pub IsToSet : Coming → List ℕ → Type 0
+IsToSet p new = p.meeting.plan.secrets.next ≡ Some (record { secret = new; is_tried = false })
+
+-- the account by which a caller's channel is opened, where there is one
+abbrev pub account_of_caller : AccountTable → Caller → Option Account
+account_of_caller table caller = option_and_then (slice_get table.accounts) (machine_in table.accounts caller.account caller.kind caller.computer)
+
+-- the hash of the account by which a caller's channel is opened is the secret that is tried
+abbrev pub FitsCaller : AccountTable → Caller → SecretsState → Type 0
+FitsCaller table caller secrets = (machine : Account) → account_of_caller table caller ≡ Some machine → machine.hash ≡ tried_of secrets
+
+-- Where the account of the member's channel had the secret that the member tried as the logon began, it has it of these
+-- accounts and secrets.
+abbrev pub FitsStill : Coming → AccountTable → SecretsState → Type 0
+FitsStill p table secrets = FitsCaller p.table p.meeting.caller p.meeting.plan.secrets → FitsCaller table p.meeting.caller secrets
+
+-- what holds in each turn of the logon
 pub record IsTurning (p : Coming) (a : Asked) (v : TurnAt) : Type 0 where
   pub answering : IsAnswering p a
   pub joined_so : HasJoined p v.links
   pub number_below : v.number < 2 ^ 32
   pub next_below : v.next < 2 ^ 32
   pub others : KeepsOthers p v.computers
+  pub ranged : InRangeTable v.table
+  pub set : IsSetOrNot p v.table
+  pub next : IsNextSecret v.secrets.next
+  pub fits : FitsStill p v.table v.secrets
 
--- the controller keeps what the call needs of it; the calls that open a channel are made where there was none
+-- The controller keeps what the call needs of it. The calls that open a channel are made where there was none, and the
+-- logon's own where none is next.
 abbrev pub IsAimed : Coming → TurnAt → Aim → Type 0
-IsAimed p v (First client) = IsBlock 8 client × (p.meeting.how ≡ standing.Nothing)
+IsAimed p v (First client) = IsBlock 8 client × (p.meeting.how ≡ standing.Nothing) × IsPlanned p v
 IsAimed p v (Second client server) =
-    (lookup same_name p.meeting.caller.computer v.computers.pending ≡ Some (pair_of client server)) × (p.meeting.how ≡ standing.Nothing)
-IsAimed p v (Third o c timestamp) = (timestamp < 2 ^ 32) × (lookup same_name p.meeting.caller.computer v.computers.channels ≡ Some c) × IsInStep o c
+    (lookup same_name p.meeting.caller.computer v.computers.pending ≡ Some (pair_of client server)) × (p.meeting.how ≡ standing.Nothing) × IsPlanned p v
+IsAimed p v (Third o c timestamp) =
+    (timestamp < 2 ^ 32) × (lookup same_name p.meeting.caller.computer v.computers.channels ≡ Some c) × IsInStep o c × (v.secrets.next ≡ None)
+IsAimed p v (Fourth o c timestamp new) =
+    (timestamp < 2 ^ 32) × (lookup same_name p.meeting.caller.computer v.computers.channels ≡ Some c) × IsInStep o c × IsPlanned p v × IsToSet p new
 
--- the accounts differ in counts of bad passwords alone, and both ends of the channel are in step
+-- the accounts differ from those of the logon's own turn in counts of bad passwords alone, and both ends of the channel
+-- are in step
 pub record IsEnding (p : Coming) (e : Ending) : Type 0 where
   pub joined_so : HasJoined p e.links
   pub number_below : e.number < 2 ^ 32
-  pub differs : DifferInCounts p.table e.table
+  pub one : e.secrets.next ≡ None
+  pub before : AccountTable
+  pub set : IsSetOrNot p before
+  pub differs : DifferInCounts before e.table
   pub ranged : InRangeTable e.table
+  pub fits : FitsStill p e.table e.secrets
   pub stands : StandsInStep (meeting_at p e) e.computers
   pub others : KeepsOthers p e.computers
 
@@ -299,12 +382,16 @@ Fits p (Calls a who v aim) = IsTurning p a v × IsAimed p v aim
 Fits p (Halved a who v client server) =
     IsTurning p a v × IsBlock 8 server × IsAimed p v (Second client server)
 Fits p (Proved a who v client server) =
-    IsTurning p a v
+    IsTurning p a v × IsPlanned p v
     × ((c : SecureChannelState) × (lookup same_name p.meeting.caller.computer v.computers.channels ≡ Some c)
     × IsInStep (fresh_channel p.meeting.caller.secret client server offered_flags) c)
 Fits p (Granted a who v o c timestamp judged_at accounts) =
-    IsTurning p a v × (judged_at < 2 ^ 64) × DifferInCounts p.table accounts × KeyArrives (own p) a o
-    × (lookup same_name p.meeting.caller.computer v.computers.channels ≡ Some (moved c timestamp)) × IsInStep o c × InRangeTable accounts
+    IsTurning p a v × (judged_at < 2 ^ 64) × DifferInCounts v.table accounts × KeyArrives (own p) a o
+    × (lookup same_name p.meeting.caller.computer v.computers.channels ≡ Some (moved c timestamp)) × IsInStep o c × InRangeTable accounts × (v.secrets.next ≡ None)
+Fits p (Sets a who v o c timestamp new accounts) =
+    IsTurning p a v × (lookup same_name p.meeting.caller.computer v.computers.channels ≡ Some (moved c timestamp))
+    × IsInStep (after_return true (after_call o timestamp)) (moved c timestamp) × IsPlanned p v × IsToSet p new
+    × ((set : IsSetAt p.meeting.caller v.table accounts) × (set.hash ≡ new)) × InRangeTable accounts
 Fits p (Named a e on one other back) = IsEnding p e × (on.bound ≡ bound_for p.meeting.task)
 Fits p (Echoes a e on one asks) = IsEnding p e × (on.bound ≡ bound_for p.meeting.task)
 Fits p (Echoed a e talk one other back) = IsEnding p e
@@ -336,7 +423,7 @@ pub record IsKnown (p : Coming) : Type 0 where
   pub names : HasShortNames p.meeting.plan
   pub caller : HasShortCaller p.meeting.caller
   pub given : FitsGiven p.meeting
-  pub one : p.meeting.plan.secrets.next ≡ None
+  pub next : IsNextSecret p.meeting.plan.secrets.next
   pub place_below : p.meeting.place < 2 ^ 32
   pub number_below : p.meeting.number < 2 ^ 32
   pub stands : (p.meeting.how ≡ standing.Nothing) ⊎ StandsInStep p.meeting p.computers
@@ -347,10 +434,13 @@ pub record IsKnown (p : Coming) : Type 0 where
   pub named : IsName p.name
   pub account_so : InRangeAccount p.account
 
--- it has the user's hash
-pub record HasUser (p : Coming) : Type 0 where
-  pub found : account_in p.table.accounts p.meeting.task.user ≡ Some p.account
+-- it has the user's hash among those accounts, or those with which the logon began
+pub record HasUserIn (p : Coming) (table : AccountTable) : Type 0 where
+  pub found : account_in table.accounts p.meeting.task.user ≡ Some p.account
   pub hash : p.account.hash ≡ p.meeting.task.hash
+
+abbrev pub HasUser : Coming → Type 0
+HasUser p = HasUserIn p p.table
 
 -- the addresses are those of the member and its controller
 pub record IsReached (p : Coming) (s : State) : Type 0 where
@@ -379,7 +469,7 @@ ArrivesAt p phase what = Unit {0}
 
 -- it is then that the user's hash is asked for, and that he may log on
 abbrev pub HasUserAt : (p : Coming) → State → LogonPhase p → Move → Type 0
-HasUserAt p s (Calls a who v (Third o c timestamp)) what = IfSo (is_onward what) (HasUser p × MayLogOnAt p s)
+HasUserAt p s (Calls a who v (Third o c timestamp)) what = IfSo (is_onward what) (HasUserIn p v.table × MayLogOnAt p s)
 HasUserAt p s phase what = Unit {0}
 
 -- what the moves need of the state
@@ -394,11 +484,14 @@ ComesTo p s = IsUnderWay p s ⊎ IsOver p s
 
 -- How far a logon is: not judged. Then the call that opens the channel is out, with these challenges, or its reply is;
 -- or the logon's own call is, on the channel that stood so. Or it was judged, of what the client answered and on that
--- channel, or told by the member.
+-- channel, or told by the member. Between the two the call that sets a secret is out on the channel that stood so, or
+-- its reply.
 pub data Progress : Type 0 where
   NotYet : Progress
   IsOpening : (client server : List ℕ) → Progress
   WasOpened : (client server : List ℕ) → Progress
+  IsSetting : (o : SecureChannelState) → Progress
+  WasSet : (o : SecureChannelState) → Progress
   IsAsking : (o : SecureChannelState) → Progress
   WasJudged : (a : Asked) (o : SecureChannelState) → Progress
   WasTold : (a : Asked) → Progress
@@ -408,16 +501,19 @@ abbrev pub progress_called : Aim → Progress
 progress_called (First client) = NotYet
 progress_called (Second client server) = IsOpening client server
 progress_called (Third o c timestamp) = IsAsking o
+progress_called (Fourth o c timestamp new) = IsSetting o
 
 abbrev pub progress_answered : Asked → Aim → Progress
 progress_answered a (First client) = NotYet
 progress_answered a (Second client server) = WasOpened client server
 progress_answered a (Third o c timestamp) = WasJudged a o
+progress_answered a (Fourth o c timestamp new) = WasSet o
 
 abbrev pub progress_of : {p : Coming} → LogonPhase p → Progress
 progress_of (Calls a who v aim) = progress_called aim
 progress_of (Proved a who v client server) = WasOpened client server
 progress_of (Granted a who v o c timestamp judged_at accounts) = WasJudged a o
+progress_of (Sets a who v o c timestamp new accounts) = WasSet o
 progress_of (Named a e on one other back) = WasTold a
 progress_of (Echoes a e on one asks) = WasTold a
 progress_of (Echoed a e talk one other back) = WasTold a
@@ -429,6 +525,7 @@ progress_onward (Acked a who v aim) = progress_called aim
 progress_onward (Calls a who v aim) = progress_answered a aim
 progress_onward (Proved a who v client server) = NotYet
 progress_onward (Granted a who v o c timestamp judged_at accounts) = WasTold a
+progress_onward (Sets a who v o c timestamp new accounts) = NotYet
 progress_onward phase = progress_of phase
 
 abbrev pub progress_if : {p : Coming} → (comes : Bool) → LogonPhase p → Progress
@@ -462,8 +559,8 @@ pub record PhasesGoOn : Type 0 where
   -- and draws few challenges
   pub draws : (p : Coming) (s : State) (what : Move) → IsKnown p → IsReady p s → IsStepOn what → (at : IsUnderWay p s) → HasUserAt p s at.phase what →
       ArrivesAt p at.phase what → DrawsFew s.chances.left (act s what).state.chances.left
-  -- so it is where the user's hash is there
-  pub has_user : (p : Coming) (s : State) (phase : LogonPhase p) (what : Move) → HasUser p → MayLogOnAt p s → HasUserAt p s phase what
+  -- so it is where the user's hash was there as the logon began, since he is no machine
+  pub has_user : (p : Coming) (s : State) (at : IsUnderWay p s) (what : Move) → HasUser p → MayLogOnAt p s → HasUserAt p s at.phase what
   -- something waits in each phase
   pub waits : (p : Coming) (s : State) → IsUnderWay p s → s.dials ≡ [] → waiting s.bag ≡ [] → ⊥
   -- once it is over, moves change nothing of it

@@ -8,12 +8,14 @@ use Rattle.wire_base.specs.Names.{same_name}
 use Rattle.channel_keys.specs.ChannelTypes.{workstation_channel}
 use Rattle.authenticators.specs.SecureChannels.{SecureChannelState}
 use Rattle.logon_stubs.specs.Ranges.{IsBlock}
+use Rattle.secret_change.specs.Secrets.{IsNextSecret, SecretsState}
 use Rattle.account_table.specs.AccountTable.{AccountTable}
-use Rattle.account_table.specs.Changes.{DifferInCounts}
+use Rattle.account_table.specs.Changes.{DifferInStates}
 use Rattle.account_table.specs.LookUps.{account_in, machine_in, machine_name}
 use Rattle.account_table.specs.Ranges.{InRangeAccount}
 use Rattle.account_table.specs.declared.account.Account.{Account}
-use Rattle.account_table.specs.declared.account.Kind.TheVariants.{Workstation}
+use Rattle.account_table.specs.declared.account.Kind.TheVariants.{User, Workstation}
+use Rattle.channel_client.specs.declared.caller.Caller.{Caller}
 use Rattle.channel_client.specs.declared.state.Standing.{Standing}
 use Rattle.channel_client.specs.declared.state.Standing.TheVariants as standing
 use Rattle.domain_controller.specs.Whole.{InRangeTable}
@@ -38,9 +40,11 @@ use Rattle.logon_steps.specs.ClientSteps.{client_ended}
 use Rattle.logon_steps.specs.ControllerTurns.{controller_at}
 use Rattle.logon_steps.specs.MemberLinks.{logons_resting}
 use Rattle.member_server.specs.Secrets.{tried_of}
-use Rattle.logon_steps.specs.MemberTurns.{member_at}
+use Rattle.logon_steps.specs.Knowing.{StandsLater}
+use Rattle.logon_steps.specs.MemberTurns.{member_at, plan_with}
+use Rattle.logon_runs.specs.Seen.LinkScenes.{Given}
 use Rattle.logon_runs.specs.Seen.Others.{IsStepOn, OthersStay, Three}
-use Rattle.logon_runs.specs.Phases.{Coming, HasUser, IsUnderWay, IsKnown}
+use Rattle.logon_runs.specs.Phases.{Coming, HasUser, IsUnderWay, IsKnown, MayLogOnAt}
 use Rattle.logon_runs.specs.Failing.TurnedAway.{HasEnded}
 use Rattle.logon_runs.specs.Seen.WaitingUnits.{waiting}
 
@@ -76,18 +80,19 @@ pub record HasOwnName (plan : Plan) (at : ℕ) (member : MemberPlan) (controller
   pub apart : (other : ℕ) (peer : MemberPlan) → other ≢ at → slice_get plan.members other ≡ Some peer →
       end_of_peer peer.controller (first_ends plan) ≡ Some (Controller controller) → same_name peer.computer member.computer ≡ false
 
--- each member keeps one secret
-abbrev pub AreAlone : List MemberPlan → Type 0
-AreAlone members = (at : ℕ) (member : MemberPlan) → slice_get members at ≡ Some member → member.secrets.next ≡ None
-
 -- ---- what rests
 
--- the controller keeps its accounts, but for counts of bad passwords, and this of computers
+-- users' accounts are as they were, but for counts of bad passwords
+abbrev pub KeepsUsers : (old new : AccountTable) → Type 0
+KeepsUsers old new = (user : List ℕ) (account : Account) → account_in old.accounts user ≡ Some account → account.kind ≡ User → StandsLater new user account
+
+-- the controller keeps its accounts, but for counts of bad passwords and hashes of machines, and this of computers
 pub record ControllerRests (plan : Plan) (s : State) (at : ℕ) (planned : AccountTable) : Type 0 where
   pub name : List ℕ
   pub is_name : slice_get plan.controllers at ≡ Some name
   pub table : AccountTable
-  pub differs : DifferInCounts planned table
+  pub states : DifferInStates planned table
+  pub users : KeepsUsers planned table
   pub ranged : InRangeTable table
   pub computers : Computers
   pub rests : slice_get s.ends.controllers at ≡ Some (controller_at table name computers [])
@@ -108,14 +113,42 @@ StandsWell plan s at member standing.Nothing = Unit {0}
 StandsWell plan s at member (standing.Half client server) = ⊥
 StandsWell plan s at member (standing.Open o) = (controller : ℕ) → HasOwnName plan at member controller → IsInStepAt s controller member o
 
+-- the account by which the controller opens the member's channel, where it has one, has the secret that is tried
+pub record FitsSecretAt (s : State) (controller : ℕ) (member : MemberPlan) (secrets : SecretsState) : Type 0 where
+  pub table : AccountTable
+  pub name : List ℕ
+  pub computers : Computers
+  pub rests : slice_get s.ends.controllers controller ≡ Some (controller_at table name computers [])
+  pub fits : (account : Account) → channel_account table member.computer ≡ Some account → account.hash ≡ tried_of secrets
+
+-- By which secret a member asks in its next turns: by the one that it tries while its channel is none, and by the one
+-- that its channel was given once that is open.
+abbrev pub secret_at : Standing → (tried kept : List ℕ) → List ℕ
+secret_at standing.Nothing tried kept = tried
+secret_at (standing.Half client server) tried kept = tried
+secret_at (standing.Open o) tried kept = kept
+
+-- who asks, by that secret
+abbrev pub caller_with : List ℕ → MemberPlan → Caller
+caller_with secret plan = record (caller_of plan) { secret = secret }
+
+-- The member keeps its secrets or what logons made of them. While a channel stands no secret is next. Where it has its
+-- own name, its controller's account has the secret that it tries.
 pub record MemberRests (plan : Plan) (s : State) (at : ℕ) (member : MemberPlan) : Type 0 where
+  pub secrets : SecretsState
+  pub given : Given
   pub how : Standing
   pub place : ℕ
   pub number : ℕ
-  pub rests : slice_get s.ends.members at ≡ Some (member_at (logons_resting member (caller_of member) None how place number) [] dialling.Nothing)
+  pub rests : slice_get s.ends.members at
+      ≡ Some (member_at (logons_resting (plan_with secrets member) (caller_with given.secret member) given.next how place number) [] dialling.Nothing)
+  pub next : IsNextSecret secrets.next
+  pub one : (o : SecureChannelState) → how ≡ standing.Open o → secrets.next ≡ None
   pub place_below : place < 2 ^ 32
   pub number_below : number < 2 ^ 32
   pub stands : StandsWell plan s at member how
+  pub fits : (controller : ℕ) (planned : AccountTable) → slice_get plan.tables controller ≡ Some planned → HasOwnName plan at member controller →
+      FitsSecretAt s controller member secrets
 
 -- it wasn't started, or has its outcome
 pub record ClientRests (s : State) (at : ℕ) (task : ClientPlan) : Type 0 where
@@ -129,7 +162,6 @@ pub record AtRest (plan : Plan) (s : State) : Type 0 where
   pub dials : s.dials ≡ []
   pub units : waiting s.bag ≡ []
   pub plans : s.client_plans ≡ plan.clients
-  pub alone : AreAlone plan.members
   pub controllers : (at : ℕ) (planned : AccountTable) → slice_get plan.tables at ≡ Some planned → ControllerRests plan s at planned
   pub members : (at : ℕ) (member : MemberPlan) → slice_get plan.members at ≡ Some member → MemberRests plan s at member
   pub clients : (at : ℕ) (task : ClientPlan) → slice_get plan.clients at ≡ Some task → ClientRests s at task
@@ -164,9 +196,9 @@ coming_at plan s rest client member controller can account machine =
         at_member = member;
         at_controller = controller;
         task = can.task;
-        plan = can.member_plan;
-        caller = caller_of can.member_plan;
-        given = record { secret = tried_of can.member_plan.secrets; next = None };
+        plan = plan_with work.secrets can.member_plan;
+        caller = caller_with (secret_at work.how (tried_of work.secrets) work.given.secret) can.member_plan;
+        given = work.given;
         how = work.how;
         place = work.place;
         number = work.number;
@@ -187,20 +219,21 @@ pub record HasCome (plan : Plan) (s : State) (rest : AtRest plan s) (client memb
   pub known : IsKnown (coming_at plan s rest client member controller can account machine)
   pub under_way : IsUnderWay (coming_at plan s rest client member controller can account machine) (start number s).state
 
--- it starts so; the domain's name and the account's are those of the plan
+-- it starts so; the domain's name and the account's are those of the plan, and a user's hash is
 pub record HasBegun (plan : Plan) (s : State) (rest : AtRest plan s) (client member controller : ℕ) (can : CanBeGranted plan client member controller) (number : ℕ) : Type 0 where
   pub account : Account
   pub come : HasCome plan s rest client member controller can.come account number
   pub domain : (rest.controllers controller can.come.computer.table can.come.computer.is_table).table.domain ≡ can.come.computer.table.domain
   pub name : account.name ≡ can.account.name
-  pub user : HasUser (coming_at plan s rest client member controller can.come account come.machine)
+  pub user : MayLogOnAt (coming_at plan s rest client member controller can.come account come.machine) (start number s).state →
+      HasUser (coming_at plan s rest client member controller can.come account come.machine)
 
 abbrev pub three_of : ℕ → ℕ → ℕ → Three
 three_of client member controller = record { client = client; member = member; controller = controller }
 
 pub record LogonsComeToRest : Type 0 where
-  -- the first world rests, where each member keeps one secret
-  pub first : (plan : Plan) → IsPlan plan → HasForms plan → AreAlone plan.members → AtRest plan (first_world plan).state
+  -- the first world rests
+  pub first : (plan : Plan) → IsPlan plan → HasForms plan → AtRest plan (first_world plan).state
   -- a client that starts at rest is under way, by an account that is in its ranges, and by the user's where he has one
   pub comes : (plan : Plan) (s : State) (rest : AtRest plan s) (client member controller : ℕ) (can : CanCome plan client member controller) (account : Account) (number : ℕ) → IsPlan plan →
       HasForms plan → InRangeAccount account → chosen_place number (length s.ends.clients) ≡ Some client → HasCome plan s rest client member controller can account number

@@ -27,7 +27,6 @@ ghost use Rattle.logon_runs.specs.Runs.{TurnsRun};
 ghost use Rattle.logon_runs.specs.Scenes.{ScenesGoOn};
 ghost use Rattle.logon_runs.specs.SecretRests.{SetsLeaveOthers};
 ghost use Rattle.logon_runs.specs.Seen.SetScenes.{SetsAreSeen};
-ghost use Rattle.logon_runs.specs.SetPhases.{SetPhasesGoOn};
 ghost use Rattle.logon_runs.specs.Seen.Starts.{StartsAreSeen};
 ghost use Rattle.logon_runs.specs.Seen.Staying.{EndsStay};
 ghost use Rattle.logon_runs.specs.Seen.TurnScenes.{TurnsAreSeen};
@@ -160,17 +159,11 @@ pub fn an_example_logs_on()
 {}
 
 /// A logon that is granted goes on at each move, in whichever order the moves come and whenever time
-/// passes: from one phase to another, and from the last one to its end, where the client is in.
+/// passes: from one phase to another, and from the last one to its end, where the client is in. Where its member keeps
+/// a next secret, and the channel opens under the current one, that is set first; the member keeps it alone then.
 #[tactic(auto, using(crate::proofs::Phases::PhaseLaws::phases_go_on))]
 pub fn phases_go_on()
     ensures { PhasesGoOn }
-{}
-
-/// A turn that sets a member's next secret goes on at each move, at a controller that has the member's account, to the
-/// dial of the logon's own turn. The member keeps one secret then, and the account has it.
-#[tactic(auto, using(crate::proofs::Phases::SetPhaseLaws::set_phases_go_on))]
-pub fn set_phases_go_on()
-    ensures { SetPhasesGoOn }
 {}
 
 /// The moves of one logon change its client, its member and its controller alone: all other ends
@@ -182,7 +175,7 @@ pub fn others_are_left()
 
 /// The first world rests: no link is open, and nothing waits. A logon at a member that has its own
 /// computer starts at rest and leads to rest, granted or not. A channel that such a member has is in
-/// step with its controller's then.
+/// step with its controller's then, and the member's account has the secret that the member tries.
 #[tactic(auto, using(crate::proofs::RestLaws::logons_come_to_rest))]
 pub fn logons_come_to_rest()
     ensures { LogonsComeToRest }
@@ -279,8 +272,8 @@ pub fn logons_rest()
     ensures { LogonsRest }
 {}
 
-/// A secret that is set leaves the accounts as they were by which a controller opens other computers' channels, and
-/// which computers it knows.
+/// A secret that is set leaves the accounts as they were by which a controller opens other computers' channels, those
+/// of users, and which computers it knows.
 #[tactic(auto, using(crate::proofs::SecretRestLaws::sets_leave_others))]
 pub fn sets_leave_others()
     ensures { SetsLeaveOthers }

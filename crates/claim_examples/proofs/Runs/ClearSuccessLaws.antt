@@ -1,7 +1,7 @@
 -- The client of the example can succeed: her account may log on in each state of the run; and she does, since no key of
 -- the run travels as zeros.
 -- It serves `ann_can_succeed`.
-use Rattle.std.proofs.Common.{◌≡◌, ℕ, zero, suc, ◌≤◌, arith, true, false, List, [], ◌∷◌, length, Option, Some, None, refl, sym, subst, inl, inr}
+use Rattle.std.proofs.Common.{◌≡◌, ℕ, ◌≤◌, arith, true, false, List, [], length, Option, Some, refl, sym, subst, inl, inr}
 use Rattle.std.specs.Prelude.{◌==◌, codes, IsSomeAnd}
 use Rattle.wire_base.specs.Names.{SameName, same_name}
 use Rattle.wire_base.specs.Names as names
@@ -26,7 +26,6 @@ use Rattle.world_moves.specs.Forms.{HasForms}
 use Rattle.world_moves.specs.World.{IsPlan, first_world}
 use Rattle.domain_world.specs.Claims.Completeness.{CanSucceed, ComesOneAtATime, InEachState, IsMadeForClient, KeyArrives, MayLogOnIn, OwnKeysArrive, info_planned}
 use Rattle.domain_world.specs.Past.{past}
-use Rattle.logon_runs.specs.Rests.{AreAlone}
 use Rattle.logon_steps.specs.Granting.{cleared}
 use Rattle.logon_steps.specs.MemoCalls.{ReplyGoes, RequestGoes}
 use Rattle.logon_steps.proofs.ClientStepLaws.{echo_are, echo_length}
@@ -194,15 +193,9 @@ ann_can_so = record {
       (subst (λ (table : AccountTable). MayLogOn table (info_planned ann_task) 0) (sym same_accounts) ann_may);
 }
 
--- a plan with one member
-one_alone : (own : MemberPlan) → own.secrets.next ≡ None → AreAlone (own ∷ [])
-one_alone own one zero member is = let same : own ≡ member = cc in subst (λ (m : MemberPlan). m.secrets.next ≡ None) same one
-one_alone own one (suc at) member is = absurd cc
-
 ann_comes : ComesOneAtATime (past ann_plan ann_moves) ann_moves
 ann_comes = record {
   schedule = an_example_logs_on.schedule;
-  alone = one_alone file1_plan refl;
   plain = ann_plain;
   once = ann_once;
   quiet = ann_quiet;
@@ -221,7 +214,7 @@ ann_each : HaveOwnMembers ann_run ann_moves
 ann_each = (own_member ann_plan ann_moves 0 ann_can_so, tt)
 
 ann_comes_so : ComesOneAtATime ann_clashed ann_moves
-ann_comes_so = record { schedule = ann_comes.schedule; alone = ann_comes.alone; plain = ann_comes.plain; once = ann_comes.once; quiet = ann_comes.quiet }
+ann_comes_so = record { schedule = ann_comes.schedule; plain = ann_comes.plain; once = ann_comes.once; quiet = ann_comes.quiet }
 
 pub ann_can_succeed : AnnCanSucceed
 ann_can_succeed = record {

@@ -342,7 +342,7 @@ with_servers plan moves servers comes owns =
     let is : IsPlan plan = comes.schedule.start in
     let forms : HasForms plan = comes.schedule.forms in
     clear_from plan is forms servers (book moves first blank) moves first blank (first_along plan moves comes) owns refl
-    (inl (record { rest = logons_come_to_rest.first plan is forms comes.alone; enough = first_enough plan (length moves) comes.schedule.few }, record { apart = refl; marked = refl }))
+    (inl (record { rest = logons_come_to_rest.first plan is forms; enough = first_enough plan (length moves) comes.schedule.few }, record { apart = refl; marked = refl }))
 
 -- by whether there is a controller, and a member
 by_servers : (plan : Plan) (moves : List Move) (tables : List AccountTable) (members : List MemberPlan) → plan.tables ≡ tables → plan.members ≡ members → NoneClashes (past plan moves) moves

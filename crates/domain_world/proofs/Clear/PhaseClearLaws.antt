@@ -1,7 +1,7 @@
 -- In each phase of a logon, whatever it comes to, where no credential clashed, none does as a unit comes: the unit that
 -- carries a call, and the one that carries its reply, was made for the channel on which the credential passes.
 -- It serves `Proved.one_by_one`.
-use Rattle.std.proofs.Common.{◌≡◌, ◌≢◌, ℕ, ◌+◌, ◌==◌, arith, Bool, true, false, List, [], ◌∷◌, ◌++◌, length, map, Option, Some, None, inl, inr, refl, sym, ap, ap₂, subst, ◌∙◌, slice_get}
+use Rattle.std.proofs.Common.{◌≡◌, ◌≢◌, ℕ, ◌+◌, ◌==◌, arith, Bool, true, false, List, [], ◌∷◌, ◌++◌, length, map, Option, Some, None, Result, Ok, Err, inl, inr, refl, sym, ap, ap₂, subst, ◌∙◌, slice_get}
 use Rattle.std.specs.Prelude.{◌⊎◌}
 use Rattle.std.proofs.lemmas.Bool.{cases_Bool, false_from_ne_true}
 use Rattle.std.proofs.lemmas.Bool.Decides.{Decides-eqb}
@@ -9,8 +9,17 @@ use Rattle.wire_base.specs.Maps.{lookup}
 use Rattle.wire_base.specs.Names.{same_name}
 use Rattle.authenticators.specs.Channels.{ChannelIdentity}
 use Rattle.authenticators.specs.SecureChannels.{SecureChannelState, channel_of, key_of_channel}
+use Rattle.rpc_units.specs.Calls.{bytes_of_call}
 use Rattle.rpc_units.specs.Writing.{written}
-use Rattle.outside.specs.declared.action.DropCause.{DropCause}
+use Rattle.outside.specs.declared.action.Action.{Action}
+use Rattle.outside.specs.declared.action.StepRefused.{StepRefused}
+use Rattle.outside.specs.Machine.{Stepped}
+use Rattle.secret_change.specs.Ranges.{InRangeSetReply}
+use Rattle.secret_change.specs.Secrets.{IsNextSecret}
+use Rattle.secret_change.specs.declared.calls.SetCall.{SetCall}
+use Rattle.secret_change.specs.declared.calls.SetReply.{SetReply}
+use Rattle.secret_change.proofs.SetLaws.{reply_stub}
+use Rattle.account_table.specs.LookUps.{machine_in}
 use Rattle.outside.specs.declared.action.DropCause.TheVariants as drop_cause
 use Rattle.logon_stubs.specs.declared.calls.AuthCall.{AuthCall}
 use Rattle.logon_stubs.specs.declared.calls.Call.{Call}
@@ -20,7 +29,7 @@ use Rattle.account_table.specs.declared.account.Account.{Account}
 use Rattle.end_links.specs.Links.{LinkState}
 use Rattle.end_links.specs.Serving.{ServedUnit, ServedPart}
 use Rattle.channel_client.specs.declared.state.SetStep.TheVariants as set_step
-use Rattle.channel_client.specs.Machine.{Taking, after, judge, judge_auth, offered_flags, settle, wait_for, take_of}
+use Rattle.channel_client.specs.Machine.{after, judge_auth, offered_flags, wait_for, take_of}
 use Rattle.channel_client.specs.State.{Requester}
 use Rattle.channel_events.specs.Marks.{Calling, Opened, Opening, Plain, ReplyTo}
 use Rattle.channel_events.proofs.ListLaws.{got_append}
@@ -28,16 +37,20 @@ use Rattle.domain_controller.specs.Hearing.{bound_talk, served_call}
 use Rattle.domain_controller.specs.Machine.{Desk, account_for, by_call, status_of}
 use Rattle.logon_client.specs.Answering.{bind_for}
 use Rattle.member_server.specs.Machine.{step_of}
+use Rattle.member_server.specs.declared.plan.MemberPlan.{MemberPlan}
 use Rattle.member_server.specs.Turns.{AtTurn, turn_talk}
 use Rattle.member_server.specs.declared.state.Logons.{Logons}
 use Rattle.member_server.specs.declared.state.Talk.{Talk}
 use Rattle.channel_turns.specs.declared.state.TurnTalk.{TurnTalk}
-use Rattle.step_notes.specs.ChannelNames.{Expects, HasChannel, place_answered, channel_marked}
+use Rattle.step_notes.specs.ChannelNames.{Expects, HasChannel}
 use Rattle.step_notes.specs.ControllerNotes.{Answered, has_passed, identity_by, judged_in, judging_of, new_actions, opened_account, opened_by, opening, passing, plain}
 use Rattle.step_notes.specs.Marking.{answered_marks, clashes}
-use Rattle.step_notes.specs.MemberNotes.{half_channel, taking_note, turn_units, turn_units_by, asked_note, taken_note}
+use Rattle.step_notes.specs.MemberNotes.{half_channel, taking_note, turn_units, turn_units_by}
 use Rattle.step_notes.specs.Records.{Book, Judging, Sent}
-use Rattle.controller_calls.specs.declared.calls.JudgedCall.TheVariants.{Network}
+use Rattle.controller_calls.specs.declared.calls.ControllerCall.{ControllerCall}
+use Rattle.controller_calls.specs.declared.calls.ControllerCall.TheVariants as controller_call
+use Rattle.controller_calls.specs.declared.calls.JudgedCall.TheVariants.{Network, Set}
+use Rattle.domain_controller.specs.State.{State as ControllerState}
 use Rattle.step_notes.specs.Served.{units_if_taken, work_after}
 use Rattle.step_notes.proofs.Channels.ChannelNameLaws.{channels_are_named_alike}
 use Rattle.world_moves.specs.MemberPlans.{but_secret}
@@ -53,32 +66,35 @@ use Rattle.logon_steps.specs.Answers.{auth3_for}
 use Rattle.logon_steps.specs.ControllerTurns.{reply_bytes, passed_reply, turn_link}
 use Rattle.logon_steps.specs.Meeting.{ack_for, challenged_talk, fresh_talk}
 use Rattle.logon_steps.specs.MemberTurns.{logons_keeping, member_at, on_turn}
-use Rattle.logon_steps.specs.Turning.{turn_at, turn_response, IsTurnCall, IsTurnReply, turn_agreed}
+use Rattle.logon_steps.specs.SetTurns.{IsSetTurn, set_reply_bytes, set_request, set_response, set_taken}
+use Rattle.logon_steps.specs.Turning.{turn_response, IsTurnCall, IsTurnReply, turn_agreed}
 use Rattle.logon_steps.proofs.AnswersLaws.{answers_are_asked}
 use Rattle.logon_steps.proofs.CallingLaws.{calls_can_go}
 use Rattle.logon_steps.proofs.ControllerTurnLaws.{controllers_step}
+use Rattle.logon_steps.proofs.SetTurnLaws.{controllers_set, set_asked, set_comes, set_reply_comes, set_reply_sends, set_units_go}
 use Rattle.logon_steps.proofs.MeetingLaws.{ack_sends, bind_sends}
-use Rattle.logon_steps.proofs.TurningLaws.{turns_go_through, unit_comes}
+use Rattle.logon_steps.proofs.TurningLaws.{unit_comes}
 use Rattle.logon_runs.specs.Seen.LinkScenes.{its_link, unit_down, unit_up, Meeting}
 use Rattle.logon_runs.specs.Seen.TurnScenes.{IsBetween, Turn, with_accounts, turn_scene, unit_back}
 use Rattle.logon_runs.specs.Seen.Others.{IsStepOn}
 use Rattle.logon_runs.specs.Seen.WaitingUnits.{waiting}
-use Rattle.logon_runs.specs.Phases.{Aim, Coming, First, HasThree, IsAsking, IsOpening, LogonPhase, NotYet, Progress, progress_answered, progress_onward, Second, Third, TurnAt, WasJudged, WasOpened, WasTold, WhoAsked, call_for, own, progress_called, progress_of, scene_of, standing_for, turn_before, turn_on, with_its_controller, Acked, Answers, Binds, BindsBefore, BindsHeld, Calls, Challenged, Dials, DialsBefore, DialsHeld, Echoed, Echoes, Granted, Halved, Named, Proved, IsAnswering}
+use Rattle.logon_runs.specs.Phases.{IsPlanned as IsPlannedTurn, Aim, Coming, First, Fourth, HasThree, IsAsking, IsOpening, IsSetting, LogonPhase, NotYet, Progress, progress_answered, progress_onward, Second, Third, TurnAt, WasJudged, WasOpened, WasSet, WasTold, WhoAsked, own, progress_called, progress_of, scene_of, standing_for, step_for, turn_before, turn_on, with_its_controller, Acked, Answers, Binds, BindsBefore, BindsHeld, Calls, Challenged, Dials, DialsBefore, DialsHeld, Echoed, Echoes, Granted, Halved, Named, Proved, Sets, IsAnswering}
 use Rattle.logon_runs.specs.Runs.{Asked, goes, info_asked, message_for}
 use Rattle.logon_runs.specs.Scenes.{Shows}
 use Rattle.logon_runs.proofs.Phases.PhaseStartLaws.{left_so}
+use Rattle.logon_runs.proofs.Phases.PhaseTurnLaws.{HasPlace, of_table, place_found}
 use Rattle.logon_runs.proofs.RunLaws.{between_still}
 use Rattle.logon_runs.proofs.Seen.LinkSceneLaws.{found_here, heard_down}
 use Rattle.logon_runs.proofs.Seen.TwoLinkLaws.{turns_have_links}
 use Rattle.logon_runs.proofs.Seen.StepOnLaws.{by_step}
 use Rattle.logon_runs.proofs.Seen.WaitingLaws.{waiting_comes}
 use Rattle.domain_world.specs.Past.{judged_of, note, note_given, note_onward}
-use Rattle.domain_world.proofs.Completeness.HeardOnceLaws.{either_way, turn_line}
+use Rattle.domain_world.proofs.Completeness.HeardOnceLaws.{either_way, set_hears, turn_line}
 use Rattle.domain_world.proofs.Completeness.UnitNotedLaws.{comes_so}
 use Rattle.domain_world.proofs.Clear.NotedLaws.{Fine, Waits, given_fine, grows, world_at}
 use Rattle.domain_world.proofs.Clear.NotedOnLaws.{waits_marked}
-use Rattle.domain_world.proofs.Clear.UnitComesLaws.{Called, FineAnd, Names, ack_leads, answer_in_turn, bind_leads, call_comes, channel_in_turn, client_comes, connect_fine, desk_in_turn, dial_leads, judged_bag, meeting_leads, quiet_leads, replied_bag, reply_leads, reply_waits, where_in_turn, start_fine}
-use Rattle.logon_runs.specs.Any.AnyPhases.{progress_in, progress_next, AnyPhase, Away, IsAble, IsGranted, IsOwn, IsReadyBy, IsThere, IsTurningBy, Judged, KeepsInStep, MayAim, MayFit, MayFitAway, MayFitOn, On, Told, any_scene, proof_reply}
+use Rattle.domain_world.proofs.Clear.UnitComesLaws.{Called, CalledBy, FineAnd, Names, ack_leads, answer_in_turn, answer_to, bag_kept, bind_leads, call_comes, calls_come, channel_in_turn, client_comes, connect_fine, desk_in_turn, waiting_leads, judged_bag, meeting_leads, quiet_leads, replied_bag, reply_leads, reply_waits, reply_waits_by, responses_lead, set_ack_leads, where_by, where_in_turn, start_fine}
+use Rattle.logon_runs.specs.Any.AnyPhases.{progress_in, progress_next, AnyPhase, Away, IsAble, IsGranted, IsOwn, IsReadyBy, IsThere, IsTurningBy, Judged, KeepsInStep, MayAim, MayFit, MayFitAway, MayFitOn, On, Setting, Told, any_scene, proof_reply}
 use Rattle.logon_runs.specs.Keys.LetIn.{let_in_scene, Asks, FitsLetIn, Hears, IsOnLink, LetInPhase}
 use Rattle.logon_runs.specs.Failing.TurnedAway.{AwayPhase, Faulted, Refused, Unheard, away_scene, settled_in}
 use Rattle.domain_controller.specs.declared.state.Talk.{Talk as ControllerTalk}
@@ -86,12 +102,6 @@ use Rattle.logon_stubs.specs.Ranges.{IsBlock}
 use Rattle.world_moves.specs.declared.moves.Move.{Move}
 use Rattle.world_moves.specs.declared.plan.Plan.{Plan}
 use Rattle.channel_client.specs.declared.state.Question.{Question}
-use Rattle.rpc_units.specs.declared.unit.Unit.{Unit as RpcUnit}
-use Rattle.channel_client.specs.declared.state.Standing.{Standing}
-use Rattle.channel_client.specs.declared.state.Step.{Step}
-use Rattle.channel_client.specs.declared.answers.Taken.{Taken}
-use Rattle.channel_client.specs.declared.judging.Judgement.{Judgement}
-use Rattle.channel_client.specs.declared.judging.Judgement.TheVariants as judgement
 use Rattle.logon_runs.specs.Any.ControllerAnswers.{ToldChallenge, ToldProof}
 use Rattle.logon_stubs.specs.declared.info.Verdict.{Verdict}
 use Rattle.logon_runs.proofs.Any.ControllerAnswerLaws.{controllers_answer}
@@ -99,7 +109,6 @@ use Rattle.end_links.specs.Sending.{fault_of}
 use Rattle.logon_runs.proofs.Failing.FailingStepLaws.{fault_sends}
 use Rattle.authenticators.specs.Sequences.{return_of}
 use Rattle.rpc_units.specs.Numbers.{rpc_s_server_unavailable}
-use Rattle.channel_client.specs.Effects.{stands_in, step_in}
 use Rattle.member_server.specs.Requests.{talk_in}
 use Rattle.sam_logon.specs.Verdict.{verdict_of}
 use Rattle.logon_runs.specs.Failing.FailingSteps.{out_talk, who_fault}
@@ -113,7 +122,7 @@ use Rattle.channel_client.specs.Machine as requester
 use Rattle.logon_client.specs.declared.state.Phase.TheVariants as client_phase
 use Rattle.world_moves.specs.declared.moves.Move.TheVariants as move
 use Rattle.channel_client.specs.declared.state.Standing.TheVariants as standing
-use Rattle.channel_client.specs.declared.answers.Taken.TheVariants as taken
+use Rattle.domain_world.proofs.Clear.OwnTakingLaws.{IsMadeFor, drops_own, takes_own}
 
 -- ---- what holds
 
@@ -152,6 +161,8 @@ abbrev pub WaitsFor : Coming → Progress → State → Book → Type 0
 WaitsFor p NotYet s b = Unit {0}
 WaitsFor p (IsOpening client server) s b = Waits s (Some (half_of p client server)) b
 WaitsFor p (WasOpened client server) s b = Waits s (Some (half_of p client server)) b ⊎ HasNone p client server
+WaitsFor p (IsSetting o) s b = Waits s (Some (open_of p o)) b
+WaitsFor p (WasSet o) s b = Waits s (Some (open_of p o)) b
 WaitsFor p (IsAsking o) s b = Waits s (Some (open_of p o)) b
 WaitsFor p (WasJudged a o) s b = Waits s (Some (open_of p o)) b
 WaitsFor p (WasTold a) s b = Unit {0}
@@ -164,6 +175,11 @@ pub record IsClearFor (p : Coming) (far : Progress) (s : State) (b : Book) : Typ
 none_opened : (controller : ℕ) (c : AuthCall) (d : Desk) → account_for d.table c ≡ None → opened_by controller c d ≡ None
 none_opened controller c d none =
     ap (λ (found : Option Account). identity_by controller c.computer (opened_account found (lookup same_name c.computer d.work.computers.pending) c)) none
+
+-- what an end does in a step that it takes
+abbrev actions_in : Result (List Action) StepRefused → List Action
+actions_in (Ok actions) = actions
+actions_in (Err why) = []
 
 found_none : {T : Type 0} {one : T} → Some one ≡ None → ⊥
 found_none is = absurd cc
@@ -188,73 +204,6 @@ other_quiet logons links link other now piece left apart =
     (turn_units_by hit (record { rest = []; talk = turn_talk None }) other piece (record { logons = logons; links = links; dialling = on_turn link }) left)) differs
     ∙ either_way (λ (units : List (ServedUnit AtTurn TurnTalk)). units ≡ []) (step_of (member_at logons links (on_turn link)) (event.Bytes other piece) now left).answer [] refl refl
 
--- ---- a member takes a unit of its turn
-
--- the unit was made for the channel that is half open, or that is open
-abbrev IsMadeFor : ℕ → Requester → Standing → Option ℕ → List Sent → Type 0
-IsMadeFor controller channel standing.Nothing unit sent = Unit {0}
-IsMadeFor controller channel (standing.Half client server) unit sent = channel_marked unit sent ≡ Some (half_channel controller channel client server)
-IsMadeFor controller channel (standing.Open o) unit sent = channel_marked unit sent ≡ Some (channel_of controller channel.caller.computer o)
-
-made_open : (controller : ℕ) (channel : Requester) (how : Standing) (unit : Option ℕ) (sent : List Sent) (named : ChannelIdentity) → stands_in controller channel.caller.computer how ≡ Some named →
-    IsMadeFor controller channel how unit sent → channel_marked unit sent ≡ Some named
-made_open controller channel standing.Nothing unit sent named stands made = absurd cc
-made_open controller channel (standing.Half client server) unit sent named stands made = absurd cc
-made_open controller channel (standing.Open o) unit sent named stands made = made ∙ stands
-
--- what is asked checks no credential
-asks_unchecked : (what : Option Step) (how : Standing) (controller : ℕ) (before after : Requester) → (asked_note what how controller before after).checked ≡ None
-asks_unchecked None how controller before after = refl
-asks_unchecked (Some (step.Bind call)) how controller before after = refl
-asks_unchecked (Some (step.Reply (question.Challenge client))) how controller before after = refl
-asks_unchecked (Some (step.Reply question.Authenticate)) standing.Nothing controller before after = refl
-asks_unchecked (Some (step.Reply question.Authenticate)) (standing.Half client server) controller before after = refl
-asks_unchecked (Some (step.Reply question.Authenticate)) (standing.Open o) controller before after = refl
-asks_unchecked (Some (step.Reply question.Logon)) standing.Nothing controller before after = refl
-asks_unchecked (Some (step.Reply question.Logon)) (standing.Half client server) controller before after = refl
-asks_unchecked (Some (step.Reply question.Logon)) (standing.Open o) controller before after = refl
-asks_unchecked (Some (step.Set (set_step.Bind c))) how controller before after = refl
-asks_unchecked (Some (step.Set set_step.Reply)) standing.Nothing controller before after = refl
-asks_unchecked (Some (step.Set set_step.Reply)) (standing.Half client server) controller before after = refl
-asks_unchecked (Some (step.Set set_step.Reply)) (standing.Open o) controller before after = refl
-
-module _ (controller : ℕ) (channel : Requester) (unit : RpcUnit) (number : Option ℕ) (sent : List Sent) (made : IsMadeFor controller channel channel.standing number sent) where
-  abbrev IsOwnTaking : Type 0
-  IsOwnTaking = clashes (taking_note (Some (take_of channel unit)) controller channel).checked number sent ≡ false
-
-  abbrev checked_by : Taken → Bool
-  checked_by found = clashes (taken_note found controller channel (take_of channel unit).state).checked number sent
-
-  taking_own : (found : Taken) → (take_of channel unit).taken ≡ found → IsOwnTaking
-  taking_own (taken.Skip right) is = ap checked_by is
-  taking_own (taken.Next right frames) is =
-      ap checked_by is
-      ∙ ap (λ (checked : Option ChannelIdentity). clashes checked number sent)
-      (asks_unchecked (step_in (take_of channel unit).state.turn) (take_of channel unit).state.standing controller channel (take_of channel unit).state)
-  taking_own taken.Half is = ap checked_by is
-  taking_own taken.Opened is =
-      let at = channels_are_named_alike.standings.opens controller channel unit is in
-      channels_are_named_alike.exchanges.opened controller channel unit at.0 at.1 number sent at.2 is (subst (λ (how : Standing). IsMadeFor controller channel how number sent) at.2 made)
-  taking_own (taken.Answer place verdict) is =
-      let answered : place_answered (take_of channel unit).taken ≡ Some place = ap place_answered is in
-      let at = channels_are_named_alike.calls.takes controller channel unit place answered in
-      channels_are_named_alike.exchanges.answered controller channel unit place at.0 number sent at.1 answered (made_open controller channel channel.standing number sent at.0 at.1 made)
-  taking_own (taken.Dropped place cause) is = ap checked_by is
-  taking_own taken.Set is =
-      let at = channels_are_named_alike.calls.sets controller channel unit is in
-      channels_are_named_alike.exchanges.set controller channel unit at.0 number sent at.1 is (made_open controller channel channel.standing number sent at.0 at.1 made)
-
-  pub takes_own : IsOwnTaking
-  takes_own = taking_own (take_of channel unit).taken refl
-
--- nor is any where the reply is dropped
-drops_own : (controller : ℕ) (channel : Requester) (number place : ℕ) (q : Question) (r : Reply) (cause : DropCause) (unit : Option ℕ) (sent : List Sent) → IsTurnReply q r →
-    judge q r channel.standing channel.caller.secret ≡ judgement.Drop cause →
-    clashes (taking_note (Some (take_of (turn_at number place (step.Reply q) channel) (turn_response number r))) controller (turn_at number place (step.Reply q) channel)).checked unit sent ≡ false
-drops_own controller channel number place q r cause unit sent is judged =
-    ap (λ (taking : Taking). clashes (taking_note (Some taking) controller (turn_at number place (step.Reply q) channel)).checked unit sent)
-    (turns_go_through.takes.reply channel number place q r is ∙ ap (λ (j : Judgement). settle j (turn_at number place (step.Reply q) channel)) judged)
-
 -- ---- a unit comes
 
 -- none waits
@@ -278,12 +227,11 @@ module _ (plan : Plan) (p : Coming) (s : State) (k : ℕ) (b : Book) (able : IsA
   fine : Fine s count b
   fine = fine_of s b clean
 
-  names_of : (t : Turn) → t.at_member ≡ p.meeting.at_member → t.at_controller ≡ p.meeting.at_controller → t.plan ≡ p.meeting.plan → IsThere plan p → Names s t
+  names_of : (t : Turn) → t.at_member ≡ p.meeting.at_member → t.at_controller ≡ p.meeting.at_controller → but_secret t.plan ≡ but_secret p.meeting.plan → IsThere plan p → Names s t
   names_of t member controller own_plan there = record {
-    plan = subst (λ (at : ℕ). slice_get (map but_secret s.member_plans) at ≡ Some (but_secret t.plan)) (sym member)
-        (subst (λ (one : _). slice_get (map but_secret s.member_plans) p.meeting.at_member ≡ Some (but_secret one)) (sym own_plan) planned.is_plan);
+    plan = subst (λ (at : ℕ). slice_get (map but_secret s.member_plans) at ≡ Some (but_secret t.plan)) (sym member) (planned.is_plan ∙ ap (λ (one : MemberPlan). Some one) (sym own_plan));
     reach = subst (λ (at : ℕ). end_of_peer t.plan.controller s.ends ≡ Some (Controller at)) (sym controller)
-        (subst (λ (one : _). end_of_peer one.controller s.ends ≡ Some (Controller p.meeting.at_controller)) (sym own_plan) (planned.reach there));
+        (ap (λ (one : MemberPlan). end_of_peer one.controller s.ends) own_plan ∙ planned.reach there);
   }
 
   binds_clear : Shows s (scene_of p Binds left moment) → After NotYet
@@ -327,7 +275,7 @@ module _ (plan : Plan) (p : Coming) (s : State) (k : ℕ) (b : Book) (able : IsA
       before_clear : (aim : Aim) → Shows s (scene_of p (DialsBefore a who v aim) left moment) → After NotYet
       before_clear aim shows = record {
         clean = clean_of (goes s) count now
-            (dial_leads s (turn_before p a who.later [] v) (its_link (own p)) (standing_for aim) v.next v.number (call_for p a aim) v.computers (unit_up (own p) who.sent) [] left moment count shows
+            (waiting_leads s (turn_before p a who.later [] v) (its_link (own p)) (standing_for aim) v.next v.number (step_for p a aim) v.computers (unit_up (own p) who.sent) [] left moment count shows
             (record {
               units = refl;
               some = who.some;
@@ -354,7 +302,7 @@ module _ (plan : Plan) (p : Coming) (s : State) (k : ℕ) (b : Book) (able : IsA
                   found = turns_have_links.own (own p) before (standing_for aim) is.joined_so;
                   hearer = refl;
                 })
-                (λ then_now l. other_quiet (logons_keeping t.plan t.caller t.how t.info t.place v.next v.number (step.Bind (call_for p a aim)) t.asked) t.accepted (length v.links) (own p).link
+                (λ then_now l. other_quiet (logons_keeping t.plan t.caller t.how t.info t.place v.next v.number (step_for p a aim) t.asked) t.accepted (length v.links) (own p).link
                 then_now who.sent l (turns_have_links.apart (own p) before is.joined_so)) k b fine);
             waits = tt;
           }
@@ -362,31 +310,39 @@ module _ (plan : Plan) (p : Coming) (s : State) (k : ℕ) (b : Book) (able : IsA
       bound_clear : (aim : Aim) → IsTurningBy plan p a v → Shows s (scene_of p (BindsHeld a who v aim) left moment) → After NotYet
       bound_clear aim is shows = record {
         clean = clean_of (goes s) count now
-            (bind_leads s (t_on aim) v.next v.number (step.Bind (call_for p a aim)) v.computers left moment count (between_on aim is) is.number_below shows k b fine);
+            (bind_leads s (t_on aim) v.next v.number (step_for p a aim) v.computers left moment count (between_on aim is) is.number_below shows k b fine);
         waits = tt;
       }
 
       -- the call goes out
-      acked_clear : (aim : Aim) → IsTurningBy plan p a v → IsThere plan p → Shows s (scene_of p (Acked a who v aim) left moment) → After (progress_called aim)
-      acked_clear (First client) is there shows =
+      acked_clear : (aim : Aim) → IsTurningBy plan p a v → MayAim plan p v aim → IsThere plan p → Shows s (scene_of p (Acked a who v aim) left moment) → After (progress_called aim)
+      acked_clear (First client) is aimed there shows =
           let t : Turn = t_on (First client) in
           let f : FineAnd (goes s) count None now =
-          ack_leads s t v.next v.number (call_for p a (First client)) v.computers left moment count Plain None (between_on (First client) is) is.number_below (names_of t refl refl refl there) refl shows k b fine in
+          ack_leads s t v.next v.number (requester.challenge_call p.meeting.caller client) v.computers left moment count Plain None (between_on (First client) is) is.number_below (names_of t refl refl refl there) refl shows k b fine in
           record { clean = clean_of (goes s) count now f.fine; waits = tt }
-      acked_clear (Second client server) is there shows =
+      acked_clear (Second client server) is aimed there shows =
           let t : Turn = t_on (Second client server) in
-          let asks : Requester = channel_in_turn t v.next v.number (step.Bind (call_for p a (Second client server))) in
+          let asks : Requester = channel_in_turn t v.next v.number (step.Bind (requester.auth_call p.meeting.caller client server)) in
           let f : FineAnd (goes s) count (Some (half_of p client server)) now =
-          ack_leads s t v.next v.number (call_for p a (Second client server)) v.computers left moment count
+          ack_leads s t v.next v.number (requester.auth_call p.meeting.caller client server) v.computers left moment count
           (Opening (half_channel t.at_controller (wait_for asks t.place (step.Reply question.Authenticate)) client server) asks.next_call) None (between_on (Second client server) is) is.number_below
           (names_of t refl refl refl there) refl shows k b fine in
           record { clean = clean_of (goes s) count now f.fine; waits = f.waits }
-      acked_clear (Third o c timestamp) is there shows =
+      acked_clear (Third o c timestamp) is aimed there shows =
           let t : Turn = t_on (Third o c timestamp) in
-          let asks : Requester = channel_in_turn t v.next v.number (step.Bind (call_for p a (Third o c timestamp))) in
+          let asks : Requester = channel_in_turn t v.next v.number (step.Bind (requester.logon_call p.meeting.caller o timestamp (info_asked (own p) a))) in
           let f : FineAnd (goes s) count (Some (open_of p o)) now =
-          ack_leads s t v.next v.number (call_for p a (Third o c timestamp)) v.computers left moment count (Calling (open_of p o) asks.next_call timestamp) (Some t.place)
+          ack_leads s t v.next v.number (requester.logon_call p.meeting.caller o timestamp (info_asked (own p) a)) v.computers left moment count (Calling (open_of p o) asks.next_call timestamp) (Some t.place)
           (between_on (Third o c timestamp) is) is.number_below (names_of t refl refl refl there) refl shows k b fine in
+          record { clean = clean_of (goes s) count now f.fine; waits = f.waits }
+      acked_clear (Fourth o c timestamp new) is aimed there shows =
+          let t : Turn = t_on (Fourth o c timestamp new) in
+          let call : SetCall = requester.change_call p.meeting.caller o timestamp new in
+          let asks : Requester = channel_in_turn t v.next v.number (step.Set (set_step.Bind call)) in
+          let f : FineAnd (goes s) count (Some (open_of p o)) now =
+          set_ack_leads s t v.next v.number call v.computers left moment count (Calling (open_of p o) asks.next_call timestamp) None
+          (between_on (Fourth o c timestamp new) is) is.number_below (names_of t refl refl refl there) refl shows k b fine in
           record { clean = clean_of (goes s) count now f.fine; waits = f.waits }
 
       -- the controller answers
@@ -395,12 +351,12 @@ module _ (plan : Plan) (p : Coming) (s : State) (k : ℕ) (b : Book) (able : IsA
         first_clear client three aimed shows =
             let t : Turn = t_on (First client) in
             let more : List (List ℕ) = three.two ∷ three.three ∷ three.more in
-            let can : IsTurnCall (call_for p a (First client)) = calls_can_go.challenge p.meeting.caller client able.caller aimed.0 in
-            let told : ToldChallenge p.table p.name v.computers (length v.links) moment v.next p.meeting.caller client three.one more =
-            controllers_answer.challenge p.table p.name v.computers (length v.links) moment v.next p.meeting.caller client three.one more is.next_below can in
+            let can : IsTurnCall (requester.challenge_call p.meeting.caller client) = calls_can_go.challenge p.meeting.caller client able.caller aimed.0 in
+            let told : ToldChallenge v.table p.name v.computers (length v.links) moment v.next p.meeting.caller client three.one more =
+            controllers_answer.challenge v.table p.name v.computers (length v.links) moment v.next p.meeting.caller client three.one more is.next_below can in
             record {
               clean = clean_of (goes s) count now
-                  (call_comes s t (after v.next) v.next (step.Reply (question.Challenge client)) (call_for p a (First client)) v.computers (three.one ∷ more) more moment count count _ _
+                  (call_comes s t (after v.next) v.next (step.Reply (question.Challenge client)) (requester.challenge_call p.meeting.caller client) v.computers (three.one ∷ more) more moment count count _ _
                   (between_on (First client) is) is.next_below can told.steps
                   (left_so s (λ (l : List (List ℕ)). scene_of p (Calls a who v (First client)) l moment) left _ shows.left three.are shows) k b fine
                   (λ unit first. refl) (λ unit numbers. omega arith)).has.fine;
@@ -412,18 +368,20 @@ module _ (plan : Plan) (p : Coming) (s : State) (k : ℕ) (b : Book) (able : IsA
             Waits s (Some (half_of p client server)) b → Shows s (scene_of p (Calls a who v (Second client server)) left moment) → After (WasOpened client server)
         granted_clear client server machine found aimed waits shows =
             let t : Turn = t_on (Second client server) in
-            let call : Call = call_for p a (Second client server) in
+            let call : Call = requester.auth_call p.meeting.caller client server in
             let r : Reply = reply.Authenticate (record { credential = requester.server_credential p.meeting.caller.secret client server; flags = offered_flags; status = 0 }) in
             let can : IsTurnCall call = calls_can_go.authenticate p.meeting.caller client server able.caller in
             let secret : machine.hash ≡ p.meeting.caller.secret = able.own_secret aimed.1 (own_so there) client server machine found in
+            let found_then : account_for v.table (auth_value p.meeting.caller client server) ≡ Some machine =
+            of_table p v (λ (t : AccountTable). account_for t (auth_value p.meeting.caller client server) ≡ Some machine) aimed.2 found in
             let pending = aimed.0 (able.knows client server machine found) in
-            let steps = controllers_step.proved p.table p.name v.computers (length v.links) moment v.next p.meeting.caller client server machine left is.next_below can
-            found secret pending in
+            let steps = controllers_step.proved v.table p.name v.computers (length v.links) moment v.next p.meeting.caller client server machine left is.next_below can
+            found_then secret pending in
             let channel : Requester = channel_in_turn t (after v.next) v.next (step.Reply question.Authenticate) in
             let named : ChannelIdentity = half_channel t.at_controller channel client server in
             let d : Desk = desk_in_turn t v.computers in
             let then_so : Option Desk = work_after (by_call (served_call call) (turn_line t.link v.next) (bound_talk None turn_agreed) t.name moment d left) in
-            let expects : Expects d channel client server = record { account = machine; found = found; secret = secret; pair = pending } in
+            let expects : Expects d channel client server = record { account = machine; found = found_then; secret = secret; pair = pending } in
             let one : (unit : ℕ) → answer_in_turn s t v.next call v.computers k unit left moment ≡ opening (Some named) (where_in_turn s t v.next call v.computers k unit) v.next =
             λ unit. channels_are_named_alike.openings.opens channel client server (where_in_turn s t v.next call v.computers k unit) (turn_line t.link v.next) d then_so expects in
             let called : Called s t v.next call v.computers k count left moment b =
@@ -438,16 +396,17 @@ module _ (plan : Plan) (p : Coming) (s : State) (k : ℕ) (b : Book) (able : IsA
             record { clean = clean_of (goes s) count now f.fine; waits = inl f.waits }
 
         -- it is refused, where there is none
-        denied_clear : (client server : List ℕ) → HasNone p client server → Shows s (scene_of p (Calls a who v (Second client server)) left moment) → After (WasOpened client server)
-        denied_clear client server none shows =
+        denied_clear : (client server : List ℕ) → HasNone p client server → IsPlannedTurn p v → Shows s (scene_of p (Calls a who v (Second client server)) left moment) → After (WasOpened client server)
+        denied_clear client server none is_planned shows =
             let t : Turn = t_on (Second client server) in
-            let call : Call = call_for p a (Second client server) in
+            let call : Call = requester.auth_call p.meeting.caller client server in
             let can : IsTurnCall call = calls_can_go.authenticate p.meeting.caller client server able.caller in
-            let told : ToldProof p.table p.name v.computers (length v.links) moment v.next p.meeting.caller client server left =
-            controllers_answer.proof p.table p.name v.computers (length v.links) moment v.next p.meeting.caller client server left is.next_below can in
+            let told : ToldProof v.table p.name v.computers (length v.links) moment v.next p.meeting.caller client server left =
+            controllers_answer.proof v.table p.name v.computers (length v.links) moment v.next p.meeting.caller client server left is.next_below can in
             let one : (unit : ℕ) → answer_in_turn s t v.next call v.computers k unit left moment ≡ plain =
             λ unit. ap (λ (channel : Option ChannelIdentity). opening channel (where_in_turn s t v.next call v.computers k unit) v.next)
-            (none_opened t.at_controller (auth_value p.meeting.caller client server) (desk_in_turn t v.computers) none) in
+            (none_opened t.at_controller (auth_value p.meeting.caller client server) (desk_in_turn t v.computers)
+            (of_table p v (λ (t : AccountTable). account_for t (auth_value p.meeting.caller client server) ≡ None) is_planned none)) in
             record {
               clean = clean_of (goes s) count now
                   (call_comes s t (after v.next) v.next (step.Reply question.Authenticate) call v.computers left left moment count count _ _ (between_on (Second client server) is) is.next_below can
@@ -459,18 +418,18 @@ module _ (plan : Plan) (p : Coming) (s : State) (k : ℕ) (b : Book) (able : IsA
         second_by : (client server : List ℕ) (found : Option Account) → account_for p.table (auth_value p.meeting.caller client server) ≡ found → MayAim plan p v (Second client server) →
             Waits s (Some (half_of p client server)) b → Shows s (scene_of p (Calls a who v (Second client server)) left moment) → After (WasOpened client server)
         second_by client server (Some machine) found aimed waits shows = granted_clear client server machine found aimed waits shows
-        second_by client server None none aimed waits shows = denied_clear client server none shows
+        second_by client server None none aimed waits shows = denied_clear client server none aimed.2 shows
 
         third_clear : (o c : SecureChannelState) (timestamp : ℕ) → MayAim plan p v (Third o c timestamp) → Waits s (Some (open_of p o)) b →
             Shows s (scene_of p (Calls a who v (Third o c timestamp)) left moment) → After (WasJudged a o)
         third_clear o c timestamp aimed waits shows =
             let t : Turn = t_on (Third o c timestamp) in
-            let call : Call = call_for p a (Third o c timestamp) in
-            let found : Verdict = verdict_of p.table p.name (info_asked (own p) a) moment in
+            let call : Call = requester.logon_call p.meeting.caller o timestamp (info_asked (own p) a) in
+            let found : Verdict = verdict_of v.table p.name (info_asked (own p) a) moment in
             let r : Reply = passed_reply (key_of_channel o) (return_of (key_of_channel o) o.seed timestamp) found in
             let can : IsTurnCall call = calls_can_go.logon p.meeting.caller o timestamp (info_asked (own p) a) able.caller aimed.0 is.answering.info in
             let in_step : KeepsInStep p v.computers o = aimed.1 (own_so there) in
-            let steps = controllers_step.judged p.table p.name v.computers (length v.links) moment v.next timestamp p.meeting.caller o in_step.channel (info_asked (own p) a) left is.next_below can
+            let steps = controllers_step.judged v.table p.name v.computers (length v.links) moment v.next timestamp p.meeting.caller o in_step.channel (info_asked (own p) a) left is.next_below can
             in_step.keeps in_step.in_step in
             let named : ChannelIdentity = open_of p o in
             let d : Desk = desk_in_turn t v.computers in
@@ -495,12 +454,50 @@ module _ (plan : Plan) (p : Coming) (s : State) (k : ℕ) (b : Book) (able : IsA
             (between_on (Third o c timestamp) is) steps shows) in
             record { clean = clean_of (goes s) (1 + count) now f.fine; waits = f.waits }
 
+        -- the secret is set
+        fourth_clear : (o c : SecureChannelState) (timestamp : ℕ) (new : List ℕ) → MayAim plan p v (Fourth o c timestamp new) → Waits s (Some (open_of p o)) b →
+            Shows s (scene_of p (Calls a who v (Fourth o c timestamp new)) left moment) → After (WasSet o)
+        fourth_clear o c timestamp new aimed waits shows =
+            let t : Turn = t_on (Fourth o c timestamp new) in
+            let call : SetCall = requester.change_call p.meeting.caller o timestamp new in
+            let heard : ControllerCall = controller_call.Judged (Set call) in
+            let can : IsSetTurn call = set_units_go.call p.meeting.caller o timestamp new able.caller aimed.0 in
+            let in_step : KeepsInStep p v.computers o = aimed.1 (own_so there) in
+            let at : HasPlace (machine_in p.table.accounts p.meeting.caller.account p.meeting.caller.kind p.meeting.caller.computer) =
+            place_found p.table.accounts (machine_in p.table.accounts p.meeting.caller.account p.meeting.caller.kind p.meeting.caller.computer) aimed.4.machine aimed.4.found in
+            let steps = controllers_set.set v.table p.name v.computers (length v.links) moment v.next timestamp at.place p.meeting.caller o in_step.channel new left is.next_below can
+            (subst IsNextSecret aimed.3 able.next) in_step.keeps in_step.in_step
+            (of_table p v (λ (t : AccountTable). machine_in t.accounts p.meeting.caller.account p.meeting.caller.kind p.meeting.caller.computer ≡ Some at.place) aimed.2 at.is) in
+            let named : ChannelIdentity = open_of p o in
+            let d : Desk = desk_in_turn t v.computers in
+            let then_so : Option Desk = work_after (by_call heard (turn_line t.link v.next) (bound_talk None turn_agreed) t.name moment d left) in
+            let has : HasChannel v.computers named =
+            record { state = in_step.channel; kept = in_step.keeps; is = named_alike p.meeting.at_controller p.meeting.caller.computer o in_step.channel in_step.in_step } in
+            let passed : has_passed (judged_in (new_actions then_so d)) ≡ true =
+            ap (λ (stepped : Stepped ControllerState). has_passed (judged_in (actions_in stepped.answer)))
+            (sym (set_asked v.table p.name v.computers (length v.links) moment v.next call left is.next_below can) ∙ steps) in
+            let j : ℕ → Judging = λ unit. judging_of (where_by s t (bytes_of_call (set_request v.next call) 5840) v.computers k unit) (turn_line t.link v.next) (Set call) d then_so in
+            let one : (unit : ℕ) → answer_to s t v.next (set_request v.next call) heard v.computers k unit left moment ≡ passing (Some named) (j unit) =
+            λ unit. channels_are_named_alike.calls.passes (j unit) v.computers named refl refl refl has passed in
+            let called : CalledBy s t v.next (set_request v.next call) heard v.computers k (1 + count) left moment b =
+            calls_come s t (after v.next) v.next (step.Set set_step.Reply) (set_request v.next call) heard v.computers left left moment (between_on (Fourth o c timestamp new) is) shows count (1 + count) _ _
+            (set_comes v.next call can) (set_hears t.link v.next call is.next_below can) steps k b fine
+            (λ unit first. channels_are_named_alike.exchanges.calling (j unit) v.computers named b.sent refl refl refl has passed (waits_marked s (Some named) b unit waits first))
+            (λ unit numbers. omega (arith, ap (λ (x : Answered). length (judged_of (x ∷ []) numbers)) (one unit))) in
+            let f : FineAnd (goes s) (1 + count) (Some named) now =
+            reply_waits_by s t v.next (set_request v.next call) heard v.computers k count (1 + count) left moment b (set_reply_bytes v.next (set_taken o timestamp)) (Some named) fine called
+            (ReplyTo named v.next called.came.number) (ap (λ (x : Answered). answered_marks (x ∷ [])) (one called.came.number)) refl
+            (bag_kept s t (after v.next) v.next (step.Set set_step.Reply) (set_request v.next call) heard v.computers left left moment (between_on (Fourth o c timestamp new) is) shows _ (judged.Passed 0)
+            (set_reply_bytes v.next (set_taken o timestamp)) _ called.came.number steps) in
+            record { clean = clean_of (goes s) (1 + count) now f.fine; waits = f.waits }
+
         calls_clear : (aim : Aim) → IsReadyBy plan p s → MayAim plan p v aim → WaitsFor p (progress_called aim) s b → Shows s (scene_of p (Calls a who v aim) left moment) →
             After (progress_answered a aim)
         calls_clear (First client) ready aimed waits shows = first_clear client ready.draws aimed shows
         calls_clear (Second client server) ready aimed waits shows =
             second_by client server (account_for p.table (auth_value p.meeting.caller client server)) refl aimed waits shows
         calls_clear (Third o c timestamp) ready aimed waits shows = third_clear o c timestamp aimed waits shows
+        calls_clear (Fourth o c timestamp new) ready aimed waits shows = fourth_clear o c timestamp new aimed waits shows
 
         -- the member takes a reply, whichever it is, where its taking it is no clash
         taken_clean : (aim : Aim) (accounts : AccountTable) (q : Question) (r : Reply) → IsTurnReply q r →
@@ -526,20 +523,33 @@ module _ (plan : Plan) (p : Coming) (s : State) (k : ℕ) (b : Book) (able : IsA
             (λ unit first.
             takes_own p.meeting.at_controller (channel_in_turn (t_on aim) (after v.next) v.next (step.Reply q)) (turn_response v.next r) (Some unit) b.sent (made unit first)) shows
 
+        -- so it is of the reply to the call that sets a secret
+        set_clean : (o c : SecureChannelState) (timestamp : ℕ) (new : List ℕ) (accounts : AccountTable) (r : SetReply) → InRangeSetReply r → Waits s (Some (open_of p o)) b →
+            Shows s (any_scene p (Setting a who v o c timestamp new accounts r) left moment) → IsClean (goes s) now
+        set_clean o c timestamp new accounts r goes_so waits shows =
+            let t : Turn = with_accounts accounts (t_on (Fourth o c timestamp new)) in
+            clean_of (goes s) count now
+            (responses_lead s t (after v.next) v.next (step.Set set_step.Reply) (set_response v.next r) v.computers left moment count
+            (between_still (t_on (Fourth o c timestamp new)) accounts (between_on (Fourth o c timestamp new) is)) (set_reply_sends v.next r is.next_below goes_so)
+            (omega (arith, (reply_stub r goes_so).short)) (set_reply_comes v.next r goes_so) (names_of t refl refl refl there) shows k b fine
+            (λ unit first.
+            takes_own p.meeting.at_controller (channel_in_turn (t_on (Fourth o c timestamp new)) (after v.next) v.next (step.Set set_step.Reply)) (set_response v.next r) (Some unit) b.sent
+            (waits_marked s _ b unit waits first)))
+
         -- the reply to the second call: of a status that isn't 0 it is dropped, else there is an account
         told_clean : (client server credential : List ℕ) (status : ℕ) → IsTurnReply question.Authenticate (proof_reply credential status) → (status ≡ 0 → IsGranted plan p v client server) →
             WaitsFor p (WasOpened client server) s b → Shows s (any_scene p (Told a who v client server credential status) left moment) → IsClean (goes s) now
         told_clean client server credential status goes_so granted waits shows =
             elim (cases_Bool (status == 0)) [
               | inr refused ↦
-                  taken_clean (Second client server) p.table question.Authenticate (proof_reply credential status) goes_so
+                  taken_clean (Second client server) v.table question.Authenticate (proof_reply credential status) goes_so
                   (λ unit first.
                   drops_own p.meeting.at_controller (channel_in_turn (t_on (Second client server)) (after v.next) v.next (step.Reply question.Authenticate)) v.next (t_on (Second client server)).place
                   question.Authenticate (proof_reply credential status) drop_cause.Denied (Some unit) b.sent goes_so
                   (ap (λ (z : Bool). judge_auth z (standing.Half client server) p.meeting.caller.secret credential offered_flags) refused)) shows
               | inl zeroed ↦
                   let has : IsGranted plan p v client server = granted ((Decides-eqb status 0).0 zeroed) in
-                  replied_clean (Second client server) p.table question.Authenticate (proof_reply credential status) goes_so
+                  replied_clean (Second client server) v.table question.Authenticate (proof_reply credential status) goes_so
                   (λ unit first. elim waits [
                     | inl made ↦ waits_marked s _ b unit made first
                     | inr none ↦ absurd (found_none (sym has.found ∙ none))
@@ -557,15 +567,16 @@ module _ (plan : Plan) (p : Coming) (s : State) (k : ℕ) (b : Book) (able : IsA
   on_clear (DialsHeld a who v aim) ready fits waits shows = record { clean = idle_clean s k b clean shows.units; waits = tt }
   on_clear (BindsBefore a who v aim) ready fits waits shows = held_clear a who v aim fits.0 shows
   on_clear (BindsHeld a who v aim) ready fits waits shows = bound_clear a who v aim fits.0 shows
-  on_clear (Acked a who v aim) ready fits waits shows = acked_clear a who v aim fits.0 fits.2 shows
+  on_clear (Acked a who v aim) ready fits waits shows = acked_clear a who v aim fits.0 fits.1 fits.2 shows
   on_clear (Calls a who v aim) ready fits waits shows = calls_clear a who v fits.0 fits.2 aim ready fits.1 waits shows
   on_clear (Halved a who v client server) ready fits waits shows = record {
-    clean = replied_clean a who v fits.0 fits.3 (First client) p.table (question.Challenge client) (reply.Challenge (record { challenge = server; status = 0 }))
+    clean = replied_clean a who v fits.0 fits.3 (First client) v.table (question.Challenge client) (reply.Challenge (record { challenge = server; status = 0 }))
         (calls_can_go.challenged client server fits.1) (λ unit first. tt) shows;
     waits = tt;
   }
   on_clear (Proved a who v client server) ready fits waits shows = absurd fits
   on_clear (Granted a who v o c timestamp judged_at accounts) ready fits waits shows = absurd fits
+  on_clear (Sets a who v o c timestamp new accounts) ready fits waits shows = absurd fits
   on_clear (Named a e on one other back) ready fits waits shows = absurd fits
   on_clear (Echoes a e on one asks) ready fits waits shows = absurd fits
   on_clear (Echoed a e talk one other back) ready fits waits shows = absurd fits
@@ -593,6 +604,10 @@ module _ (plan : Plan) (p : Coming) (s : State) (k : ℕ) (b : Book) (able : IsA
     clean = told_clean a who v fits.0 fits.3 client server credential status fits.1 fits.2 waits shows;
     waits = tt;
   }
+  onward_clear (Setting a who v o c timestamp new accounts answer) ready fits waits shows = record {
+    clean = set_clean a who v fits.turning fits.there o c timestamp new accounts answer fits.goes waits shows;
+    waits = tt;
+  }
   onward_clear (Judged a who v o c timestamp accounts answer) ready fits waits shows = record {
     clean = replied_clean a who v fits.turning fits.there (Third o c timestamp) accounts question.Logon answer fits.goes (λ unit first. waits_marked s _ b unit waits first) shows;
     waits = tt;
@@ -618,6 +633,8 @@ waits_kept p (WasOpened client server) s after b more then_b same grown waits = 
   | inl made ↦ inl (kept_so s after b more then_b same grown _ made)
   | inr none ↦ inr none
 ]
+waits_kept p (IsSetting o) s after b more then_b same grown waits = kept_so s after b more then_b same grown _ waits
+waits_kept p (WasSet o) s after b more then_b same grown waits = kept_so s after b more then_b same grown _ waits
 waits_kept p (IsAsking o) s after b more then_b same grown waits = kept_so s after b more then_b same grown _ waits
 waits_kept p (WasJudged a o) s after b more then_b same grown waits = kept_so s after b more then_b same grown _ waits
 waits_kept p (WasTold a) s after b more then_b same grown waits = tt
@@ -670,6 +687,7 @@ module _ (plan : Plan) (p : Coming) (s : State) (k : ℕ) (b : Book) (clean : Is
   dials_clear (Halved a who v client server) fits waits shows = no_wait
   dials_clear (Proved a who v client server) fits waits shows = absurd fits
   dials_clear (Granted a who v o c timestamp judged_at accounts) fits waits shows = absurd fits
+  dials_clear (Sets a who v o c timestamp new accounts) fits waits shows = absurd fits
   dials_clear (Named a e on one other back) fits waits shows = absurd fits
   dials_clear (Echoes a e on one asks) fits waits shows = absurd fits
   dials_clear (Echoed a e talk one other back) fits waits shows = absurd fits
@@ -677,6 +695,7 @@ module _ (plan : Plan) (p : Coming) (s : State) (k : ℕ) (b : Book) (clean : Is
   pub connect_clear : (phase : AnyPhase p) → MayFit plan p phase → WaitsFor p (progress_in phase) s b → Shows s (any_scene p phase left moment) → Connected p s k b clean (progress_in phase)
   connect_clear (On phase) fits waits shows = dials_clear phase fits waits shows
   connect_clear (Told a who v client server credential status) fits waits shows = still p s k b clean (WasOpened client server) shows.dials waits
+  connect_clear (Setting a who v o c timestamp new accounts answer) fits waits shows = still p s k b clean (WasSet o) shows.dials waits
   connect_clear (Judged a who v o c timestamp accounts answer) fits waits shows = still p s k b clean (WasJudged a o) shows.dials waits
   connect_clear (Away phase) fits waits shows = no_wait
 

@@ -22,7 +22,7 @@ use Rattle.sam_logon.specs.Verdict.{Judgement}
 use Rattle.channel_client.specs.declared.state.Question.TheVariants as question
 use Rattle.channel_client.specs.declared.state.Step.TheVariants as step
 use Rattle.channel_client.specs.declared.caller.Caller.{Caller}
-use Rattle.channel_client.specs.Machine.{after, level_asked}
+use Rattle.channel_client.specs.Machine.{after, level_asked, logon_call}
 use Rattle.domain_controller.specs.Hearing.{bound_talk, served_call}
 use Rattle.domain_controller.specs.Machine.{Desk, by_call, put_channel, take_channel, with_judgement}
 use Rattle.controller_calls.specs.declared.line.Line.{Line}
@@ -52,7 +52,7 @@ use Rattle.logon_steps.proofs.CallingLaws.{calls_can_go}
 use Rattle.logon_steps.proofs.ControllerTurnLaws.{controllers_step}
 use Rattle.logon_steps.proofs.GrantingLaws.{logons_are_granted}
 use Rattle.logon_steps.proofs.TurningLaws.{request_comes}
-use Rattle.logon_runs.specs.Phases.{Calls, Coming as LogonComing, Fits, HasUser, IsAimed, IsKnown, IsTurning, MayLogOnAt, Third, TurnAt, WhoAsked, call_for, own, scene_of, standing_for, turn_before, turn_on}
+use Rattle.logon_runs.specs.Phases.{Calls, Coming as LogonComing, Fits, HasUserIn, IsAimed, IsKnown, IsTurning, MayLogOnAt, Third, TurnAt, WhoAsked, own, scene_of, standing_for, turn_before, turn_on}
 use Rattle.logon_runs.specs.Runs.{Asked, info_asked, message_for}
 use Rattle.logon_runs.specs.Scenes.{Shows}
 use Rattle.logon_runs.specs.Seen.TurnScenes.{IsBetween, Turn, unit_there}
@@ -98,8 +98,8 @@ logon_value caller o timestamp info = record {
   validation = level_asked;
 }
 
-module _ (p : LogonComing) (a : Asked) (v : TurnAt) (o c : SecureChannelState) (timestamp moment : ℕ) (left : List (List ℕ)) (known : IsKnown p) (user : HasUser p) (is : IsTurning p a v)
-    (aimed : IsAimed p v (Third o c timestamp)) (may : MayLogOn p.table (info_told p.meeting.task) moment) where
+module _ (p : LogonComing) (a : Asked) (v : TurnAt) (o c : SecureChannelState) (timestamp moment : ℕ) (left : List (List ℕ)) (known : IsKnown p) (user : HasUserIn p v.table) (is : IsTurning p a v)
+    (aimed : IsAimed p v (Third o c timestamp)) (may : MayLogOn v.table (info_told p.meeting.task) moment) where
   abbrev info : NetworkInfo
   info = info_asked (own p) a
 
@@ -107,10 +107,10 @@ module _ (p : LogonComing) (a : Asked) (v : TurnAt) (o c : SecureChannelState) (
   line = turn_line (length v.links) v.next
 
   abbrev before : Desk
-  before = first_desk p.table (record { computers = v.computers; links = turn_link (length v.links) })
+  before = first_desk v.table (record { computers = v.computers; links = turn_link (length v.links) })
 
   abbrev then_so : Option Desk
-  then_so = work_after (by_call (served_call (call_for p a (Third o c timestamp))) line (bound_talk None turn_agreed) p.name moment before left)
+  then_so = work_after (by_call (served_call (logon_call p.meeting.caller o timestamp (info_asked (own p) a))) line (bound_talk None turn_agreed) p.name moment before left)
 
   pub passed_so : judged_in (new_actions then_so before) ≡ Some (judged.Passed 0)
   passed_so =
@@ -118,16 +118,16 @@ module _ (p : LogonComing) (a : Asked) (v : TurnAt) (o c : SecureChannelState) (
       (calls_are_answered.judges p.meeting.caller o c info timestamp line (bound_talk None turn_agreed) p.name moment before left aimed.1 aimed.2)
       ∙ ap (λ (j : Judgement). judged_in (new_actions (Some (with_judgement j line level_asked (key_of_channel o) (return_of (key_of_channel o) o.seed timestamp)
       (put_channel p.meeting.caller.computer (moved c timestamp) (take_channel p.meeting.caller.computer before.work)))) before))
-      (logons_are_granted.granted p.meeting.plan p.meeting.task a.challenge a.one a.two a.three a.then_now p.meeting.place moment p.table p.name p.account known.can known.units is.answering.draws
+      (logons_are_granted.granted p.meeting.plan p.meeting.task a.challenge a.one a.two a.three a.then_now p.meeting.place moment v.table p.name p.account known.can known.units is.answering.draws
       user.found user.hash may)
 
   names_so : (info.domain ≡ p.meeting.task.domain) × (info.user ≡ p.meeting.task.user) × (info.workstation ≡ p.meeting.task.workstation)
   names_so = answers_are_asked.names p.meeting.plan p.meeting.task a.challenge a.one a.two a.three a.then_now known.can known.units
 
-  hash_so : hash_in (account_in p.table.accounts info.user) ≡ p.meeting.task.hash
-  hash_so = ap (λ (name : List ℕ). hash_in (account_in p.table.accounts name)) names_so.1 ∙ ap hash_in user.found ∙ user.hash
+  hash_so : hash_in (account_in v.table.accounts info.user) ≡ p.meeting.task.hash
+  hash_so = ap (λ (name : List ℕ). hash_in (account_in v.table.accounts name)) names_so.1 ∙ ap hash_in user.found ∙ user.hash
 
-  base_so : base_key_of (hash_in (account_in p.table.accounts info.user)) info.user info.domain info.nt ≡ base_key p.meeting.task (message_for (own p) a)
+  base_so : base_key_of (hash_in (account_in v.table.accounts info.user)) info.user info.domain info.nt ≡ base_key p.meeting.task (message_for (own p) a)
   base_so =
       ap₂ (λ (hash name : List ℕ). base_key_of hash name info.domain info.nt) hash_so names_so.1
       ∙ ap (λ (domain : List ℕ). base_key_of p.meeting.task.hash p.meeting.task.user domain info.nt) names_so.0
@@ -151,7 +151,7 @@ module _ (p : LogonComing) (a : Asked) (v : TurnAt) (o c : SecureChannelState) (
     zeros = λ zeros. base_so ∙ zeros ∙ sym (bytes_so w number);
   }
 
-  pub judging_so : (w : Where) → (turn_answer p.name moment (length v.links) v.next (call_for p a (Third o c timestamp)) w before left).judging ≡ Some (judging_then w)
+  pub judging_so : (w : Where) → (turn_answer p.name moment (length v.links) v.next (logon_call p.meeting.caller o timestamp (info_asked (own p) a)) w before left).judging ≡ Some (judging_then w)
   judging_so w =
       ap (λ (how : Option Judged). (judging_by (has_passed how) (judging_then w)).judging) passed_so
       ∙ passing_judging (channel_in (judging_then w).controller (computer_named (judging_then w).asked) (judging_then w).checks) (judging_then w)
@@ -159,19 +159,19 @@ module _ (p : LogonComing) (a : Asked) (v : TurnAt) (o c : SecureChannelState) (
 -- ---- the move at which it is judged
 
 pub grant_noted : (p : LogonComing) (w : World) (b : Book) (a : Asked) (who : WhoAsked p a) (v : TurnAt) (o c : SecureChannelState) (timestamp : ℕ) (left : List (List ℕ)) (moment : ℕ) → IsKnown p →
-    HasUser p → MayLogOnAt p w.state → Fits p (Calls a who v (Third o c timestamp)) → Shows w.state (scene_of p (Calls a who v (Third o c timestamp)) left moment) →
+    HasUserIn p v.table → MayLogOnAt p w.state → Fits p (Calls a who v (Third o c timestamp)) → Shows w.state (scene_of p (Calls a who v (Third o c timestamp)) left moment) →
     OneOf (IsGrant p (key_of_channel o) (base_key p.meeting.task (message_for (own p) a))) (note w move.Onward b).judged
 grant_noted p w b a who v o c timestamp left moment known user may_log fits shows =
     let s : State = w.state in
-    let call : Call = call_for p a (Third o c timestamp) in
+    let call : Call = logon_call p.meeting.caller o timestamp (info_asked (own p) a) in
     let t : Turn = turn_on p a who.later (who.sent ∷ []) v (Third o c timestamp) in
     let bytes : List ℕ = bytes_of_call (turn_request v.next call) 5840 in
     let unit : BagUnit = unit_there t bytes in
     let at : ℕ = p.meeting.at_controller in
-    let there : ControllerState = controller_at p.table p.name v.computers (turn_link (length v.links)) in
-    let may_then : MayLogOn p.table (info_told p.meeting.task) s.moment =
+    let there : ControllerState = controller_at v.table p.name v.computers (turn_link (length v.links)) in
+    let may_then : MayLogOn v.table (info_told p.meeting.task) s.moment =
     subst (λ (found : Option ControllerState). IsSomeAnd found (λ (k : ControllerState). MayLogOn k.table (info_told p.meeting.task) s.moment)) shows.controller may_log in
-    let may : MayLogOn p.table (info_told p.meeting.task) moment = subst (λ (now : ℕ). MayLogOn p.table (info_told p.meeting.task) now) shows.moment may_then in
+    let may : MayLogOn v.table (info_told p.meeting.task) moment = subst (λ (now : ℕ). MayLogOn v.table (info_told p.meeting.task) now) shows.moment may_then in
     let can : IsTurnCall call = calls_can_go.logon p.meeting.caller o timestamp (info_asked (own p) a) known.caller fits.1.0 fits.0.answering.info in
     let between : IsBetween t = turns_have_links.between (own p) (turn_before p a who.later (who.sent ∷ []) v) (standing_for (Third o c timestamp)) fits.0.joined_so in
     let came : Came s unit [] (Controller at) =
@@ -181,13 +181,13 @@ grant_noted p w b a who v o c timestamp left moment known user may_log fits show
     let s1 : State = settle came.number s in
     let later : State = state_then (Controller at) unit came.number s in
     let where_so : Where = at_controller at there by s1 in
-    let one : Answered = turn_answer p.name moment (length v.links) v.next call where_so (first_desk p.table (record { computers = v.computers; links = turn_link (length v.links) })) left in
+    let one : Answered = turn_answer p.name moment (length v.links) v.next call where_so (first_desk v.table (record { computers = v.computers; links = turn_link (length v.links) })) left in
     let to : ComeTo (answers_of at there by bytes s1) one =
     subst (λ (all : List Answered). ComeTo all one)
     (sym (ap₂ (λ (now : ℕ) (l : List (List ℕ)). map (answer_on (length v.links) where_so) (units_of_controller there (length v.links) bytes now l)) shows.moment shows.left))
-    (controller_answers p.name moment (length v.links) v.next call where_so can p.table v.computers left _ fits.0.next_below
+    (controller_answers p.name moment (length v.links) v.next call where_so can v.table v.computers left _ fits.0.next_below
     (ap (λ (stepped : Stepped ControllerState). stepped.answer)
-    (controllers_step.judged p.table p.name v.computers (length v.links) moment v.next timestamp p.meeting.caller o c (info_asked (own p) a) left fits.0.next_below can fits.1.1 fits.1.2))) in
+    (controllers_step.judged v.table p.name v.computers (length v.links) moment v.next timestamp p.meeting.caller o c (info_asked (own p) a) left fits.0.next_below can fits.1.1 fits.1.2))) in
     let numbers : List ℕ = numbers_on unit.link true s1.bag later.bag in
     subst (λ (now : Book). OneOf (IsGrant p (key_of_channel o) (base_key p.meeting.task (message_for (own p) a))) now.judged)
     (sym (came.noted w.moves b ∙ ap (λ (found : Option ControllerState). note_controller found at by bytes s1 later b) shows.controller))

@@ -23,11 +23,12 @@ use Rattle.world_moves.specs.World.{World}
 use Rattle.logon_steps.specs.Calling.{TravelsAsZeros as KeyTravels}
 use Rattle.logon_steps.specs.Granting.{base_key}
 use Rattle.logon_runs.specs.GrantsTold.{TellsIn}
-use Rattle.logon_runs.specs.Phases.{Aim, ArrivesAt, Coming, First, Fits, HasUser, IsAsking, IsKnown, IsOpening, LogonPhase, MayLogOnAt, NotYet, Progress, Second, Third, TurnAt, WasJudged, WasOpened, WasTold, WhoAsked, key_at, own, progress_called, progress_of, progress_onward, scene_of}
-use Rattle.logon_runs.specs.Phases.{Acked, Answers, Binds, BindsBefore, BindsHeld, Calls, Challenged, Dials, DialsBefore, DialsHeld, Echoed, Echoes, Granted, Halved, Named, Proved}
+use Rattle.logon_runs.specs.Phases.{Aim, ArrivesAt, Coming, First, Fits, Fourth, HasUser, HasUserAt, IsAsking, IsKnown, IsOpening, IsSetting, LogonPhase, MayLogOnAt, NotYet, Progress, Second, Third, TurnAt, WasJudged, WasOpened, WasSet, WasTold, WhoAsked, key_at, own, progress_called, progress_of, progress_onward, scene_of}
+use Rattle.logon_runs.specs.Phases.{Acked, Answers, Binds, BindsBefore, BindsHeld, Calls, Challenged, Dials, DialsBefore, DialsHeld, Echoed, Echoes, Granted, Halved, Named, Proved, Sets}
 use Rattle.logon_runs.specs.Runs.{Asked, message_for}
 use Rattle.logon_runs.specs.Scenes.{Shows}
 use Rattle.logon_runs.proofs.GrantsToldLaws.{grants_tell}
+use Rattle.logon_runs.proofs.Phases.PhaseLaws.{phases_go_on}
 use Rattle.domain_world.specs.Claims.{TravelsAsZeros}
 use Rattle.domain_world.specs.Claims.Completeness.{IsMadeForClient, KeyArrives}
 use Rattle.domain_world.specs.Past.{book, note, told_in}
@@ -47,6 +48,8 @@ abbrev pub IsWritten : Coming → Progress → Book → Type 0
 IsWritten p NotYet b = Unit {0}
 IsWritten p (IsOpening client server) b = Unit {0}
 IsWritten p (WasOpened client server) b = Unit {0}
+IsWritten p (IsSetting o) b = Unit {0}
+IsWritten p (WasSet o) b = Unit {0}
 IsWritten p (IsAsking o) b = Unit {0}
 IsWritten p (WasJudged a o) b = OneOf (IsGrant p (key_of_channel o) (base_key p.meeting.task (message_for (own p) a))) b.judged
 IsWritten p (WasTold a) b = OneOf (IsTold p a) b.told
@@ -55,6 +58,8 @@ pub written_stays : (p : Coming) (far : Progress) (what : Move) (w : World) (b :
 written_stays p NotYet what w b placed is = tt
 written_stays p (IsOpening client server) what w b placed is = tt
 written_stays p (WasOpened client server) what w b placed is = tt
+written_stays p (IsSetting o) what w b placed is = tt
+written_stays p (WasSet o) what w b placed is = tt
 written_stays p (IsAsking o) what w b placed is = tt
 written_stays p (WasJudged a o) what w b placed is = judged_stays (IsGrant p (key_of_channel o) (base_key p.meeting.task (message_for (own p) a))) (what ∷ []) w b placed is
 written_stays p (WasTold a) what w b placed is = told_stays (IsTold p a) (what ∷ []) w b placed is
@@ -93,16 +98,25 @@ told_so p a w b turn answer rest is =
 -- ---- a unit comes
 
 module _ (p : Coming) (w : World) (b : Book) (known : IsKnown p) (user : HasUser p) (may : MayLogOnAt p w.state) (placed : IsPlaced w.state) (safe : IsSafe p (note w move.Onward b)) where
+  -- the user's hash is there, where the logon is judged
+  asked_at : (a : Asked) (who : WhoAsked p a) (v : TurnAt) (o c : SecureChannelState) (timestamp : ℕ) (left : List (List ℕ)) (moment : ℕ) → Fits p (Calls a who v (Third o c timestamp)) →
+      Shows w.state (scene_of p (Calls a who v (Third o c timestamp)) left moment) → HasUserAt p w.state (Calls a who v (Third o c timestamp)) move.Onward
+  asked_at a who v o c timestamp left moment fits shows =
+      phases_go_on.has_user p w.state (record { phase = Calls a who v (Third o c timestamp); left = left; moment = moment; fits = fits; shows = shows }) move.Onward user may
+
   call_written : (a : Asked) (who : WhoAsked p a) (v : TurnAt) (aim : Aim) (left : List (List ℕ)) (moment : ℕ) → Fits p (Calls a who v aim) → Shows w.state (scene_of p (Calls a who v aim) left moment) →
       IsWritten p (progress_onward {p = p} (Calls a who v aim)) (note w move.Onward b)
   call_written a who v (First client) left moment fits shows = tt
   call_written a who v (Second client server) left moment fits shows = tt
-  call_written a who v (Third o c timestamp) left moment fits shows = grant_noted p w b a who v o c timestamp left moment known user may fits shows
+  call_written a who v (Third o c timestamp) left moment fits shows =
+      grant_noted p w b a who v o c timestamp left moment known (asked_at a who v o c timestamp left moment fits shows).0 may fits shows
+  call_written a who v (Fourth o c timestamp new) left moment fits shows = tt
 
   called_written : (aim : Aim) → IsWritten p (progress_called aim) (note w move.Onward b)
   called_written (First client) = tt
   called_written (Second client server) = tt
   called_written (Third o c timestamp) = tt
+  called_written (Fourth o c timestamp new) = tt
 
   granted_written : (a : Asked) (who : WhoAsked p a) (v : TurnAt) (o c : SecureChannelState) (timestamp judged_at : ℕ) (accounts : AccountTable) (left : List (List ℕ)) (moment : ℕ) →
       Fits p (Granted a who v o c timestamp judged_at accounts) → Shows w.state (scene_of p (Granted a who v o c timestamp judged_at accounts) left moment) →
@@ -129,6 +143,7 @@ module _ (p : Coming) (w : World) (b : Book) (known : IsKnown p) (user : HasUser
   onward_written (Proved a who v client server) left moment fits shows is = tt
   onward_written (Granted a who v o c timestamp judged_at accounts) left moment fits shows is =
       granted_written a who v o c timestamp judged_at accounts left moment fits shows is
+  onward_written (Sets a who v o c timestamp new accounts) left moment fits shows is = tt
   onward_written (Named a e on one other back) left moment fits shows is = written_stays p (WasTold a) move.Onward w b placed is
   onward_written (Echoes a e on one asks) left moment fits shows is = written_stays p (WasTold a) move.Onward w b placed is
   onward_written (Echoed a e talk one other back) left moment fits shows is = written_stays p (WasTold a) move.Onward w b placed is
@@ -138,7 +153,8 @@ module _ (p : Coming) (w : World) (b : Book) (known : IsKnown p) (user : HasUser
   call_arrives a who v (First client) left moment fits shows = tt
   call_arrives a who v (Second client server) left moment fits shows = tt
   call_arrives a who v (Third o c timestamp) left moment fits shows = λ signed zeros.
-      safe (key_of_channel o) (base_key p.meeting.task (message_for (own p) a)) (grant_noted p w b a who v o c timestamp left moment known user may fits shows) zeros
+      safe (key_of_channel o) (base_key p.meeting.task (message_for (own p) a)) (grant_noted p w b a who v o c timestamp left moment known (asked_at a who v o c timestamp left moment fits shows).0 may fits shows) zeros
+  call_arrives a who v (Fourth o c timestamp new) left moment fits shows = tt
 
   -- the key of a call that is granted arrives
   pub onward_arrives : (phase : LogonPhase p) (left : List (List ℕ)) (moment : ℕ) → Fits p phase → Shows w.state (scene_of p phase left moment) → ArrivesAt p phase move.Onward
@@ -155,6 +171,7 @@ module _ (p : Coming) (w : World) (b : Book) (known : IsKnown p) (user : HasUser
   onward_arrives (Halved a who v client server) left moment fits shows = tt
   onward_arrives (Proved a who v client server) left moment fits shows = tt
   onward_arrives (Granted a who v o c timestamp judged_at accounts) left moment fits shows = tt
+  onward_arrives (Sets a who v o c timestamp new accounts) left moment fits shows = tt
   onward_arrives (Named a e on one other back) left moment fits shows = tt
   onward_arrives (Echoes a e on one asks) left moment fits shows = tt
   onward_arrives (Echoed a e talk one other back) left moment fits shows = tt

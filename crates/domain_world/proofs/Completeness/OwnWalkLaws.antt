@@ -22,8 +22,8 @@ use Rattle.logon_steps.specs.ClientSteps.{client_ended}
 use Rattle.logon_runs.specs.AnyLogons.{HasServers}
 use Rattle.logon_runs.specs.Seen.Others.{IsStepOn, is_onward}
 use Rattle.logon_runs.specs.Rests.{HasEnough}
-use Rattle.logon_runs.specs.Phases.{Aim, ArrivesAt, ComesSoFar, Coming, DrawsFew, First, HasUser, HasUserAt, IsKnown, IsOver, IsReached, IsReady, IsUnderWay, LogonPhase, MayLogOnAt, Progress, Second, Third, TurnAt, WasTold, WhoAsked, key_at, own, progress_of, progress_onward, told_of}
-use Rattle.logon_runs.specs.Phases.{Acked, Answers, Binds, BindsBefore, BindsHeld, Calls, Challenged, Dials, DialsBefore, DialsHeld, Echoed, Echoes, Granted, Halved, Named, Proved}
+use Rattle.logon_runs.specs.Phases.{Aim, ArrivesAt, ComesSoFar, Coming, DrawsFew, First, Fourth, HasUser, HasUserAt, IsKnown, IsOver, IsReached, IsReady, IsUnderWay, LogonPhase, MayLogOnAt, Progress, Second, Third, TurnAt, WasTold, WhoAsked, key_at, own, progress_of, progress_onward, told_of}
+use Rattle.logon_runs.specs.Phases.{Acked, Answers, Binds, BindsBefore, BindsHeld, Calls, Challenged, Dials, DialsBefore, DialsHeld, Echoed, Echoes, Granted, Halved, Named, Proved, Sets}
 use Rattle.logon_runs.specs.Runs.{Asked}
 use Rattle.logon_runs.specs.Grants.{KeyArrives}
 use Rattle.logon_runs.proofs.AmongLaws.{reached_so}
@@ -48,6 +48,7 @@ call_still : (p : Coming) (a : Asked) (who : WhoAsked p a) (v : TurnAt) (aim : A
 call_still p a who v (First client) what still = tt
 call_still p a who v (Second client server) what still = tt
 call_still p a who v (Third o c timestamp) what still = if_other (is_onward what) (KeyArrives (own p) a o) still
+call_still p a who v (Fourth o c timestamp new) what still = tt
 
 pub still_arrives : (p : Coming) (phase : LogonPhase p) (what : Move) → is_onward what ≡ false → ArrivesAt p phase what
 still_arrives p Dials what still = tt
@@ -63,6 +64,7 @@ still_arrives p (Calls a who v aim) what still = call_still p a who v aim what s
 still_arrives p (Halved a who v client server) what still = tt
 still_arrives p (Proved a who v client server) what still = tt
 still_arrives p (Granted a who v o c timestamp judged_at accounts) what still = tt
+still_arrives p (Sets a who v o c timestamp new accounts) what still = tt
 still_arrives p (Named a e on one other back) what still = tt
 still_arrives p (Echoes a e on one asks) what still = tt
 still_arrives p (Echoed a e talk one other back) what still = tt
@@ -83,7 +85,7 @@ record GoesSoFar (p : Coming) (s after : State) (b : Book) : Type 0 where
 module _ (p : Coming) (w : World) (b : Book) (known : IsKnown p) (user : HasUser p) (ready : IsReady p w.state) (may : MayLogOnAt p w.state) (placed : IsPlaced w.state) where
   onward_goes : IsSafe p (note w move.Onward b) → (at : IsUnderWay p w.state) → IsWritten p (progress_of at.phase) b → GoesSoFar p w.state (act w.state move.Onward).state (note w move.Onward b)
   onward_goes safe at written =
-      let asked : HasUserAt p w.state at.phase move.Onward = phases_go_on.has_user p w.state at.phase move.Onward user may in
+      let asked : HasUserAt p w.state at.phase move.Onward = phases_go_on.has_user p w.state at move.Onward user may in
       let arrives : ArrivesAt p at.phase move.Onward = onward_arrives p w b known user may placed safe at.phase at.left at.moment at.fits at.shows in
       record {
         so_far = record {
@@ -96,7 +98,7 @@ module _ (p : Coming) (w : World) (b : Book) (known : IsKnown p) (user : HasUser
 
   connect_goes : (at : IsUnderWay p w.state) → IsWritten p (progress_of at.phase) b → GoesSoFar p w.state (act w.state move.Connect).state (note w move.Connect b)
   connect_goes at written =
-      let asked : HasUserAt p w.state at.phase move.Connect = phases_go_on.has_user p w.state at.phase move.Connect user may in
+      let asked : HasUserAt p w.state at.phase move.Connect = phases_go_on.has_user p w.state at move.Connect user may in
       let arrives : ArrivesAt p at.phase move.Connect = still_arrives p at.phase move.Connect refl in
       record {
         so_far = record {
@@ -109,7 +111,7 @@ module _ (p : Coming) (w : World) (b : Book) (known : IsKnown p) (user : HasUser
 
   tick_goes : (more : ℕ) (at : IsUnderWay p w.state) → IsWritten p (progress_of at.phase) b → GoesSoFar p w.state (act w.state (move.Tick more)).state (note w (move.Tick more) b)
   tick_goes more at written =
-      let asked : HasUserAt p w.state at.phase (move.Tick more) = phases_go_on.has_user p w.state at.phase (move.Tick more) user may in
+      let asked : HasUserAt p w.state at.phase (move.Tick more) = phases_go_on.has_user p w.state at (move.Tick more) user may in
       let arrives : ArrivesAt p at.phase (move.Tick more) = still_arrives p at.phase (move.Tick more) refl in
       record {
         so_far = record {

@@ -25,7 +25,7 @@ use Rattle.logon_runs.specs.AnyLogons.{HasServers}
 use Rattle.logon_runs.specs.Seen.Others.{IsStepOn}
 use Rattle.logon_runs.specs.Rests.{CanBeGranted, HasBegun, HasEnough, coming_of}
 use Rattle.logon_runs.specs.Phases.{Coming, IsReached, IsUnderWay, LogonPhase, NotYet, key_at, progress_of, scene_of, told_of}
-use Rattle.logon_runs.specs.Phases.{Acked, Answers, Binds, BindsBefore, BindsHeld, Calls, Challenged, Dials, DialsBefore, DialsHeld, Echoed, Echoes, Granted, Halved, Named, Proved}
+use Rattle.logon_runs.specs.Phases.{Acked, Answers, Binds, BindsBefore, BindsHeld, Calls, Challenged, Dials, DialsBefore, DialsHeld, Echoed, Echoes, Granted, Halved, Named, Proved, Sets}
 use Rattle.logon_runs.specs.Scenes.{Shows}
 use Rattle.logon_runs.specs.Seen.WaitingUnits.{waiting}
 use Rattle.logon_runs.proofs.Phases.PhaseLaws.{one_waits}
@@ -37,7 +37,7 @@ use Rattle.domain_world.proofs.Frames.LeftLaws.{first_left_blocks}
 use Rattle.domain_world.proofs.Completeness.ApartLaws.{can_be_granted, has_servers}
 use Rattle.domain_world.proofs.Completeness.MomentLaws.{start_bag, start_chances}
 use Rattle.domain_world.proofs.Completeness.OwnLogonLaws.{AreSafeFor, IsTold}
-use Rattle.domain_world.proofs.Completeness.OwnWalkLaws.{IsSoFar, OwnEnds, own_goes}
+use Rattle.domain_world.proofs.Completeness.OwnWalkLaws.{IsSoFar, OwnEnds, may_at, own_goes}
 use Rattle.domain_world.proofs.Frames.PlacedLaws.{placed_first}
 use Rattle.domain_world.proofs.Completeness.RestingLaws.{Along, BeginsSo, along_next, Resting, Started, begins_so, fewer_moves, goes_further, rests_on, rests_then}
 use Rattle.domain_world.proofs.Completeness.PlainLaws.{by_plain, later_starts, with_starts}
@@ -59,11 +59,17 @@ not_yet p s (Calls a who v aim) left moment shows none = absurd (one_waits (wait
 not_yet p s (Halved a who v client server) left moment shows none = refl
 not_yet p s (Proved a who v client server) left moment shows none = absurd (one_waits (waiting s.bag) _ [] shows.units none)
 not_yet p s (Granted a who v o c timestamp judged_at accounts) left moment shows none = absurd (one_waits (waiting s.bag) _ [] shows.units none)
+not_yet p s (Sets a who v o c timestamp new accounts) left moment shows none = absurd (one_waits (waiting s.bag) _ [] shows.units none)
 not_yet p s (Named a e on one other back) left moment shows none = absurd (one_waits (waiting s.bag) _ [] shows.units none)
 not_yet p s (Echoes a e on one asks) left moment shows none = absurd (one_waits (waiting s.bag) _ [] shows.units none)
 not_yet p s (Echoed a e talk one other back) left moment shows none = absurd (one_waits (waiting s.bag) _ [] shows.units none)
 
 -- ---- a client that can succeed starts
+
+-- what holds in each state holds in the first
+now_in : (Fact : State → Type 0) (moves : List Move) (w : World) → InEachState Fact moves w → Fact w.state
+now_in Fact [] w each = each
+now_in Fact (what ∷ moves) w each = each.0
 
 abbrev past_of : Plan → World → Book → Past
 past_of plan world bk = record { plan = plan; world = world; book = bk }
@@ -109,7 +115,7 @@ module _ (plan : Plan) (every : List Move) (is : IsPlan plan) (forms : HasForms 
 
   ends : OwnEnds coming moves first written
   ends =
-      own_goes plan is forms (has_servers plan every client can) coming begun.come.known begun.user w.state client moves first written (along_next plan (move.Start number) moves w along) enough may safe reached
+      own_goes plan is forms (has_servers plan every client can) coming begun.come.known (begun.user (may_at coming first.state (now_in (MayLogOnIn can.controller (info_planned can.task)) moves first may))) w.state client moves first written (along_next plan (move.Start number) moves w along) enough may safe reached
       started apart begins_so_far
 
   told_as : told_of coming ≡ name_of can.table can.account
@@ -247,4 +253,4 @@ each_succeeds plan moves comes =
     (λ servers. each_from plan moves is forms servers (run moves first) (book moves first blank) moves first blank
     (record { plain = comes.plain; quiet = comes.quiet; same = ends_stay.none first.state; below = forms.now; placed = placed_first plan })
     comes.once (λ Fact each. each) refl refl
-    (inl (record { rest = logons_come_to_rest.first plan is forms comes.alone; enough = first_enough plan (length moves) comes.schedule.few })))
+    (inl (record { rest = logons_come_to_rest.first plan is forms; enough = first_enough plan (length moves) comes.schedule.few })))

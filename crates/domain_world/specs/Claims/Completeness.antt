@@ -30,7 +30,6 @@ use Rattle.world_moves.specs.Ends.{EndStates}
 use Rattle.world_moves.specs.Forms.{IsSchedule}
 use Rattle.world_moves.specs.Links.{is_end}
 use Rattle.member_server.specs.Secrets.{tried_of}
-use Rattle.logon_runs.specs.Rests.{AreAlone}
 use Rattle.world_moves.specs.Moving.{end_of_peer}
 use Rattle.world_moves.specs.World.{World, first_ends, first_world, happens, outcome_of}
 use Rattle.domain_world.specs.Claims.{TravelsAsZeros}
@@ -151,10 +150,9 @@ pub record Succeeds (run : Past) (moves : List Move) (client : ℕ) (can : CanSu
       × (told.member ≡ can.member)
       × (told.outcome ≡ outcome.In can.table.domain can.account.name key)) run.book.told
 
--- it is a schedule, in which each member keeps one secret, and the moves start clients one at a time, each once at most
+-- it is a schedule, and the moves start clients one at a time, each once at most
 pub record ComesOneAtATime (run : Past) (moves : List Move) : Type 0 where
   pub schedule : IsSchedule run.plan moves
-  pub alone : AreAlone run.plan.members
   pub plain : AllByRecursion IsPlainMove moves
   pub once : AllPairs (λ (one other : ℕ). one ≢ other) (started_in moves (length run.plan.clients))
   pub quiet : OneAtATime moves (first_world run.plan)

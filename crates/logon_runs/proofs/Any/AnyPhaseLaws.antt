@@ -10,17 +10,18 @@ use Rattle.world_moves.specs.Moving.{act, moment_after, onward, tick}
 use Rattle.logon_steps.specs.ClientSteps.{client_ended}
 use Rattle.logon_runs.specs.Seen.LinkScenes.{rest_scene}
 use Rattle.logon_runs.specs.Seen.Others.{IsStepOn}
-use Rattle.logon_runs.specs.Phases.{Acked, Answers, Binds, BindsBefore, BindsHeld, Calls, Challenged, Coming, Dials, DialsBefore, DialsHeld, Echoed, Echoes, Granted, Halved, LogonPhase, Named, Progress, Proved, progress_onward, scene_of}
+use Rattle.logon_runs.specs.Phases.{Acked, Answers, Binds, BindsBefore, BindsHeld, Calls, Challenged, Coming, Dials, DialsBefore, DialsHeld, Echoed, Echoes, Granted, Halved, LogonPhase, Named, Progress, Proved, Sets, progress_onward, scene_of}
 use Rattle.logon_runs.specs.Scenes.{Scene, Shows}
 use Rattle.logon_runs.specs.Failing.TurnedAway.{AwayPhase, Faulted, Refused, Unheard, away_scene, settled_in}
 use Rattle.logon_runs.specs.Seen.WaitingUnits.{waiting}
-use Rattle.logon_runs.specs.Any.AnyPhases.{AnyPhase, AnyPhasesGoOn, Away, IsAble, IsAnywhere, IsDone, GoesTo, IsLetIn, IsReadyBy, Judged, MayFit, MayFitOn, On, Told, any_scene, progress_by, progress_in, progress_next}
+use Rattle.logon_runs.specs.Any.AnyPhases.{AnyPhase, AnyPhasesGoOn, Away, IsAble, IsAnywhere, IsDone, GoesTo, IsLetIn, IsReadyBy, Judged, MayFit, MayFitOn, On, Setting, Told, any_scene, progress_by, progress_in, progress_next}
 use Rattle.logon_runs.proofs.Phases.PhaseLaws.{at_moment, one_waits, same_scene, waits_so}
 use Rattle.logon_runs.proofs.Seen.StartLaws.{starts_are_seen}
 use Rattle.logon_runs.proofs.Seen.TurningSceneLaws.{scenes_turn}
 use Rattle.logon_runs.proofs.Seen.StepOnLaws.{by_step}
 use Rattle.logon_runs.proofs.Any.AnyStartLaws.{any_answers, any_binds, any_challenged, any_connects, any_seen, leads}
-use Rattle.logon_runs.proofs.Any.AnyTurnLaws.{any_acked, any_away, any_binds_held, any_bound, any_calls, any_dials_held, any_halved, any_judged, any_told}
+use Rattle.logon_runs.proofs.Any.AnyReplyLaws.{any_judged, any_set, any_told}
+use Rattle.logon_runs.proofs.Any.AnyTurnLaws.{any_acked, any_away, any_binds_held, any_bound, any_calls, any_dials_held, any_halved}
 
 module _ (plan : Plan) (p : Coming) (s : State) where
   -- ---- a unit comes
@@ -46,6 +47,7 @@ module _ (plan : Plan) (p : Coming) (s : State) where
   on_comes (Halved a who v client server) left moment able ready fits shows = any_halved plan p s a who v client server left moment fits.0 fits.1 fits.2 shows
   on_comes (Proved a who v client server) left moment able ready fits shows = absurd fits
   on_comes (Granted a who v o c timestamp judged_at accounts) left moment able ready fits shows = absurd fits
+  on_comes (Sets a who v o c timestamp new accounts) left moment able ready fits shows = absurd fits
   on_comes (Named a e on one other back) left moment able ready fits shows = absurd fits
   on_comes (Echoes a e on one asks) left moment able ready fits shows = absurd fits
   on_comes (Echoed a e talk one other back) left moment able ready fits shows = absurd fits
@@ -54,8 +56,9 @@ module _ (plan : Plan) (p : Coming) (s : State) where
       GoesTo plan p (progress_next phase) s (onward s).state ⊎ IsLetIn plan p s
   any_comes (On phase) left moment able ready fits shows = inl (on_comes phase left moment able ready fits shows)
   any_comes (Told a who v client server credential status) left moment able ready fits shows =
-      inl (any_told plan p s a who v client server credential status left moment able fits.0 fits.1 fits.2 shows)
-  any_comes (Judged a who v o c timestamp accounts answer) left moment able ready fits shows = any_judged plan p s a who v o c timestamp accounts answer left moment able.one fits shows
+      inl (any_told plan p s a who v client server credential status left moment fits.0 fits.1 fits.2 fits.4 fits.5 shows)
+  any_comes (Setting a who v o c timestamp new accounts answer) left moment able ready fits shows = inl (any_set plan p s a who v o c timestamp new accounts answer left moment fits shows)
+  any_comes (Judged a who v o c timestamp accounts answer) left moment able ready fits shows = any_judged plan p s a who v o c timestamp accounts answer left moment fits shows
   any_comes (Away phase) left moment able ready fits shows = inl (any_away plan p s phase left moment fits shows)
 
   -- ---- time passes
@@ -68,6 +71,7 @@ module _ (plan : Plan) (p : Coming) (s : State) where
   any_same : (phase : AnyPhase p) (left : List (List ℕ)) (moment later : ℕ) → at_moment later (any_scene p phase left moment) ≡ any_scene p phase left later
   any_same (On phase) left moment later = same_scene p phase left moment later
   any_same (Told a who v client server credential status) left moment later = refl
+  any_same (Setting a who v o c timestamp new accounts answer) left moment later = refl
   any_same (Judged a who v o c timestamp accounts answer) left moment later = refl
   any_same (Away phase) left moment later = away_same phase left moment later
 
@@ -100,6 +104,7 @@ module _ (plan : Plan) (p : Coming) (s : State) where
   any_waits : (phase : AnyPhase p) (left : List (List ℕ)) (moment : ℕ) → Shows s (any_scene p phase left moment) → s.dials ≡ [] → waiting s.bag ≡ [] → ⊥
   any_waits (On phase) left moment shows dials units = waits_so p s phase left moment shows dials units
   any_waits (Told a who v client server credential status) left moment shows dials units = one_waits (waiting s.bag) _ [] shows.units units
+  any_waits (Setting a who v o c timestamp new accounts answer) left moment shows dials units = one_waits (waiting s.bag) _ [] shows.units units
   any_waits (Judged a who v o c timestamp accounts answer) left moment shows dials units = one_waits (waiting s.bag) _ [] shows.units units
   any_waits (Away phase) left moment shows dials units = away_waits phase left moment shows units
 

@@ -21,10 +21,10 @@ use Rattle.world_moves.specs.World.{IsPlan, first_ends, first_world}
 use Rattle.logon_runs.specs.AnyLogons.{AreBelow, DrawsUpTo, LogonRests}
 use Rattle.logon_runs.specs.Seen.Others.{AreAmong, IsDialAmong, IsRoutedAmong, IsStepOn, OthersStay}
 use Rattle.logon_runs.specs.Rests.{AtRest, HasEnough, moved_by, three_in}
-use Rattle.logon_runs.specs.Phases.{Acked, Answers, Binds, BindsBefore, BindsHeld, Calls, Challenged, Coming, Dials, DialsBefore, DialsHeld, DrawsFew, Echoed, Echoes, Granted, Halved, HasThree, LogonPhase, Named, Proved, Third, scene_of}
+use Rattle.logon_runs.specs.Phases.{Acked, Answers, Binds, BindsBefore, BindsHeld, Calls, Challenged, Coming, Dials, DialsBefore, DialsHeld, DrawsFew, Echoed, Echoes, Granted, Halved, HasThree, LogonPhase, Named, Proved, Sets, Third, scene_of}
 use Rattle.logon_runs.specs.Seen.Staying.{HasSameEnds}
 use Rattle.logon_runs.specs.Seen.WaitingUnits.{waiting}
-use Rattle.logon_runs.specs.Any.AnyPhases.{AnyPhase, Away, IsAble, IsAnywhere, IsDone, IsHeard, IsLetIn, IsOnward, Judged, On, Told, any_scene}
+use Rattle.logon_runs.specs.Any.AnyPhases.{AnyPhase, Away, IsAble, IsAnywhere, IsDone, IsHeard, IsLetIn, IsOnward, Judged, On, Setting, Told, any_scene}
 use Rattle.logon_runs.specs.Any.AnyStarts.{AreThree, HasStarted, IsReachedOrNot, coming_from}
 use Rattle.logon_runs.specs.Any.GrantRests.{HasSettled, judged_rest}
 use Rattle.logon_runs.proofs.AmongLaws.{away_among, away_dials, links_among, no_dial_among, turn_among}
@@ -61,6 +61,7 @@ module _ (plan : Plan) (p : Coming) (s : State) where
   any_among : (phase : AnyPhase p) (left : List (List ℕ)) (moment : ℕ) → AreAmong (three_in p) (any_scene p phase left moment).opened
   any_among (On phase) left moment = links_among p phase left moment
   any_among (Told a who v client server credential status) left moment = turn_among p v
+  any_among (Setting a who v o c timestamp new accounts answer) left moment = turn_among p v
   any_among (Judged a who v o c timestamp accounts answer) left moment = turn_among p v
   any_among (Away phase) left moment = away_among p phase left moment
 
@@ -88,6 +89,7 @@ module _ (plan : Plan) (p : Coming) (s : State) where
   on_dials (Halved a who v one other) left moment heard = tt
   on_dials (Proved a who v one other) left moment heard = tt
   on_dials (Granted a who v o c timestamp judged_at accounts) left moment heard = tt
+  on_dials (Sets a who v o c timestamp new accounts) left moment heard = tt
   on_dials (Named a e on one other back) left moment heard = tt
   on_dials (Echoes a e on one asks) left moment heard = tt
   on_dials (Echoed a e talk one other back) left moment heard = tt
@@ -98,6 +100,7 @@ module _ (plan : Plan) (p : Coming) (s : State) where
   any_dials : (phase : AnyPhase p) (left : List (List ℕ)) (moment : ℕ) → IsHeard plan p s → IsDialAmong (three_in p) s (slice_get (any_scene p phase left moment).dials 0)
   any_dials (On phase) left moment heard = on_dials phase left moment heard
   any_dials (Told a who v client server credential status) left moment heard = tt
+  any_dials (Setting a who v o c timestamp new accounts answer) left moment heard = tt
   any_dials (Judged a who v o c timestamp accounts answer) left moment heard = tt
   any_dials (Away phase) left moment heard = dials_so _ (away_dials p phase left moment)
 
@@ -167,7 +170,7 @@ module _ (plan : Plan) (p : Coming) (s : State) (able : IsAble plan p) (heard : 
           left = settled.left;
           moment = settled.moment;
           fits = left_so_far plan p now let_in.a let_in.who let_in.v (Third let_in.o let_in.c let_in.timestamp) let_in.left let_in.moment let_in.accounts let_in.fits.turning let_in.fits.differs
-              let_in.fits.ranged (standing.Open (after_return true (after_call let_in.o let_in.timestamp))) let_in.fits.stands;
+              let_in.fits.ranged (standing.Open (after_return true (after_call let_in.o let_in.timestamp))) let_in.fits.stands (λ o stands. let_in.fits.one);
           shows = settled.shows;
         };
         others = others_are_left.both (three_in p) s now (moved_by moves (onward now).state) others settled.others;

@@ -6,7 +6,6 @@ use Rattle.authenticators.specs.SecureChannels.{SecureChannelState}
 use Rattle.rpc_units.specs.Numbers.{rpc_s_server_unavailable}
 use Rattle.logon_stubs.specs.Ranges.{IsBlock}
 use Rattle.account_table.proofs.ChangeLaws.{differs-none}
-use Rattle.channel_client.specs.declared.state.Step.TheVariants as step
 use Rattle.channel_client.specs.declared.state.Standing.{Standing}
 use Rattle.channel_client.specs.declared.state.Standing.TheVariants as standing
 use Rattle.member_server.specs.Outcomes.{session_in}
@@ -22,11 +21,11 @@ use Rattle.logon_steps.proofs.MemoCallLaws.{memo_calls_go}
 use Rattle.logon_steps.proofs.TellingLaws.{logons_are_short}
 use Rattle.logon_runs.specs.Seen.LinkScenes.{its_link, unit_up}
 use Rattle.logon_runs.specs.Runs.{Asked, asked_at, message_for}
-use Rattle.logon_runs.specs.Phases.{Acked, Aim, Answers, Binds, BindsBefore, BindsHeld, Calls, Challenged, Coming, Dials, DialsBefore, DialsHeld, Echoed, Echoes, First, Granted, Halved, HasThree, IsAnswering, LogonPhase, Named, NotYet, Proved, Third, TurnAt, WhoAsked, call_for, key_at, own, progress_of, scene_of, standing_for, terms_at, turn_before, waits_for, with_its_controller}
+use Rattle.logon_runs.specs.Phases.{Acked, Aim, Answers, Binds, BindsBefore, BindsHeld, Calls, Challenged, Coming, Dials, DialsBefore, DialsHeld, Echoed, Echoes, First, Granted, Halved, HasThree, IsAnswering, LogonPhase, Named, NotYet, Proved, Sets, Third, TurnAt, WhoAsked, key_at, own, own_keeping, progress_of, scene_of, standing_for, step_for, terms_at, turn_before, waits_for, with_its_controller}
 use Rattle.logon_runs.specs.Scenes.{Shows}
 use Rattle.logon_runs.specs.Failing.TurnedAway.{AwayPhase, Faulted, Refused, Unheard, away_scene}
 use Rattle.logon_runs.specs.Seen.TurnScenes.{Turn}
-use Rattle.logon_runs.specs.Any.AnyPhases.{AnyPhase, Away, IsAble, GoesTo, IsLeft, IsReadyBy, IsTurningBy, Judged, MayAim, MayFit, MayFitAway, MayFitOn, MayStand, On, Told, any_scene, progress_in}
+use Rattle.logon_runs.specs.Any.AnyPhases.{AnyPhase, Away, IsAble, GoesTo, IsLeft, IsReadyBy, IsTurningBy, Judged, MayAim, MayFit, MayFitAway, MayFitOn, MayStand, On, Setting, Told, any_scene, progress_in}
 use Rattle.logon_runs.proofs.Seen.AskSceneLaws.{logons_are_seen}
 use Rattle.logon_runs.proofs.Failing.FailingLaws.{failings_are_seen}
 use Rattle.logon_runs.proofs.First.FirstTraceLaws.{after_below}
@@ -34,7 +33,7 @@ use Rattle.logon_runs.proofs.Seen.LinkSceneLaws.{meetings_are_seen}
 use Rattle.logon_runs.proofs.Phases.PhaseStartLaws.{fits_own, left_seen, left_so, turn_first_of}
 use Rattle.logon_runs.proofs.RunLaws.{timestamp_below}
 use Rattle.logon_runs.proofs.Seen.StartLaws.{starts_are_seen}
-use Rattle.logon_runs.proofs.Failing.TurnedAwayLaws.{lost_at}
+use Rattle.logon_runs.proofs.Failing.TurnedAwayLaws.{lost_at, nothing_not_open}
 use Rattle.logon_runs.proofs.Seen.TurnSceneLaws.{turns_are_seen}
 use Rattle.logon_runs.proofs.Seen.TwoLinkLaws.{got_last, turns_have_links}
 
@@ -52,6 +51,7 @@ away_seen p s (Faulted a later e status) left moment shows = shows.left
 pub any_seen : (p : Coming) (s : State) (phase : AnyPhase p) (left : List (List ℕ)) (moment : ℕ) → Shows s (any_scene p phase left moment) → s.chances.left ≡ left
 any_seen p s (On phase) left moment shows = left_seen p s phase left moment shows
 any_seen p s (Told a who v client server credential status) left moment shows = shows.left
+any_seen p s (Setting a who v o c timestamp new accounts answer) left moment shows = shows.left
 any_seen p s (Judged a who v o c timestamp accounts answer) left moment shows = shows.left
 any_seen p s (Away phase) left moment shows = away_seen p s phase left moment shows
 
@@ -76,43 +76,48 @@ module _ (plan : Plan) (p : Coming) (s : State) where
       leads _ (On Binds) left moment shows.left tt
       (meetings_are_seen.dialled s (with_its_controller p p.meeting) p.meeting.links left moment (got_last p.meeting.links (ToMember p.meeting.at_client p.meeting.at_member)) ready.heard.member shows)
 
-  lost_left : (a : Asked) (v : TurnAt) → IsAble plan p → IsTurningBy plan p a v → IsLeft plan p (lost_at p v)
-  lost_left a v able is = record {
+  lost_left : (a : Asked) (v : TurnAt) → IsTurningBy plan p a v → IsLeft plan p (lost_at p v)
+  lost_left a v is = record {
     joined_so = is.joined_so;
     number_below = is.next_below;
-    differs = differs-none p.table;
-    ranged = able.ranged;
+    next = is.next;
+    one = λ o stands. absurd (nothing_not_open o stands);
+    before = v.table;
+    set = is.set;
+    differs = differs-none v.table;
+    ranged = is.ranged;
+    fits = is.fits;
     others = is.others;
     stands = tt;
   }
 
   module _ (a : Asked) (who : WhoAsked p a) (v : TurnAt) (aim : Aim) (left : List (List ℕ)) (moment : ℕ) (fits : IsTurningBy plan p a v × MayAim plan p v aim) where
-    turn_connects_before : IsAble plan p → IsReadyBy plan p s → Shows s (scene_of p (DialsBefore a who v aim) left moment) → GoesTo plan p NotYet s (connect s).state
-    turn_connects_before able ready shows =
+    turn_connects_before : IsReadyBy plan p s → Shows s (scene_of p (DialsBefore a who v aim) left moment) → GoesTo plan p NotYet s (connect s).state
+    turn_connects_before ready shows =
         let t : Turn = turn_before p a who.later [] v in
         elim ready.heard.controller [
           | inl there ↦
               leads _ (On (BindsBefore a who v aim)) left moment shows.left (fits.0, fits.1, there.0)
-              (turns_are_seen.dialled s t (its_link (own p)) (standing_for aim) v.next v.number (step.Bind (call_for p a aim)) v.computers (unit_up (own p) who.sent ∷ []) left moment there.1
+              (turns_are_seen.dialled s t (its_link (own p)) (standing_for aim) v.next v.number (step_for p a aim) v.computers (unit_up (own p) who.sent ∷ []) left moment there.1
               (turns_have_links.found (own p) t fits.0.joined_so) (turns_have_links.new (own p) t _ fits.0.joined_so) (turns_have_links.between (own p) t (standing_for aim) fits.0.joined_so) shows)
           | inr nobody ↦
-              leads _ (Away (Unheard a who (lost_at p v))) left moment shows.left (lost_left a v able fits.0)
-              (failings_are_seen.member_unreached s (own p) (waits_for p a who.later) t.info a.challenge (message_for (own p) a) p.table p.name standing.Nothing
-              (standing_for aim) v.links v.next v.number (call_for p a aim) v.computers who.sent left moment nobody shows)
+              leads _ (Away (Unheard a who (lost_at p v))) left moment shows.left (lost_left a v fits.0)
+              (failings_are_seen.member_unreached s (own_keeping p v.secrets) (waits_for p a who.later) t.info a.challenge (message_for (own p) a) v.table p.name standing.Nothing
+              (standing_for aim) v.links v.next v.number (step_for p a aim) v.computers who.sent left moment nobody shows)
         ]
 
-    turn_connects : IsAble plan p → IsReadyBy plan p s → Shows s (scene_of p (DialsHeld a who v aim) left moment) → GoesTo plan p NotYet s (connect s).state
-    turn_connects able ready shows =
+    turn_connects : IsReadyBy plan p s → Shows s (scene_of p (DialsHeld a who v aim) left moment) → GoesTo plan p NotYet s (connect s).state
+    turn_connects ready shows =
         let t : Turn = turn_before p a who.later (who.sent ∷ []) v in
         elim ready.heard.controller [
           | inl there ↦
               leads _ (On (BindsHeld a who v aim)) left moment shows.left (fits.0, fits.1, there.0)
-              (turns_are_seen.dialled s t (its_link (own p)) (standing_for aim) v.next v.number (step.Bind (call_for p a aim)) v.computers [] left moment there.1
+              (turns_are_seen.dialled s t (its_link (own p)) (standing_for aim) v.next v.number (step_for p a aim) v.computers [] left moment there.1
               (turns_have_links.found (own p) t fits.0.joined_so) (turns_have_links.new (own p) t _ fits.0.joined_so) (turns_have_links.between (own p) t (standing_for aim) fits.0.joined_so) shows)
           | inr nobody ↦
-              leads _ (Away (Faulted a who.later (lost_at p v) rpc_s_server_unavailable)) left moment shows.left (lost_left a v able fits.0, omega arith)
-              (failings_are_seen.member_unreached_held s (own p) (waits_for p a who.later) t.info a.challenge (message_for (own p) a) p.table p.name
-              standing.Nothing (standing_for aim) v.links v.next v.number 1 (call_for p a aim) v.computers _ _ left moment nobody fits.0.joined_so who shows)
+              leads _ (Away (Faulted a who.later (lost_at p v) rpc_s_server_unavailable)) left moment shows.left (lost_left a v fits.0, omega arith)
+              (failings_are_seen.member_unreached_held s (own_keeping p v.secrets) (waits_for p a who.later) t.info a.challenge (message_for (own p) a) v.table p.name
+              standing.Nothing (standing_for aim) v.links v.next v.number 1 (step_for p a aim) v.computers _ _ left moment nobody fits.0.joined_so who shows)
         ]
 
   -- where no dial waits
@@ -127,8 +132,8 @@ module _ (plan : Plan) (p : Coming) (s : State) where
   on_connects Binds left moment able ready fits shows = stays_connected (On Binds) left moment fits refl shows
   on_connects (Challenged challenge) left moment able ready fits shows = stays_connected (On (Challenged challenge)) left moment fits refl shows
   on_connects (Answers a who) left moment able ready fits shows = stays_connected (On (Answers a who)) left moment fits refl shows
-  on_connects (DialsBefore a who v aim) left moment able ready fits shows = turn_connects_before a who v aim left moment fits able ready shows
-  on_connects (DialsHeld a who v aim) left moment able ready fits shows = turn_connects a who v aim left moment fits able ready shows
+  on_connects (DialsBefore a who v aim) left moment able ready fits shows = turn_connects_before a who v aim left moment fits ready shows
+  on_connects (DialsHeld a who v aim) left moment able ready fits shows = turn_connects a who v aim left moment fits ready shows
   on_connects (BindsBefore a who v aim) left moment able ready fits shows = stays_connected (On (BindsBefore a who v aim)) left moment fits refl shows
   on_connects (BindsHeld a who v aim) left moment able ready fits shows = stays_connected (On (BindsHeld a who v aim)) left moment fits refl shows
   on_connects (Acked a who v aim) left moment able ready fits shows = stays_connected (On (Acked a who v aim)) left moment fits refl shows
@@ -136,6 +141,7 @@ module _ (plan : Plan) (p : Coming) (s : State) where
   on_connects (Halved a who v client server) left moment able ready fits shows = stays_connected (On (Halved a who v client server)) left moment fits refl shows
   on_connects (Proved a who v client server) left moment able ready fits shows = absurd fits
   on_connects (Granted a who v o c timestamp judged_at accounts) left moment able ready fits shows = absurd fits
+  on_connects (Sets a who v o c timestamp new accounts) left moment able ready fits shows = absurd fits
   on_connects (Named a e on one other back) left moment able ready fits shows = absurd fits
   on_connects (Echoes a e on one asks) left moment able ready fits shows = absurd fits
   on_connects (Echoed a e talk one other back) left moment able ready fits shows = absurd fits
@@ -149,6 +155,8 @@ module _ (plan : Plan) (p : Coming) (s : State) where
       GoesTo plan p (progress_in phase) s (connect s).state
   any_connects (On phase) left moment able ready fits shows = on_connects phase left moment able ready fits shows
   any_connects (Told a who v client server credential status) left moment able ready fits shows = stays_connected (Told a who v client server credential status) left moment fits refl shows
+  any_connects (Setting a who v o c timestamp new accounts answer) left moment able ready fits shows =
+      stays_connected (Setting a who v o c timestamp new accounts answer) left moment fits refl shows
   any_connects (Judged a who v o c timestamp accounts answer) left moment able ready fits shows = stays_connected (Judged a who v o c timestamp accounts answer) left moment fits refl shows
   any_connects (Away phase) left moment able ready fits shows = away_connects phase left moment fits shows
 
@@ -189,6 +197,10 @@ module _ (plan : Plan) (p : Coming) (s : State) where
     number_below = able.number_below;
     next_below = after_below p.meeting.number;
     others = λ other apart. refl;
+    ranged = able.ranged;
+    set = inl refl;
+    next = able.next;
+    fits = λ is_own first. first;
   }
 
   -- by how the member's channel stands
@@ -197,14 +209,14 @@ module _ (plan : Plan) (p : Coming) (s : State) where
   answers_by standing.Nothing so stands a who left moment able ready is shows =
       let three : HasThree s.chances.left = ready.draws in
       leads_less _ (On (DialsBefore a who (turn_first_of p) (First three.one))) (three.one ∷ []) (three.two ∷ three.three ∷ three.more) moment (omega arith) three.are
-      (turns_first a able is, (three.first, so))
+      (turns_first a able is, (three.first, so, (refl, refl)))
       (logons_are_seen.asks_first s (own p) (waits_for p a who.later) a.challenge a.one a.two a.three three.one who.sent a.then_now p.table p.name p.computers
       (three.two ∷ three.three ∷ three.more) moment so (fits_own p able.given) able.can able.names is.draws
       (left_so s (λ (l : List (List ℕ)). scene_of p (Answers a who) l moment) left _ shows.left three.are shows))
   answers_by (standing.Half client server) so stands a who left moment able ready is shows = absurd stands
   answers_by (standing.Open o) so stands a who left moment able ready is shows =
       leads _ (On (DialsBefore a who (turn_first_of p) (Third o no_channel (timestamp_of moment)))) left moment shows.left
-      (turns_first a able is, (timestamp_below moment, stands))
+      (turns_first a able is, (timestamp_below moment, stands, able.given.one o so))
       (logons_are_seen.asks_again s (own p) o (waits_for p a who.later) a.challenge a.one a.two a.three who.sent a.then_now p.table p.name p.computers left moment
       so (fits_own p able.given) able.can able.names is.draws shows)
 

@@ -1,9 +1,10 @@
 -- What a controller answers to a call that sets a secret, whatever it keeps.
 -- Of `controllers_answer_sets`.
-use Rattle.std.proofs.Common.{◌≡◌, ℕ, false, List, [], ◌∷◌, Option, Some, None, refl, sym, ap, subst, ◌∙◌, arith, inl, inr}
+use Rattle.std.proofs.Common.{◌≡◌, ℕ, false, List, [], ◌∷◌, Option, Some, None, refl, sym, ap, ap₂, subst, ◌∙◌, arith, inl, inr}
 use Rattle.std.specs.Prelude.{replicate}
 use Rattle.wire_base.specs.Maps.{lookup, take_out}
 use Rattle.wire_base.specs.Names.{same_name}
+use Rattle.wire_base.specs.declared.authenticator.Authenticator.{Authenticator}
 use Rattle.wire_base.proofs.MapLaws.{put_others, taken_others}
 use Rattle.wire_base.proofs.NameLaws.{IsSameness-same_name}
 use Rattle.authenticators.specs.Sequences.{return_of}
@@ -18,6 +19,7 @@ use Rattle.rpc_units.specs.Calls.{bytes_of_call}
 use Rattle.logon_stubs.specs.Status.{access_denied, no_trust_sam_account}
 use Rattle.secret_change.specs.Hiding.{hide_of, show_of}
 use Rattle.secret_change.specs.declared.calls.SetCall.{SetCall}
+use Rattle.secret_change.specs.declared.calls.SetReply.{SetReply}
 use Rattle.account_table.specs.AccountTable.{AccountTable}
 use Rattle.account_table.specs.Changes.{with_hash}
 use Rattle.account_table.specs.LookUps.{machine_in}
@@ -33,14 +35,15 @@ use Rattle.controller_calls.specs.declared.calls.JudgedCall.TheVariants.{Set}
 use Rattle.controller_calls.specs.declared.line.Line.{Line}
 use Rattle.controller_calls.specs.declared.state.Computers.{Computers}
 use Rattle.controller_calls.proofs.DoneLaws.{channels_left}
-use Rattle.controller_calls.proofs.OutcomeLaws.{JudgedComes, Passes, Refused, judged_comes}
+use Rattle.controller_calls.proofs.OutcomeLaws.{JudgedComes, Passes, Refused, judged_comes, one_channel, one_given}
 use Rattle.domain_controller.specs.Hearing.{bound_talk}
 use Rattle.domain_controller.specs.Machine.{Desk, goes_on}
 use Rattle.domain_controller.specs.Step.{after_units, first_desk, step_of}
 use Rattle.domain_controller.specs.Whole.{InRangeTable}
 use Rattle.domain_controller.proofs.WholeParts.{hash_table}
 use Rattle.logon_steps.specs.ControllerTurns.{controller_at, turn_link}
-use Rattle.logon_steps.specs.SetTurns.{set_request}
+use Rattle.logon_steps.specs.Answering.{IsInStep}
+use Rattle.logon_steps.specs.SetTurns.{set_request, set_taken}
 use Rattle.logon_steps.specs.Turning.{turn_agreed}
 use Rattle.logon_steps.proofs.ControllerTurnLaws.{running, stepped}
 use Rattle.logon_steps.proofs.SetTurnLaws.{set_asked}
@@ -91,6 +94,20 @@ module _ (table : AccountTable) (name : List ℕ) (computers : Computers) (link 
       (set_so found (show_of (key_of_channel next.channel) (hide_of (key_of_channel o) new)) table computers.sessions)
       (move_on next.computer next.channel next.given before) after
 
+  -- the reply with status 0
+  abbrev returned_by : (key seed : List ℕ) → ℕ → SetReply
+  returned_by key seed stamp = record { returned = record { credential = return_of key seed stamp; timestamp = 0 }; status = 0 }
+
+  -- it takes the secret, where both ends were in step
+  taken_by : (next : Next) (c : SecureChannelState) → lookup same_name caller.computer computers.channels ≡ Some c → IsInStep o c →
+      returned_by (key_of_channel next.channel) next.channel.seed next.given.timestamp ≡ set_taken o timestamp
+  taken_by next c there step =
+      let same : c ≡ next.channel = one_channel caller.computer next.computer c next.channel computers next.named there next.stands in
+      let given : call.authenticator ≡ next.given = one_given call.authenticator next.given next.there in
+      ap (λ (channel : SecureChannelState). returned_by (key_of_channel channel) channel.seed next.given.timestamp) (sym same)
+      ∙ ap₂ (λ (key seed : List ℕ). returned_by key seed next.given.timestamp) step.key step.seed
+      ∙ ap (λ (one : Authenticator). returned_by (key_of_channel o) o.seed one.timestamp) (sym given)
+
   passed_told : (next : Next) (after : Desk) (found : Option ℕ) → machine_in table.accounts caller.account caller.kind caller.computer ≡ found → DoneAt next found after → IsSet after →
       ToldSet table name computers link now number timestamp caller o new left
   passed_told next after None none done steps = record {
@@ -104,6 +121,7 @@ module _ (table : AccountTable) (name : List ℕ) (computers : Computers) (link 
     is = record { returned = record { credential = cred_block _ _; timestamp = omega arith }; status = omega arith };
     first = [];
     keeps = inl refl;
+    taken = λ c there step some. absurd (some refl);
     steps = told_by after _ steps done.actions;
   }
   passed_told next after (Some place) there done steps =
@@ -120,6 +138,7 @@ module _ (table : AccountTable) (name : List ℕ) (computers : Computers) (link 
         is = record { returned = record { credential = cred_block _ _; timestamp = omega arith }; status = omega arith };
         first = action.Keep (secrets_of set.accounts) ∷ [];
         keeps = inr (secrets_of set.accounts, refl);
+        taken = λ c there step some. taken_by next c there step;
         steps = told_by after _ steps done.actions;
       }
 
@@ -135,6 +154,7 @@ module _ (table : AccountTable) (name : List ℕ) (computers : Computers) (link 
     is = record { returned = record { credential = zeros_block; timestamp = omega arith }; status = omega arith };
     first = [];
     keeps = inl refl;
+    taken = λ c there step some. absurd (some refl);
     steps = told_by after _ steps away.actions;
   }
   set_told after (Passes next done) steps = passed_told next after (machine_in table.accounts caller.account caller.kind caller.computer) refl done steps

@@ -35,7 +35,8 @@ use Rattle.logon_runs.proofs.Seen.TurningSceneLaws.{scenes_turn}
 use Rattle.logon_runs.proofs.Seen.StepOnLaws.{by_step}
 use Rattle.logon_runs.proofs.Any.AnyBeginLaws.{begins_seen}
 use Rattle.logon_runs.proofs.Any.AnyRunLaws.{none_up_to, route_still}
-use Rattle.logon_runs.proofs.Any.RestAgainLaws.{same_or_not, some_same}
+use Rattle.logon_runs.proofs.Any.RestAgainLaws.{some_same}
+use Rattle.logon_runs.proofs.SecretRestLaws.{same_or_not}
 
 -- the client has its outcome, and all else is as at rest
 abbrev pub unanswered : Coming → List (List ℕ) → ℕ → Scene

@@ -112,16 +112,16 @@ pub failings_are_seen : FailingsAreSeen
 failings_are_seen = record {
   client_unreached = λ s g links left moment reaches shows.
       client_fails s _ g.task.server [] _ [] shows refl reaches tt (clients_step.failed g.task moment left);
-  member_unreached = λ s g waits info challenge message table name some how links next number c computers bytes left moment reaches shows.
+  member_unreached = λ s g waits info challenge message table name some how links next number what computers bytes left moment reaches shows.
       member_fails s _ g.plan.controller [] _ (action.Told g.link (outcome.NoController drop_cause.DialFailed) ∷ []) shows refl reaches (tt, tt)
-      (failings_step.dial_fails g.plan g.caller how info g.place next number moment c (logon_for g.link g.task challenge message) g.task left);
-  member_unreached_held = λ s g waits info challenge message table name some how links next number most c computers one other left moment reaches joined who shows.
+      (failings_step.dial_fails g.plan g.caller how info g.place next number moment what (logon_for g.link g.task challenge message) g.task left);
+  member_unreached_held = λ s g waits info challenge message table name some how links next number most what computers one other left moment reaches joined who shows.
       let g1 : Meeting = settled_at g table name computers standing.Nothing next links in
       subst (λ (units : List BagUnit). Shows (connect s).state (meeting_scene g1 waits (out_talk g.task rpc_s_server_unavailable) (units ++ []) left moment))
       (sent_down g1 (who_fault rpc_s_server_unavailable) joined)
       (member_fails s _ g.plan.controller [] _
       (action.Told g.link (outcome.NoController drop_cause.DialFailed) ∷ action.Send g.link (who_fault rpc_s_server_unavailable) ∷ []) shows refl reaches (tt, (tt, tt))
-      (failings_step.dial_fails_held g.plan g.caller how info g.place next number moment most c (logon_for g.link g.task challenge message) g.task one other left who));
+      (failings_step.dial_fails_held g.plan g.caller how info g.place next number moment most what (logon_for g.link g.task challenge message) g.task one other left who));
   dropped = λ s g waits info challenge message table name how links opened link next number most q r cause computers one other left moment who below between is judged joined taken shows.
       let t : Turn = failing_turn g waits info challenge message (who.sent ∷ []) table name how links opened link in
       let g1 : Meeting = settled_with (secrets_dropped (is_denied cause) g.plan.secrets) (settled_at g table name computers standing.Nothing next links) in

@@ -1,6 +1,7 @@
 -- The steps of a member and a client where a logon fails.
 -- Of `failings_step`.
-use Rattle.std.proofs.Common.{◌≡◌, ℕ, ◌<◌, ◌^◌, Bool, List, [], ◌∷◌, ◌++◌, Option, Some, None, Result, refl, sym, ap, ◌∙◌, arith, if◌then◌else◌, true, false}
+use Rattle.std.proofs.Common.{◌≡◌, ℕ, ◌<◌, ◌^◌, Bool, List, [], ◌∷◌, ◌++◌, Option, Some, None, Result, refl, sym, ap, subst, ◌∙◌, arith, if◌then◌else◌, true, false}
+use Rattle.std.specs.Option.{option_map}
 use Rattle.ntlm_seal.specs.Sessions.{SessionState}
 use Rattle.outside.specs.declared.action.Action.{Action}
 use Rattle.outside.specs.declared.action.Action.TheVariants as action
@@ -42,7 +43,7 @@ use Rattle.member_server.specs.Machine.{actions_in, at_turn, halted_state, keep_
 use Rattle.member_server.specs.Outcomes.{after_served, at_link, end_found, end_logon, outcome_of, phase_after, reach_link, reach_in_map, reach_waiting, waiting_if}
 use Rattle.member_server.specs.Requests.{body_out, unit_out}
 use Rattle.member_server.specs.Secrets.{SecretsState, is_denied, secrets_dropped}
-use Rattle.secret_change.specs.Secrets.{denied_by, next_of}
+use Rattle.secret_change.specs.Secrets.{IsNextSecret, denied_by, next_of}
 use Rattle.member_server.specs.Turns.{AtTurn, next_turn, take_by}
 use Rattle.member_server.specs.Units.{serve_held, then_held}
 use Rattle.member_server.specs.Work.{Served, drawless, send_unit, stay}
@@ -106,6 +107,23 @@ pub dropped_one : (denied : Bool) (secrets : SecretsState) → secrets.next ≡ 
 dropped_one false secrets one = refl
 dropped_one true secrets one = ap (λ (next : Option Next). denied_by next secrets) one
 
+-- it keeps the next one in any case
+next_denied : (next : Option Next) (secrets : SecretsState) → secrets.next ≡ next → next_of secrets ≡ next_of (denied_by next secrets)
+next_denied None secrets is = refl
+next_denied (Some n) secrets is = ap (option_map (λ (one : Next). one.secret)) is
+
+pub next_dropped : (denied : Bool) (secrets : SecretsState) → next_of secrets ≡ next_of (secrets_dropped denied secrets)
+next_dropped false secrets = refl
+next_dropped true secrets = next_denied secrets.next secrets refl
+
+form_denied : (next : Option Next) (secrets : SecretsState) → secrets.next ≡ next → IsNextSecret secrets.next → IsNextSecret (denied_by next secrets).next
+form_denied None secrets is form = form
+form_denied (Some n) secrets is form = subst IsNextSecret is form
+
+pub form_dropped : (denied : Bool) (secrets : SecretsState) → IsNextSecret secrets.next → IsNextSecret (secrets_dropped denied secrets).next
+form_dropped false secrets form = form
+form_dropped true secrets form = form_denied secrets.next secrets refl form
+
 -- ---- a fault can be sent
 
 pub fault_sends : (call status : ℕ) → call < 2 ^ 32 → status < 2 ^ 32 → IsSendable (fault_of call 0 status)
@@ -149,11 +167,11 @@ failings_step = record {
       ∙ ap (λ (work : Work). step_by actions_in state_in halted_state left (next_turn now (work, dialling.Nothing) left))
       (held_work plan (at_rest_keeping caller (standing.Open o) (after place) next (next_of plan.secrets)) task (ending.Refused status) logon place error_access_denied most one other
       (action.Close turn close.CallDone ∷ []) who refl);
-  dial_fails = λ plan caller how info place next number now c logon task left.
+  dial_fails = λ plan caller how info place next number now what logon task left.
       ap (λ (work : Work). step_by actions_in state_in halted_state left (next_turn now (work, dialling.Nothing) left))
       (ended_work plan (at_rest_keeping caller standing.Nothing (after place) next (next_of plan.secrets)) task (ending.NoController drop_cause.DialFailed) logon place
       (phase.Out (bound_for task) rpc_s_server_unavailable) [] [] refl);
-  dial_fails_held = λ plan caller how info place next number now most c logon task one other left who.
+  dial_fails_held = λ plan caller how info place next number now most what logon task one other left who.
       ap (λ (work : Work). step_by actions_in state_in halted_state left (next_turn now (work, dialling.Nothing) left))
       (held_work plan (at_rest_keeping caller standing.Nothing (after place) next (next_of plan.secrets)) task (ending.NoController drop_cause.DialFailed) logon place rpc_s_server_unavailable most one other [] who refl);
   faults = λ plan caller kept how place number link now most status task one other left who.

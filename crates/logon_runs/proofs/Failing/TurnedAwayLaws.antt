@@ -35,9 +35,10 @@ use Rattle.channel_client.specs.declared.state.Question.TheVariants as question
 use Rattle.channel_client.specs.declared.state.Standing.{Standing}
 use Rattle.channel_client.specs.declared.state.Standing.TheVariants as standing
 use Rattle.channel_client.specs.declared.state.Step.TheVariants as step
-use Rattle.channel_client.specs.Machine.{after, judge, judge_awaited, judge_logon, judge_status, level_asked}
+use Rattle.channel_client.specs.Machine.{after, logon_call, judge, judge_awaited, judge_logon, judge_status, level_asked}
 use Rattle.domain_controller.specs.Machine.{status_of}
 use Rattle.domain_controller.specs.Whole.{InRangeTable}
+use Rattle.secret_change.specs.Secrets.{IsNextSecret}
 use Rattle.controller_calls.specs.declared.state.Computers.{Computers}
 use Rattle.domain_controller.proofs.WholeParts.{judged_table}
 use Rattle.logon_client.specs.Machine.{fault_outcome}
@@ -58,7 +59,7 @@ use Rattle.logon_steps.proofs.KnowingLaws.{computers_are_known}
 use Rattle.logon_runs.specs.Seen.LinkScenes.{rest_scene}
 use Rattle.logon_runs.specs.Seen.Others.{IsStepOn}
 use Rattle.logon_client.specs.declared.outcome.ClientOutcome.TheVariants.{In}
-use Rattle.logon_runs.specs.Phases.{key_at, told_of, Aim, Calls, Coming, DialsBefore, DialsHeld, Fits, IsKnown, IsTurning, Third, TurnAt, WhoAsked, call_for, own, scene_of, standing_for, turn_before, turn_on, waits_for}
+use Rattle.logon_runs.specs.Phases.{key_at, told_of, Aim, Calls, Coming, DialsBefore, DialsHeld, Fits, IsKnown, IsTurning, Third, TurnAt, WhoAsked, own, own_keeping, scene_of, standing_for, step_for, turn_before, turn_on, waits_for}
 use Rattle.logon_runs.specs.Runs.{Asked, info_asked, message_for, with_moved}
 use Rattle.logon_runs.specs.Scenes.{Shows}
 use Rattle.logon_runs.specs.Seen.TurnScenes.{Turn}
@@ -67,6 +68,7 @@ use Rattle.logon_runs.specs.Seen.WaitingUnits.{waiting}
 use Rattle.logon_runs.proofs.Failing.FailingLaws.{failings_are_seen}
 use Rattle.logon_runs.proofs.First.FirstTraceLaws.{after_below}
 use Rattle.logon_runs.proofs.RunLaws.{between_still, same_computer}
+use Rattle.logon_runs.proofs.SecretRestLaws.{fits_counted}
 use Rattle.logon_runs.proofs.Seen.StartLaws.{starts_are_seen}
 use Rattle.logon_runs.proofs.Seen.TurnSceneLaws.{turns_are_seen}
 use Rattle.logon_runs.proofs.Seen.TurningSceneLaws.{scenes_turn}
@@ -127,8 +129,8 @@ verdict_refuses table name info now = routed_refuses (route_in table info.domain
 pub refusal_from : (found : Verdict) (status : ℕ) → IsRefusalOf found → found ≡ verdict.Status status → IsRefusal status
 refusal_from found status is same = subst IsRefusalOf same is
 
-refusals_so : (p : Coming) (a : Asked) (moment status : ℕ) → verdict_of p.table p.name (info_asked (own p) a) moment ≡ verdict.Status status → IsRefusal status
-refusals_so p a moment status is = refusal_from _ status (verdict_refuses p.table p.name (info_asked (own p) a) moment) is
+refusals_so : (p : Coming) (table : AccountTable) (a : Asked) (moment status : ℕ) → verdict_of table p.name (info_asked (own p) a) moment ≡ verdict.Status status → IsRefusal status
+refusals_so p table a moment status is = refusal_from _ status (verdict_refuses table p.name (info_asked (own p) a) moment) is
 
 -- ---- the reply that refuses can be taken
 
@@ -158,18 +160,18 @@ refused_judged o timestamp status secret is =
     ∙ ap (λ (same : Bool). judge_awaited same status level_asked None (after_call o timestamp)) (same_bytes (return_of (key_of_channel o) o.seed timestamp))
     ∙ ap (λ (z : Bool). judge_status z status level_asked None (after_return true (after_call o timestamp))) is.not_zero
 
-judged_range : (p : Coming) (a : Asked) (moment : ℕ) → InRangeTable p.table → InRangeTable (table_after p.table (info_asked (own p) a) moment)
+judged_range : (p : Coming) (table : AccountTable) (a : Asked) (moment : ℕ) → InRangeTable table → InRangeTable (table_after table (info_asked (own p) a) moment)
 unfolding judgement_of
-judged_range p a moment range = judged_table p.table p.name moment (info_asked (own p) a) level_asked range
+judged_range p table a moment range = judged_table table p.name moment (info_asked (own p) a) level_asked range
 
 refuses_so : (p : Coming) (s : State) (a : Asked) (who : WhoAsked p a) (v : TurnAt) (o c : SecureChannelState) (timestamp : ℕ) (left : List (List ℕ)) (moment status : ℕ) → IsKnown p →
-    Fits p (Calls a who v (Third o c timestamp)) → verdict_of p.table p.name (info_asked (own p) a) moment ≡ verdict.Status status →
+    Fits p (Calls a who v (Third o c timestamp)) → verdict_of v.table p.name (info_asked (own p) a) moment ≡ verdict.Status status →
     Shows s (scene_of p (Calls a who v (Third o c timestamp)) left moment) → IsAway p (onward s).state
 refuses_so p s a who v o c timestamp left moment status known fits is shows =
-    let can : IsTurnCall (call_for p a (Third o c timestamp)) = calls_can_go.logon p.meeting.caller o timestamp (info_asked (own p) a) known.caller fits.1.0 fits.0.answering.info in
+    let can : IsTurnCall (logon_call p.meeting.caller o timestamp (info_asked (own p) a)) = calls_can_go.logon p.meeting.caller o timestamp (info_asked (own p) a) known.caller fits.1.0 fits.0.answering.info in
     let later : Computers = with_moved (own p) c timestamp v.computers in
     let name : List ℕ = p.meeting.caller.computer in
-    let accounts : AccountTable = table_after p.table (info_asked (own p) a) moment in
+    let accounts : AccountTable = table_after v.table (info_asked (own p) a) moment in
     let rest : List (List ℕ × SecureChannelState) = take_out same_name name v.computers.channels in
     let link : ℕ = length v.links in
     let out : Turn = turn_on p a who.later (who.sent ∷ []) v (Third o c timestamp) in
@@ -186,17 +188,22 @@ refuses_so p s a who v o c timestamp left moment status known fits is shows =
           others = λ other apart.
               put_others same_name name other (moved c timestamp) rest IsSameness-same_name apart ∙ taken_others same_name name other v.computers.channels IsSameness-same_name apart
               ∙ fits.0.others other apart;
+          ranged = fits.0.ranged;
+          set = fits.0.set;
+          next = fits.0.next;
+          fits = fits.0.fits;
         },
-        refusals_so p a moment status is,
-        computers_are_known.judged p.table (info_asked (own p) a) moment,
-        judged_range p a moment known.ranged,
+        refusals_so p v.table a moment status is,
+        computers_are_known.judged v.table (info_asked (own p) a) moment,
+        judged_range p v.table a moment fits.0.ranged,
         lookup-put_same same_name name (moved c timestamp) rest (same_computer name),
         fits.1.2,
+        fits.1.3,
       );
-      shows = turns_are_seen.judges s out (after v.next) v.next (step.Reply question.Logon) (call_for p a (Third o c timestamp)) (refusing o timestamp status) (judged.Passed status) v.computers
+      shows = turns_are_seen.judges s out (after v.next) v.next (step.Reply question.Logon) (logon_call p.meeting.caller o timestamp (info_asked (own p) a)) (refusing o timestamp status) (judged.Passed status) v.computers
           later accounts left left moment
           (turns_have_links.between (own p) (turn_before p a who.later (who.sent ∷ []) v) (standing_for (Third o c timestamp)) fits.0.joined_so) can
-          (controllers_step.judged p.table p.name v.computers link moment v.next timestamp p.meeting.caller o c (info_asked (own p) a) left fits.0.next_below can fits.1.1 fits.1.2
+          (controllers_step.judged v.table p.name v.computers link moment v.next timestamp p.meeting.caller o c (info_asked (own p) a) left fits.0.next_below can fits.1.1 fits.1.2
           ∙ ap (λ (found : Verdict). whole_step left left
           (action.Judged (judged.Passed (status_of found)) ∷ action.Send link (reply_bytes v.next (passed_reply (key_of_channel o) (return_of (key_of_channel o) o.seed timestamp) found)) ∷ [])
           (controller_at accounts p.name later (turn_link link))) is) shows;
@@ -205,14 +212,22 @@ refuses_so p s a who v o c timestamp left moment status known fits is shows =
 -- ---- a dial that reaches no controller
 
 abbrev pub lost_at : Coming → TurnAt → Settled
-lost_at p v = record { how = standing.Nothing; number = v.next; links = v.links; table = p.table; computers = v.computers }
+lost_at p v = record { secrets = v.secrets; how = standing.Nothing; number = v.next; links = v.links; table = v.table; computers = v.computers }
+
+pub nothing_not_open : (o : SecureChannelState) → standing.Nothing ≡ standing.Open o → ⊥
+nothing_not_open o is = absurd cc
 
 lost_so : (p : Coming) (a : Asked) (v : TurnAt) → InRangeTable p.table → IsTurning p a v → IsSettled p (lost_at p v)
 lost_so p a v ranged is = record {
   joined_so = is.joined_so;
   number_below = is.next_below;
-  differs = differs-none p.table;
-  ranged = ranged;
+  one = λ o stands. absurd (nothing_not_open o stands);
+  before = v.table;
+  set = is.set;
+  next = is.next;
+  fits = is.fits;
+  differs = differs-none v.table;
+  ranged = is.ranged;
   others = is.others;
   stands = inl refl;
 }
@@ -228,13 +243,18 @@ refused_on p s a who v o c timestamp accounts status left moment fits shows =
     let out : Turn = turn_on p a who.later (who.sent ∷ []) v (Third o c timestamp) in
     let o_then : SecureChannelState = after_return true (after_call o timestamp) in
     record {
-      phase = Faulted a who.later (record { how = standing.Open o_then; number = after v.next; links = out.links; table = accounts; computers = v.computers }) error_access_denied;
+      phase = Faulted a who.later (record { secrets = v.secrets; how = standing.Open o_then; number = after v.next; links = out.links; table = accounts; computers = v.computers }) error_access_denied;
       left = left;
       moment = moment;
       fits = (
         record {
           joined_so = turns_have_links.met (own p) before how fits.0.joined_so;
           number_below = after_below v.next;
+          one = λ o_now stands. fits.6;
+          before = v.table;
+          set = fits.0.set;
+          next = fits.0.next;
+          fits = λ first. fits_counted v.table accounts p.meeting.caller v.secrets fits.2 (fits.0.fits first);
           differs = fits.2;
           ranged = fits.3;
           others = fits.0.others;
@@ -242,7 +262,7 @@ refused_on p s a who v o c timestamp accounts status left moment fits shows =
         },
         omega arith,
       );
-      shows = failings_are_seen.refused s (own p) (waits_for p a who.later) out.info a.challenge (message_for (own p) a) accounts p.name how o_then out.links out.opened (length v.links)
+      shows = failings_are_seen.refused s (own_keeping p v.secrets) (waits_for p a who.later) out.info a.challenge (message_for (own p) a) accounts p.name how o_then out.links out.opened (length v.links)
           (after v.next) v.next 1 status question.Logon (refusing o timestamp status) v.computers _ _ left moment who fits.0.next_below
           (between_still out accounts (turns_have_links.between (own p) before how fits.0.joined_so)) (refusing_goes o timestamp status fits.1.small)
           (refused_judged o timestamp status p.meeting.caller.secret fits.1) (turns_have_links.met (own p) before how fits.0.joined_so)
@@ -316,8 +336,8 @@ unreached_so p s a who v aim left moment ranged is reaches shows = record {
   left = left;
   moment = moment;
   fits = lost_so p a v ranged is;
-  shows = failings_are_seen.member_unreached s (own p) (waits_for p a who.later) (turn_before p a who.later [] v).info a.challenge (message_for (own p) a) p.table p.name standing.Nothing
-      (standing_for aim) v.links v.next v.number (call_for p a aim) v.computers who.sent left moment reaches shows;
+  shows = failings_are_seen.member_unreached s (own_keeping p v.secrets) (waits_for p a who.later) (turn_before p a who.later [] v).info a.challenge (message_for (own p) a) v.table p.name standing.Nothing
+      (standing_for aim) v.links v.next v.number (step_for p a aim) v.computers who.sent left moment reaches shows;
 }
 
 unreached_held_so : (p : Coming) (s : State) (a : Asked) (who : WhoAsked p a) (v : TurnAt) (aim : Aim) (left : List (List ℕ)) (moment : ℕ) → InRangeTable p.table → IsTurning p a v →
@@ -328,8 +348,8 @@ unreached_held_so p s a who v aim left moment ranged is reaches shows = record {
   left = left;
   moment = moment;
   fits = (lost_so p a v ranged is, omega arith);
-  shows = failings_are_seen.member_unreached_held s (own p) (waits_for p a who.later) (turn_before p a who.later (who.sent ∷ []) v).info a.challenge (message_for (own p) a) p.table p.name
-      standing.Nothing (standing_for aim) v.links v.next v.number 1 (call_for p a aim) v.computers _ _ left moment reaches is.joined_so who shows;
+  shows = failings_are_seen.member_unreached_held s (own_keeping p v.secrets) (waits_for p a who.later) (turn_before p a who.later (who.sent ∷ []) v).info a.challenge (message_for (own p) a) v.table p.name
+      standing.Nothing (standing_for aim) v.links v.next v.number 1 (step_for p a aim) v.computers _ _ left moment reaches is.joined_so who shows;
 }
 
 -- ---- no challenge is drawn
@@ -371,25 +391,30 @@ rests_left p s what steps at =
     by_step (λ (one : Move). (on : IsStepOn one) → (rests_so p s one on at).left ≡ at.left) (λ on. refl) (λ on. refl) (λ more on. refl) what steps steps
 
 refuses_left : (p : Coming) (s : State) (a : Asked) (who : WhoAsked p a) (v : TurnAt) (o c : SecureChannelState) (timestamp : ℕ) (left : List (List ℕ)) (moment status : ℕ) (known : IsKnown p)
-    (fits : Fits p (Calls a who v (Third o c timestamp))) (is : verdict_of p.table p.name (info_asked (own p) a) moment ≡ verdict.Status status)
+    (fits : Fits p (Calls a who v (Third o c timestamp))) (is : verdict_of v.table p.name (info_asked (own p) a) moment ≡ verdict.Status status)
     (shows : Shows s (scene_of p (Calls a who v (Third o c timestamp)) left moment)) → (refuses_so p s a who v o c timestamp left moment status known fits is shows).left ≡ left
 unfolding refuses_so
 refuses_left p s a who v o c timestamp left moment status known fits is shows = refl
 
 pub logons_are_turned_away : LogonsAreTurnedAway
 logons_are_turned_away = record {
-  refusals = refusals_so;
+  refusals = λ p a moment status is. refusals_so p p.table a moment status is;
   refuses = refuses_so;
   unreached = unreached_so;
   unreached_held = unreached_held_so;
   over = λ p s over. record {
     outcome = In (told_of p) (key_at p over.asked) p.meeting.task.echo;
-    settled = record { how = standing.Open over.ending.member; number = over.ending.number; links = over.ending.links; table = over.ending.table; computers = over.ending.computers };
+    settled = record { secrets = over.ending.secrets; how = standing.Open over.ending.member; number = over.ending.number; links = over.ending.links; table = over.ending.table; computers = over.ending.computers };
     left = over.left;
     moment = over.moment;
     fits = record {
       joined_so = over.fits.joined_so;
       number_below = over.fits.number_below;
+      one = λ o stands. over.fits.one;
+      before = over.fits.before;
+      set = over.fits.set;
+      next = subst IsNextSecret (sym over.fits.one) tt;
+      fits = over.fits.fits;
       differs = over.fits.differs;
       ranged = over.fits.ranged;
       others = over.fits.others;

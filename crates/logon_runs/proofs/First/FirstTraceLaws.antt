@@ -110,7 +110,7 @@ first_turns_are_seen = record {
       let asked : Shows (goes s) (dial_scene t (its_link g) standing.Nothing n1 g.number first computers (unit_up g who.sent ∷ []) (server ∷ left) moment) =
       logons_are_seen.asks_first s g waits a.challenge a.one a.two a.three client who.sent a.then_now table name computers (server ∷ left) moment is.stands is.fits is.can is.names is.draws shows in
       let dial1 : Shows s2 (dial_scene held (its_link g) standing.Nothing n1 g.number first computers [] (server ∷ left) moment) =
-      logons_are_seen.held_before (goes s) g t (its_link g) standing.Nothing n1 g.number 1 2 0 first computers [] _ _ who [] (server ∷ left) moment refl (found_here g) asked in
+      logons_are_seen.held_before (goes s) g t (its_link g) standing.Nothing n1 g.number 1 2 0 (step.Bind first) computers [] _ _ who [] (server ∷ left) moment refl (found_here g) asked in
       let bind1 =
       turns_are_seen.dialled s2 held (its_link g) standing.Nothing n1 g.number (step.Bind first) computers [] (server ∷ left) moment (reach_still peer at s s2 same2 reach) (turns_have_links.found g held is.joined)
       (turns_have_links.new g held _ is.joined) between1 dial1 in

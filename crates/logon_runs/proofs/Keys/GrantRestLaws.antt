@@ -21,7 +21,7 @@ use Rattle.logon_runs.specs.Any.GrantRests.{CanGoOn, GrantsRest, HasSettled, Has
 use Rattle.logon_runs.specs.Keys.LetIn.{GoesOn, HasEndedAt}
 use Rattle.logon_runs.specs.Seen.LinkScenes.{Meeting}
 use Rattle.logon_runs.specs.Seen.Others.{AreAmong, IsStepOn, OthersStay}
-use Rattle.logon_runs.specs.Phases.{Coming, Third, TurnAt, WhoAsked, own, terms_at, turn_before, turn_on}
+use Rattle.logon_runs.specs.Phases.{Coming, Third, TurnAt, WhoAsked, own, own_keeping, terms_at, turn_before, turn_on}
 use Rattle.logon_runs.specs.Rests.{moved_by, three_in}
 use Rattle.logon_runs.specs.Runs.{Asked, message_for}
 use Rattle.logon_runs.specs.Scenes.{Shows}
@@ -74,7 +74,7 @@ let_in_goes p s a who v o c timestamp accounts r o_then sam left moment can repl
     let before : Turn = turn_before p a who.later (who.sent ∷ []) v in
     let out : Turn = turn_on p a who.later (who.sent ∷ []) v (Third o c timestamp) in
     let asked = grants_go_on.asked p a who in
-    grants_go_on.granted s (own p) (record (terms_at p a) { session = who.later }) out.info a.challenge (message_for (own p) a) who.sent accounts p.name how o_then out.links out.opened (length v.links)
+    grants_go_on.granted s (own_keeping p v.secrets) (record (terms_at p a) { session = who.later }) out.info a.challenge (message_for (own p) a) who.sent accounts p.name how o_then out.links out.opened (length v.links)
     (next_number v.next) v.next question.Logon r sam v.computers left moment can.can asked.0 asked.1 short.short short.units can.next_below
     (between_still out accounts (turns_have_links.between (own p) before how can.joined_so)) reply_is granted (turns_have_links.met (own p) before how can.joined_so)
     (turns_have_links.taken (own p) before how can.joined_so) shows

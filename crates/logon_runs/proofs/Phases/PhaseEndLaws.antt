@@ -1,6 +1,6 @@
 -- One logon that is granted: the member takes the reply that grants it, and the client hears its name and its echo.
 -- Of `phases_go_on`.
-use Rattle.std.proofs.Common.{◌≡◌, ℕ, ◌<◌, ◌≤◌, ◌^◌, Bool, true, false, refl, sym, subst, ◌∙◌, List, [], ◌∷◌, ◌++◌, length, Option, Some, None, arith, inr}
+use Rattle.std.proofs.Common.{ap, ◌≡◌, ℕ, ◌<◌, ◌≤◌, ◌^◌, Bool, true, false, refl, sym, subst, ◌∙◌, List, [], ◌∷◌, ◌++◌, length, Option, Some, None, arith, inl, inr}
 use Rattle.std.specs.Prelude.{◌==◌}
 use Rattle.wire_base.specs.Units.{AreUnits}
 use Rattle.wire_base.proofs.NumberLaws.{bytes_from_all}
@@ -12,6 +12,8 @@ use Rattle.logon_stubs.specs.declared.info.SamInfo.{SamInfo}
 use Rattle.memo_stubs.specs.Memo.{written_echo_reply, written_echo_request, written_who_reply}
 use Rattle.memo_stubs.proofs.MemoLaws.{reply_stub, request_stub, who_stub}
 use Rattle.account_table.specs.AccountTable.{AccountTable}
+use Rattle.account_table.specs.Changes.{with_hash}
+use Rattle.domain_controller.specs.Whole.{InRangeTable}
 use Rattle.channel_client.specs.declared.state.Question.TheVariants as question
 use Rattle.channel_client.specs.declared.state.Standing.{Standing}
 use Rattle.channel_client.specs.declared.state.Standing.TheVariants as standing
@@ -39,7 +41,7 @@ use Rattle.logon_steps.proofs.GrantingLaws.{logons_are_granted}
 use Rattle.logon_steps.proofs.MemoCallLaws.{memo_calls_go}
 use Rattle.logon_runs.specs.Grants.{CanBeTold}
 use Rattle.logon_runs.specs.Seen.LinkScenes.{meeting_scene, rest_scene, unit_down}
-use Rattle.logon_runs.specs.Phases.{WasTold, Coming, Ending, Fits, IsEnding, IsKnown, Third, TurnAt, WhoAsked, key_at, meeting_at, own, scene_of, terms_at, told_of, turn_before, turn_on, waits_for}
+use Rattle.logon_runs.specs.Phases.{WasTold, Coming, Ending, Fits, IsEnding, IsKnown, IsSetOrNot, Third, TurnAt, WhoAsked, key_at, meeting_at, own, own_keeping, scene_of, terms_at, told_of, turn_before, turn_on, waits_for}
 use Rattle.logon_runs.specs.Phases.{Echoed, Echoes, Granted, Named}
 use Rattle.logon_runs.specs.Runs.{Asked, hidden, message_for, on_for, sam_for}
 use Rattle.logon_runs.specs.Scenes.{Scene, Shows}
@@ -48,6 +50,7 @@ use Rattle.logon_runs.proofs.Seen.AskSceneLaws.{logons_are_seen}
 use Rattle.logon_runs.proofs.First.FirstTraceLaws.{after_below}
 use Rattle.logon_runs.proofs.GrantLaws.{grants_are_told}
 use Rattle.logon_runs.proofs.Seen.LinkSceneLaws.{meetings_are_seen}
+use Rattle.logon_runs.proofs.SecretRestLaws.{fits_counted}
 use Rattle.logon_runs.proofs.RunLaws.{between_still}
 use Rattle.logon_runs.proofs.Seen.TwoLinkLaws.{got_last, turns_have_links}
 use Rattle.ntlm_responses.proofs.ResponseLaws.{All-base_key_of, length-base_key_of}
@@ -66,16 +69,22 @@ base_block p a = (
   bytes_from_all (base_key p.meeting.task (message_for (own p) a)) (All-base_key_of p.meeting.task.hash p.meeting.task.user p.meeting.task.domain (message_for (own p) a).nt),
 )
 
-module _ (p : Coming) (a : Asked) (o : SecureChannelState) (timestamp judged_at : ℕ) (known : IsKnown p) where
-  pub reply_then : judged_at < 2 ^ 64 → IsTurnReply question.Logon (granting o timestamp 0 1 (hidden o (sam_for (own p) a p.table p.name p.account judged_at)))
+module _ (p : Coming) (a : Asked) (v : TurnAt) (o : SecureChannelState) (timestamp judged_at : ℕ) (known : IsKnown p) (ranged : InRangeTable v.table) where
+  pub reply_then : judged_at < 2 ^ 64 → IsTurnReply question.Logon (granting o timestamp 0 1 (hidden o (sam_for (own p) a v.table p.name p.account judged_at)))
   reply_then below =
-      subst (λ (k : List ℕ). IsTurnReply question.Logon (granting o timestamp 0 1 (record (sam_for (own p) a p.table p.name p.account judged_at) { key = crypt_key (key_of_channel o) k })))
-      (sym (logons_are_granted.has_key p.table p.name p.account (base_key p.meeting.task (message_for (own p) a)) judged_at))
-      (calls_can_go.granted o timestamp p.table p.name p.account (base_key p.meeting.task (message_for (own p) a)) judged_at known.ranged.domain known.ranged.sid known.named known.account_so
+      subst (λ (k : List ℕ). IsTurnReply question.Logon (granting o timestamp 0 1 (record (sam_for (own p) a v.table p.name p.account judged_at) { key = crypt_key (key_of_channel o) k })))
+      (sym (logons_are_granted.has_key v.table p.name p.account (base_key p.meeting.task (message_for (own p) a)) judged_at))
+      (calls_can_go.granted o timestamp v.table p.name p.account (base_key p.meeting.task (message_for (own p) a)) judged_at ranged.domain ranged.sid known.named known.account_so
       (base_block p a) below)
 
-  pub told_then : judged_at < 2 ^ 64 → CanBeTold (own p) a o p.table p.name p.account judged_at
-  told_then below = grants_are_told.told (own p) a o p.table p.name p.account judged_at known.ranged.domain known.ranged.sid known.named known.account_so below
+  pub told_then : judged_at < 2 ^ 64 → CanBeTold (own p) a o v.table p.name p.account judged_at
+  told_then below = grants_are_told.told (own p) a o v.table p.name p.account judged_at ranged.domain ranged.sid known.named known.account_so below
+
+-- a hash that is set leaves the domain's name
+pub domain_same : (p : Coming) (table : AccountTable) → IsSetOrNot p table → table.domain ≡ p.table.domain
+unfolding with_hash
+domain_same p table (inl is) = ap AccountTable.domain is
+domain_same p table (inr set) = ap AccountTable.domain set.is
 
 -- what the client sends is one, whatever the other session
 pub sent_same : (one other : Sending) → Some one ≡ Some other → one ≡ other
@@ -87,10 +96,11 @@ granted_scene p a sending v o c timestamp judged_at accounts left moment =
     turn_scene (with_accounts accounts (turn_on p a sending.session (sending.bytes ∷ []) v (Third o c timestamp))) (after v.next) v.next (step.Reply question.Logon) v.computers
     (turn_link (length v.links))
     (unit_back (with_accounts accounts (turn_on p a sending.session (sending.bytes ∷ []) v (Third o c timestamp)))
-    (reply_bytes v.next (granting o timestamp 0 1 (hidden o (sam_for (own p) a p.table p.name p.account judged_at)))) ∷ []) left moment
+    (reply_bytes v.next (granting o timestamp 0 1 (hidden o (sam_for (own p) a v.table p.name p.account judged_at)))) ∷ []) left moment
 
 abbrev ending_of : Coming → TurnAt → SecureChannelState → ℕ → AccountTable → Ending
 ending_of p v o timestamp accounts = record {
+  secrets = v.secrets;
   member = after_return true (after_call o timestamp);
   number = after v.next;
   links = v.links ++ ToController p.meeting.at_member p.meeting.at_controller ∷ [];
@@ -102,13 +112,15 @@ pub granted_on : (p : Coming) (s : State) (a : Asked) (who : WhoAsked p a) (v : 
     (left : List (List ℕ)) (moment : ℕ) → IsKnown p → Fits p (Granted a who v o c timestamp judged_at accounts) →
     Shows s (scene_of p (Granted a who v o c timestamp judged_at accounts) left moment) → ComesBy p (WasTold a) s (onward s).state
 granted_on p s a who v o c timestamp judged_at accounts left moment known fits shows =
-    let sam : SamInfo = sam_for (own p) a p.table p.name p.account judged_at in
+    let sam : SamInfo = sam_for (own p) a v.table p.name p.account judged_at in
     let on : LoggedOn = on_for (own p) a o sam in
     let draws : AreDraws a.one a.two a.three = fits.0.answering.draws in
-    let told : CanBeTold (own p) a o p.table p.name p.account judged_at = told_then p a o timestamp judged_at known fits.1 in
+    let told : CanBeTold (own p) a o v.table p.name p.account judged_at = told_then p a v o timestamp judged_at known fits.0.ranged fits.1 in
+    let domain_told : name_in (sam_shown o (hidden o sam)) ≡ told_of p =
+    told.found ∙ ap (λ (domain : List ℕ). domain ++ 0x5C ∷ p.account.name) (domain_same p v.table fits.0.set) in
     let again : RequestGoes 1 p.meeting.task.level 2 0 [] (terms_at p a).session on.session =
     memo_calls_go.request 1 p.meeting.task.level 2 0 [] (terms_at p a).session on.session (omega arith) (omega arith) (omega arith) (omega arith)
-    (grants_are_told.sessions (own p) a o p.table p.name p.account judged_at known.can draws fits.3) in
+    (grants_are_told.sessions (own p) a o v.table p.name p.account judged_at known.can draws fits.3) in
     let sending : Sending = record { bytes = again.sent; session = again.later } in
     let same : record { bytes = who.sent; session = who.later } ≡ sending = sent_same (record { bytes = who.sent; session = who.later }) sending (sym who.goes ∙ again.goes) in
     let now_shows : Shows s (granted_scene p a sending v o c timestamp judged_at accounts left moment) =
@@ -118,8 +130,8 @@ granted_on p s a who v o c timestamp judged_at accounts left moment known fits s
     let out : Turn = turn_on p a again.later (again.sent ∷ []) v (Third o c timestamp) in
     let end : Ending = ending_of p v o timestamp accounts in
     let name_told : List ℕ = told_of p in
-    let short : length name_told ≤ 129 = subst (λ (n : List ℕ). length n ≤ 129) told.found told.short in
-    let units : AreUnits name_told = subst AreUnits told.found told.units in
+    let short : length name_told ≤ 129 = subst (λ (n : List ℕ). length n ≤ 129) domain_told told.short in
+    let units : AreUnits name_told = subst AreUnits domain_told told.units in
     let back : ReplyGoes 2 p.meeting.task.level 2 (written_who_reply name_told) again.next again.later =
     memo_calls_go.reply 2 p.meeting.task.level 2 (written_who_reply name_told) again.later again.next (omega arith) (omega arith)
     (omega (arith, short, (who_stub name_told (omega (arith, short)) units).short)) again.sessions in
@@ -127,6 +139,10 @@ granted_on p s a who v o c timestamp judged_at accounts left moment known fits s
       record {
         joined_so = turns_have_links.met (own p) before how fits.0.joined_so;
         number_below = after_below v.next;
+        one = fits.7;
+        before = v.table;
+        set = fits.0.set;
+        fits = λ first. fits_counted v.table accounts p.meeting.caller v.secrets fits.2 (fits.0.fits first);
         differs = fits.2;
         ranged = fits.6;
         stands = record { member = after_return true (after_call o timestamp); stands = refl; controller = moved c timestamp; channel = fits.4; in_step = calls_are_answered.stays o c timestamp fits.5 };
@@ -135,11 +151,11 @@ granted_on p s a who v o c timestamp judged_at accounts left moment known fits s
       refl,
     )
     ((subst (λ (n : List ℕ). (b : ReplyGoes 2 p.meeting.task.level 2 (written_who_reply n) again.next again.later) →
-    Shows (onward s).state (meeting_scene (meeting_at p end) (waits_for p a again.later) (talk_in None (logged_on on b.later)) (unit_down (own p) b.sent ∷ []) left moment)) told.found
+    Shows (onward s).state (meeting_scene (meeting_at p end) (waits_for p a again.later) (talk_in None (logged_on on b.later)) (unit_down (own p) b.sent ∷ []) left moment)) domain_told
     (λ (b : ReplyGoes 2 p.meeting.task.level 2 (written_who_reply (name_in (sam_shown o (hidden o sam)))) again.next again.later).
-    logons_are_seen.granted s (own p) (with_accounts accounts out) o (waits_for p a again.later) a.challenge (message_for (own p) a) (hidden o sam) (after v.next) v.next timestamp 0 1 1
+    logons_are_seen.granted s (own_keeping p v.secrets) (with_accounts accounts out) o (waits_for p a again.later) a.challenge (message_for (own p) a) (hidden o sam) (after v.next) v.next timestamp 0 1 1
     v.computers _ left moment fits.0.next_below (between_still out accounts (turns_have_links.between (own p) before how fits.0.joined_so))
-    (got_last p.meeting.links (ToMember p.meeting.at_client p.meeting.at_member)) (reply_then p a o timestamp judged_at known fits.1) (omega (arith, told.short)) again b refl
+    (got_last p.meeting.links (ToMember p.meeting.at_client p.meeting.at_member)) (reply_then p a v o timestamp judged_at known fits.0.ranged fits.1) (omega (arith, told.short)) again b refl
     (turns_have_links.met (own p) before how fits.0.joined_so) (turns_have_links.taken (own p) before how fits.0.joined_so) now_shows)) back)
 
 -- ---- the client hears its name, and its echo

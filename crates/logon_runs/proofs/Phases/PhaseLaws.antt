@@ -1,12 +1,22 @@
 -- One logon that is granted, move by move.
 -- Of `phases_go_on`.
-use Rattle.std.proofs.Common.{◌≡◌, ℕ, refl, subst, List, [], ◌∷◌, inl, inr}
+use Rattle.std.specs.Prelude.{IsSomeAnd}
+use Rattle.std.proofs.Common.{◌≡◌, Option, Some, None, ℕ, refl, sym, subst, List, [], ◌∷◌, inl, inr}
+use Rattle.account_table.specs.AccountTable.{AccountTable}
+use Rattle.account_table.specs.LookUps.{account_in}
+use Rattle.account_table.specs.declared.account.Account.{Account}
+use Rattle.account_table.specs.declared.account.Kind.TheVariants.{User}
+use Rattle.account_table.specs.declared.account.Policy.{Policy}
+use Rattle.sam_logon.specs.MayLogOn.{AccountMayLogOnAt, MayLogOn}
+use Rattle.domain_controller.specs.State.{State as ControllerState}
+use Rattle.logon_steps.specs.Granting.{info_told}
+use Rattle.logon_runs.proofs.SecretRestLaws.{sets_leave_others}
 use Rattle.world_moves.specs.declared.moves.Move.{Move}
 use Rattle.world_moves.specs.declared.moves.Move.TheVariants as move
 use Rattle.world_moves.specs.declared.state.State.{State}
 use Rattle.world_moves.specs.Moving.{act, moment_after, onward, tick}
-use Rattle.logon_runs.specs.Phases.{Aim, ArrivesAt, ComesSoFar, ComesTo, Coming, First, Fits, HasUser, HasUserAt, IsKnown, IsOver, IsReady, IsUnderWay, LogonPhase, MayLogOnAt, PhasesGoOn, Progress, Second, Third, TurnAt, WhoAsked, key_at, meeting_at, progress_after, progress_of, progress_onward, scene_of, told_of, with_its_controller}
-use Rattle.logon_runs.specs.Phases.{Acked, Answers, Binds, BindsBefore, BindsHeld, Calls, Challenged, Dials, DialsBefore, DialsHeld, Echoed, Echoes, Granted, Halved, Named, Proved}
+use Rattle.logon_runs.specs.Phases.{Aim, ArrivesAt, ComesSoFar, ComesTo, Coming, First, Fits, Fourth, HasUser, HasUserAt, HasUserIn, IsKnown, IsOver, IsReady, IsSetOrNot, IsUnderWay, LogonPhase, MayLogOnAt, PhasesGoOn, Progress, Second, Third, TurnAt, WhoAsked, key_at, meeting_at, progress_after, progress_of, progress_onward, scene_of, told_of, with_its_controller}
+use Rattle.logon_runs.specs.Phases.{Acked, Answers, Binds, BindsBefore, BindsHeld, Calls, Challenged, Dials, DialsBefore, DialsHeld, Echoed, Echoes, Granted, Halved, Named, Proved, Sets}
 use Rattle.logon_runs.specs.Seen.Others.{IsStepOn, is_onward}
 use Rattle.logon_runs.specs.Runs.{Asked}
 use Rattle.logon_runs.specs.Scenes.{Scene, Shows}
@@ -16,7 +26,7 @@ use Rattle.logon_runs.proofs.Seen.StartLaws.{starts_are_seen}
 use Rattle.logon_runs.proofs.Seen.TurningSceneLaws.{scenes_turn}
 use Rattle.logon_runs.proofs.Seen.StepOnLaws.{by_step, if_so}
 use Rattle.logon_runs.proofs.Phases.PhaseStartLaws.{ComesBy, left_seen, answers_on, binds_on, challenged_on, connects_on, under}
-use Rattle.logon_runs.proofs.Phases.PhaseTurnLaws.{acked_on, binds_held, bound_on, calls_on, dials_held, halved_on, proved_on}
+use Rattle.logon_runs.proofs.Phases.PhaseTurnLaws.{acked_on, binds_held, bound_on, calls_on, dials_held, halved_on, proved_on, sets_on}
 use Rattle.logon_runs.proofs.Phases.PhaseEndLaws.{echoed_on, echoes_on, granted_on, named_on}
 use Rattle.logon_steps.specs.ClientSteps.{client_ended}
 use Rattle.logon_client.specs.declared.outcome.ClientOutcome.TheVariants.{In}
@@ -41,9 +51,10 @@ comes_on p s (BindsHeld a who v aim) left moment known ready fits user arrives s
 comes_on p s (Acked a who v aim) left moment known ready fits user arrives shows = acked_on p s a who v aim left moment fits shows
 comes_on p s (Calls a who v aim) left moment known ready fits user arrives shows = calls_on p s a who v aim left moment known ready fits user arrives shows
 comes_on p s (Halved a who v client server) left moment known ready fits user arrives shows = halved_on p s a who v client server left moment fits shows
-comes_on p s (Proved a who v client server) left moment known ready fits user arrives shows = proved_on p s a who v client server left moment known.one fits shows
+comes_on p s (Proved a who v client server) left moment known ready fits user arrives shows = proved_on p s a who v client server left moment fits shows
 comes_on p s (Granted a who v o c timestamp judged_at accounts) left moment known ready fits user arrives shows =
     granted_on p s a who v o c timestamp judged_at accounts left moment known fits shows
+comes_on p s (Sets a who v o c timestamp new accounts) left moment known ready fits user arrives shows = sets_on p s a who v o c timestamp new accounts left moment fits shows
 comes_on p s (Named a e on one other back) left moment known ready fits user arrives shows = named_on p s a e on one other back left moment known fits shows
 comes_on p s (Echoes a e on one asks) left moment known ready fits user arrives shows = echoes_on p s a e on one asks left moment known fits shows
 comes_on p s (Echoed a e talk one other back) left moment known ready fits user arrives shows = echoed_on p s a e talk one other back left moment known fits shows
@@ -68,6 +79,7 @@ same_scene p (Calls a who v aim) left moment later = refl
 same_scene p (Halved a who v client server) left moment later = refl
 same_scene p (Proved a who v client server) left moment later = refl
 same_scene p (Granted a who v o c timestamp judged_at accounts) left moment later = refl
+same_scene p (Sets a who v o c timestamp new accounts) left moment later = refl
 same_scene p (Named a e on one other back) left moment later = refl
 same_scene p (Echoes a e on one asks) left moment later = refl
 same_scene p (Echoed a e talk one other back) left moment later = refl
@@ -125,34 +137,66 @@ waits_so p s (Calls a who v aim) left moment shows dials units = one_waits (wait
 waits_so p s (Halved a who v client server) left moment shows dials units = one_waits (waiting s.bag) _ [] shows.units units
 waits_so p s (Proved a who v client server) left moment shows dials units = one_waits (waiting s.bag) _ [] shows.units units
 waits_so p s (Granted a who v o c timestamp judged_at accounts) left moment shows dials units = one_waits (waiting s.bag) _ [] shows.units units
+waits_so p s (Sets a who v o c timestamp new accounts) left moment shows dials units = one_waits (waiting s.bag) _ [] shows.units units
 waits_so p s (Named a e on one other back) left moment shows dials units = one_waits (waiting s.bag) _ [] shows.units units
 waits_so p s (Echoes a e on one asks) left moment shows dials units = one_waits (waiting s.bag) _ [] shows.units units
 waits_so p s (Echoed a e talk one other back) left moment shows dials units = one_waits (waiting s.bag) _ [] shows.units units
 
 -- ---- the user's hash
 
-user_at_call : (p : Coming) (s : State) (a : Asked) (who : WhoAsked p a) (v : TurnAt) (aim : Aim) (what : Move) → HasUser p → MayLogOnAt p s → HasUserAt p s (Calls a who v aim) what
-user_at_call p s a who v (First client) what user may = tt
-user_at_call p s a who v (Second client server) what user may = tt
-user_at_call p s a who v (Third o c timestamp) what user may = if_so (is_onward what) (HasUser p × MayLogOnAt p s) (user, may)
+-- the account is a user's
+pub kind_so : (found : Option Account) (policy : Policy) (computer : List ℕ) (now : ℕ) → IsSomeAnd found (λ (account : Account). AccountMayLogOnAt policy account computer now) →
+    IsSomeAnd found (λ (account : Account). account.kind ≡ User)
+kind_so None policy computer now is = is
+kind_so (Some account) policy computer now is = is.user
 
-user_at : (p : Coming) (s : State) (phase : LogonPhase p) (what : Move) → HasUser p → MayLogOnAt p s → HasUserAt p s phase what
-user_at p s Dials what user may = tt
-user_at p s Binds what user may = tt
-user_at p s (Challenged challenge) what user may = tt
-user_at p s (Answers a who) what user may = tt
-user_at p s (DialsBefore a who v aim) what user may = tt
-user_at p s (DialsHeld a who v aim) what user may = tt
-user_at p s (BindsBefore a who v aim) what user may = tt
-user_at p s (BindsHeld a who v aim) what user may = tt
-user_at p s (Acked a who v aim) what user may = tt
-user_at p s (Calls a who v aim) what user may = user_at_call p s a who v aim what user may
-user_at p s (Halved a who v one other) what user may = tt
-user_at p s (Proved a who v one other) what user may = tt
-user_at p s (Granted a who v o c timestamp judged_at accounts) what user may = tt
-user_at p s (Named a e on one other back) what user may = tt
-user_at p s (Echoes a e on one asks) what user may = tt
-user_at p s (Echoed a e talk one other back) what user may = tt
+-- a hash that is set is no user's
+user_then : (p : Coming) (table : AccountTable) (now : ℕ) → IsSetOrNot p table → HasUser p → MayLogOn table (info_told p.meeting.task) now → HasUserIn p table
+user_then p table now (inl is) user may = record {
+  found = subst (λ (t : AccountTable). account_in t.accounts p.meeting.task.user ≡ Some p.account) (sym is) user.found;
+  hash = user.hash;
+}
+user_then p table now (inr set) user may =
+    let is_user : IsSomeAnd (account_in table.accounts p.meeting.task.user) (λ (account : Account). account.kind ≡ User) =
+    kind_so (account_in table.accounts p.meeting.task.user) table.policy p.meeting.task.workstation now may.there.account in
+    record {
+      found = subst (λ (t : AccountTable). account_in t.accounts p.meeting.task.user ≡ Some p.account) (sym set.is)
+          (sets_leave_others.users p.table set.place set.hash p.meeting.caller.account p.meeting.caller.kind p.meeting.caller.computer p.meeting.task.user p.account set.found user.found
+          (subst (λ (t : AccountTable). IsSomeAnd (account_in t.accounts p.meeting.task.user) (λ (account : Account). account.kind ≡ User)) set.is is_user));
+      hash = user.hash;
+    }
+
+module _ (p : Coming) (s : State) (left : List (List ℕ)) (moment : ℕ) (user : HasUser p) (may : MayLogOnAt p s) where
+  user_at_call : (a : Asked) (who : WhoAsked p a) (v : TurnAt) (aim : Aim) (what : Move) → Fits p (Calls a who v aim) → Shows s (scene_of p (Calls a who v aim) left moment) →
+      HasUserAt p s (Calls a who v aim) what
+  user_at_call a who v (First client) what fits shows = tt
+  user_at_call a who v (Second client server) what fits shows = tt
+  user_at_call a who v (Third o c timestamp) what fits shows =
+      if_so (is_onward what) (HasUserIn p v.table × MayLogOnAt p s) (
+        user_then p v.table s.moment fits.0.set user
+            (subst (λ (found : Option ControllerState). IsSomeAnd found (λ (k : ControllerState). MayLogOn k.table (info_told p.meeting.task) s.moment)) shows.controller may),
+        may,
+      )
+  user_at_call a who v (Fourth o c timestamp new) what fits shows = tt
+
+  user_at : (phase : LogonPhase p) (what : Move) → Fits p phase → Shows s (scene_of p phase left moment) → HasUserAt p s phase what
+  user_at Dials what fits shows = tt
+  user_at Binds what fits shows = tt
+  user_at (Challenged challenge) what fits shows = tt
+  user_at (Answers a who) what fits shows = tt
+  user_at (DialsBefore a who v aim) what fits shows = tt
+  user_at (DialsHeld a who v aim) what fits shows = tt
+  user_at (BindsBefore a who v aim) what fits shows = tt
+  user_at (BindsHeld a who v aim) what fits shows = tt
+  user_at (Acked a who v aim) what fits shows = tt
+  user_at (Calls a who v aim) what fits shows = user_at_call a who v aim what fits shows
+  user_at (Halved a who v one other) what fits shows = tt
+  user_at (Proved a who v one other) what fits shows = tt
+  user_at (Granted a who v o c timestamp judged_at accounts) what fits shows = tt
+  user_at (Sets a who v o c timestamp new accounts) what fits shows = tt
+  user_at (Named a e on one other back) what fits shows = tt
+  user_at (Echoes a e on one asks) what fits shows = tt
+  user_at (Echoed a e talk one other back) what fits shows = tt
 
 pub phases_go_on : PhasesGoOn
 phases_go_on = record {
@@ -166,7 +210,7 @@ phases_go_on = record {
   goes_on = λ p s what known ready goes at user arrives. comes_of p (progress_after what at.phase) (act s what).state (goes_so p s what known ready goes at user arrives).0;
   goes_so_far = λ p s what known ready goes at user arrives. (goes_so p s what known ready goes at user arrives).0;
   draws = λ p s what known ready goes at user arrives. (goes_so p s what known ready goes at user arrives).1;
-  has_user = user_at;
+  has_user = λ p s at what user may. user_at p s at.left at.moment user may at.phase what at.fits at.shows;
   waits = λ p s at dials units. waits_so p s at.phase at.left at.moment at.shows dials units;
   rests = λ p s what goes over. (rests_so p s what goes over).0;
   rests_same = rests_so;

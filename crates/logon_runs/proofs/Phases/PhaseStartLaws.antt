@@ -4,7 +4,6 @@ use Rattle.std.proofs.Common.{◌≡◌, ℕ, true, refl, sym, subst, ◌∙◌,
 use Rattle.std.specs.Prelude.{◌==◌, ◌⊎◌}
 use Rattle.std.proofs.lemmas.Bool.Decides.{nat_tests}
 use Rattle.logon_stubs.specs.Ranges.{IsBlock}
-use Rattle.channel_client.specs.declared.state.Step.TheVariants as step
 use Rattle.channel_client.specs.declared.state.Standing.TheVariants as standing
 use Rattle.channel_client.specs.Machine.{after}
 use Rattle.member_server.specs.Outcomes.{session_in}
@@ -19,8 +18,8 @@ use Rattle.logon_steps.proofs.MemoCallLaws.{memo_calls_go}
 use Rattle.logon_steps.proofs.TellingLaws.{logons_are_short}
 use Rattle.logon_runs.specs.Seen.LinkScenes.{FitsGiven, its_link, unit_up}
 use Rattle.logon_runs.specs.Runs.{Asked, StandsInStep, asked_at}
-use Rattle.logon_runs.specs.Phases.{DrawsFew, Aim, ComesSoFar, NotYet, Progress, Coming, First, Fits, HasThree, IsAimed, IsAnswering, IsReady, IsTurning, IsKnown, LogonPhase, Third, TurnAt, WhoAsked, call_for, key_at, own, scene_of, standing_for, terms_at, progress_of, turn_before, waits_for, with_its_controller}
-use Rattle.logon_runs.specs.Phases.{Acked, Answers, Binds, BindsBefore, BindsHeld, Calls, Challenged, Dials, DialsBefore, DialsHeld, Echoed, Echoes, Granted, Halved, Named, Proved}
+use Rattle.logon_runs.specs.Phases.{DrawsFew, Aim, ComesSoFar, NotYet, Progress, Coming, First, Fits, HasThree, IsAimed, IsAnswering, IsReady, IsTurning, IsKnown, LogonPhase, Third, TurnAt, WhoAsked, key_at, own, scene_of, standing_for, step_for, terms_at, progress_of, turn_before, waits_for, with_its_controller}
+use Rattle.logon_runs.specs.Phases.{Acked, Answers, Binds, BindsBefore, BindsHeld, Calls, Challenged, Dials, DialsBefore, DialsHeld, Echoed, Echoes, Granted, Halved, Named, Proved, Sets}
 use Rattle.logon_runs.specs.Scenes.{Scene, Shows}
 use Rattle.logon_runs.specs.Seen.TurnScenes.{Turn}
 use Rattle.logon_runs.proofs.Seen.AskSceneLaws.{logons_are_seen}
@@ -51,6 +50,7 @@ left_of p (Calls a who v aim) left moment = refl
 left_of p (Halved a who v client server) left moment = refl
 left_of p (Proved a who v client server) left moment = refl
 left_of p (Granted a who v o c timestamp judged_at accounts) left moment = refl
+left_of p (Sets a who v o c timestamp new accounts) left moment = refl
 left_of p (Named a e on one other back) left moment = refl
 left_of p (Echoes a e on one asks) left moment = refl
 left_of p (Echoed a e talk one other back) left moment = refl
@@ -90,7 +90,7 @@ turn_connects_before : (p : Coming) (s : State) (a : Asked) (who : WhoAsked p a)
 turn_connects_before p s a who v aim left moment ready fits shows =
     let t : Turn = turn_before p a who.later [] v in
     under p s _ (BindsBefore a who v aim) left moment shows.left fits
-    (turns_are_seen.dialled s t (its_link (own p)) (standing_for aim) v.next v.number (step.Bind (call_for p a aim)) v.computers (unit_up (own p) who.sent ∷ []) left moment ready.reached.controller
+    (turns_are_seen.dialled s t (its_link (own p)) (standing_for aim) v.next v.number (step_for p a aim) v.computers (unit_up (own p) who.sent ∷ []) left moment ready.reached.controller
     (turns_have_links.found (own p) t fits.0.joined_so) (turns_have_links.new (own p) t _ fits.0.joined_so) (turns_have_links.between (own p) t (standing_for aim) fits.0.joined_so) shows)
 
 turn_connects : (p : Coming) (s : State) (a : Asked) (who : WhoAsked p a) (v : TurnAt) (aim : Aim) (left : List (List ℕ)) (moment : ℕ) → IsReady p s →
@@ -98,7 +98,7 @@ turn_connects : (p : Coming) (s : State) (a : Asked) (who : WhoAsked p a) (v : T
 turn_connects p s a who v aim left moment ready fits shows =
     let t : Turn = turn_before p a who.later (who.sent ∷ []) v in
     under p s _ (BindsHeld a who v aim) left moment shows.left fits
-    (turns_are_seen.dialled s t (its_link (own p)) (standing_for aim) v.next v.number (step.Bind (call_for p a aim)) v.computers [] left moment ready.reached.controller
+    (turns_are_seen.dialled s t (its_link (own p)) (standing_for aim) v.next v.number (step_for p a aim) v.computers [] left moment ready.reached.controller
     (turns_have_links.found (own p) t fits.0.joined_so) (turns_have_links.new (own p) t _ fits.0.joined_so) (turns_have_links.between (own p) t (standing_for aim) fits.0.joined_so) shows)
 
 -- where no dial waits
@@ -122,6 +122,7 @@ connects_on p s (Halved a who v client server) left moment ready fits shows = st
 connects_on p s (Proved a who v client server) left moment ready fits shows = stays_connected p s (Proved a who v client server) left moment fits refl shows
 connects_on p s (Granted a who v o c timestamp judged_at accounts) left moment ready fits shows =
     stays_connected p s (Granted a who v o c timestamp judged_at accounts) left moment fits refl shows
+connects_on p s (Sets a who v o c timestamp new accounts) left moment ready fits shows = stays_connected p s (Sets a who v o c timestamp new accounts) left moment fits refl shows
 connects_on p s (Named a e on one other back) left moment ready fits shows = stays_connected p s (Named a e on one other back) left moment fits refl shows
 connects_on p s (Echoes a e on one asks) left moment ready fits shows = stays_connected p s (Echoes a e on one asks) left moment fits refl shows
 connects_on p s (Echoed a e talk one other back) left moment ready fits shows = stays_connected p s (Echoed a e talk one other back) left moment fits refl shows
@@ -157,7 +158,14 @@ challenged_on p s challenge left moment known ready block shows =
 
 -- the first turn of the logon
 abbrev pub turn_first_of : Coming → TurnAt
-turn_first_of p = record { computers = p.computers; number = p.meeting.number; next = after p.meeting.number; links = (own p).links }
+turn_first_of p = record {
+  computers = p.computers;
+  number = p.meeting.number;
+  next = after p.meeting.number;
+  links = (own p).links;
+  secrets = p.meeting.plan.secrets;
+  table = p.table;
+}
 
 turns_first : (p : Coming) (a : Asked) → IsKnown p → IsAnswering p a → IsTurning p a (turn_first_of p)
 turns_first p a known is = record {
@@ -166,6 +174,10 @@ turns_first p a known is = record {
   number_below = known.number_below;
   next_below = after_below p.meeting.number;
   others = λ other apart. refl;
+  ranged = known.ranged;
+  set = inl refl;
+  next = known.next;
+  fits = λ first. first;
 }
 
 -- on the client's link nothing else is given
@@ -176,12 +188,12 @@ pub answers_on : (p : Coming) (s : State) (a : Asked) (who : WhoAsked p a) (left
     ((p.meeting.how ≡ standing.Nothing) ⊎ StandsInStep p.meeting p.computers) → Shows s (scene_of p (Answers a who) left moment) → ComesBy p NotYet s (onward s).state
 answers_on p s a who left moment known ready is (inl none) shows =
     let three : HasThree s.chances.left = ready.draws in
-    under_less p s _ (DialsBefore a who (turn_first_of p) (First three.one)) (three.one ∷ []) (three.two ∷ three.three ∷ three.more) moment (omega arith) three.are (turns_first p a known is, (three.first, none))
+    under_less p s _ (DialsBefore a who (turn_first_of p) (First three.one)) (three.one ∷ []) (three.two ∷ three.three ∷ three.more) moment (omega arith) three.are (turns_first p a known is, (three.first, none, (refl, refl)))
     (logons_are_seen.asks_first s (own p) (waits_for p a who.later) a.challenge a.one a.two a.three three.one who.sent a.then_now p.table p.name p.computers
     (three.two ∷ three.three ∷ three.more) moment none (fits_own p known.given) known.can known.names is.draws
     (left_so s (λ (l : List (List ℕ)). scene_of p (Answers a who) l moment) left _ shows.left three.are shows))
 answers_on p s a who left moment known ready is (inr step_so) shows =
     under p s _ (DialsBefore a who (turn_first_of p) (Third step_so.member step_so.controller (timestamp_of moment))) left moment shows.left
-    (turns_first p a known is, (timestamp_below moment, step_so.channel, step_so.in_step))
+    (turns_first p a known is, (timestamp_below moment, step_so.channel, step_so.in_step, known.given.one step_so.member step_so.stands))
     (logons_are_seen.asks_again s (own p) step_so.member (waits_for p a who.later) a.challenge a.one a.two a.three who.sent a.then_now p.table p.name p.computers left moment
     step_so.stands (fits_own p known.given) known.can known.names is.draws shows)

@@ -1,6 +1,7 @@
 -- One logon that is granted: the member's turns with its controller.
 -- Of `phases_go_on`.
-use Rattle.std.proofs.Common.{arith, Some, None, ◌≡◌, ℕ, zero, suc, ◌<◌, ◌^◌, refl, ap, ap₂, subst, ◌∙◌, List, [], ◌∷◌, ◌++◌, length, Option}
+use Rattle.std.proofs.Common.{arith, Bool, true, false, inr, slice_get, Some, None, ◌≡◌, ℕ, zero, suc, ◌<◌, ◌^◌, refl, sym, ap, ap₂, subst, ◌∙◌, List, [], ◌∷◌, ◌++◌, length, Option}
+use Rattle.std.specs.Option.{option_and_then}
 use Rattle.std.specs.Prelude.{IsSomeAnd}
 use Rattle.wire_base.specs.Maps.{put, take_out}
 use Rattle.wire_base.specs.Names.{same_name}
@@ -17,10 +18,13 @@ use Rattle.logon_stubs.specs.declared.calls.Reply.TheVariants as reply
 use Rattle.logon_stubs.specs.declared.info.SamInfo.{SamInfo}
 use Rattle.logon_stubs.specs.declared.info.Verdict.{Verdict}
 use Rattle.std.specs.List.{AllByRecursion}
-use Rattle.authenticators.specs.SecureChannels.{SecureChannelState, after_call, fresh_channel, key_of_channel}
+use Rattle.authenticators.specs.SecureChannels.{SecureChannelState, after_call, after_return, fresh_channel, key_of_channel}
 use Rattle.account_table.specs.AccountTable.{AccountTable}
-use Rattle.account_table.specs.Changes.{at_place, with_bad_count, with_count}
-use Rattle.account_table.specs.LookUps.{place_in}
+use Rattle.secret_change.specs.Secrets.{IsNextSecret, IsSecret, SecretsState, alone, tried_of_next}
+use Rattle.secret_change.specs.declared.secrets.Next.{Next}
+use Rattle.account_table.specs.Changes.{at_place, with_bad_count, with_count, with_hash}
+use Rattle.account_table.specs.Secrets.{secrets_of}
+use Rattle.account_table.specs.LookUps.{knows_in, machine_in, place_in}
 use Rattle.account_table.specs.Ranges.{InRangeAccount}
 use Rattle.account_table.specs.declared.account.Account.{Account}
 use Rattle.sam_logon.proofs.GrantedLaws.{in_range-counted}
@@ -29,12 +33,13 @@ use Rattle.sam_logon.specs.MayLogOn.{MayLogOn}
 use Rattle.channel_client.specs.declared.state.Question.TheVariants as question
 use Rattle.channel_client.specs.declared.state.Standing.{Standing}
 use Rattle.channel_client.specs.declared.state.Standing.TheVariants as standing
+use Rattle.channel_client.specs.declared.state.SetStep.TheVariants as set_step
 use Rattle.channel_client.specs.declared.state.Step.TheVariants as step
-use Rattle.channel_client.specs.Machine.{after, offered_flags, server_credential}
+use Rattle.channel_client.specs.Machine.{after, auth_call, challenge_call, change_call, judge_set_awaited, logon_call, offered_flags, server_credential}
 use Rattle.domain_controller.specs.State.{State as ControllerState}
 use Rattle.domain_controller.specs.Step.{step_of as controller_step_of}
 use Rattle.controller_calls.specs.declared.state.Computers.{Computers}
-use Rattle.domain_controller.specs.Machine.{channel_for, status_of}
+use Rattle.domain_controller.specs.Machine.{account_for, channel_for, status_of}
 use Rattle.member_server.specs.Turns.{timestamp_of}
 use Rattle.world_moves.specs.declared.links.Route.TheVariants.{ToController}
 use Rattle.world_moves.specs.declared.moves.Move.TheVariants as move
@@ -46,41 +51,61 @@ use Rattle.logon_steps.specs.Answers.{AreDraws}
 use Rattle.logon_steps.specs.ControllerTurns.{controller_at, passed_reply, reply_bytes, turn_link}
 use Rattle.logon_steps.specs.Granting.{cleared, cleared_at, info_told}
 use Rattle.logon_steps.specs.MemberAnswers.{granting}
+use Rattle.logon_steps.specs.SetTurns.{IsSetTurn, set_taken}
 use Rattle.logon_steps.specs.Turning.{IsTurnCall, turn_request}
 use Rattle.logon_steps.proofs.AnsweringLaws.{calls_are_answered}
 use Rattle.logon_steps.proofs.CallingLaws.{calls_can_go}
 use Rattle.logon_steps.proofs.ControllerTurnLaws.{controllers_step}
 use Rattle.logon_steps.proofs.GrantingLaws.{logons_are_granted}
+use Rattle.logon_steps.proofs.SetTurnLaws.{controllers_set, set_units_go, taken_in_range}
+use Rattle.logon_steps.proofs.AskingLaws.{same_bytes}
+use Rattle.domain_controller.proofs.WholeParts.{hash_table}
 use Rattle.logon_runs.specs.Grants.{KeyArrives}
 use Rattle.logon_runs.specs.Seen.LinkScenes.{its_link}
-use Rattle.logon_runs.specs.Phases.{NotYet, WasJudged, WasOpened, progress_called, progress_onward, Aim, ArrivesAt, Coming, First, Fits, HasThree, IsAimed, IsReady, IsTurning, HasUser, HasUserAt, MayLogOnAt, IsKnown, Second, Third, TurnAt, WhoAsked, call_for, own, scene_of, standing_for, turn_before, turn_on}
-use Rattle.logon_runs.specs.Phases.{Acked, BindsBefore, BindsHeld, Calls, DialsBefore, DialsHeld, Granted, Halved, Proved}
+use Rattle.logon_runs.specs.Phases.{NotYet, Fourth, IsSetAt, WasJudged, WasOpened, WasSet, progress_called, progress_onward, Aim, ArrivesAt, Coming, First, Fits, HasThree, IsAimed, IsPlanned, IsReady, IsTurning, HasUserAt, HasUserIn, MayLogOnAt, IsKnown, Second, Third, TurnAt, WhoAsked, own, scene_of, standing_for, step_for, turn_before, turn_on}
+use Rattle.logon_runs.specs.Phases.{Acked, BindsBefore, BindsHeld, Calls, DialsBefore, DialsHeld, Granted, Halved, Proved, Sets}
 use Rattle.logon_runs.specs.Runs.{Asked, hidden, info_asked, sam_for, with_moved}
 use Rattle.logon_runs.specs.First.FirstRuns.{with_pair}
 use Rattle.logon_runs.specs.Scenes.{Shows}
-use Rattle.logon_runs.specs.Seen.TurnScenes.{IsBetween, Turn, dial_scene}
+use Rattle.logon_runs.specs.Seen.TurnScenes.{IsBetween, Turn, dial_scene, waiting_scene, with_accounts, with_secrets}
 use Rattle.logon_runs.proofs.Seen.AskSceneLaws.{logons_are_seen}
 use Rattle.logon_runs.proofs.First.FirstTraceLaws.{after_below}
 use Rattle.logon_runs.proofs.Seen.LinkSceneLaws.{found_here}
-use Rattle.logon_runs.proofs.RunLaws.{same_computer, timestamp_below}
+use Rattle.logon_runs.proofs.RunLaws.{between_still, same_computer, timestamp_below}
+use Rattle.logon_runs.proofs.Seen.SetSceneLaws.{sets_are_seen}
+use Rattle.logon_runs.proofs.SecretRestLaws.{fits_set}
 use Rattle.logon_runs.proofs.Seen.TurnSceneLaws.{turns_are_seen}
 use Rattle.logon_runs.proofs.Seen.TwoLinkLaws.{turns_have_links}
 use Rattle.logon_runs.proofs.Phases.PhaseStartLaws.{ComesBy, under_less, left_so, under}
 
 -- ---- the bind, the answer and the call
 
+-- the bind is answered, and the call goes out, whichever it is
+pub asks_for : (p : Coming) (s : State) (a : Asked) (who : WhoAsked p a) (v : TurnAt) (aim : Aim) (left : List (List ℕ)) (moment : ℕ) →
+    IsBetween (turn_on p a who.later (who.sent ∷ []) v aim) → v.number < 2 ^ 32 → Shows s (scene_of p (Acked a who v aim) left moment) →
+    Shows (onward s).state (scene_of p (Calls a who v aim) left moment)
+asks_for p s a who v (First client) left moment between below shows =
+    turns_are_seen.asks s (turn_on p a who.later (who.sent ∷ []) v (First client)) v.next v.number (challenge_call p.meeting.caller client) v.computers left moment between below shows
+asks_for p s a who v (Second client server) left moment between below shows =
+    turns_are_seen.asks s (turn_on p a who.later (who.sent ∷ []) v (Second client server)) v.next v.number (auth_call p.meeting.caller client server) v.computers left moment between below shows
+asks_for p s a who v (Third o c timestamp) left moment between below shows =
+    turns_are_seen.asks s (turn_on p a who.later (who.sent ∷ []) v (Third o c timestamp)) v.next v.number (logon_call p.meeting.caller o timestamp (info_asked (own p) a)) v.computers left moment
+    between below shows
+asks_for p s a who v (Fourth o c timestamp new) left moment between below shows =
+    sets_are_seen.asks s (turn_on p a who.later (who.sent ∷ []) v (Fourth o c timestamp new)) v.next v.number (change_call p.meeting.caller o timestamp new) v.computers left moment between below shows
+
 module _ (p : Coming) (s : State) (a : Asked) (who : WhoAsked p a) (v : TurnAt) (aim : Aim) (left : List (List ℕ)) (moment : ℕ) (fits : IsTurning p a v × IsAimed p v aim) where
   pub dials_held : Shows s (scene_of p (DialsBefore a who v aim) left moment) → ComesBy p NotYet s (onward s).state
   dials_held shows =
       under p s _ (DialsHeld a who v aim) left moment shows.left fits
-      (logons_are_seen.held_before s (own p) (turn_before p a who.later [] v) (its_link (own p)) (standing_for aim) v.next v.number 1 2 0 (call_for p a aim) v.computers [] _ _ who []
+      (logons_are_seen.held_before s (own p) (turn_before p a who.later [] v) (its_link (own p)) (standing_for aim) v.next v.number 1 2 0 (step_for p a aim) v.computers [] _ _ who []
       left moment refl (found_here (own p)) shows)
 
   pub binds_held : Shows s (scene_of p (BindsBefore a who v aim) left moment) → ComesBy p NotYet s (onward s).state
   binds_held shows =
       let t : Turn = turn_before p a who.later [] v in
       under p s _ (BindsHeld a who v aim) left moment shows.left fits
-      (logons_are_seen.held_within s (own p) (turn_on p a who.later [] v aim) v.next v.number 1 2 0 (step.Bind (call_for p a aim)) v.computers _ [] _ _ who _
+      (logons_are_seen.held_within s (own p) (turn_on p a who.later [] v aim) v.next v.number 1 2 0 (step_for p a aim) v.computers _ [] _ _ who _
       left moment refl (turns_have_links.own (own p) t (standing_for aim) fits.0.joined_so) (turns_have_links.apart (own p) t fits.0.joined_so) shows)
 
   between : IsBetween (turn_on p a who.later (who.sent ∷ []) v aim)
@@ -89,31 +114,45 @@ module _ (p : Coming) (s : State) (a : Asked) (who : WhoAsked p a) (v : TurnAt) 
   pub bound_on : Shows s (scene_of p (BindsHeld a who v aim) left moment) → ComesBy p NotYet s (onward s).state
   bound_on shows =
       under p s _ (Acked a who v aim) left moment shows.left fits
-      (turns_are_seen.bound s (turn_on p a who.later (who.sent ∷ []) v aim) v.next v.number (step.Bind (call_for p a aim)) v.computers left moment between fits.0.number_below shows)
+      (turns_are_seen.bound s (turn_on p a who.later (who.sent ∷ []) v aim) v.next v.number (step_for p a aim) v.computers left moment between fits.0.number_below shows)
 
   pub acked_on : Shows s (scene_of p (Acked a who v aim) left moment) → ComesBy p (progress_called aim) s (onward s).state
   acked_on shows =
-      under p s _ (Calls a who v aim) left moment shows.left fits
-      (turns_are_seen.asks s (turn_on p a who.later (who.sent ∷ []) v aim) v.next v.number (call_for p a aim) v.computers left moment between fits.0.number_below shows)
+      under p s _ (Calls a who v aim) left moment shows.left fits (asks_for p s a who v aim left moment between fits.0.number_below shows)
 
 -- ---- the controller answers
+
+-- what holds of the accounts with which the logon began
+pub of_table : (p : Coming) (v : TurnAt) (Holds : AccountTable → Type 0) → IsPlanned p v → Holds p.table → Holds v.table
+of_table p v Holds planned is = subst Holds (sym planned.1) is
 
 first_answered : (p : Coming) (s : State) (a : Asked) (who : WhoAsked p a) (v : TurnAt) (client : List ℕ) (left : List (List ℕ)) (moment : ℕ) → IsKnown p → IsReady p s →
     IsTurning p a v × IsAimed p v (First client) → Shows s (scene_of p (Calls a who v (First client)) left moment) → ComesBy p NotYet s (onward s).state
 first_answered p s a who v client left moment known ready fits shows =
     let three : HasThree s.chances.left = ready.draws in
-    let can : IsTurnCall (call_for p a (First client)) = calls_can_go.challenge p.meeting.caller client known.caller fits.1.0 in
+    let can : IsTurnCall (challenge_call p.meeting.caller client) = calls_can_go.challenge p.meeting.caller client known.caller fits.1.0 in
     let later : Computers = with_pair (own p) client three.one v.computers in
     let more : List (List ℕ) = three.two ∷ three.three ∷ three.more in
     under_less p s _ (Halved a who (record v { computers = later }) client three.one) (three.one ∷ []) more moment (omega arith) three.are (
-      record { answering = fits.0.answering; joined_so = fits.0.joined_so; number_below = fits.0.number_below; next_below = fits.0.next_below; others = fits.0.others },
+      record {
+        answering = fits.0.answering;
+        joined_so = fits.0.joined_so;
+        number_below = fits.0.number_below;
+        next_below = fits.0.next_below;
+        others = fits.0.others;
+        ranged = fits.0.ranged;
+        set = fits.0.set;
+        next = fits.0.next;
+        fits = fits.0.fits;
+      },
       three.first,
-      (lookup-put_same same_name p.meeting.caller.computer (pair_of client three.one) v.computers.pending (same_computer p.meeting.caller.computer), fits.1.1),
+      (lookup-put_same same_name p.meeting.caller.computer (pair_of client three.one) v.computers.pending (same_computer p.meeting.caller.computer), fits.1.1, fits.1.2),
     )
-    (turns_are_seen.answers s (turn_on p a who.later (who.sent ∷ []) v (First client)) (after v.next) v.next (step.Reply (question.Challenge client)) (call_for p a (First client))
+    (turns_are_seen.answers s (turn_on p a who.later (who.sent ∷ []) v (First client)) (after v.next) v.next (step.Reply (question.Challenge client)) (challenge_call p.meeting.caller client)
     (reply.Challenge (record { challenge = three.one; status = 0 })) v.computers later (three.one ∷ more) more moment
     (between p s a who v (First client) left moment fits) can
-    (controllers_step.challenged p.table p.name v.computers (length v.links) moment v.next p.meeting.caller client three.one more fits.0.next_below can known.knows)
+    (controllers_step.challenged v.table p.name v.computers (length v.links) moment v.next p.meeting.caller client three.one more fits.0.next_below can
+    (of_table p v (λ (t : AccountTable). knows_in t.accounts p.meeting.caller.computer ≡ true) fits.1.2 known.knows))
     (left_so s (λ (l : List (List ℕ)). scene_of p (Calls a who v (First client)) l moment) left _ shows.left three.are shows))
 
 -- the channel stands, and others are as they were
@@ -130,7 +169,7 @@ with_stands p client server computers = record {
 second_answered : (p : Coming) (s : State) (a : Asked) (who : WhoAsked p a) (v : TurnAt) (client server : List ℕ) (left : List (List ℕ)) (moment : ℕ) → IsKnown p →
     IsTurning p a v × IsAimed p v (Second client server) → Shows s (scene_of p (Calls a who v (Second client server)) left moment) → ComesBy p (WasOpened client server) s (onward s).state
 second_answered p s a who v client server left moment known fits shows =
-    let can : IsTurnCall (call_for p a (Second client server)) = calls_can_go.authenticate p.meeting.caller client server known.caller in
+    let can : IsTurnCall (auth_call p.meeting.caller client server) = calls_can_go.authenticate p.meeting.caller client server known.caller in
     let later : Computers = with_stands p client server v.computers in
     let c : SecureChannelState = stands_at p client server in
     let name : List ℕ = p.meeting.caller.computer in
@@ -141,14 +180,20 @@ second_answered p s a who v client server left moment known fits shows =
         number_below = fits.0.number_below;
         next_below = fits.0.next_below;
         others = λ other apart. put_others same_name name other c v.computers.channels IsSameness-same_name apart ∙ fits.0.others other apart;
+        ranged = fits.0.ranged;
+        set = fits.0.set;
+        next = fits.0.next;
+        fits = fits.0.fits;
       },
+      fits.1.2,
       (c, lookup-put_same same_name name c v.computers.channels (same_computer name), calls_are_answered.in_step p.meeting.caller client server p.machine (known.secret fits.1.1)),
     )
-    (turns_are_seen.answers s (turn_on p a who.later (who.sent ∷ []) v (Second client server)) (after v.next) v.next (step.Reply question.Authenticate) (call_for p a (Second client server))
+    (turns_are_seen.answers s (turn_on p a who.later (who.sent ∷ []) v (Second client server)) (after v.next) v.next (step.Reply question.Authenticate) (auth_call p.meeting.caller client server)
     (reply.Authenticate (record { credential = server_credential p.meeting.caller.secret client server; flags = offered_flags; status = 0 })) v.computers later left left moment
     (between p s a who v (Second client server) left moment fits) can
-    (controllers_step.proved p.table p.name v.computers (length v.links) moment v.next p.meeting.caller client server p.machine left fits.0.next_below can
-    (known.machine_found client server) (known.secret fits.1.1) fits.1.0) shows)
+    (controllers_step.proved v.table p.name v.computers (length v.links) moment v.next p.meeting.caller client server p.machine left fits.0.next_below can
+    (of_table p v (λ (t : AccountTable). account_for t (auth_value p.meeting.caller client server) ≡ Some p.machine) fits.1.2 (known.machine_found client server)) (known.secret fits.1.1)
+    fits.1.0) shows)
 
 -- accounts stay in their ranges where a count is 0
 counted_range : (place : ℕ) (accounts : List Account) → AllByRecursion InRangeAccount accounts → AllByRecursion InRangeAccount (at_place place (with_count 0) accounts)
@@ -165,41 +210,41 @@ cleared_range : (table : AccountTable) (user : List ℕ) → InRangeTable table 
 cleared_range table user is = cleared_at_range (place_in table.accounts user) table is
 
 -- what the controller makes of the logon's call
-pub grants_then : (p : Coming) (a : Asked) (v : TurnAt) (o c : SecureChannelState) (timestamp moment : ℕ) (left : List (List ℕ)) → IsKnown p → HasUser p → IsTurning p a v →
-    IsAimed p v (Third o c timestamp) → MayLogOn p.table (info_told p.meeting.task) moment → IsTurnCall (call_for p a (Third o c timestamp)) →
-    let sam : SamInfo = sam_for (own p) a p.table p.name p.account moment in
-    controller_step_of (controller_at p.table p.name v.computers (turn_link (length v.links)))
-    (event.Bytes (length v.links) (bytes_of_call (turn_request v.next (call_for p a (Third o c timestamp))) 5840)) moment left
+pub grants_then : (p : Coming) (a : Asked) (v : TurnAt) (o c : SecureChannelState) (timestamp moment : ℕ) (left : List (List ℕ)) → IsKnown p → HasUserIn p v.table → IsTurning p a v →
+    IsAimed p v (Third o c timestamp) → MayLogOn v.table (info_told p.meeting.task) moment → IsTurnCall (logon_call p.meeting.caller o timestamp (info_asked (own p) a)) →
+    let sam : SamInfo = sam_for (own p) a v.table p.name p.account moment in
+    controller_step_of (controller_at v.table p.name v.computers (turn_link (length v.links)))
+    (event.Bytes (length v.links) (bytes_of_call (turn_request v.next (logon_call p.meeting.caller o timestamp (info_asked (own p) a))) 5840)) moment left
     ≡ whole_step left left (action.Judged (judged.Passed 0) ∷ action.Send (length v.links) (reply_bytes v.next (granting o timestamp 0 1 (hidden o sam))) ∷ [])
-    (controller_at (cleared p.table p.meeting.task.user) p.name (with_moved (own p) c timestamp v.computers) (turn_link (length v.links)))
+    (controller_at (cleared v.table p.meeting.task.user) p.name (with_moved (own p) c timestamp v.computers) (turn_link (length v.links)))
 grants_then p a v o c timestamp moment left known user is aimed may can =
-    let sam : SamInfo = sam_for (own p) a p.table p.name p.account moment in
+    let sam : SamInfo = sam_for (own p) a v.table p.name p.account moment in
     let link : ℕ = length v.links in
     let later : Computers = with_moved (own p) c timestamp v.computers in
     let draws : AreDraws a.one a.two a.three = is.answering.draws in
-    controllers_step.judged p.table p.name v.computers link moment v.next timestamp p.meeting.caller o c (info_asked (own p) a) left is.next_below can aimed.1 aimed.2
+    controllers_step.judged v.table p.name v.computers link moment v.next timestamp p.meeting.caller o c (info_asked (own p) a) left is.next_below can aimed.1 aimed.2
     ∙ ap₂ (λ (found : Verdict) (accounts : AccountTable). whole_step left left
     (action.Judged (judged.Passed (status_of found)) ∷ action.Send link (reply_bytes v.next (passed_reply (key_of_channel o) (return_of (key_of_channel o) o.seed timestamp) found)) ∷ [])
     (controller_at accounts p.name later (turn_link link)))
-    (logons_are_granted.verdict p.meeting.plan p.meeting.task a.challenge a.one a.two a.three a.then_now p.meeting.place moment p.table p.name p.account known.can known.units draws
+    (logons_are_granted.verdict p.meeting.plan p.meeting.task a.challenge a.one a.two a.three a.then_now p.meeting.place moment v.table p.name p.account known.can known.units draws
     user.found user.hash may)
-    (logons_are_granted.table p.meeting.plan p.meeting.task a.challenge a.one a.two a.three a.then_now p.meeting.place moment p.table p.account known.can known.units draws
+    (logons_are_granted.table p.meeting.plan p.meeting.task a.challenge a.one a.two a.three a.then_now p.meeting.place moment v.table p.account known.can known.units draws
     user.found user.hash may)
     ∙ ap (λ (r : Reply). whole_step left left (action.Judged (judged.Passed 0) ∷ action.Send link (reply_bytes v.next r) ∷ [])
-    (controller_at (cleared p.table p.meeting.task.user) p.name later (turn_link link))) (logons_are_granted.reply o timestamp sam)
+    (controller_at (cleared v.table p.meeting.task.user) p.name later (turn_link link))) (logons_are_granted.reply o timestamp sam)
 
-third_answered : (p : Coming) (s : State) (a : Asked) (who : WhoAsked p a) (v : TurnAt) (o c : SecureChannelState) (timestamp : ℕ) (left : List (List ℕ)) (moment : ℕ) → IsKnown p → HasUser p → MayLogOnAt p s →
+third_answered : (p : Coming) (s : State) (a : Asked) (who : WhoAsked p a) (v : TurnAt) (o c : SecureChannelState) (timestamp : ℕ) (left : List (List ℕ)) (moment : ℕ) → IsKnown p → HasUserIn p v.table → MayLogOnAt p s →
     IsReady p s → IsTurning p a v × IsAimed p v (Third o c timestamp) → KeyArrives (own p) a o → Shows s (scene_of p (Calls a who v (Third o c timestamp)) left moment) →
     ComesBy p (WasJudged a o) s (onward s).state
 third_answered p s a who v o c timestamp left moment known user may_log ready fits arrives shows =
-    let can : IsTurnCall (call_for p a (Third o c timestamp)) = calls_can_go.logon p.meeting.caller o timestamp (info_asked (own p) a) known.caller fits.1.0 fits.0.answering.info in
+    let can : IsTurnCall (logon_call p.meeting.caller o timestamp (info_asked (own p) a)) = calls_can_go.logon p.meeting.caller o timestamp (info_asked (own p) a) known.caller fits.1.0 fits.0.answering.info in
     let later : Computers = with_moved (own p) c timestamp v.computers in
     let name : List ℕ = p.meeting.caller.computer in
-    let accounts : AccountTable = cleared p.table p.meeting.task.user in
+    let accounts : AccountTable = cleared v.table p.meeting.task.user in
     let rest : List (List ℕ × SecureChannelState) = take_out same_name name v.computers.channels in
-    let may_then : MayLogOn p.table (info_told p.meeting.task) s.moment =
+    let may_then : MayLogOn v.table (info_told p.meeting.task) s.moment =
     subst (λ (found : Option ControllerState). IsSomeAnd found (λ (k : ControllerState). MayLogOn k.table (info_told p.meeting.task) s.moment)) shows.controller may_log in
-    let may : MayLogOn p.table (info_told p.meeting.task) moment = subst (λ (now : ℕ). MayLogOn p.table (info_told p.meeting.task) now) shows.moment may_then in
+    let may : MayLogOn v.table (info_told p.meeting.task) moment = subst (λ (now : ℕ). MayLogOn v.table (info_told p.meeting.task) now) shows.moment may_then in
     under p s _ (Granted a who (record v { computers = later }) o c timestamp moment accounts) left moment shows.left (
       record {
         answering = fits.0.answering;
@@ -209,17 +254,73 @@ third_answered p s a who v o c timestamp left moment known user may_log ready fi
         others = λ other apart.
             put_others same_name name other (moved c timestamp) rest IsSameness-same_name apart ∙ taken_others same_name name other v.computers.channels IsSameness-same_name apart
             ∙ fits.0.others other apart;
+        ranged = fits.0.ranged;
+        set = fits.0.set;
+        next = fits.0.next;
+        fits = fits.0.fits;
       },
       subst (λ (now : ℕ). now < 2 ^ 64) shows.moment ready.below,
-      logons_are_granted.counts p.table p.meeting.task.user,
+      logons_are_granted.counts v.table p.meeting.task.user,
       arrives,
       lookup-put_same same_name name (moved c timestamp) rest (same_computer name),
       fits.1.2,
-      cleared_range p.table p.meeting.task.user known.ranged,
+      cleared_range v.table p.meeting.task.user fits.0.ranged,
+      fits.1.3,
     )
-    (turns_are_seen.judges s (turn_on p a who.later (who.sent ∷ []) v (Third o c timestamp)) (after v.next) v.next (step.Reply question.Logon) (call_for p a (Third o c timestamp))
-    (granting o timestamp 0 1 (hidden o (sam_for (own p) a p.table p.name p.account moment))) (judged.Passed 0) v.computers later accounts left left moment
+    (turns_are_seen.judges s (turn_on p a who.later (who.sent ∷ []) v (Third o c timestamp)) (after v.next) v.next (step.Reply question.Logon) (logon_call p.meeting.caller o timestamp (info_asked (own p) a))
+    (granting o timestamp 0 1 (hidden o (sam_for (own p) a v.table p.name p.account moment))) (judged.Passed 0) v.computers later accounts left left moment
     (between p s a who v (Third o c timestamp) left moment fits) can (grants_then p a v o c timestamp moment left known user fits.0 fits.1 may can) shows)
+
+-- the account by which the channel was opened has a place
+pub record HasPlace (found : Option ℕ) : Type 0 where
+  pub place : ℕ
+  pub is : found ≡ Some place
+
+pub place_found : {T : Type 0} (items : List T) (found : Option ℕ) (item : T) → option_and_then (slice_get items) found ≡ Some item → HasPlace found
+place_found items None item is = absurd cc
+place_found items (Some place) item is = record { place = place; is = refl }
+
+pub some_not_none : (next : Option Next) (one : Next) → next ≡ Some one → next ≡ None → ⊥
+some_not_none next one is none = absurd cc
+
+fourth_answered : (p : Coming) (s : State) (a : Asked) (who : WhoAsked p a) (v : TurnAt) (o c : SecureChannelState) (timestamp : ℕ) (new : List ℕ) (left : List (List ℕ)) (moment : ℕ) →
+    IsKnown p → IsTurning p a v × IsAimed p v (Fourth o c timestamp new) → Shows s (scene_of p (Calls a who v (Fourth o c timestamp new)) left moment) → ComesBy p (WasSet o) s (onward s).state
+fourth_answered p s a who v o c timestamp new left moment known fits shows =
+    let can : IsSetTurn (change_call p.meeting.caller o timestamp new) = set_units_go.call p.meeting.caller o timestamp new known.caller fits.1.0 in
+    let later : Computers = with_moved (own p) c timestamp v.computers in
+    let name : List ℕ = p.meeting.caller.computer in
+    let rest : List (List ℕ × SecureChannelState) = take_out same_name name v.computers.channels in
+    let there : HasPlace (machine_in p.table.accounts p.meeting.caller.account p.meeting.caller.kind p.meeting.caller.computer) =
+    place_found p.table.accounts (machine_in p.table.accounts p.meeting.caller.account p.meeting.caller.kind p.meeting.caller.computer) p.machine (known.machine_found [] []) in
+    let found : machine_in v.table.accounts p.meeting.caller.account p.meeting.caller.kind p.meeting.caller.computer ≡ Some there.place =
+    of_table p v (λ (t : AccountTable). machine_in t.accounts p.meeting.caller.account p.meeting.caller.kind p.meeting.caller.computer ≡ Some there.place) fits.1.3 there.is in
+    let accounts : AccountTable = with_hash there.place new v.table in
+    let is_secret : IsSecret new = subst IsNextSecret fits.1.4 known.next in
+    under p s _ (Sets a who (record v { computers = later }) o c timestamp new accounts) left moment shows.left (
+      record {
+        answering = fits.0.answering;
+        joined_so = fits.0.joined_so;
+        number_below = fits.0.number_below;
+        next_below = fits.0.next_below;
+        others = λ other apart.
+            put_others same_name name other (moved c timestamp) rest IsSameness-same_name apart ∙ taken_others same_name name other v.computers.channels IsSameness-same_name apart
+            ∙ fits.0.others other apart;
+        ranged = fits.0.ranged;
+        set = fits.0.set;
+        next = fits.0.next;
+        fits = fits.0.fits;
+      },
+      lookup-put_same same_name name (moved c timestamp) rest (same_computer name),
+      calls_are_answered.stays o c timestamp fits.1.2,
+      fits.1.3,
+      fits.1.4,
+      (record { place = there.place; hash = new; found = found; is = refl }, refl),
+      hash_table there.place new v.table fits.0.ranged,
+    )
+    (sets_are_seen.sets s (turn_on p a who.later (who.sent ∷ []) v (Fourth o c timestamp new)) (after v.next) v.next (step.Set set_step.Reply) (change_call p.meeting.caller o timestamp new)
+    (set_taken o timestamp) (judged.Passed 0) (secrets_of accounts.accounts) v.computers later accounts left left moment (between p s a who v (Fourth o c timestamp new) left moment fits) can
+    (controllers_set.set v.table p.name v.computers (length v.links) moment v.next timestamp there.place p.meeting.caller o c new left fits.0.next_below can is_secret fits.1.1 fits.1.2
+    found) shows)
 
 pub calls_on : (p : Coming) (s : State) (a : Asked) (who : WhoAsked p a) (v : TurnAt) (aim : Aim) (left : List (List ℕ)) (moment : ℕ) → IsKnown p → IsReady p s →
     IsTurning p a v × IsAimed p v aim → HasUserAt p s (Calls a who v aim) move.Onward → ArrivesAt p (Calls a who v aim) move.Onward → Shows s (scene_of p (Calls a who v aim) left moment) → ComesBy p (progress_onward {p = p} (Calls a who v aim)) s (onward s).state
@@ -227,6 +328,7 @@ calls_on p s a who v (First client) left moment known ready fits user arrives sh
 calls_on p s a who v (Second client server) left moment known ready fits user arrives shows = second_answered p s a who v client server left moment known fits shows
 calls_on p s a who v (Third o c timestamp) left moment known ready fits user arrives shows =
     third_answered p s a who v o c timestamp left moment known user.0 user.1 ready fits arrives shows
+calls_on p s a who v (Fourth o c timestamp new) left moment known ready fits user arrives shows = fourth_answered p s a who v o c timestamp new left moment known fits shows
 
 -- ---- the member takes the replies that open the channel
 
@@ -237,6 +339,8 @@ turn_after p v = record {
   number = after v.next;
   next = after (after v.next);
   links = v.links ++ ToController p.meeting.at_member p.meeting.at_controller ∷ [];
+  secrets = v.secrets;
+  table = v.table;
 }
 
 pub turning_after : (p : Coming) (a : Asked) (who : WhoAsked p a) (v : TurnAt) (aim : Aim) → IsTurning p a v → IsTurning p a (turn_after p v)
@@ -246,6 +350,10 @@ turning_after p a who v aim is = record {
   number_below = after_below v.next;
   next_below = after_below (after v.next);
   others = is.others;
+  ranged = is.ranged;
+  set = is.set;
+  next = is.next;
+  fits = is.fits;
 }
 
 pub halved_on : (p : Coming) (s : State) (a : Asked) (who : WhoAsked p a) (v : TurnAt) (client server : List ℕ) (left : List (List ℕ)) (moment : ℕ) →
@@ -255,23 +363,115 @@ halved_on p s a who v client server left moment fits shows =
     let out : Turn = turn_on p a who.later (who.sent ∷ []) v (First client) in
     under p s _ (DialsHeld a who (turn_after p v) (Second client server)) left moment shows.left (turning_after p a who v (First client) fits.0, fits.2)
     (subst (λ (map : OpenMap). Shows (onward s).state
-    (dial_scene out map (standing.Half client server) (after (after v.next)) (after v.next) (call_for p a (Second client server)) v.computers [] left moment))
+    (dial_scene out map (standing.Half client server) (after (after v.next)) (after v.next) (auth_call p.meeting.caller client server) v.computers [] left moment))
     (turns_have_links.taken (own p) t standing.Nothing fits.0.joined_so)
     (turns_are_seen.half s out (after v.next) v.next client server v.computers left moment (turns_have_links.between (own p) t standing.Nothing fits.0.joined_so)
     fits.0.next_below refl (calls_can_go.challenged client server fits.1) shows))
 
-pub proved_on : (p : Coming) (s : State) (a : Asked) (who : WhoAsked p a) (v : TurnAt) (client server : List ℕ) (left : List (List ℕ)) (moment : ℕ) → p.meeting.plan.secrets.next ≡ None →
-    Fits p (Proved a who v client server) → Shows s (scene_of p (Proved a who v client server) left moment) → ComesBy p NotYet s (onward s).state
-proved_on p s a who v client server left moment one fits shows =
+module _ (p : Coming) (s : State) (a : Asked) (who : WhoAsked p a) (v : TurnAt) (client server : List ℕ) (left : List (List ℕ)) (moment : ℕ) (fits : Fits p (Proved a who v client server))
+    (shows : Shows s (scene_of p (Proved a who v client server) left moment)) where
+  abbrev before : Turn
+  before = turn_before p a who.later (who.sent ∷ []) v
+
+  abbrev half : Standing
+  half = standing.Half client server
+
+  abbrev out : Turn
+  out = turn_on p a who.later (who.sent ∷ []) v (Second client server)
+
+  abbrev fresh : SecureChannelState
+  fresh = fresh_channel p.meeting.caller.secret client server offered_flags
+
+  -- none is next: the logon's own turn is dialled
+  opens_one : v.secrets.next ≡ None → ComesBy p NotYet s (onward s).state
+  opens_one one =
+      under p s _ (DialsHeld a who (turn_after p v) (Third fresh fits.2.0 (timestamp_of moment))) left moment shows.left
+      (turning_after p a who v (Second client server) fits.0, (timestamp_below moment, fits.2.1, fits.2.2, one))
+      (subst (λ (map : OpenMap). Shows (onward s).state
+      (dial_scene out map (standing.Open (after_call fresh (timestamp_of moment))) (after (after v.next)) (after v.next)
+      (logon_call p.meeting.caller fresh (timestamp_of moment) (info_asked (own p) a)) v.computers [] left moment))
+      (turns_have_links.taken (own p) before half fits.0.joined_so)
+      (turns_are_seen.opened s out (after v.next) v.next offered_flags client server v.computers left moment (turns_have_links.between (own p) before half fits.0.joined_so)
+      fits.0.next_below refl one refl (calls_can_go.proved p.meeting.caller.secret client server) shows))
+
+  -- the current secret was tried: the turn that sets the next one is dialled
+  opens_set : (new : List ℕ) → v.secrets.next ≡ Some (record { secret = new; is_tried = false }) → ComesBy p NotYet s (onward s).state
+  opens_set new next =
+      under p s _ (DialsHeld a who (turn_after p v) (Fourth fresh fits.2.0 (timestamp_of moment) new)) left moment shows.left
+      (turning_after p a who v (Second client server) fits.0, (timestamp_below moment, fits.2.1, fits.2.2, fits.1, sym (ap (λ (k : SecretsState). k.next) fits.1.0) ∙ next))
+      (subst (λ (map : OpenMap). Shows (onward s).state
+      (waiting_scene out map (standing.Open (after_call fresh (timestamp_of moment))) (after (after v.next)) (after v.next)
+      (step.Set (set_step.Bind (change_call p.meeting.caller fresh (timestamp_of moment) new))) v.computers [] left moment))
+      (turns_have_links.taken (own p) before half fits.0.joined_so)
+      (sets_are_seen.opened s out (after v.next) v.next offered_flags client server v.secrets.current new v.computers left moment (turns_have_links.between (own p) before half fits.0.joined_so)
+      fits.0.next_below refl (ap (λ (n : Option Next). record { current = v.secrets.current; next = n }) next) refl (calls_can_go.proved p.meeting.caller.secret client server) shows))
+
+  -- the next one was: the member keeps it alone, and the logon's own turn is dialled
+  opens_next : (new : List ℕ) → v.secrets.next ≡ Some (record { secret = new; is_tried = true }) → ComesBy p NotYet s (onward s).state
+  opens_next new next =
+      let turned : IsTurning p a (turn_after p v) = turning_after p a who v (Second client server) fits.0 in
+      under p s _ (DialsHeld a who (record (turn_after p v) { secrets = alone new }) (Third fresh fits.2.0 (timestamp_of moment))) left moment shows.left (
+        record {
+          answering = turned.answering;
+          joined_so = turned.joined_so;
+          number_below = turned.number_below;
+          next_below = turned.next_below;
+          others = turned.others;
+          ranged = turned.ranged;
+          set = turned.set;
+          next = tt;
+          fits = λ first machine found. turned.fits first machine found ∙ ap (λ (n : Option Next). tried_of_next n v.secrets.current) next;
+        },
+        (timestamp_below moment, fits.2.1, fits.2.2, refl),
+      )
+      (subst (λ (map : OpenMap). Shows (onward s).state
+      (dial_scene (with_secrets (alone new) out) map (standing.Open (after_call fresh (timestamp_of moment))) (after (after v.next)) (after v.next)
+      (logon_call p.meeting.caller fresh (timestamp_of moment) (info_asked (own p) a)) v.computers [] left moment))
+      (turns_have_links.taken (own p) before half fits.0.joined_so)
+      (sets_are_seen.opened_next s out (after v.next) v.next offered_flags client server v.secrets.current new v.computers left moment (turns_have_links.between (own p) before half fits.0.joined_so)
+      fits.0.next_below refl (ap (λ (n : Option Next). record { current = v.secrets.current; next = n }) next) refl (calls_can_go.proved p.meeting.caller.secret client server) shows))
+
+  opens_by : (n : Next) (tried : Bool) → n.is_tried ≡ tried → v.secrets.next ≡ Some n → ComesBy p NotYet s (onward s).state
+  opens_by n true tried next = opens_next n.secret (next ∙ ap (λ (b : Bool). Some (record { secret = n.secret; is_tried = b })) tried)
+  opens_by n false tried next = opens_set n.secret (next ∙ ap (λ (b : Bool). Some (record { secret = n.secret; is_tried = b })) tried)
+
+  opens : (next : Option Next) → v.secrets.next ≡ next → ComesBy p NotYet s (onward s).state
+  opens None next = opens_one next
+  opens (Some n) next = opens_by n n.is_tried refl next
+
+  pub proved_on : ComesBy p NotYet s (onward s).state
+  proved_on = opens v.secrets.next refl
+
+-- ---- the member takes the reply that sets the secret
+
+pub sets_on : (p : Coming) (s : State) (a : Asked) (who : WhoAsked p a) (v : TurnAt) (o c : SecureChannelState) (timestamp : ℕ) (new : List ℕ) (accounts : AccountTable) (left : List (List ℕ)) (moment : ℕ) →
+    Fits p (Sets a who v o c timestamp new accounts) → Shows s (scene_of p (Sets a who v o c timestamp new accounts) left moment) → ComesBy p NotYet s (onward s).state
+sets_on p s a who v o c timestamp new accounts left moment fits shows =
     let t : Turn = turn_before p a who.later (who.sent ∷ []) v in
-    let half : Standing = standing.Half client server in
-    let out : Turn = turn_on p a who.later (who.sent ∷ []) v (Second client server) in
-    let o : SecureChannelState = fresh_channel p.meeting.caller.secret client server offered_flags in
-    under p s _ (DialsHeld a who (turn_after p v) (Third o fits.1.0 (timestamp_of moment))) left moment shows.left
-    (turning_after p a who v (Second client server) fits.0, (timestamp_below moment, fits.1.1, fits.1.2))
+    let how : Standing = standing.Open (after_call o timestamp) in
+    let later : SecureChannelState = after_return true (after_call o timestamp) in
+    let out : Turn = turn_on p a who.later (who.sent ∷ []) v (Fourth o c timestamp new) in
+    let turned : IsTurning p a (turn_after p v) = turning_after p a who v (Fourth o c timestamp new) fits.0 in
+    let next : v.secrets.next ≡ Some (record { secret = new; is_tried = false }) = ap (λ (k : SecretsState). k.next) fits.3.0 ∙ fits.4 in
+    under p s _ (DialsHeld a who (record (turn_after p v) { secrets = alone new; table = accounts }) (Third later (moved c timestamp) (timestamp_of moment))) left moment shows.left (
+      record {
+        answering = turned.answering;
+        joined_so = turned.joined_so;
+        number_below = turned.number_below;
+        next_below = turned.next_below;
+        others = turned.others;
+        ranged = fits.6;
+        set = inr (subst (λ (t : AccountTable). IsSetAt p.meeting.caller t accounts) fits.3.1 fits.5.0);
+        next = tt;
+        fits = λ first. fits_set p.meeting.caller new v.table accounts fits.5.0 fits.5.1;
+      },
+      (timestamp_below moment, fits.1, fits.2, refl),
+    )
     (subst (λ (map : OpenMap). Shows (onward s).state
-    (dial_scene out map (standing.Open (after_call o (timestamp_of moment))) (after (after v.next)) (after v.next) (call_for p a (Third o fits.1.0 (timestamp_of moment))) v.computers []
-    left moment))
-    (turns_have_links.taken (own p) t half fits.0.joined_so)
-    (turns_are_seen.opened s out (after v.next) v.next offered_flags client server v.computers left moment (turns_have_links.between (own p) t half fits.0.joined_so)
-    fits.0.next_below refl one refl (calls_can_go.proved p.meeting.caller.secret client server) shows))
+    (dial_scene (with_secrets (alone new) (with_accounts accounts out)) map (standing.Open (after_call later (timestamp_of moment))) (after (after v.next)) (after v.next)
+    (logon_call p.meeting.caller later (timestamp_of moment) (info_asked (own p) a)) v.computers [] left moment))
+    (turns_have_links.taken (own p) t how fits.0.joined_so)
+    (sets_are_seen.set s (with_accounts accounts out) (after_call o timestamp) later (set_taken o timestamp) (after v.next) v.next v.secrets.current new v.computers left moment
+    (between_still out accounts (turns_have_links.between (own p) t how fits.0.joined_so)) fits.0.next_below (taken_in_range o timestamp) refl
+    (ap (λ (is_same : Bool). judge_set_awaited is_same (after_call o timestamp)) (same_bytes (return_of (key_of_channel o) o.seed timestamp)))
+    (ap (λ (n : Option Next). record { current = v.secrets.current; next = n }) next) shows))

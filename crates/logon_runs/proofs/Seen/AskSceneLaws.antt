@@ -55,7 +55,7 @@ use Rattle.logon_steps.proofs.TurningLaws.{response_comes, unit_comes}
 use Rattle.logon_runs.specs.Seen.AskScenes.{LogonsAreSeen, turn_within, with_controller, with_talk}
 use Rattle.logon_runs.specs.Seen.LinkScenes.{given_after, given_caller, its_link, Meeting, meeting_scene, unit_down, unit_up}
 use Rattle.logon_runs.specs.Scenes.{Shows}
-use Rattle.logon_runs.specs.Seen.TurnScenes.{IsBetween, Turn, dial_scene, turn_scene, unit_back}
+use Rattle.logon_runs.specs.Seen.TurnScenes.{IsBetween, Turn, turn_scene, unit_back, waiting_scene}
 use Rattle.logon_runs.proofs.Seen.LinkSceneLaws.{heard_up, sent_down}
 use Rattle.logon_runs.proofs.Seen.SceneLaws.{scenes_go_on}
 use Rattle.logon_runs.proofs.Seen.TurningSceneLaws.{scenes_turn}
@@ -133,8 +133,8 @@ logons_are_seen = record {
       (info_of message (flags_agreed g.task) challenge) g.place (after g.number) g.number
       (step.Bind (logon_call g.caller o (timestamp_of moment) (info_at g.place (info_of message (flags_agreed g.task) challenge)))) ((g.place, logon_for g.link g.task challenge message) ∷ []))
       (one_link g.link (asked_talk (bound_for g.task) g.place [])) (bind_waits g.number))) (sym (fits.one o how)) (fits.kept o how));
-  held_before = λ s g t opened how next number most call opnum c computers stub one other goes later left moment same_member own shows.
-      subst (λ (units : List BagUnit). Shows (onward s).state (dial_scene (with_talk g.link (asked_talk (bound_for g.task) t.place (goes.sent ∷ [])) t) opened how next number c computers units left moment)) (append-nil later)
+  held_before = λ s g t opened how next number most call opnum what computers stub one other goes later left moment same_member own shows.
+      subst (λ (units : List BagUnit). Shows (onward s).state (waiting_scene (with_talk g.link (asked_talk (bound_for g.task) t.place (goes.sent ∷ [])) t) opened how next number what computers units left moment)) (append-nil later)
       (scenes_go_on.to_member s _ (unit_up g goes.sent) later _ left [] shows
       (record {
         units = refl;
@@ -144,7 +144,7 @@ logons_are_seen = record {
         found = own;
         hearer = ap (λ (m : ℕ). Some (Member m)) (sym same_member);
       }) tt
-      (links_step.holds t.plan t.caller how t.info t.place next number g.link moment (step.Bind c) t.asked (bind_waits number) (bound_for g.task) most g.task.level call opnum stub one other goes left tt));
+      (links_step.holds t.plan t.caller how t.info t.place next number g.link moment what t.asked (bind_waits number) (bound_for g.task) most g.task.level call opnum stub one other goes left tt));
   held_within = λ s g t next number most call opnum what computers there stub one other goes later left moment same_member own apart shows.
       subst (λ (units : List BagUnit). Shows (onward s).state (turn_scene (with_talk g.link (asked_talk (bound_for g.task) t.place (goes.sent ∷ [])) t) next number what computers there units left moment)) (append-nil later)
       (scenes_go_on.to_member s _ (unit_up g goes.sent) later _ left [] shows

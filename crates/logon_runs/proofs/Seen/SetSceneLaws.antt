@@ -1,38 +1,48 @@
 -- A turn that sets a member's next secret, as it is seen of a scene.
 -- Of `sets_are_seen`.
-use Rattle.std.proofs.Common.{◌≡◌, ℕ, ◌<◌, ◌^◌, ◌&&◌, Bool, true, false, List, [], ◌∷◌, ◌++◌, Option, Some, sym, ap, ap₂, subst, ◌∙◌, append-nil, slice_get}
+use Rattle.std.proofs.Common.{None, Ok, ◌≡◌, ℕ, ◌<◌, ◌^◌, ◌&&◌, Bool, true, false, List, [], ◌∷◌, ◌++◌, Option, Some, sym, ap, ap₂, subst, ◌∙◌, append-nil, slice_get}
 use Rattle.std.specs.List.{AllByRecursion}
 use Rattle.ntlm_flags.specs.Flags.{has_flag}
 use Rattle.channel_keys.specs.Flags.{rc4_flag}
 use Rattle.wire_base.specs.Maps.{lookup, same_number, take_out}
-use Rattle.authenticators.specs.SecureChannels.{SecureChannelState, after_call, after_return, fresh_channel}
+use Rattle.authenticators.specs.SecureChannels.{SecureChannelState, after_call, fresh_channel}
 use Rattle.outside.specs.declared.action.Action.{Action}
 use Rattle.outside.specs.declared.action.Action.TheVariants as action
 use Rattle.outside.specs.declared.action.CloseCause.{CloseCause}
 use Rattle.outside.specs.declared.action.CloseCause.TheVariants as close
 use Rattle.outside.specs.declared.event.Event.TheVariants as event
 use Rattle.outside.specs.Drawing.{Drawing}
-use Rattle.outside.specs.Machine.{whole_step}
+use Rattle.outside.specs.Machine.{step_by, whole_step}
 use Rattle.rpc_units.specs.Calls.{bytes_of_call}
 use Rattle.rpc_units.specs.Writing.{written}
 use Rattle.logon_stubs.specs.declared.calls.Reply.{Reply}
 use Rattle.logon_stubs.specs.declared.calls.Reply.TheVariants as reply
 use Rattle.secret_change.specs.Secrets.{SecretsState, alone, written_secrets}
+use Rattle.secret_change.specs.Ranges.{InRangeSetReply}
 use Rattle.secret_change.specs.declared.calls.SetCall.{SetCall}
+use Rattle.secret_change.specs.declared.calls.SetReply.{SetReply}
+use Rattle.end_links.specs.Links.{LinkState}
+use Rattle.logon_stubs.specs.declared.info.NetworkInfo.{NetworkInfo}
+use Rattle.channel_client.specs.declared.caller.Caller.{Caller}
+use Rattle.channel_client.specs.declared.state.Pending.{Pending}
+use Rattle.channel_client.specs.State.{Requester}
+use Rattle.member_server.specs.declared.plan.MemberPlan.{MemberPlan}
+use Rattle.member_server.specs.declared.state.Logon.{Logon}
+use Rattle.member_server.specs.declared.state.Talk.{Talk}
 use Rattle.channel_client.specs.declared.state.Question.TheVariants as question
 use Rattle.channel_client.specs.declared.state.SetStep.TheVariants as set_step
 use Rattle.channel_client.specs.declared.state.Standing.{Standing}
 use Rattle.channel_client.specs.declared.state.Standing.TheVariants as standing
 use Rattle.channel_client.specs.declared.state.Step.{Step}
 use Rattle.channel_client.specs.declared.state.Step.TheVariants as step
-use Rattle.channel_client.specs.Machine.{after, change_call, logon_call, offered_flags, server_credential}
+use Rattle.channel_client.specs.Machine.{SetOutcome, after, change_call, judge_set, logon_call, offered_flags, server_credential, settle_set}
 use Rattle.controller_calls.specs.declared.state.Computers.{Computers}
 use Rattle.domain_controller.specs.State.{State as ControllerState}
 use Rattle.domain_controller.specs.Step.{step_of as controller_step_of}
 use Rattle.logon_client.specs.State.{State as ClientState}
 use Rattle.member_server.specs.State.{State as MemberState}
-use Rattle.member_server.specs.Machine.{step_of as member_step_of}
-use Rattle.member_server.specs.Turns.{timestamp_of}
+use Rattle.member_server.specs.Machine.{actions_in, at_turn, halted_state, keep_turn, state_in, step_of as member_step_of}
+use Rattle.member_server.specs.Turns.{AtTurn, next_turn, take_by, timestamp_of}
 use Rattle.world_moves.specs.declared.bag.BagUnit.{BagUnit}
 use Rattle.world_moves.specs.declared.links.EndId.{EndId}
 use Rattle.world_moves.specs.declared.links.EndId.TheVariants.{Controller, Member}
@@ -44,13 +54,13 @@ use Rattle.world_moves.specs.Acting.{Heard, close_open, closed_at, done, done_qu
 use Rattle.world_moves.specs.Ends.{EndStates}
 use Rattle.world_moves.specs.Links.{OpenMap}
 use Rattle.world_moves.specs.Moving.{onward, settle}
-use Rattle.logon_steps.specs.Asking.{info_at}
+use Rattle.logon_steps.specs.Asking.{asking_keeping, info_at}
 use Rattle.logon_steps.specs.ControllerTurns.{reply_bytes, turn_link}
 use Rattle.logon_steps.specs.MemberTurns.{bind_waits, logons_keeping, member_at, on_turn, plan_with}
-use Rattle.logon_steps.specs.SetTurns.{set_reply_bytes, set_request, set_taken}
+use Rattle.logon_steps.specs.SetTurns.{set_reply_bytes, set_request}
 use Rattle.logon_steps.specs.Turning.{IsTurnReply, turn_ack}
 use Rattle.logon_steps.proofs.ControllerTurnLaws.{controllers_step}
-use Rattle.logon_steps.proofs.SetTurnLaws.{set_comes, set_reply_comes, set_turns_step, taken_in_range}
+use Rattle.logon_steps.proofs.SetTurnLaws.{set_comes, set_replied, set_reply_comes, set_turns_step}
 use Rattle.logon_steps.proofs.TurningLaws.{response_comes, turn_ack_sends, unit_comes}
 use Rattle.logon_runs.specs.Scenes.{HasFirst, IsNoClose, Scene, Shows, dials_made, units_sent, with_actions}
 use Rattle.logon_runs.specs.Seen.SetScenes.{SetsAreSeen}
@@ -189,20 +199,36 @@ asks_on s t next number c computers left moment between below shows =
     (heard_back t (written (turn_ack number)) next number (step.Set (set_step.Bind c)) computers (turn_link t.link) left moment between (unit_comes (turn_ack number) (turn_ack_sends number below))) (tt, tt)
     (set_turns_step.bound t.plan t.caller t.how t.info t.place next number t.link moment c t.asked t.accepted left below))
 
-set_on : (s : State) (t : Turn) (o : SecureChannelState) (next number timestamp : ℕ) (current new : List ℕ) (computers : Computers) (left : List (List ℕ)) (moment : ℕ) → IsBetween t → number < 2 ^ 32 →
-    t.how ≡ standing.Open (after_call o timestamp) → t.plan.secrets ≡ two current new false →
-    let later : SecureChannelState = after_return true (after_call o timestamp) in
-    Shows s (turn_scene t next number (step.Set set_step.Reply) computers (turn_link t.link) (unit_back t (set_reply_bytes number (set_taken o timestamp)) ∷ []) left moment) →
+-- what the member makes of a reply that takes the secret
+set_by : (plan : MemberPlan) (caller : Caller) (o later : SecureChannelState) (r : SetReply) (info : NetworkInfo) (place next number link now : ℕ) (current new : List ℕ) (asked : List (ℕ × Logon))
+    (links : List (ℕ × LinkState Talk)) (left : List (List ℕ)) → number < 2 ^ 32 → InRangeSetReply r → judge_set r (standing.Open o) ≡ Ok later →
+    member_step_of (member_at (logons_keeping (plan_with (two current new false) plan) caller (standing.Open o) info place next number (step.Set set_step.Reply) asked) links (on_turn link))
+    (event.Bytes link (set_reply_bytes number r)) now left
+    ≡ whole_step left left (action.Keep (written_secrets (alone new)) ∷ action.Close link close.CallDone ∷ action.Dial plan.controller ∷ [])
+    (member_at (logons_keeping (plan_with (alone new) plan) caller (standing.Open (after_call later (timestamp_of now))) info place (after next) next
+    (step.Bind (logon_call caller later (timestamp_of now) (info_at place info))) asked) links (bind_waits next))
+set_by plan caller o later r info place next number link now current new asked links left below range judged =
+    let kept : MemberPlan = plan_with (two current new false) plan in
+    let pending : Pending = record { number = number; place = place; step = step.Set set_step.Reply } in
+    let s : Requester = asking_keeping caller (standing.Open o) info place next (Some pending) (Some new) in
+    let at : AtTurn = at_turn link (record { logons = record { plan = kept; channel = s; asked = asked }; links = links; actions = [] }) in
+    set_replied kept s asked number place link now r links left below range
+    ∙ ap (λ (outcome : SetOutcome). step_by actions_in state_in halted_state left
+    (next_turn now ((take_by (settle_set outcome s) None at).0.work, keep_turn (take_by (settle_set outcome s) None at).1 [] link) left)) judged
+
+set_on : (s : State) (t : Turn) (o later : SecureChannelState) (r : SetReply) (next number : ℕ) (current new : List ℕ) (computers : Computers) (left : List (List ℕ)) (moment : ℕ) → IsBetween t →
+    number < 2 ^ 32 → InRangeSetReply r → t.how ≡ standing.Open o → judge_set r (standing.Open o) ≡ Ok later → t.plan.secrets ≡ two current new false →
+    Shows s (turn_scene t next number (step.Set set_step.Reply) computers (turn_link t.link) (unit_back t (set_reply_bytes number r) ∷ []) left moment) →
     Shows (onward s).state
     (dial_scene (with_secrets (alone new) t) (take_out same_number t.link t.opened) (standing.Open (after_call later (timestamp_of moment))) (after next) next
     (logon_call t.caller later (timestamp_of moment) (info_at t.place t.info)) computers [] left moment)
-set_on s t o next number timestamp current new computers left moment between below is_open secrets shows =
-    let bytes : List ℕ = set_reply_bytes number (set_taken o timestamp) in
+set_on s t o later r next number current new computers left moment between below range is_open judged secrets shows =
+    let bytes : List ℕ = set_reply_bytes number r in
     member_keeps s _ (unit_back t bytes) [] _ _ left t.link close.CallDone (written_secrets (alone new)) (action.Dial t.plan.controller ∷ []) shows
-    (heard_back t bytes next number (step.Set set_step.Reply) computers (turn_link t.link) left moment between (set_reply_comes number (set_taken o timestamp) (taken_in_range o timestamp)))
+    (heard_back t bytes next number (step.Set set_step.Reply) computers (turn_link t.link) left moment between (set_reply_comes number r range))
     (closes_turn t next number (step.Set set_step.Reply) computers (unit_back t bytes ∷ []) left moment between) (tt, tt)
     (ap₂ (λ (h : Standing) (k : SecretsState). member_step_of (member_of t h k next number (step.Set set_step.Reply)) (event.Bytes t.link bytes) moment left) is_open secrets
-    ∙ set_turns_step.set t.plan t.caller o t.info t.place next number t.link moment timestamp current new t.asked t.accepted left below)
+    ∙ set_by t.plan t.caller o later r t.info t.place next number t.link moment current new t.asked t.accepted left below range judged)
     (controllers_step.closed t.table t.name computers t.link moment _ left)
 
 pub sets_are_seen : SetsAreSeen
@@ -225,6 +251,6 @@ sets_are_seen = record {
       (scenes_go_on.to_controller s _ (unit_there t (bytes_of_call (set_request number c) 5840)) [] _ rest
       (action.Judged how ∷ action.Send t.link (set_reply_bytes number r) ∷ []) shows
       (heard_there t (bytes_of_call (set_request number c) 5840) next number what computers (turn_link t.link) left moment between (set_comes number c is)) (tt, (tt, tt)) answered);
-  set = λ s t o next number timestamp current new computers left moment between below is_open secrets shows.
-      set_on s t o next number timestamp current new computers left moment between below is_open secrets shows;
+  set = λ s t o later r next number current new computers left moment between below range is_open judged secrets shows.
+      set_on s t o later r next number current new computers left moment between below range is_open judged secrets shows;
 }

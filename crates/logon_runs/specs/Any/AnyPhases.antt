@@ -10,6 +10,9 @@ use Rattle.logon_stubs.specs.declared.calls.Reply.{Reply}
 use Rattle.logon_stubs.specs.declared.calls.Reply.TheVariants as reply
 use Rattle.logon_stubs.specs.declared.info.SamInfo.{SamInfo}
 use Rattle.logon_stubs.specs.declared.info.Verdict.TheVariants as verdict
+use Rattle.secret_change.specs.Ranges.{InRangeSetReply}
+use Rattle.secret_change.specs.Secrets.{IsNextSecret}
+use Rattle.secret_change.specs.declared.calls.SetReply.{SetReply}
 use Rattle.account_table.specs.AccountTable.{AccountTable}
 use Rattle.account_table.specs.Changes.{DifferInCounts}
 use Rattle.account_table.specs.LookUps.{knows_in}
@@ -18,8 +21,9 @@ use Rattle.channel_client.specs.declared.judging.Judgement.TheVariants as judgem
 use Rattle.channel_client.specs.declared.state.Question.TheVariants as question
 use Rattle.channel_client.specs.declared.state.Standing.{Standing}
 use Rattle.channel_client.specs.declared.state.Standing.TheVariants as standing
+use Rattle.channel_client.specs.declared.state.SetStep.TheVariants as set_step
 use Rattle.channel_client.specs.declared.state.Step.TheVariants as step
-use Rattle.channel_client.specs.Machine.{after, judge, offered_flags}
+use Rattle.channel_client.specs.Machine.{after, judge, offered_flags, server_credential}
 use Rattle.domain_controller.specs.Machine.{account_for}
 use Rattle.domain_controller.specs.Whole.{InRangeTable}
 use Rattle.controller_calls.specs.declared.state.Computers.{Computers}
@@ -39,15 +43,16 @@ use Rattle.logon_steps.specs.Calling.{HasShortCaller}
 use Rattle.logon_steps.specs.ClientSteps.{client_ended}
 use Rattle.logon_steps.specs.ControllerTurns.{reply_bytes, turn_link}
 use Rattle.logon_steps.specs.Meeting.{HasShortNames}
+use Rattle.logon_steps.specs.SetTurns.{set_reply_bytes, set_taken}
 use Rattle.logon_steps.specs.Turning.{IsTurnReply}
 use Rattle.logon_runs.specs.Seen.LinkScenes.{FitsGiven, rest_scene}
 use Rattle.logon_runs.specs.Seen.Others.{IsStepOn}
-use Rattle.logon_runs.specs.Phases.{Acked, Aim, Answers, Binds, BindsBefore, BindsHeld, Calls, Challenged, Coming, Dials, DialsBefore, DialsHeld, DrawsFew, Echoed, Echoes, First, Granted, Halved, HasJoined, HasThree, IsAnswering, LogonPhase, Named, NotYet, Progress, Proved, Second, Third, TurnAt, WasJudged, WasOpened, WhoAsked, progress_of, progress_onward, scene_of, turn_on}
+use Rattle.logon_runs.specs.Phases.{Acked, Aim, Answers, Binds, BindsBefore, BindsHeld, Calls, Challenged, Coming, Dials, DialsBefore, DialsHeld, DrawsFew, Echoed, Echoes, First, FitsStill, Fourth, Granted, Halved, HasJoined, HasThree, IsAnswering, IsPlanned, IsSetAt, IsToSet, LogonPhase, Named, NotYet, Progress, Proved, Second, Sets, Third, TurnAt, WasJudged, WasOpened, WasSet, WhoAsked, account_of_caller, progress_of, progress_onward, scene_of, turn_on}
 use Rattle.logon_runs.specs.Rests.{HasOwnName}
 use Rattle.logon_runs.specs.Runs.{Asked}
 use Rattle.logon_runs.specs.Scenes.{Scene, Shows}
 use Rattle.logon_runs.specs.Failing.TurnedAway.{AwayPhase, Faulted, Refused, Settled, Unheard, away_scene, settled_in}
-use Rattle.logon_runs.specs.Seen.TurnScenes.{turn_scene, unit_back}
+use Rattle.logon_runs.specs.Seen.TurnScenes.{turn_scene, unit_back, with_accounts}
 use Rattle.logon_runs.specs.Seen.WaitingUnits.{waiting}
 use Rattle.logon_runs.specs.Any.ControllerAnswers.{TellsShort}
 use Rattle.logon_runs.specs.Any.GrantRests.{judged_scene}
@@ -59,12 +64,11 @@ abbrev pub FitsSecret : Coming → Type 0
 FitsSecret p =
     (client server : List ℕ) (machine : Account) → account_for p.table (auth_value p.meeting.caller client server) ≡ Some machine → machine.hash ≡ p.meeting.caller.secret
 
--- the controller knows the computer, and has its secret
-pub record HasSecret (p : Coming) : Type 0 where
+-- the controller knows the computer, and has an account for its channel
+pub record KnowsComputer (p : Coming) : Type 0 where
   pub machine : Account
   pub knows : knows_in p.table.accounts p.meeting.caller.computer ≡ true
   pub found : (client server : List ℕ) → account_for p.table (auth_value p.meeting.caller client server) ≡ Some machine
-  pub secret : machine.hash ≡ p.meeting.caller.secret
 
 -- it keeps the channel in step
 pub record KeepsInStep (p : Coming) (computers : Computers) (o : SecureChannelState) : Type 0 where
@@ -99,7 +103,7 @@ pub record IsAble (plan : Plan) (p : Coming) : Type 0 where
   pub names : HasShortNames p.meeting.plan
   pub caller : HasShortCaller p.meeting.caller
   pub given : FitsGiven p.meeting
-  pub one : p.meeting.plan.secrets.next ≡ None
+  pub next : IsNextSecret p.meeting.plan.secrets.next
   pub place_below : p.meeting.place < 2 ^ 32
   pub number_below : p.meeting.number < 2 ^ 32
   pub ranged : InRangeTable p.table
@@ -117,11 +121,12 @@ pub record IsHeard (plan : Plan) (p : Coming) (s : State) : Type 0 where
 
 -- ---- the phases
 
--- those before the member has the reply to its second call or its third; these replies, whatever they are; and those of
--- a logon that is turned away
+-- those before the member has the reply to its second call, to the one that sets a secret, or to its third; these
+-- replies, whatever they are; and those of a logon that is turned away
 pub data AnyPhase (p : Coming) : Type 0 where
   On : (phase : LogonPhase p) → AnyPhase p
   Told : (a : Asked) (who : WhoAsked p a) (v : TurnAt) (client server credential : List ℕ) (status : ℕ) → AnyPhase p
+  Setting : (a : Asked) (who : WhoAsked p a) (v : TurnAt) (o c : SecureChannelState) (timestamp : ℕ) (new : List ℕ) (accounts : AccountTable) (answer : SetReply) → AnyPhase p
   Judged : (a : Asked) (who : WhoAsked p a) (v : TurnAt) (o c : SecureChannelState) (timestamp : ℕ) (accounts : AccountTable) (answer : Reply) → AnyPhase p
   Away : (phase : AwayPhase p) → AnyPhase p
 
@@ -135,6 +140,10 @@ any_scene p (Told a who v client server credential status) left moment =
     turn_scene (turn_on p a who.later (who.sent ∷ []) v (Second client server)) (after v.next) v.next (step.Reply question.Authenticate) v.computers
     (turn_link (length v.links))
     (unit_back (turn_on p a who.later (who.sent ∷ []) v (Second client server)) (reply_bytes v.next (proof_reply credential status)) ∷ []) left moment
+any_scene p (Setting a who v o c timestamp new accounts answer) left moment =
+    turn_scene (with_accounts accounts (turn_on p a who.later (who.sent ∷ []) v (Fourth o c timestamp new))) (after v.next) v.next (step.Set set_step.Reply) v.computers
+    (turn_link (length v.links))
+    (unit_back (with_accounts accounts (turn_on p a who.later (who.sent ∷ []) v (Fourth o c timestamp new))) (set_reply_bytes v.next answer) ∷ []) left moment
 any_scene p (Judged a who v o c timestamp accounts answer) left moment = judged_scene p a who v o c timestamp accounts answer left moment
 any_scene p (Away phase) left moment = away_scene p phase left moment
 
@@ -142,12 +151,14 @@ any_scene p (Away phase) left moment = away_scene p phase left moment
 abbrev pub progress_in : {p : Coming} → AnyPhase p → Progress
 progress_in (On phase) = progress_of phase
 progress_in (Told a who v client server credential status) = WasOpened client server
+progress_in (Setting a who v o c timestamp new accounts answer) = WasSet o
 progress_in (Judged a who v o c timestamp accounts answer) = WasJudged a o
 progress_in (Away phase) = NotYet
 
 abbrev pub progress_next : {p : Coming} → AnyPhase p → Progress
 progress_next (On phase) = progress_onward phase
 progress_next (Told a who v client server credential status) = NotYet
+progress_next (Setting a who v o c timestamp new accounts answer) = NotYet
 progress_next (Judged a who v o c timestamp accounts answer) = NotYet
 progress_next (Away phase) = NotYet
 
@@ -157,21 +168,37 @@ progress_by _ phase = progress_in phase
 
 -- ---- what holds in each
 
+-- the controller's accounts are those with which the logon began, or the member reaches it and its own has another hash
+abbrev pub MaySet : Plan → Coming → AccountTable → Type 0
+MaySet plan p table = (table ≡ p.table) ⊎ (IsThere plan p × IsSetAt p.meeting.caller p.table table)
+
 pub record IsTurningBy (plan : Plan) (p : Coming) (a : Asked) (v : TurnAt) : Type 0 where
   pub answering : IsAnswering p a
   pub joined_so : HasJoined p v.links
   pub number_below : v.number < 2 ^ 32
   pub next_below : v.next < 2 ^ 32
   pub others : KeepsApart plan p v.computers
+  pub ranged : InRangeTable v.table
+  pub set : MaySet plan p v.table
+  pub next : IsNextSecret v.secrets.next
+  pub fits : IsOwn plan p → FitsStill p v.table v.secrets
+
+-- the controller has an account by which the channel of who asks is opened
+pub record HasMachine (p : Coming) : Type 0 where
+  pub machine : Account
+  pub found : account_of_caller p.table p.meeting.caller ≡ Some machine
 
 -- The call can be made. The controller keeps what it needs of the computer, where it knows it, or its name is the
--- member's own. The calls that open a channel are made where there was none.
+-- member's own. The calls that open a channel are made where there was none, and the one that sets a secret once it
+-- opened; the logon's own where none is next.
 abbrev pub MayAim : Plan → Coming → TurnAt → Aim → Type 0
-MayAim plan p v (First client) = IsBlock 8 client × (p.meeting.how ≡ standing.Nothing)
+MayAim plan p v (First client) = IsBlock 8 client × (p.meeting.how ≡ standing.Nothing) × IsPlanned p v
 MayAim plan p v (Second client server) =
     (knows_in p.table.accounts p.meeting.caller.computer ≡ true → lookup same_name p.meeting.caller.computer v.computers.pending ≡ Some (pair_of client server))
-    × (p.meeting.how ≡ standing.Nothing)
-MayAim plan p v (Third o c timestamp) = (timestamp < 2 ^ 32) × (IsOwn plan p → KeepsInStep p v.computers o)
+    × (p.meeting.how ≡ standing.Nothing) × IsPlanned p v
+MayAim plan p v (Third o c timestamp) = (timestamp < 2 ^ 32) × (IsOwn plan p → KeepsInStep p v.computers o) × (v.secrets.next ≡ None)
+MayAim plan p v (Fourth o c timestamp new) =
+    (timestamp < 2 ^ 32) × (IsOwn plan p → KeepsInStep p v.computers o) × IsPlanned p v × IsToSet p new × HasMachine p
 
 -- The call that opens the channel was granted: by an account that the controller has for it, and by which the channel
 -- is in step, where the name is the member's own.
@@ -184,8 +211,13 @@ pub record IsGranted (plan : Plan) (p : Coming) (v : TurnAt) (client server : Li
 pub record IsLeft (plan : Plan) (p : Coming) (e : Settled) : Type 0 where
   pub joined_so : HasJoined p e.links
   pub number_below : e.number < 2 ^ 32
-  pub differs : DifferInCounts p.table e.table
+  pub next : IsNextSecret e.secrets.next
+  pub one : (o : SecureChannelState) → e.how ≡ standing.Open o → e.secrets.next ≡ None
+  pub before : AccountTable
+  pub set : MaySet plan p before
+  pub differs : DifferInCounts before e.table
   pub ranged : InRangeTable e.table
+  pub fits : IsOwn plan p → FitsStill p e.table e.secrets
   pub others : KeepsApart plan p e.computers
   pub stands : MayStand plan p e.computers e.how
 
@@ -204,6 +236,7 @@ MayFitOn plan p (Calls a who v aim) = IsTurningBy plan p a v × MayAim plan p v 
 MayFitOn plan p (Halved a who v client server) = IsTurningBy plan p a v × IsBlock 8 server × MayAim plan p v (Second client server) × IsThere plan p
 MayFitOn plan p (Proved a who v client server) = ⊥
 MayFitOn plan p (Granted a who v o c timestamp judged_at accounts) = ⊥
+MayFitOn plan p (Sets a who v o c timestamp new accounts) = ⊥
 MayFitOn plan p (Named a e on one other back) = ⊥
 MayFitOn plan p (Echoes a e on one asks) = ⊥
 MayFitOn plan p (Echoed a e talk one other back) = ⊥
@@ -213,13 +246,37 @@ MayFitAway plan p (Refused a who v o c timestamp accounts status) = ⊥
 MayFitAway plan p (Unheard a who e) = IsLeft plan p e
 MayFitAway plan p (Faulted a later e status) = IsLeft plan p e × (status < 2 ^ 32)
 
+-- where there is such an account, the proof of a member with its own name is taken
+abbrev pub IsProofOwn : Coming → (client server credential : List ℕ) → ℕ → Type 0
+IsProofOwn p client server credential status =
+    (machine : Account) → account_of_caller p.table p.meeting.caller ≡ Some machine → (status ≡ 0) × (credential ≡ server_credential p.meeting.caller.secret client server)
+
+-- the secret is set, and both ends are in step
+pub record IsSetRightly (p : Coming) (v : TurnAt) (o : SecureChannelState) (timestamp : ℕ) (new : List ℕ) (accounts : AccountTable) (answer : SetReply) : Type 0 where
+  pub stands : KeepsInStep p v.computers (after_return true (after_call o timestamp))
+  pub set : IsSetAt p.meeting.caller v.table accounts
+  pub hash : set.hash ≡ new
+  pub is : answer ≡ set_taken o timestamp
+
+-- the reply to the call that sets a secret: it is set, or not, and where the name is the member's own it is
+pub record IsSetBy (plan : Plan) (p : Coming) (a : Asked) (v : TurnAt) (o : SecureChannelState) (timestamp : ℕ) (new : List ℕ) (accounts : AccountTable) (answer : SetReply) : Type 0 where
+  pub turning : IsTurningBy plan p a v
+  pub there : IsThere plan p
+  pub planned : IsPlanned p v
+  pub to_set : IsToSet p new
+  pub goes : InRangeSetReply answer
+  pub set : (accounts ≡ v.table) ⊎ IsSetAt p.meeting.caller v.table accounts
+  pub ranged : InRangeTable accounts
+  pub own : IsOwn plan p → IsSetRightly p v o timestamp new accounts answer
+
 -- the reply to the third call, and what the member's channel comes to by it
 pub record IsJudgedBy (plan : Plan) (p : Coming) (a : Asked) (v : TurnAt) (o : SecureChannelState) (timestamp : ℕ) (accounts : AccountTable) (answer : Reply) : Type 0 where
   pub turning : IsTurningBy plan p a v
   pub there : IsThere plan p
+  pub one : v.secrets.next ≡ None
   pub goes : IsTurnReply question.Logon answer
   pub names : TellsShort answer
-  pub differs : DifferInCounts p.table accounts
+  pub differs : DifferInCounts v.table accounts
   pub ranged : InRangeTable accounts
   pub stands : IsOwn plan p → KeepsInStep p v.computers (after_return true (after_call o timestamp))
 
@@ -227,7 +284,8 @@ abbrev pub MayFit : (plan : Plan) (p : Coming) → AnyPhase p → Type 0
 MayFit plan p (On phase) = MayFitOn plan p phase
 MayFit plan p (Told a who v client server credential status) =
     IsTurningBy plan p a v × IsTurnReply question.Authenticate (proof_reply credential status)
-    × (status ≡ 0 → IsGranted plan p v client server) × IsThere plan p
+    × (status ≡ 0 → IsGranted plan p v client server) × IsThere plan p × IsPlanned p v × (IsOwn plan p → IsProofOwn p client server credential status)
+MayFit plan p (Setting a who v o c timestamp new accounts answer) = IsSetBy plan p a v o timestamp new accounts answer
 MayFit plan p (Judged a who v o c timestamp accounts answer) = IsJudgedBy plan p a v o timestamp accounts answer
 MayFit plan p (Away phase) = MayFitAway plan p phase
 

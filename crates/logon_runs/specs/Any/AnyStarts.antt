@@ -4,7 +4,6 @@ use Rattle.account_table.specs.AccountTable.{AccountTable}
 use Rattle.account_table.specs.declared.account.Account.{Account}
 use Rattle.member_server.specs.Secrets.{tried_of}
 use Rattle.logon_client.specs.declared.plan.ClientPlan.{ClientPlan}
-use Rattle.member_server.specs.Machine.{caller_of}
 use Rattle.member_server.specs.declared.plan.MemberPlan.{MemberPlan}
 use Rattle.world_moves.specs.declared.links.EndId.TheVariants.{Controller, Member}
 use Rattle.world_moves.specs.declared.plan.Plan.{Plan}
@@ -14,9 +13,10 @@ use Rattle.world_moves.specs.Forms.{HasForms}
 use Rattle.world_moves.specs.Moving.{end_of_peer, route_to, start}
 use Rattle.world_moves.specs.World.{IsPlan, first_ends}
 use Rattle.logon_steps.specs.ControllerTurns.{controller_at}
+use Rattle.logon_steps.specs.MemberTurns.{plan_with}
 use Rattle.logon_runs.specs.Seen.Others.{OthersStay}
 use Rattle.logon_runs.specs.Phases.{Coming}
-use Rattle.logon_runs.specs.Rests.{AtRest, ControllerRests, MemberRests, three_of}
+use Rattle.logon_runs.specs.Rests.{AtRest, ControllerRests, MemberRests, caller_with, secret_at, three_of}
 use Rattle.logon_runs.specs.Any.AnyPhases.{IsAble, IsAnywhere, IsDone}
 
 -- a client, a member and a controller of the plan
@@ -39,9 +39,9 @@ coming_from plan s rest client member controller three account machine =
         at_member = member;
         at_controller = controller;
         task = three.task;
-        plan = three.member_plan;
-        caller = caller_of three.member_plan;
-        given = record { secret = tried_of three.member_plan.secrets; next = None };
+        plan = plan_with work.secrets three.member_plan;
+        caller = caller_with (secret_at work.how (tried_of work.secrets) work.given.secret) three.member_plan;
+        given = work.given;
         how = work.how;
         place = work.place;
         number = work.number;

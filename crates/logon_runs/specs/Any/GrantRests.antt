@@ -48,6 +48,7 @@ judged_scene p a who v o c timestamp accounts r left moment =
 -- what is left of it then: the member's channel has that state
 abbrev pub judged_rest : (p : Coming) (a : Asked) → WhoAsked p a → TurnAt → SecureChannelState → SecureChannelState → ℕ → AccountTable → SecureChannelState → Settled
 judged_rest p a who v o c timestamp accounts o_then = record {
+  secrets = v.secrets;
   how = standing.Open o_then;
   number = next_number v.next;
   links = (judged_turn p a who v o c timestamp accounts).links;

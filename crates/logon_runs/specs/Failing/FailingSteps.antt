@@ -14,7 +14,6 @@ use Rattle.rpc_units.specs.Calls.{bytes_of_call}
 use Rattle.rpc_units.specs.Numbers.{error_access_denied, rpc_s_server_unavailable}
 use Rattle.rpc_units.specs.Writing.{written}
 use Rattle.end_links.specs.Sending.{fault_of}
-use Rattle.logon_stubs.specs.declared.calls.Call.{Call}
 use Rattle.logon_stubs.specs.declared.calls.Reply.{Reply}
 use Rattle.logon_stubs.specs.declared.info.NetworkInfo.{NetworkInfo}
 use Rattle.logon_stubs.specs.declared.info.Verdict.TheVariants as verdict
@@ -26,6 +25,7 @@ use Rattle.channel_client.specs.declared.judging.Judgement.TheVariants as judgem
 use Rattle.channel_client.specs.declared.state.Question.{Question}
 use Rattle.channel_client.specs.declared.state.Standing.{Standing}
 use Rattle.channel_client.specs.declared.state.Standing.TheVariants as standing
+use Rattle.channel_client.specs.declared.state.Step.{Step}
 use Rattle.channel_client.specs.declared.state.Step.TheVariants as step
 use Rattle.channel_client.specs.declared.state.SetStep.TheVariants as set_step
 use Rattle.channel_client.specs.Machine.{after, judge, judge_set}
@@ -89,14 +89,14 @@ pub record FailingsStep : Type 0 where
       (action.Close turn close.CallDone ∷ action.Told logon.link (outcome.Out status) ∷ action.Send logon.link (who_fault error_access_denied) ∷ [])
       (member_at (logons_resting plan caller (next_of plan.secrets) (standing.Open o) (after place) next) (one_link logon.link (out_talk task error_access_denied)) dialling.Nothing)
   -- the turn's dial fails, before WhoAmI is held or once it is
-  pub dial_fails : (plan : MemberPlan) (caller : Caller) (how : Standing) (info : NetworkInfo) (place next number now : ℕ) (c : Call) (logon : Logon) (task : ClientPlan) (left : List (List ℕ)) →
-      member_step_of (member_at (logons_keeping plan caller how info place next number (step.Bind c) ((place, logon) ∷ [])) (one_link logon.link (asked_talk (bound_for task) place []))
+  pub dial_fails : (plan : MemberPlan) (caller : Caller) (how : Standing) (info : NetworkInfo) (place next number now : ℕ) (what : Step) (logon : Logon) (task : ClientPlan) (left : List (List ℕ)) →
+      member_step_of (member_at (logons_keeping plan caller how info place next number what ((place, logon) ∷ [])) (one_link logon.link (asked_talk (bound_for task) place []))
       (bind_waits number)) event.DialFailed now left
       ≡ whole_step left left (action.Told logon.link (outcome.NoController drop_cause.DialFailed) ∷ [])
       (member_at (logons_resting plan caller (next_of plan.secrets) standing.Nothing (after place) next) (one_link logon.link (out_talk task rpc_s_server_unavailable)) dialling.Nothing)
-  pub dial_fails_held : (plan : MemberPlan) (caller : Caller) (how : Standing) (info : NetworkInfo) (place next number now most : ℕ) (c : Call) (logon : Logon) (task : ClientPlan)
+  pub dial_fails_held : (plan : MemberPlan) (caller : Caller) (how : Standing) (info : NetworkInfo) (place next number now most : ℕ) (what : Step) (logon : Logon) (task : ClientPlan)
       (one other : Option SessionState) (left : List (List ℕ)) → (who : RequestGoes most task.level 2 0 [] one other) →
-      member_step_of (member_at (logons_keeping plan caller how info place next number (step.Bind c) ((place, logon) ∷ [])) (one_link logon.link (asked_talk (bound_for task) place (who.sent ∷ [])))
+      member_step_of (member_at (logons_keeping plan caller how info place next number what ((place, logon) ∷ [])) (one_link logon.link (asked_talk (bound_for task) place (who.sent ∷ [])))
       (bind_waits number)) event.DialFailed now left
       ≡ whole_step left left
       (action.Told logon.link (outcome.NoController drop_cause.DialFailed) ∷ action.Send logon.link (who_fault rpc_s_server_unavailable) ∷ [])

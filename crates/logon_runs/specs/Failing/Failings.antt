@@ -13,7 +13,6 @@ use Rattle.secret_change.specs.declared.calls.SetReply.{SetReply}
 use Rattle.member_server.specs.Secrets.{is_denied, secrets_dropped}
 use Rattle.logon_steps.specs.SetTurns.{set_reply_bytes}
 use Rattle.logon_steps.specs.MemberTurns.{plan_with}
-use Rattle.logon_stubs.specs.declared.calls.Call.{Call}
 use Rattle.logon_stubs.specs.declared.calls.Reply.{Reply}
 use Rattle.logon_stubs.specs.declared.info.NetworkInfo.{NetworkInfo}
 use Rattle.logon_stubs.specs.declared.info.Verdict.TheVariants as verdict
@@ -22,6 +21,7 @@ use Rattle.channel_client.specs.declared.judging.Judgement.TheVariants as judgem
 use Rattle.channel_client.specs.declared.state.Question.{Question}
 use Rattle.channel_client.specs.declared.state.Standing.{Standing}
 use Rattle.channel_client.specs.declared.state.Standing.TheVariants as standing
+use Rattle.channel_client.specs.declared.state.Step.{Step}
 use Rattle.channel_client.specs.declared.state.Step.TheVariants as step
 use Rattle.channel_client.specs.declared.state.SetStep.TheVariants as set_step
 use Rattle.channel_client.specs.Machine.{after, judge, judge_set}
@@ -52,7 +52,7 @@ use Rattle.logon_runs.specs.Seen.AskScenes.{turn_within, with_controller}
 use Rattle.logon_runs.specs.Failing.FailingSteps.{out_talk, who_fault}
 use Rattle.logon_runs.specs.Seen.LinkScenes.{given_after, IsJoined, its_link, Meeting, meeting_scene, rest_scene, unit_down, unit_up}
 use Rattle.logon_runs.specs.Scenes.{Shows}
-use Rattle.logon_runs.specs.Seen.TurnScenes.{IsBetween, Turn, dial_scene, turn_scene, unit_back}
+use Rattle.logon_runs.specs.Seen.TurnScenes.{IsBetween, Turn, turn_scene, unit_back, waiting_scene}
 
 -- the member's turn for that logon, whose channel stands so, with these held
 abbrev pub failing_turn : Meeting → ClientPhase → NetworkInfo → List ℕ → Authenticate → List (List ℕ) → AccountTable → List ℕ → Standing → List Route → OpenMap → ℕ → Turn
@@ -80,16 +80,16 @@ pub record FailingsAreSeen : Type 0 where
       Shows (connect s).state (rest_scene g (client_ended g.task (NoAnswer no_answer.DialFailed)) links left moment [])
   -- a turn's dial reaches no controller, before WhoAmI is held or once it is
   pub member_unreached : (s : State) (g : Meeting) (waits : ClientPhase) (info : NetworkInfo) (challenge : List ℕ) (message : Authenticate) (table : AccountTable) (name : List ℕ)
-      (some how : Standing) (links : List Route) (next number : ℕ) (c : Call) (computers : Computers) (bytes : List ℕ) (left : List (List ℕ)) (moment : ℕ) →
+      (some how : Standing) (links : List Route) (next number : ℕ) (what : Step) (computers : Computers) (bytes : List ℕ) (left : List (List ℕ)) (moment : ℕ) →
       route_to (Member g.at_member) (end_of_peer g.plan.controller s.ends) ≡ None →
-      Shows s (dial_scene (failing_turn g waits info challenge message [] table name some links (its_link g) g.link) (its_link g) how next number c computers (unit_up g bytes ∷ []) left moment) →
+      Shows s (waiting_scene (failing_turn g waits info challenge message [] table name some links (its_link g) g.link) (its_link g) how next number what computers (unit_up g bytes ∷ []) left moment) →
       Shows (connect s).state
       (meeting_scene (settled_at g table name computers standing.Nothing next links) waits (out_talk g.task rpc_s_server_unavailable) (unit_up g bytes ∷ []) left moment)
   pub member_unreached_held : (s : State) (g : Meeting) (waits : ClientPhase) (info : NetworkInfo) (challenge : List ℕ) (message : Authenticate) (table : AccountTable) (name : List ℕ)
-      (some how : Standing) (links : List Route) (next number most : ℕ) (c : Call) (computers : Computers) (one other : Option SessionState) (left : List (List ℕ)) (moment : ℕ) →
+      (some how : Standing) (links : List Route) (next number most : ℕ) (what : Step) (computers : Computers) (one other : Option SessionState) (left : List (List ℕ)) (moment : ℕ) →
       route_to (Member g.at_member) (end_of_peer g.plan.controller s.ends) ≡ None → slice_get links g.link ≡ Some (ToMember g.at_client g.at_member) →
       (who : RequestGoes most g.task.level 2 0 [] one other) →
-      Shows s (dial_scene (failing_turn g waits info challenge message (who.sent ∷ []) table name some links (its_link g) g.link) (its_link g) how next number c computers [] left moment) →
+      Shows s (waiting_scene (failing_turn g waits info challenge message (who.sent ∷ []) table name some links (its_link g) g.link) (its_link g) how next number what computers [] left moment) →
       Shows (connect s).state
       (meeting_scene (settled_at g table name computers standing.Nothing next links) waits (out_talk g.task rpc_s_server_unavailable) (unit_down g (who_fault rpc_s_server_unavailable) ∷ []) left moment)
   -- the turn's reply is dropped, or refuses the logon

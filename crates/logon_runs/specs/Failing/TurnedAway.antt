@@ -10,6 +10,7 @@ use Rattle.rpc_units.specs.Numbers.{rpc_s_server_unavailable}
 use Rattle.logon_stubs.specs.Status.{access_denied}
 use Rattle.logon_stubs.specs.declared.calls.Reply.{Reply}
 use Rattle.logon_stubs.specs.declared.info.Verdict.TheVariants as verdict
+use Rattle.secret_change.specs.Secrets.{IsNextSecret, SecretsState}
 use Rattle.account_table.specs.AccountTable.{AccountTable}
 use Rattle.account_table.specs.Changes.{DifferInCounts}
 use Rattle.sam_logon.specs.Verdict.{verdict_of}
@@ -33,14 +34,16 @@ use Rattle.logon_runs.specs.Failing.FailingSteps.{out_talk, who_fault}
 use Rattle.logon_runs.specs.Failing.Failings.{settled_at}
 use Rattle.logon_runs.specs.Seen.LinkScenes.{Meeting, meeting_scene, rest_scene, unit_down, unit_up}
 use Rattle.logon_runs.specs.Seen.Others.{IsStepOn}
-use Rattle.logon_runs.specs.Phases.{Aim, Calls, Coming, DialsBefore, DialsHeld, Fits, HasJoined, IsKnown, IsOver, IsTurning, KeepsOthers, Third, TurnAt, WhoAsked, own, scene_of, turn_on, waits_for}
+use Rattle.logon_runs.specs.Phases.{Aim, Calls, Coming, DialsBefore, DialsHeld, Fits, FitsStill, HasJoined, IsKnown, IsOver, IsSetOrNot, IsTurning, KeepsOthers, Third, TurnAt, WhoAsked, own, own_keeping, scene_of, turn_on, waits_for}
 use Rattle.logon_runs.specs.Runs.{Asked, StandsInStep, info_asked}
 use Rattle.logon_runs.specs.Scenes.{Scene, Shows}
 use Rattle.logon_runs.specs.Seen.TurnScenes.{turn_scene, unit_back, with_accounts}
 use Rattle.logon_runs.specs.Seen.WaitingUnits.{waiting}
 
--- what is left when it is over: the member's channel, its next number, all links, and what the controller keeps
+-- what is left when it is over: the member's secrets and its channel, its next number, all links, and what the
+-- controller keeps
 pub record Settled : Type 0 where
+  pub secrets : SecretsState
   pub how : Standing
   pub number : ℕ
   pub links : List Route
@@ -48,7 +51,7 @@ pub record Settled : Type 0 where
   pub computers : Computers
 
 abbrev pub settled_in : Coming → Settled → Meeting
-settled_in p e = settled_at (own p) e.table p.name e.computers e.how e.number e.links
+settled_in p e = settled_at (own_keeping p e.secrets) e.table p.name e.computers e.how e.number e.links
 
 -- the reply that refuses
 abbrev pub refusing : SecureChannelState → ℕ → ℕ → Reply
@@ -70,12 +73,18 @@ away_scene p (Unheard a who e) left moment =
 away_scene p (Faulted a later e status) left moment =
     meeting_scene (settled_in p e) (waits_for p a later) (out_talk p.meeting.task status) (unit_down (own p) (who_fault status) ∷ []) left moment
 
--- the channel is none, or both ends are in step
+-- The channel is none, or both ends are in step and no secret is next. The accounts differ from those of the turn in
+-- counts of bad passwords alone.
 pub record IsSettled (p : Coming) (e : Settled) : Type 0 where
   pub joined_so : HasJoined p e.links
   pub number_below : e.number < 2 ^ 32
-  pub differs : DifferInCounts p.table e.table
+  pub next : IsNextSecret e.secrets.next
+  pub one : (o : SecureChannelState) → e.how ≡ standing.Open o → e.secrets.next ≡ None
+  pub before : AccountTable
+  pub set : IsSetOrNot p before
+  pub differs : DifferInCounts before e.table
   pub ranged : InRangeTable e.table
+  pub fits : FitsStill p e.table e.secrets
   pub others : KeepsOthers p e.computers
   pub stands : (e.how ≡ standing.Nothing) ⊎ StandsInStep (settled_in p e) e.computers
 
@@ -87,8 +96,8 @@ pub record IsRefusal (status : ℕ) : Type 0 where
 
 abbrev pub FitsAway : (p : Coming) → AwayPhase p → Type 0
 FitsAway p (Refused a who v o c timestamp accounts status) =
-    IsTurning p a v × IsRefusal status × DifferInCounts p.table accounts × InRangeTable accounts
-    × (lookup same_name p.meeting.caller.computer v.computers.channels ≡ Some (moved c timestamp)) × IsInStep o c
+    IsTurning p a v × IsRefusal status × DifferInCounts v.table accounts × InRangeTable accounts
+    × (lookup same_name p.meeting.caller.computer v.computers.channels ≡ Some (moved c timestamp)) × IsInStep o c × (v.secrets.next ≡ None)
 FitsAway p (Unheard a who e) = IsSettled p e
 FitsAway p (Faulted a later e status) = IsSettled p e × (status < 2 ^ 32)
 
@@ -113,7 +122,7 @@ pub record LogonsAreTurnedAway : Type 0 where
   pub refusals : (p : Coming) (a : Asked) (moment status : ℕ) → verdict_of p.table p.name (info_asked (own p) a) moment ≡ verdict.Status status → IsRefusal status
   -- the controller refuses the logon; its table then has other counts of bad passwords
   pub refuses : (p : Coming) (s : State) (a : Asked) (who : WhoAsked p a) (v : TurnAt) (o c : SecureChannelState) (timestamp : ℕ) (left : List (List ℕ)) (moment status : ℕ) → IsKnown p →
-      Fits p (Calls a who v (Third o c timestamp)) → verdict_of p.table p.name (info_asked (own p) a) moment ≡ verdict.Status status →
+      Fits p (Calls a who v (Third o c timestamp)) → verdict_of v.table p.name (info_asked (own p) a) moment ≡ verdict.Status status →
       Shows s (scene_of p (Calls a who v (Third o c timestamp)) left moment) → IsAway p (onward s).state
   -- the member reaches no controller, before WhoAmI is held or once it is
   pub unreached : (p : Coming) (s : State) (a : Asked) (who : WhoAsked p a) (v : TurnAt) (aim : Aim) (left : List (List ℕ)) (moment : ℕ) → InRangeTable p.table → IsTurning p a v →
@@ -128,7 +137,7 @@ pub record LogonsAreTurnedAway : Type 0 where
   pub goes_on : (p : Coming) (s : State) (what : Move) → IsStepOn what → IsAway p s → IsAway p (act s what).state ⊎ HasEnded p (act s what).state
   -- it draws no challenge, from the judgement on
   pub judged_draws : (p : Coming) (s : State) (a : Asked) (who : WhoAsked p a) (v : TurnAt) (o c : SecureChannelState) (timestamp : ℕ) (left : List (List ℕ)) (moment status : ℕ) →
-      (known : IsKnown p) (fits : Fits p (Calls a who v (Third o c timestamp))) → (is : verdict_of p.table p.name (info_asked (own p) a) moment ≡ verdict.Status status) →
+      (known : IsKnown p) (fits : Fits p (Calls a who v (Third o c timestamp))) → (is : verdict_of v.table p.name (info_asked (own p) a) moment ≡ verdict.Status status) →
       Shows s (scene_of p (Calls a who v (Third o c timestamp)) left moment) → (onward s).state.chances.left ≡ s.chances.left
   pub draws : (p : Coming) (s : State) (what : Move) → IsStepOn what → IsAway p s → (act s what).state.chances.left ≡ s.chances.left
   pub over_draws : (p : Coming) (s : State) (what : Move) → IsStepOn what → HasEnded p s → (act s what).state.chances.left ≡ s.chances.left

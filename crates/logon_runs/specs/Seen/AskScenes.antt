@@ -6,7 +6,6 @@ use Rattle.authenticators.specs.SecureChannels.{SecureChannelState, after_call, 
 use Rattle.ntlm_messages.specs.declared.messages.Authenticate.{Authenticate}
 use Rattle.ntlm_seal.specs.Sessions.{SessionState}
 use Rattle.rpc_units.specs.Writing.{written}
-use Rattle.logon_stubs.specs.declared.calls.Call.{Call}
 use Rattle.logon_stubs.specs.declared.info.NetworkInfo.{NetworkInfo}
 use Rattle.logon_stubs.specs.declared.info.SamInfo.{SamInfo}
 use Rattle.memo_stubs.specs.Memo.{written_who_reply}
@@ -45,7 +44,7 @@ use Rattle.logon_steps.specs.MemoCalls.{ReplyGoes, RequestGoes, logged_on}
 use Rattle.logon_steps.specs.Turning.{IsTurnReply}
 use Rattle.logon_runs.specs.Seen.LinkScenes.{FitsGiven, given_after, IsJoined, its_link, Meeting, meeting_scene, unit_down, unit_up}
 use Rattle.logon_runs.specs.Scenes.{Shows}
-use Rattle.logon_runs.specs.Seen.TurnScenes.{IsBetween, Turn, dial_scene, turn_scene, unit_back}
+use Rattle.logon_runs.specs.Seen.TurnScenes.{IsBetween, Turn, dial_scene, turn_scene, unit_back, waiting_scene}
 
 -- the controller is at rest, with these accounts and that name, and keeps this of computers
 abbrev pub with_controller : Meeting → AccountTable → List ℕ → Computers → Meeting
@@ -124,11 +123,11 @@ pub record LogonsAreSeen : Type 0 where
       (standing.Open (after_call o (timestamp_of moment))) (after g.number) g.number (logon_call g.caller o (timestamp_of moment) (info_at g.place info)) computers
       (unit_up g sent ∷ []) left moment)
   -- WhoAmI is held, while the turn's dial waits or once it is answered
-  pub held_before : (s : State) (g : Meeting) (t : Turn) (opened : OpenMap) (how : Standing) (next number most call opnum : ℕ) (c : Call) (computers : Computers) (stub : List ℕ)
+  pub held_before : (s : State) (g : Meeting) (t : Turn) (opened : OpenMap) (how : Standing) (next number most call opnum : ℕ) (what : Step) (computers : Computers) (stub : List ℕ)
       (one other : Option SessionState) (goes : RequestGoes most g.task.level call opnum stub one other) (later : List BagUnit) (left : List (List ℕ)) (moment : ℕ) →
       t.at_member ≡ g.at_member → HasOwnLink g opened →
-      Shows s (dial_scene (with_talk g.link (asked_talk (bound_for g.task) t.place []) t) opened how next number c computers (unit_up g goes.sent ∷ later) left moment) →
-      Shows (onward s).state (dial_scene (with_talk g.link (asked_talk (bound_for g.task) t.place (goes.sent ∷ [])) t) opened how next number c computers later left moment)
+      Shows s (waiting_scene (with_talk g.link (asked_talk (bound_for g.task) t.place []) t) opened how next number what computers (unit_up g goes.sent ∷ later) left moment) →
+      Shows (onward s).state (waiting_scene (with_talk g.link (asked_talk (bound_for g.task) t.place (goes.sent ∷ [])) t) opened how next number what computers later left moment)
   pub held_within : (s : State) (g : Meeting) (t : Turn) (next number most call opnum : ℕ) (what : Step) (computers : Computers) (there : LinkMap) (stub : List ℕ)
       (one other : Option SessionState) (goes : RequestGoes most g.task.level call opnum stub one other) (later : List BagUnit) (left : List (List ℕ)) (moment : ℕ) →
       t.at_member ≡ g.at_member → HasOwnLink g t.opened → t.link ≢ g.link →

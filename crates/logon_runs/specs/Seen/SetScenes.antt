@@ -1,11 +1,11 @@
 -- A turn that sets a member's next secret, as it is seen of a scene, from the reply that opens the channel to the dial
 -- of the logon's own turn (MS-NRPC 3.5.4.4.6; C706 12.6.3, 12.6.4).
-use Rattle.std.specs.Prelude.{ℕ, ◌≡◌, ◌<◌, ◌^◌, ◌&&◌, true, false, List, [], ◌∷◌, Some}
+use Rattle.std.specs.Prelude.{ℕ, ◌≡◌, ◌<◌, ◌^◌, ◌&&◌, true, false, List, [], ◌∷◌, Some, Ok}
 use Rattle.std.specs.List.{AllByRecursion}
 use Rattle.ntlm_flags.specs.Flags.{has_flag}
 use Rattle.channel_keys.specs.Flags.{rc4_flag}
 use Rattle.wire_base.specs.Maps.{same_number, take_out}
-use Rattle.authenticators.specs.SecureChannels.{SecureChannelState, after_call, after_return, fresh_channel}
+use Rattle.authenticators.specs.SecureChannels.{SecureChannelState, after_call, fresh_channel}
 use Rattle.outside.specs.declared.action.Action.{Action}
 use Rattle.outside.specs.declared.action.Action.TheVariants as action
 use Rattle.outside.specs.declared.action.CloseCause.{CloseCause}
@@ -16,6 +16,7 @@ use Rattle.rpc_units.specs.Calls.{bytes_of_call}
 use Rattle.rpc_units.specs.Writing.{written}
 use Rattle.logon_stubs.specs.declared.calls.Reply.{Reply}
 use Rattle.logon_stubs.specs.declared.calls.Reply.TheVariants as reply
+use Rattle.secret_change.specs.Ranges.{InRangeSetReply}
 use Rattle.secret_change.specs.Secrets.{alone}
 use Rattle.secret_change.specs.declared.calls.SetCall.{SetCall}
 use Rattle.secret_change.specs.declared.calls.SetReply.{SetReply}
@@ -25,7 +26,7 @@ use Rattle.channel_client.specs.declared.state.SetStep.TheVariants as set_step
 use Rattle.channel_client.specs.declared.state.Standing.TheVariants as standing
 use Rattle.channel_client.specs.declared.state.Step.{Step}
 use Rattle.channel_client.specs.declared.state.Step.TheVariants as step
-use Rattle.channel_client.specs.Machine.{after, change_call, logon_call, offered_flags, server_credential}
+use Rattle.channel_client.specs.Machine.{after, change_call, judge_set, logon_call, offered_flags, server_credential}
 use Rattle.controller_calls.specs.declared.state.Computers.{Computers}
 use Rattle.domain_controller.specs.State.{State as ControllerState}
 use Rattle.domain_controller.specs.Step.{step_of as controller_step_of}
@@ -38,7 +39,7 @@ use Rattle.world_moves.specs.declared.state.State.{State}
 use Rattle.world_moves.specs.Moving.{onward}
 use Rattle.logon_steps.specs.Asking.{info_at}
 use Rattle.logon_steps.specs.ControllerTurns.{controller_at, reply_bytes, turn_link}
-use Rattle.logon_steps.specs.SetTurns.{IsSetTurn, set_reply_bytes, set_request, set_taken}
+use Rattle.logon_steps.specs.SetTurns.{IsSetTurn, set_reply_bytes, set_request}
 use Rattle.logon_steps.specs.Turning.{IsTurnReply, turn_ack}
 use Rattle.logon_runs.specs.Scenes.{HasFirst, IsNoClose, Scene, Shows, with_actions}
 use Rattle.logon_runs.specs.Seen.Turnings.{ClosesTo, shut_in}
@@ -94,10 +95,10 @@ pub record SetsAreSeen : Type 0 where
       Shows s (turn_scene t next number what computers (turn_link t.link) (unit_there t (bytes_of_call (set_request number c) 5840) ∷ []) left moment) →
       Shows (onward s).state (turn_scene (with_accounts accounts t) next number what later (turn_link t.link) (unit_back t (set_reply_bytes number r) ∷ []) rest moment)
   -- the reply takes it: the next secret is the one secret then, and the logon's own turn is dialled
-  pub set : (s : State) (t : Turn) (o : SecureChannelState) (next number timestamp : ℕ) (current new : List ℕ) (computers : Computers) (left : List (List ℕ)) (moment : ℕ) → IsBetween t → number < 2 ^ 32 →
-      t.how ≡ standing.Open (after_call o timestamp) → t.plan.secrets ≡ record { current = current; next = Some (record { secret = new; is_tried = false }) } →
-      let later : SecureChannelState = after_return true (after_call o timestamp) in
-      Shows s (turn_scene t next number (step.Set set_step.Reply) computers (turn_link t.link) (unit_back t (set_reply_bytes number (set_taken o timestamp)) ∷ []) left moment) →
+  pub set : (s : State) (t : Turn) (o later : SecureChannelState) (r : SetReply) (next number : ℕ) (current new : List ℕ) (computers : Computers) (left : List (List ℕ)) (moment : ℕ) → IsBetween t →
+      number < 2 ^ 32 → InRangeSetReply r → t.how ≡ standing.Open o → judge_set r (standing.Open o) ≡ Ok later →
+      t.plan.secrets ≡ record { current = current; next = Some (record { secret = new; is_tried = false }) } →
+      Shows s (turn_scene t next number (step.Set set_step.Reply) computers (turn_link t.link) (unit_back t (set_reply_bytes number r) ∷ []) left moment) →
       Shows (onward s).state
       (dial_scene (with_secrets (alone new) t) (take_out same_number t.link t.opened) (standing.Open (after_call later (timestamp_of moment))) (after next) next
       (logon_call t.caller later (timestamp_of moment) (info_at t.place t.info)) computers [] left moment)
