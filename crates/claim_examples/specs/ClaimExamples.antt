@@ -103,6 +103,7 @@ small_plan = record {
   controllers = codes "PDC" ∷ [];
   members = small_member ∷ [];
   clients = [];
+  hands_on = false;
   now = 0;
   seed = [];
 }

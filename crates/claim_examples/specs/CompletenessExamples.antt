@@ -43,6 +43,7 @@ table_plan table secret hash = record {
   controllers = codes "PDC" ∷ [];
   members = able_member secret ∷ [];
   clients = able_client hash ∷ [];
+  hands_on = false;
   now = 0;
   seed = replicate 32 0;
 }
@@ -137,6 +138,7 @@ lost_plan = record {
   controllers = codes "PDC" ∷ [];
   members = [];
   clients = lost_client ∷ [];
+  hands_on = false;
   now = 0;
   seed = replicate 32 0;
 }

@@ -1,5 +1,7 @@
 -- How a fact is carried through all moves of a run.
 pub mod AllLaws
+pub mod AloneFrameLaws
+pub mod AloneStepLaws
 pub mod BagFrameLaws
 pub mod BagStepLaws
 pub mod BookFrameLaws
@@ -10,15 +12,18 @@ pub mod DrawnRunLaws
 pub mod EndFrameLaws
 pub mod EndNoteLaws
 pub mod EventLaws
+pub mod EveryStepLaws
 pub mod FrameLaws
 pub mod FrontLaws
 pub mod GivenLaws
 pub mod LeftLaws
 pub mod MarkNumberLaws
 pub mod MarkPlaceLaws
+pub mod MarkedLaws
 pub mod MemberFrameLaws
 pub mod MemberPlanLaws
 pub mod MoveFrameLaws
+pub mod MoveKeepLaws
 pub mod NewUnitLaws
 pub mod NoBytesLaws
 pub mod OpenMadeLaws

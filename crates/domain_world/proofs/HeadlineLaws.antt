@@ -22,7 +22,7 @@ use Rattle.domain_world.proofs.Challenges.OwnChallengeLaws.{messages_own}
 use Rattle.domain_world.proofs.Challenges.WrittenDownLaws.{members_written_down}
 use Rattle.domain_world.proofs.Clear.ClearWalkLaws.{none_clashes}
 use Rattle.domain_world.proofs.Completeness.SuccessLaws.{each_succeeds}
-use Rattle.domain_world.proofs.Frames.BagFrameLaws.{each_marked}
+use Rattle.domain_world.proofs.Frames.MarkedLaws.{each_marked}
 use Rattle.domain_world.proofs.Frames.DrawnRunLaws.{draws_are_blocks, draws_differ}
 use Rattle.domain_world.proofs.Judgements.AloneLaws.{tells_of_calls}
 use Rattle.domain_world.proofs.Judgements.GrantLaws.{each_status, grants_who_may}
@@ -49,53 +49,53 @@ pub all_proved : (plan : Plan) (moves : List Move) → Proved plan moves
 all_proved plan moves = record {
   challenges = record { draws = draws_differ plan moves; messages = messages_once plan moves };
   messages = messages_own plan moves (draws_differ plan moves);
-  responses = short_responses plan moves (draws_differ plan moves) (draws_are_blocks plan moves);
+  responses = λ nobody. short_responses plan moves (draws_differ plan moves) (draws_are_blocks plan moves);
   apart = messages_apart plan moves;
-  openings = openings_in_order plan moves;
-  opened = replies_answer_openings plan moves;
-  opened_by = λ schedule calm. replies_to_openings plan moves schedule calm;
-  numbers = λ schedule. schedules_number plan moves schedule;
-  credentials = passes_the_next plan moves;
-  alone = tells_of_calls plan moves;
-  replays = replays_by_sum plan moves;
-  unclashed = passes_unclashed plan moves;
-  grants = grants_who_may plan moves (users_stay plan moves);
-  let_on = grants_by_hash plan moves;
-  statuses = each_status plan moves;
-  tables = tables_follow plan moves;
-  sessions = sessions_follow plan moves;
-  replies = replies_carry plan moves;
-  answered = λ schedule calm. replies_answer plan moves schedule calm;
+  openings = λ nobody. openings_in_order plan moves nobody;
+  opened = λ nobody. replies_answer_openings plan moves nobody;
+  opened_by = λ nobody schedule calm. replies_to_openings plan moves nobody schedule calm;
+  numbers = λ nobody schedule. schedules_number plan moves nobody schedule;
+  credentials = λ nobody. passes_the_next plan moves nobody;
+  alone = λ nobody. tells_of_calls plan moves nobody;
+  replays = λ nobody. replays_by_sum plan moves nobody;
+  unclashed = λ nobody. passes_unclashed plan moves;
+  grants = λ nobody. grants_who_may plan moves nobody (users_stay plan moves nobody);
+  let_on = λ nobody. grants_by_hash plan moves nobody;
+  statuses = λ nobody. each_status plan moves nobody;
+  tables = λ nobody. tables_follow plan moves nobody;
+  sessions = λ nobody. sessions_follow plan moves nobody;
+  replies = λ nobody. replies_carry plan moves nobody;
+  answered = λ nobody schedule calm. replies_answer plan moves nobody schedule calm;
   kept = members_ask plan moves;
   asked = members_ask_for_messages plan moves;
   sends = sends_ask_for_messages plan moves;
   let_in = lets_in_who_asked plan moves;
   written = members_written_down plan moves;
-  names = λ schedule calm. runs_heard.names plan moves (units_heard plan moves schedule) (draws_differ plan moves) calm;
+  names = λ nobody schedule calm. runs_heard.names plan moves nobody (units_heard plan moves nobody schedule) (draws_differ plan moves) calm;
   as_sent = messages_taken plan moves;
   made = messages_of_clients plan moves;
   clients = clients_written plan moves;
-  as_made = messages_made plan moves;
-  only = λ schedule clear. runs_heard.only plan moves (units_heard plan moves schedule) (draws_differ plan moves) clear;
-  all = λ schedule clear. runs_heard.all plan moves (units_heard plan moves schedule) (draws_differ plan moves) clear;
-  keys = λ schedule clear. runs_heard.keys plan moves (units_heard plan moves schedule) (draws_differ plan moves) clear;
-  counts = λ schedule clear. runs_heard.counts plan moves (units_heard plan moves schedule) (draws_differ plan moves) clear;
-  once = λ schedule clear.
+  as_made = λ nobody. messages_made plan moves nobody;
+  only = λ nobody schedule clear. runs_heard.only plan moves nobody (units_heard plan moves nobody schedule) (draws_differ plan moves) clear;
+  all = λ nobody schedule clear. runs_heard.all plan moves nobody (units_heard plan moves nobody schedule) (draws_differ plan moves) clear;
+  keys = λ nobody schedule clear. runs_heard.keys plan moves nobody (units_heard plan moves nobody schedule) (draws_differ plan moves) clear;
+  counts = λ nobody schedule clear. runs_heard.counts plan moves nobody (units_heard plan moves nobody schedule) (draws_differ plan moves) clear;
+  once = λ nobody schedule clear.
       short_let_in (past plan moves) (messages_apart plan moves)
-      (runs_heard.only plan moves (units_heard plan moves schedule) (draws_differ plan moves) clear)
+      (runs_heard.only plan moves nobody (units_heard plan moves nobody schedule) (draws_differ plan moves) clear)
       (short_responses plan moves (draws_differ plan moves) (draws_are_blocks plan moves));
-  one_turn = one_turn plan moves;
-  own = sequences_own plan moves;
-  sequences = λ schedule clear. sequences_shared plan moves schedule clear;
-  called = λ schedule clear. turns_are_called plan moves schedule clear;
+  one_turn = λ nobody. one_turn plan moves nobody;
+  own = λ nobody. sequences_own plan moves nobody;
+  sequences = λ nobody schedule clear. sequences_shared plan moves nobody schedule clear;
+  called = λ nobody schedule clear. turns_are_called plan moves nobody schedule clear;
   marked = each_marked plan moves;
-  ways = marks_have_their_way plan moves;
-  whole = marked_whole plan moves;
-  have_calls = answers_have_calls plan moves;
-  asks_for = λ schedule. (runs_heard.heard plan moves (units_heard plan moves schedule) (draws_differ plan moves)).asks;
-  call_marks = calls_marked plan moves;
-  reply_marks = replies_marked plan moves;
-  opened_marks = openings_marked plan moves;
-  complete = each_succeeds plan moves;
-  one_by_one = none_clashes plan moves;
+  ways = λ nobody. marks_have_their_way plan moves nobody;
+  whole = λ nobody. marked_whole plan moves nobody;
+  have_calls = λ nobody. answers_have_calls plan moves nobody;
+  asks_for = λ nobody schedule. (runs_heard.heard plan moves nobody (units_heard plan moves nobody schedule) (draws_differ plan moves)).asks;
+  call_marks = λ nobody. calls_marked plan moves nobody;
+  reply_marks = λ nobody. replies_marked plan moves nobody;
+  opened_marks = λ nobody. openings_marked plan moves nobody;
+  complete = λ nobody. each_succeeds plan moves nobody;
+  one_by_one = λ nobody. none_clashes plan moves nobody;
 }

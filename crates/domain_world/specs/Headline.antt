@@ -2,6 +2,7 @@
 use Rattle.std.specs.Prelude.{◌≡◌, List, [], ◌++◌, false}
 use Rattle.world_moves.specs.declared.moves.Move.{Move}
 use Rattle.world_moves.specs.declared.plan.Plan.{Plan}
+use Rattle.world_moves.specs.Alone.{HandsNothingOn}
 use Rattle.world_moves.specs.Forms.{IsSchedule}
 use Rattle.world_moves.specs.World.{World, first_world, run}
 use Rattle.domain_world.specs.Accepting.Carried.{MarkedUnitsAreWhole}
@@ -36,76 +37,80 @@ use Rattle.domain_world.specs.Past.{past}
 -- and `opened_by` ask for a schedule besides, and `as_made`, `numbers`, `whole`, `have_calls`, `asks_for`,
 -- `call_marks`, `reply_marks` and `opened_marks` for a schedule alone. `complete` and `one_by_one` ask for logons one
 -- at a time.
+--
+-- A field with the premise `HandsNothingOn` is of plans whose controllers aren't to hand logons on, or whose tables
+-- trust no domain. Of other plans it isn't claimed yet: what is written down of a controller (`ControllerNotes`) is
+-- what one does that hands nothing on.
 pub record Proved (plan : Plan) (moves : List Move) : Type 0 where
   -- challenges, and the messages that are made for them
   pub challenges : ChallengesServeOnce (past plan moves)
   pub messages : MessagesHaveOwnChallenges (past plan moves)
-  pub responses : ShortResponsesServeOnce (past plan moves)
+  pub responses : HandsNothingOn plan → ShortResponsesServeOnce (past plan moves)
   pub apart : MessagesAreApart (past plan moves)
   -- which channels controllers accept and keep, and by which replies
-  pub openings : OpeningsAreInOrder (past plan moves)
-  pub opened : RepliesAnswerOpenings (past plan moves)
+  pub openings : HandsNothingOn plan → OpeningsAreInOrder (past plan moves)
+  pub opened : HandsNothingOn plan → RepliesAnswerOpenings (past plan moves)
   -- each reply that accepts an opening is to one of its channel, with its number, accepted at the step that sent it
-  pub opened_by : IsSchedule plan moves → (past plan moves).book.clash ≡ false → RepliesAreToOpenings (past plan moves)
+  pub opened_by : HandsNothingOn plan → IsSchedule plan moves → (past plan moves).book.clash ≡ false → RepliesAreToOpenings (past plan moves)
   -- openings and calls on a channel have different numbers
-  pub numbers : IsSchedule plan moves → RequestsHaveNumbers (past plan moves)
+  pub numbers : HandsNothingOn plan → IsSchedule plan moves → RequestsHaveNumbers (past plan moves)
   -- what controllers judge, grant and answer
-  pub credentials : PassesTheNextCredential (past plan moves)
-  pub alone : TellsOfCallsAlone (past plan moves)
-  pub replays : ReplaysBySum (past plan moves)
-  pub unclashed : PassesAreUnclashed (past plan moves)
-  pub grants : GrantsWhoMayLogOn (past plan moves)
-  pub let_on : GrantsWhoseHashIsStored (past plan moves)
-  pub statuses : StatusesAreTold (past plan moves)
-  pub tables : TablesFollowVerdicts (past plan moves)
-  pub sessions : SessionsFollow (past plan moves) (renewals moves (first_world plan) [])
-  pub replies : RepliesCarryTheirJudgement (past plan moves)
-  pub answered : IsSchedule plan moves → (past plan moves).book.clash ≡ false → RepliesAnswerCalls (past plan moves)
+  pub credentials : HandsNothingOn plan → PassesTheNextCredential (past plan moves)
+  pub alone : HandsNothingOn plan → TellsOfCallsAlone (past plan moves)
+  pub replays : HandsNothingOn plan → ReplaysBySum (past plan moves)
+  pub unclashed : HandsNothingOn plan → PassesAreUnclashed (past plan moves)
+  pub grants : HandsNothingOn plan → GrantsWhoMayLogOn (past plan moves)
+  pub let_on : HandsNothingOn plan → GrantsWhoseHashIsStored (past plan moves)
+  pub statuses : HandsNothingOn plan → StatusesAreTold (past plan moves)
+  pub tables : HandsNothingOn plan → TablesFollowVerdicts (past plan moves)
+  pub sessions : HandsNothingOn plan → SessionsFollow (past plan moves) (renewals moves (first_world plan) [])
+  pub replies : HandsNothingOn plan → RepliesCarryTheirJudgement (past plan moves)
+  pub answered : HandsNothingOn plan → IsSchedule plan moves → (past plan moves).book.clash ≡ false → RepliesAnswerCalls (past plan moves)
   -- what members ask, and whom they let in
   pub kept : MembersAskForKept (past plan moves)
   pub asked : MembersAskForMessages (past plan moves)
   pub sends : SendsAskForMessages (past plan moves)
   pub let_in : LetsInWhoAsked (past plan moves)
   pub written : MembersAreWrittenDown (past plan moves)
-  pub names : IsSchedule plan moves → (past plan moves).book.clash ≡ false → LetsInByName (past plan moves)
+  pub names : HandsNothingOn plan → IsSchedule plan moves → (past plan moves).book.clash ≡ false → LetsInByName (past plan moves)
   -- what a member keeps with a message is read of the bytes that are written down, of it and of its link's CHALLENGE
   pub as_sent : MessagesAreTakenAsSent (past plan moves)
   -- what clients make, and keep
   pub made : MessagesAreOfTheirClients (past plan moves)
   pub clients : ClientsAreWrittenDown (past plan moves)
   -- and each message that a client made is the answer of its plan to the CHALLENGE that is written down with it
-  pub as_made : IsSchedule plan moves → MessagesAreMade (past plan moves)
+  pub as_made : HandsNothingOn plan → IsSchedule plan moves → MessagesAreMade (past plan moves)
   -- a member accepts exactly what its controller granted, client and member hold one key, a call raises a count of bad
   -- passwords at most once, and a response of 24 bytes lets in once
-  pub only : IsSchedule plan moves → IsClear (past plan moves).book → AcceptsOnlyGranted (past plan moves)
-  pub all : IsSchedule plan moves → IsClear (past plan moves).book → AcceptsAllGranted (past plan moves)
-  pub keys : IsSchedule plan moves → IsClear (past plan moves).book → KeysAgree (past plan moves)
-  pub counts : IsSchedule plan moves → IsClear (past plan moves).book → EachCallRaisesOnce (past plan moves)
-  pub once : IsSchedule plan moves → IsClear (past plan moves).book → ShortResponsesLetInOnce (past plan moves)
+  pub only : HandsNothingOn plan → IsSchedule plan moves → IsClear (past plan moves).book → AcceptsOnlyGranted (past plan moves)
+  pub all : HandsNothingOn plan → IsSchedule plan moves → IsClear (past plan moves).book → AcceptsAllGranted (past plan moves)
+  pub keys : HandsNothingOn plan → IsSchedule plan moves → IsClear (past plan moves).book → KeysAgree (past plan moves)
+  pub counts : HandsNothingOn plan → IsSchedule plan moves → IsClear (past plan moves).book → EachCallRaisesOnce (past plan moves)
+  pub once : HandsNothingOn plan → IsSchedule plan moves → IsClear (past plan moves).book → ShortResponsesLetInOnce (past plan moves)
   -- at most one turn is out at a member, and its channel's seed is moved by its turns; the ends of a channel share its
   -- sequence, and the calls on it are those of its turns, of which each that ended passed
-  pub one_turn : OneTurnIsOut (past plan moves)
-  pub own : SequencesAreOwn (past plan moves)
-  pub sequences : IsSchedule plan moves → IsClear (past plan moves).book → SequencesAreShared (past plan moves)
-  pub called : IsSchedule plan moves → IsClear (past plan moves).book → TurnsAreCalled (past plan moves)
+  pub one_turn : HandsNothingOn plan → OneTurnIsOut (past plan moves)
+  pub own : HandsNothingOn plan → SequencesAreOwn (past plan moves)
+  pub sequences : HandsNothingOn plan → IsSchedule plan moves → IsClear (past plan moves).book → SequencesAreShared (past plan moves)
+  pub called : HandsNothingOn plan → IsSchedule plan moves → IsClear (past plan moves).book → TurnsAreCalled (past plan moves)
   -- the units of the bag, and which way they go
   pub marked : EachUnitIsMarked (past plan moves)
-  pub ways : MarksHaveTheirWay (past plan moves)
+  pub ways : HandsNothingOn plan → MarksHaveTheirWay (past plan moves)
   -- each that was made for a channel is one whole unit, and has the number of its mark
-  pub whole : IsSchedule plan moves → MarkedUnitsAreWhole (past plan moves)
+  pub whole : HandsNothingOn plan → IsSchedule plan moves → MarkedUnitsAreWhole (past plan moves)
   -- A message whose answer was taken has a call. What was judged in the unit of a message's call is a network logon
   -- that asks what the message asks.
-  pub have_calls : IsSchedule plan moves → AnswersHaveCalls (past plan moves)
-  pub asks_for : IsSchedule plan moves → CallsAskForMessages (past plan moves)
+  pub have_calls : HandsNothingOn plan → IsSchedule plan moves → AnswersHaveCalls (past plan moves)
+  pub asks_for : HandsNothingOn plan → IsSchedule plan moves → CallsAskForMessages (past plan moves)
   -- The call of each message is marked as one. The reply to a call that passed, or to an opening that was accepted, is
   -- marked as that.
-  pub call_marks : IsSchedule plan moves → CallsAreMarked (past plan moves)
-  pub reply_marks : IsSchedule plan moves → RepliesAreMarked (past plan moves)
-  pub opened_marks : IsSchedule plan moves → OpeningsAreMarked (past plan moves)
+  pub call_marks : HandsNothingOn plan → IsSchedule plan moves → CallsAreMarked (past plan moves)
+  pub reply_marks : HandsNothingOn plan → IsSchedule plan moves → RepliesAreMarked (past plan moves)
+  pub opened_marks : HandsNothingOn plan → IsSchedule plan moves → OpeningsAreMarked (past plan moves)
   -- Logons that come one at a time succeed where they can, at members that have their own computers. Whatever they come
   -- to, no credential clashes at members that have their accounts' secrets, if they have accounts, and their own names.
-  pub complete : EachSucceeds (past plan moves) moves
-  pub one_by_one : NoneClashes (past plan moves) moves
+  pub complete : HandsNothingOn plan → EachSucceeds (past plan moves) moves
+  pub one_by_one : HandsNothingOn plan → NoneClashes (past plan moves) moves
 
 -- What is claimed of each schedule: a plan of which a world can be made, with the forms of its types, and at most
 -- 100,000 moves that it can make.

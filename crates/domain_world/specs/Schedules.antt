@@ -2,8 +2,9 @@
 use Rattle.std.specs.Prelude.{List}
 use Rattle.world_moves.specs.declared.moves.Move.{Move}
 use Rattle.world_moves.specs.declared.plan.Plan.{Plan}
+use Rattle.world_moves.specs.Alone.{HandsNothingOn}
 use Rattle.world_moves.specs.Forms.{IsSchedule}
 
--- a fact of every schedule
+-- a fact of every schedule of a plan that hands nothing on
 abbrev pub OfSchedules : (Plan → List Move → Type 0) → Type 0
-OfSchedules Holds = (plan : Plan) (moves : List Move) → IsSchedule plan moves → Holds plan moves
+OfSchedules Holds = (plan : Plan) (moves : List Move) → HandsNothingOn plan → IsSchedule plan moves → Holds plan moves

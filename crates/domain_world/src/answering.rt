@@ -1,11 +1,11 @@
-//! What a run's answers rest on.
+//! What a run's answers rest on. What looks at controllers is said of plans that hand nothing on.
 
 ghost use Rattle.std.specs.Prelude.{List};
 ghost use Rattle.world_moves.specs.declared.moves.Move.{Move};
 ghost use Rattle.world_moves.specs.declared.plan.Plan.{Plan};
+ghost use Rattle.world_moves.specs.Alone.{HandsNothingOn};
 ghost use Rattle.world_moves.specs.Bag.{AreShortUnits, HaveBytes};
 ghost use Rattle.world_moves.specs.Draws.{DrawsAreBlocks, DrawsDiffer};
-ghost use Rattle.world_moves.specs.Forms.{IsSchedule};
 ghost use Rattle.world_moves.specs.World.{first_world, run};
 ghost use Rattle.domain_world.specs.Accepting.Answered.{AnswersAreHeard, IsProved};
 ghost use Rattle.domain_world.specs.Accepting.Carried.{CarriedCallsAreHeard, JudgedAsCarried, MarkedUnitsAreWhole, MessagesAreCalled};
@@ -32,8 +32,8 @@ pub fn what_is_heard_is_accepted()
 
 /// In every run whose draws differ what is proved of runs holds.
 pub fn runs_are_proved()
-    ensures { (plan : Plan) (moves : List Move) → DrawsDiffer (past plan moves).world →
-        IsProved (past plan moves) }
+    ensures { (plan : Plan) (moves : List Move) → HandsNothingOn plan →
+        DrawsDiffer (past plan moves).world → IsProved (past plan moves) }
 {}
 
 /// Three of the premises of the claims on answers follow from what is said of single units and messages: units are
@@ -75,8 +75,7 @@ pub fn runs_begin()
 /// is read again as it was made.
 #[tactic(auto, using(crate::proofs::Accepting::Messages::MessageMadeLaws::messages_made))]
 pub fn messages_are_made()
-    ensures { (plan : Plan) (moves : List Move) → IsSchedule plan moves →
-        MessagesAreMade (past plan moves) }
+    ensures { OfSchedules (λ plan moves. MessagesAreMade (past plan moves)) }
 {}
 
 /// In every run a member keeps the AUTHENTICATE that it read, the challenge of the one CHALLENGE that it sent on the

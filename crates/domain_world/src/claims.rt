@@ -27,7 +27,8 @@ pub fn links_reach_the_named()
     ensures { LinksReachTheNamed }
 {}
 
-/// All that is proved of runs holds of the run of every list of moves from any plan.
+/// All that is proved of runs holds of the run of every list of moves from any plan. What most fields say is of plans
+/// that hand nothing on: their controllers aren't to, or their tables trust no domain.
 pub fn claims_hold_of_runs()
     ensures { (plan : Plan) (moves : List Move) → Proved plan moves }
 {}

@@ -42,7 +42,8 @@ fn put_client(alloc: Global, plan: &mut Plan, parts: &[&str]) -> anyhow::Result<
     Ok(())
 }
 
-/// Puts what these parts say of a plan, where they do: an end, or the moment as `now MOMENT`.
+/// Puts what these parts say of a plan, where they do: an end, the moment as `now MOMENT`, or `trusting`, that its
+/// controllers hand logons on.
 fn put_parts(alloc: Global, plan: &mut Plan, parts: &[&str]) -> anyhow::Result<()> {
     match word(parts, 0) {
         "controller" => put_controller(alloc, plan, parts),
@@ -50,6 +51,10 @@ fn put_parts(alloc: Global, plan: &mut Plan, parts: &[&str]) -> anyhow::Result<(
         "client" => put_client(alloc, plan, parts),
         "now" => {
             plan.now = number64(word(parts, 1))?;
+            Ok(())
+        }
+        "trusting" => {
+            plan.hands_on = true;
             Ok(())
         }
         _ => Ok(()),
@@ -62,13 +67,14 @@ fn put_word(alloc: Global, plan: &mut Plan, word: &str) -> anyhow::Result<()> {
     put_parts(alloc, plan, &parts)
 }
 
-/// A plan without ends, at the moment 0, of which the seed is 32 zeros.
+/// A plan without ends, at the moment 0, of which the seed is 32 zeros. Its controllers hand nothing on.
 fn empty_plan(alloc: Global) -> Plan {
     Plan {
         tables: Tables::new(alloc),
         controllers: Names::new(alloc),
         members: MemberPlans::new(alloc),
         clients: ClientPlans::new(alloc),
+        hands_on: false,
         now: 0,
         seed: [0; 32],
     }

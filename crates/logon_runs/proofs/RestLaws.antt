@@ -24,6 +24,7 @@ use Rattle.member_server.specs.declared.plan.MemberPlan.{MemberPlan}
 use Rattle.member_server.specs.Machine.{fresh_member}
 use Rattle.world_moves.specs.declared.plan.Plan.{Plan}
 use Rattle.world_moves.specs.declared.state.State.{State}
+use Rattle.world_moves.specs.Alone.{HandsNothingOn, TrustsNobody}
 use Rattle.world_moves.specs.Choosing.{chosen_place}
 use Rattle.world_moves.specs.Forms.{HasForms, IsMemberPlan, IsTable}
 use Rattle.world_moves.specs.Moving.{start}
@@ -38,7 +39,7 @@ use Rattle.logon_runs.specs.Runs.{StandsInStep}
 use Rattle.logon_runs.specs.Failing.TurnedAway.{HasEnded, Settled, settled_in}
 use Rattle.logon_runs.specs.Any.AnyPhases.{IsAble, IsOwn, KeepsInStep, KnowsComputer, MayStand}
 use Rattle.logon_runs.specs.Any.AnyStarts.{AreThree, coming_from}
-use Rattle.logon_runs.proofs.First.FirstWorldLaws.{at_place, got_controller, got_mapped, item_has}
+use Rattle.logon_runs.proofs.First.FirstWorldLaws.{at_place, each_has, got_controller, got_mapped, item_has}
 use Rattle.logon_runs.proofs.Phases.PhaseLaws.{kind_so, phases_go_on}
 use Rattle.logon_runs.proofs.Any.AnyBeginLaws.{IsStated, able_so, begins_seen, knows_computer, next_form, rests_seen, stands_stated}
 use Rattle.logon_runs.proofs.Failing.TurnedAwayLaws.{nothing_not_open}
@@ -60,8 +61,8 @@ half_not_open one other o is = absurd cc
 
 -- ---- the first world
 
-first_so : (plan : Plan) → IsPlan plan → HasForms plan → AtRest plan (first_world plan).state
-first_so plan is forms = record {
+first_so : (plan : Plan) → IsPlan plan → HasForms plan → HandsNothingOn plan → AtRest plan (first_world plan).state
+first_so plan is forms none = record {
   opened = refl;
   dials = refl;
   units = refl;
@@ -76,7 +77,8 @@ first_so plan is forms = record {
         users = λ user account found kind. record { count = account.bad_count; found = found };
         ranged = table_in_range planned (item_has IsTable plan.tables at planned forms.tables is_table);
         computers = record { pending = []; channels = []; sessions = [] };
-        rests = got_controller plan.tables plan.controllers at planned named.item is_table named.is;
+        rests = got_controller plan.hands_on plan.tables plan.controllers at planned named.item is_table named.is
+            (each_has (TrustsNobody plan.hands_on) plan.tables at planned none is_table);
       };
   members = λ at member is_plan. record {
     secrets = member.secrets;
@@ -96,7 +98,8 @@ first_so plan is forms = record {
           table = planned;
           name = named.item;
           computers = record { pending = []; channels = []; sessions = [] };
-          rests = got_controller plan.tables plan.controllers controller planned named.item is_table named.is;
+          rests = got_controller plan.hands_on plan.tables plan.controllers controller planned named.item is_table named.is
+              (each_has (TrustsNobody plan.hands_on) plan.tables controller planned none is_table);
           fits = is_own.secret planned is_table;
         };
   };

@@ -10,6 +10,7 @@ use Rattle.outside.specs.declared.event.Event.TheVariants as event
 use Rattle.outside.specs.Machine.{whole_step}
 use Rattle.domain_controller.specs.State.{State as ControllerState}
 use Rattle.domain_controller.specs.Step.{step_of as controller_step_of}
+use Rattle.domain_controller.specs.Trusting.{no_trusting}
 use Rattle.logon_client.specs.State.{State as ClientState}
 use Rattle.logon_client.specs.Machine.{step_of as client_step_of}
 use Rattle.member_server.specs.State.{State as MemberState}
@@ -49,6 +50,8 @@ pub record Shows (s : State) (v : Scene) : Type 0 where
   pub client : slice_get s.ends.clients v.at_client ≡ Some v.client
   pub member : slice_get s.ends.members v.at_member ≡ Some v.member
   pub controller : slice_get s.ends.controllers v.at_controller ≡ Some v.controller
+  -- which asks no controller of a trusted domain
+  pub alone : v.controller.trusting ≡ no_trusting
   pub links : s.links ≡ v.links
   pub opened : s.open_links ≡ v.opened
   pub units : waiting s.bag ≡ v.units

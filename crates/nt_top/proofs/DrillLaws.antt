@@ -21,6 +21,7 @@ use Rattle.domain_world.specs.Generator.{Making, made, move_by, moves_of, next_s
 use Rattle.domain_world.specs.Headline.{Proved}
 use Rattle.domain_world.specs.World.{IsMove, IsPlan, report_of_run}
 use Rattle.world_moves.specs.Forms.{IsSchedule}
+use Rattle.world_moves.proofs.AloneLaws.{plain_plan}
 use Rattle.world_moves.specs.declared.counting.Report.{Report}
 use Rattle.world_moves.specs.declared.moves.Move.{Move}
 use Rattle.world_moves.specs.declared.plan.Plan.{Plan}
@@ -112,6 +113,7 @@ pub drill_proved : {V E : Type 0} (number count : ℕ) (moves : List Move) (plan
     IsSchedule plan moves → Proved plan moves → OnOk result (IsProvedDrill number count)
 drill_proved number count moves plan (Ok lines) made planned schedule proved = record {
   schedule = subst (λ (p : Plan). IsSchedule p (moves_of count number)) planned (subst (IsSchedule plan) made schedule);
+  nobody = plain_plan drill_plan refl;
   proved = subst (λ (p : Plan). Proved p (moves_of count number)) planned (subst (Proved plan) made proved);
 }
 drill_proved number count moves plan (Err why) made planned schedule proved = tt

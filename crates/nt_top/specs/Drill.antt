@@ -13,6 +13,7 @@ use Rattle.logon_client.specs.declared.plan.ClientPlan.{ClientPlan}
 use Rattle.member_server.specs.declared.plan.MemberPlan.{MemberPlan}
 use Rattle.secret_change.specs.Secrets.{alone}
 use Rattle.domain_world.specs.Generator.{moves_of}
+use Rattle.world_moves.specs.Alone.{HandsNothingOn}
 use Rattle.domain_world.specs.Headline.{Proved}
 use Rattle.domain_world.specs.World.{report_of_run}
 use Rattle.world_moves.specs.Forms.{IsSchedule}
@@ -84,6 +85,7 @@ drill_plan = record {
   controllers = codes "PDC" ∷ [];
   members = drill_members;
   clients = drill_clients;
+  hands_on = false;
   now = 125911584000000000;
   seed = replicate 32 0;
 }
@@ -104,9 +106,10 @@ unfoldable pub drill_text : ℕ → ℕ → List ℕ
 drill_text number count = report_text (report_of_run drill_plan (moves_of count number))
 
 -- All that is proved of runs holds of the run of so many moves of the number. The drill's plan and its moves are a
--- schedule.
+-- schedule, and its controllers hand nothing on.
 pub record IsProvedDrill (number count : ℕ) : Type 0 where
   pub schedule : IsSchedule drill_plan (moves_of count number)
+  pub nobody : HandsNothingOn drill_plan
   pub proved : Proved drill_plan (moves_of count number)
 
 -- what the command comes to: all of these lines

@@ -104,6 +104,7 @@ fn drill_plan(alloc: Global) -> Result<Plan, NoMemory>
         controllers,
         members: drill_members(alloc)?,
         clients: drill_clients(alloc)?,
+        hands_on: false,
         now: 125911584000000000,
         seed: [0; 32],
     })

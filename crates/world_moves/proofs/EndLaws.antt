@@ -1,6 +1,6 @@
 -- The step of an end of a world.
 -- It serves `Ends::put_member`, `Ends::renew_controller`, `Ends::step_client` and 3 more.
-use Rattle.std.proofs.Common.{◌≡◌, ℕ, zero, suc, ◌<◌, Bool, false, List, [], ◌∷◌, ◌++◌, Err, length, get_or, All, inl, inr, Some, slice_get, slice_set, refl, ap, sym, subst, ◌∙◌, arith}
+use Rattle.std.proofs.Common.{◌≡◌, ℕ, zero, suc, ◌<◌, Bool, true, false, List, [], ◌∷◌, ◌++◌, Err, length, get_or, All, inl, inr, Some, slice_get, slice_set, refl, ap, sym, subst, ◌∙◌, arith}
 use Rattle.std.specs.List.{insert, remove}
 use Rattle.std.proofs.lemmas.Option.{get_or_from_slice_get, slice_get_cases}
 use Rattle.std.proofs.lemmas.List.{length-set}
@@ -13,13 +13,14 @@ use Rattle.outside.specs.declared.action.StepRefused.TheVariants as refused
 use Rattle.outside.specs.declared.event.Event.{Event}
 use Rattle.account_table.specs.AccountTable.{AccountTable}
 use Rattle.domain_controller.specs.State.{State as ControllerState}
-use Rattle.domain_controller.specs.Step.{first_state, step_of as controller_step_of}
+use Rattle.domain_controller.specs.Step.{is_stopped as controller_is_stopped}
+use Rattle.domain_controller.specs.TrustStep.{trust_step_of as controller_step_of}
 use Rattle.logon_client.specs.State.{State as ClientState}
 use Rattle.logon_client.specs.Machine.{step_of as client_step_of}
 use Rattle.member_server.specs.State.{State as MemberState}
 use Rattle.member_server.specs.Machine.{is_stopped as member_is_stopped, step_of as member_step_of}
-use Rattle.world_moves.specs.Ends.{EndStates, client_done, client_step, controller_done, controller_step, drawn_on, end_done, member_done, member_step, renew_controller}
-use Rattle.world_moves.specs.Running.{CanStep, RunsAlone}
+use Rattle.world_moves.specs.Ends.{EndStates, client_done, client_step, controller_done, controller_step, drawn_on, end_done, fresh_controller, member_done, member_step, renew_controller}
+use Rattle.world_moves.specs.Running.{CanStep}
 use Rattle.world_moves.specs.declared.links.EndId.TheVariants.{Controller, Member, Client}
 
 same_drawing : (one other : Drawing) → one.seed ≡ other.seed → one.boot ≡ other.boot → one.drawn ≡ other.drawn → one.left ≡ other.left → one ≡ other
@@ -80,28 +81,38 @@ put_back (first ∷ items) (suc at) item lt = ap (λ rest. first ∷ rest) (put_
 
 -- ---- a controller that is made anew
 
-abbrev pub Renews : List ControllerState → ℕ → List ControllerState → Type 0
-Renews controllers at after = (old : ControllerState) → slice_get controllers at ≡ Some old → after ≡ slice_set controllers at (first_state old.table old.name)
+abbrev pub Renews : Bool → List ControllerState → ℕ → List ControllerState → Type 0
+Renews hands_on controllers at after =
+    (old : ControllerState) → slice_get controllers at ≡ Some old → after ≡ slice_set controllers at (fresh_controller hands_on old.table old.name)
+
+pub fresh_runs : (hands_on : Bool) (table : AccountTable) (name : List ℕ) → controller_is_stopped (fresh_controller hands_on table name) ≡ false
+fresh_runs false table name = refl
+fresh_runs true table name = refl
+
+abbrev AllRun : List ControllerState → Type 0
+AllRun controllers = All (λ (c : ControllerState). controller_is_stopped c ≡ false) controllers
 
 -- what is taken out, made anew and put back
-pub renews_at : (all rest after : List ControllerState) (at : ℕ) (taken new : ControllerState) (table : AccountTable) (name : List ℕ) → at < length all →
-    taken ≡ get_or all at taken → rest ≡ remove all at → table ≡ taken.table → name ≡ taken.name → new ≡ first_state table name → after ≡ insert rest at new → Renews all at after
-renews_at all rest after at taken new table name lt read left its_table its_name is behind = λ old there.
+pub renews_at : (hands_on : Bool) (all rest after : List ControllerState) (at : ℕ) (taken new : ControllerState) (table : AccountTable) (name : List ℕ) → at < length all →
+    taken ≡ get_or all at taken → rest ≡ remove all at → table ≡ taken.table → name ≡ taken.name → new ≡ fresh_controller hands_on table name → after ≡ insert rest at new → Renews hands_on all at after
+renews_at hands_on all rest after at taken new table name lt read left its_table its_name is behind = λ old there.
     let same : taken ≡ old = read ∙ get_or_from_slice_get all at old taken there in
-    let made : new ≡ first_state old.table old.name =
-    is ∙ ap (λ t. first_state t name) its_table ∙ ap (λ n. first_state taken.table n) its_name ∙ ap (λ (s : ControllerState). first_state s.table s.name) same in
+    let made : new ≡ fresh_controller hands_on old.table old.name =
+    is ∙ ap (λ t. fresh_controller hands_on t name) its_table ∙ ap (λ n. fresh_controller hands_on taken.table n) its_name
+    ∙ ap (λ (s : ControllerState). fresh_controller hands_on s.table s.name) same in
     behind ∙ ap (λ (left : List ControllerState). insert left at new) left ∙ put_back all at new lt ∙ ap (λ (s : ControllerState). slice_set all at s) made
 
-pub renewed_run : (gave_up : Bool) (controllers after : List ControllerState) (members : List MemberState) (clients : List ClientState) (at : ℕ) → at < length controllers →
-    Renews controllers at after → CanStep gave_up controllers members clients → CanStep gave_up after members clients
-renewed_run gave_up controllers after members clients at lt renews can = elim (slice_get_cases controllers at).1 [
-  | inl found ↦ (let is : after ≡ slice_set controllers at (first_state found.0.table found.0.name) = renews found.0 found.2 in
-      let size : length after ≡ length controllers = ap length is ∙ length-set controllers at (first_state found.0.table found.0.name) in
+pub renewed_run : (hands_on gave_up : Bool) (controllers after : List ControllerState) (members : List MemberState) (clients : List ClientState) (at : ℕ) → at < length controllers →
+    Renews hands_on controllers at after → CanStep gave_up controllers members clients → CanStep gave_up after members clients
+renewed_run hands_on gave_up controllers after members clients at lt renews can = elim (slice_get_cases controllers at).1 [
+  | inl found ↦ (let new : ControllerState = fresh_controller hands_on found.0.table found.0.name in
+      let is : after ≡ slice_set controllers at new = renews found.0 found.2 in
+      let size : length after ≡ length controllers = ap length is ∙ length-set controllers at new in
       record {
         few = omega (arith, can.few, size);
         running = λ goes_on. record {
-          each_controller = subst (λ (all : List ControllerState). All RunsAlone all) (sym is)
-              (All-set RunsAlone controllers at (first_state found.0.table found.0.name) (record { runs = refl; asks_nobody = refl }) (can.running goes_on).each_controller);
+          each_controller = subst AllRun (sym is)
+              (All-set (λ (c : ControllerState). controller_is_stopped c ≡ false) controllers at new (fresh_runs hands_on found.0.table found.0.name) (can.running goes_on).each_controller);
           each_member = (can.running goes_on).each_member;
           each_client = (can.running goes_on).each_client;
           few = omega (arith, can.few, size);
@@ -116,17 +127,17 @@ pub none_run : (gave_up : Bool) (controllers none : List ControllerState) (membe
 none_run gave_up controllers none members clients is can = record {
   few = omega (arith, can.few, ap length is);
   running = λ goes_on. record {
-    each_controller = subst (λ (all : List ControllerState). All RunsAlone all) (sym is) (All-nil RunsAlone);
+    each_controller = subst AllRun (sym is) (All-nil (λ (c : ControllerState). controller_is_stopped c ≡ false));
     each_member = (can.running goes_on).each_member;
     each_client = (can.running goes_on).each_client;
     few = omega (arith, can.few, ap length is);
   };
 }
 
-pub renewed_is : (ends : EndStates) (after : List ControllerState) (at : ℕ) → at < length ends.controllers → Renews ends.controllers at after →
-    record ends { controllers = after } ≡ renew_controller (slice_get ends.controllers at) at ends
-renewed_is ends after at lt renews = elim (slice_get_cases ends.controllers at).1 [
-  | inl found ↦ ap (λ (all : List ControllerState). record ends { controllers = all }) (renews found.0 found.2) ∙ sym (ap (λ o. renew_controller o at ends) found.2)
+pub renewed_is : (hands_on : Bool) (ends : EndStates) (after : List ControllerState) (at : ℕ) → at < length ends.controllers → Renews hands_on ends.controllers at after →
+    record ends { controllers = after } ≡ renew_controller hands_on (slice_get ends.controllers at) at ends
+renewed_is hands_on ends after at lt renews = elim (slice_get_cases ends.controllers at).1 [
+  | inl found ↦ ap (λ (all : List ControllerState). record ends { controllers = all }) (renews found.0 found.2) ∙ sym (ap (λ o. renew_controller hands_on o at ends) found.2)
   | inr none ↦ absurd (omega arith)
 ]
 

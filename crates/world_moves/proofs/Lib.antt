@@ -1,3 +1,4 @@
+pub mod AloneLaws
 pub mod AskingLaws
 pub mod BagLaws
 pub mod BoundLaws

@@ -1,13 +1,15 @@
 -- The ends of a world, and one step of one of them (this project's own choice). Ends are numbered from 0: controllers,
 -- then members, then clients.
-use Rattle.std.specs.Prelude.{ℕ, ◌≡◌, ◌+◌, ◌-◌, ◌++◌, nat_lt, List, [], length, Option, Some, None, Result, Ok, Err, slice_get, slice_set, if◌then◌else◌}
+use Rattle.std.specs.Prelude.{ℕ, ◌≡◌, ◌+◌, ◌-◌, ◌++◌, nat_lt, Bool, true, false, List, [], length, Option, Some, None, Result, Ok, Err, slice_get, slice_set, if◌then◌else◌}
 use Rattle.outside.specs.Drawing.{Drawing}
 use Rattle.outside.specs.Machine.{Stepped}
 use Rattle.outside.specs.declared.action.Action.{Action}
 use Rattle.outside.specs.declared.action.StepRefused.{StepRefused}
 use Rattle.outside.specs.declared.event.Event.{Event}
+use Rattle.account_table.specs.AccountTable.{AccountTable}
 use Rattle.domain_controller.specs.State.{State as ControllerState}
-use Rattle.domain_controller.specs.Step.{first_state, step_of as controller_step_of}
+use Rattle.domain_controller.specs.Step.{first_state}
+use Rattle.domain_controller.specs.TrustStep.{first_trust_state, trust_step_of as controller_step_of}
 use Rattle.logon_client.specs.State.{State as ClientState}
 use Rattle.logon_client.specs.Machine.{fresh_client, step_of as client_step_of}
 use Rattle.logon_client.specs.declared.plan.ClientPlan.{ClientPlan}
@@ -109,11 +111,17 @@ end_step (Client at) what now ends chances = client_step (slice_get ends.clients
 
 -- ---- ends that are made anew
 
+-- a controller of that name over these accounts, which hands logons on to the controllers of trusted domains or asks
+-- nobody
+abbrev pub fresh_controller : (hands_on : Bool) → AccountTable → List ℕ → ControllerState
+fresh_controller false table name = first_state table name
+fresh_controller true table name = first_trust_state table name
+
 -- a controller keeps its accounts as they stand, and its name
-abbrev pub renew_controller : Option ControllerState → ℕ → EndStates → EndStates
-renew_controller None at ends = ends
-renew_controller (Some c) at ends =
-    record ends { controllers = slice_set ends.controllers at (first_state c.table c.name) }
+abbrev pub renew_controller : (hands_on : Bool) → Option ControllerState → ℕ → EndStates → EndStates
+renew_controller hands_on None at ends = ends
+renew_controller hands_on (Some c) at ends =
+    record ends { controllers = slice_set ends.controllers at (fresh_controller hands_on c.table c.name) }
 
 -- members and clients are made from their plans
 abbrev pub with_member : ℕ → MemberState → EndStates → EndStates

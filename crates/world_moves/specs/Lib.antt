@@ -1,4 +1,5 @@
 pub mod Acting
+pub mod Alone
 pub mod Bag
 pub mod Bounds
 pub mod Choosing

@@ -6,7 +6,7 @@ use Rattle.world_moves.specs.declared.links.LinkKind.{LinkKind}
 use Rattle.world_moves.specs.declared.links.LinkKind.TheVariants as kind
 use Rattle.world_moves.specs.declared.links.OpenLink.{OpenLink}
 use Rattle.world_moves.specs.declared.links.Route.{Route}
-use Rattle.world_moves.specs.declared.links.Route.TheVariants.{ToMember, ToController, Stranger}
+use Rattle.world_moves.specs.declared.links.Route.TheVariants.{ToMember, ToController, Between, Stranger}
 use Rattle.world_moves.specs.Choosing.{places}
 
 -- ---- ends and kinds
@@ -20,6 +20,7 @@ same_end _ _ = false
 abbrev pub same_kind : LinkKind → LinkKind → Bool
 same_kind kind.ToMember kind.ToMember = true
 same_kind kind.ToController kind.ToController = true
+same_kind kind.Between kind.Between = true
 same_kind kind.Stranger kind.Stranger = true
 same_kind _ _ = false
 
@@ -39,18 +40,21 @@ is_handed_kind _ = false
 abbrev pub kind_of : Route → LinkKind
 kind_of (ToMember client member) = kind.ToMember
 kind_of (ToController member controller) = kind.ToController
+kind_of (Between from to) = kind.Between
 kind_of (Stranger to) = kind.Stranger
 
 -- the end that dialled it; none of this world where it is a stranger's
 abbrev pub dialler_of : Route → Option EndId
 dialler_of (ToMember client member) = Some (Client client)
 dialler_of (ToController member controller) = Some (Member member)
+dialler_of (Between from to) = Some (Controller from)
 dialler_of (Stranger to) = None
 
 -- the end that accepted it
 abbrev pub acceptor_of : Route → EndId
 acceptor_of (ToMember client member) = Member member
 acceptor_of (ToController member controller) = Controller controller
+acceptor_of (Between from to) = Controller to
 acceptor_of (Stranger to) = to
 
 abbrev pub is_end : Option EndId → EndId → Bool

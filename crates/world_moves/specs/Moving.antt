@@ -1,5 +1,5 @@
 -- The moves of a world (this project's own choice).
-use Rattle.std.specs.Prelude.{ℕ, ◌+◌, ◌^◌, min, nat_le, Bool, true, false, List, [], ◌∷◌, ◌++◌, drop, length, Option, Some, None, slice_get, if◌then◌else◌}
+use Rattle.std.specs.Prelude.{ℕ, ◌+◌, ◌==◌, ◌^◌, min, nat_le, Bool, true, false, List, [], ◌∷◌, ◌++◌, drop, length, Option, Some, None, slice_get, if◌then◌else◌}
 use Rattle.wire_base.specs.Maps.{lookup, put, same_number}
 use Rattle.outside.specs.declared.event.Event.TheVariants as event
 use Rattle.logon_client.specs.Machine.{begin_of, fresh_client}
@@ -9,7 +9,7 @@ use Rattle.world_moves.specs.declared.links.EndId.{EndId}
 use Rattle.world_moves.specs.declared.links.EndId.TheVariants.{Controller, Member, Client}
 use Rattle.world_moves.specs.declared.links.OpenLink.{OpenLink}
 use Rattle.world_moves.specs.declared.links.Route.{Route}
-use Rattle.world_moves.specs.declared.links.Route.TheVariants.{ToMember, ToController, Stranger}
+use Rattle.world_moves.specs.declared.links.Route.TheVariants.{ToMember, ToController, Between, Stranger}
 use Rattle.world_moves.specs.declared.moves.Move.{Move}
 use Rattle.world_moves.specs.declared.moves.Move.TheVariants as move
 use Rattle.world_moves.specs.declared.state.State.{State}
@@ -74,10 +74,16 @@ abbrev pub end_of_peer : List ℕ → EndStates → Option EndId
 end_of_peer (number ∷ []) ends = end_at number ends
 end_of_peer _ ends = None
 
--- a client dials members, a member controllers; no other dial is connected
+-- the link of a controller that dials another one: a dial to itself fails
+abbrev pub between_if : (is_itself : Bool) → (from to : ℕ) → Option Route
+between_if true from to = None
+between_if false from to = Some (Between from to)
+
+-- a client dials members, a member controllers, and a controller other controllers; no other dial is connected
 abbrev pub route_to : EndId → Option EndId → Option Route
 route_to (Client client) (Some (Member member)) = Some (ToMember client member)
 route_to (Member member) (Some (Controller controller)) = Some (ToController member controller)
+route_to (Controller from) (Some (Controller to)) = between_if (from == to) from to
 route_to _ _ = None
 
 -- the link is open at the side of the end that dialled too
@@ -190,7 +196,7 @@ shut number s = shut_at (chosen_place number (length s.open_links)) s
 -- ---- an end is made anew
 
 abbrev pub renew : EndId → State → EndStates
-renew (Controller at) s = renew_controller (slice_get s.ends.controllers at) at s.ends
+renew (Controller at) s = renew_controller s.hands_on (slice_get s.ends.controllers at) at s.ends
 renew (Member at) s = renew_member (slice_get s.member_plans at) at s.ends
 renew (Client at) s = renew_client (slice_get s.client_plans at) at s.ends
 

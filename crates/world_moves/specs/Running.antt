@@ -2,18 +2,12 @@
 use Rattle.std.specs.Prelude.{◌≡◌, ◌+◌, ◌<◌, ◌^◌, Bool, false, List, length, All, IsSome}
 use Rattle.domain_controller.specs.State.{State as ControllerState}
 use Rattle.domain_controller.specs.Step.{is_stopped as controller_is_stopped}
-use Rattle.domain_controller.specs.Trusting.{no_trusting}
 use Rattle.logon_client.specs.State.{State as ClientState}
 use Rattle.member_server.specs.State.{State as MemberState}
 use Rattle.member_server.specs.Machine.{is_stopped as member_is_stopped}
 
--- a controller hasn't stopped, and asks no controller of a trusted domain
-pub record RunsAlone (controller : ControllerState) : Type 0 where
-  pub runs : controller_is_stopped controller ≡ false
-  pub asks_nobody : controller.trusting ≡ no_trusting
-
 pub record AreRunning (controllers : List ControllerState) (members : List MemberState) (clients : List ClientState) : Type 0 where
-  pub each_controller : All RunsAlone controllers
+  pub each_controller : All (λ controller. controller_is_stopped controller ≡ false) controllers
   pub each_member : All (λ member. member_is_stopped member ≡ false) members
   pub each_client : All (λ client. IsSome client.running) clients
   -- they can be numbered

@@ -2,6 +2,8 @@
 use Rattle.std.specs.Prelude.{ℕ, ◌+◌, ◌*◌, ◌≤◌, List, [], ◌∷◌, length, Option, Some, None}
 use Rattle.outside.specs.declared.action.Action.{Action}
 use Rattle.outside.specs.declared.action.Action.TheVariants.{Keep, Send, Dial, Close, Told, Judged}
+use Rattle.outside.specs.declared.action.Judged.{Judged as AnyJudged}
+use Rattle.outside.specs.declared.action.Judged.TheVariants as judged
 use Rattle.outside.specs.declared.event.Event.{Event}
 use Rattle.outside.specs.declared.event.Event.TheVariants.{Opened, Bytes}
 use Rattle.end_links.specs.Links.{LinkState}
@@ -19,6 +21,15 @@ use Rattle.world_moves.specs.Ends.{EndStates}
 
 -- ---- what is told
 
+-- a judgement is one; that a logon was answered which was asked of another controller is none, since it comes behind
+-- the judgement of the call that asked for it
+abbrev pub tells_judged : AnyJudged → ℕ
+tells_judged (judged.Passed status) = 1
+tells_judged judged.Forwarded = 1
+tells_judged (judged.Answered status) = 0
+tells_judged judged.Barred = 1
+tells_judged judged.NoChannel = 1
+
 -- an action that tells an outcome or a judgement is one
 abbrev pub tells_one : Action → ℕ
 tells_one (Keep bytes) = 0
@@ -26,7 +37,7 @@ tells_one (Send link bytes) = 0
 tells_one (Dial peer) = 0
 tells_one (Close link cause) = 0
 tells_one (Told link outcome) = 1
-tells_one (Judged how) = 1
+tells_one (Judged how) = tells_judged how
 
 -- so many of these do
 abbrev pub told_by : List Action → ℕ

@@ -5,7 +5,6 @@ use Rattle.outside.specs.Counter.{counter_at}
 use Rattle.outside.specs.declared.action.Action.{Action}
 use Rattle.account_table.specs.AccountTable.{AccountTable}
 use Rattle.domain_controller.specs.State.{State as ControllerState}
-use Rattle.domain_controller.specs.Step.{first_state}
 use Rattle.logon_client.specs.State.{State as ClientState}
 use Rattle.logon_client.specs.Machine.{fresh_client}
 use Rattle.logon_client.specs.Plans.{CanLogOn}
@@ -22,7 +21,7 @@ use Rattle.world_moves.specs.declared.plan.Plan.{Plan}
 use Rattle.world_moves.specs.declared.state.State.{State}
 use Rattle.world_moves.specs.Acting.{Given}
 use Rattle.world_moves.specs.Counting.{counted_of, counts_of, no_counts}
-use Rattle.world_moves.specs.Ends.{EndStates}
+use Rattle.world_moves.specs.Ends.{EndStates, fresh_controller}
 use Rattle.world_moves.specs.Moving.{act}
 
 -- ---- a world
@@ -50,14 +49,15 @@ move_limit = 100000
 
 -- ---- at first
 
-abbrev pub first_controllers : List AccountTable → List (List ℕ) → List ControllerState
-first_controllers [] names = []
-first_controllers (table ∷ tables) [] = []
-first_controllers (table ∷ tables) (name ∷ names) = first_state table name ∷ first_controllers tables names
+abbrev pub first_controllers : (hands_on : Bool) → List AccountTable → List (List ℕ) → List ControllerState
+first_controllers hands_on [] names = []
+first_controllers hands_on (table ∷ tables) [] = []
+first_controllers hands_on (table ∷ tables) (name ∷ names) =
+    fresh_controller hands_on table name ∷ first_controllers hands_on tables names
 
 abbrev pub first_ends : Plan → EndStates
 first_ends plan = record {
-  controllers = first_controllers plan.tables plan.controllers;
+  controllers = first_controllers plan.hands_on plan.tables plan.controllers;
   members = map fresh_member plan.members;
   clients = map fresh_client plan.clients;
 }
@@ -68,6 +68,7 @@ first_world plan = record {
     ends = first_ends plan;
     member_plans = plan.members;
     client_plans = plan.clients;
+    hands_on = plan.hands_on;
     links = [];
     open_links = [];
     bag = [];

@@ -2,16 +2,16 @@
 
 ghost use Rattle.std.specs.Prelude.{◌≡◌, ◌≢◌, ◌<◌, ◌≤◌, ◌+◌, [], false, Err, Some, None, IsSome, length, map, IfOk, OnOk, slice_get, slice_set, option_copied};
 ghost use Rattle.domain_controller.specs.State.{State as ControllerState};
-ghost use Rattle.domain_controller.specs.Step.{first_state};
 ghost use Rattle.member_server.specs.Machine.{is_stopped as member_is_stopped};
 ghost use Rattle.end_links.specs.Bounds.{AreShortSends};
 ghost use Rattle.world_moves.specs.Bounds.{draws_at};
-ghost use Rattle.world_moves.specs.Ends.{HasChanged, end_at, acceptors_in, count_of, end_change, end_done, end_step, controller_step, member_step, client_step, renew_controller, with_member, with_client};
+ghost use Rattle.world_moves.specs.Ends.{HasChanged, end_at, acceptors_in, count_of, end_change, end_done, end_step, controller_step, member_step, client_step, fresh_controller, renew_controller, with_member, with_client};
 ghost use Rattle.world_moves.specs.Outcomes.{OutcomesFall, OutcomesStay, has_its_outcome, is_told};
 ghost use Rattle.world_moves.specs.Running.{AreRunning};
 
 use crate::links::EndId;
 use crate::maker::Maker;
+use account_table::Table;
 use domain_controller::Controller;
 use logon_client::{AuthKind, Client, ClientPlan};
 use member_server::{ChangeRefused, Member};
@@ -20,7 +20,7 @@ use rpc_units::CONNECT_LEVEL;
 use std::alloc::Global;
 use std::marker::Model;
 use std::mem;
-use wire_base::{Blob, NoMemory, Units};
+use wire_base::{Blob, Name, NoMemory, Units};
 
 /// The controllers, members and clients of a world, seen as the lists of their states.
 #[derive(Drop)]
@@ -275,18 +275,24 @@ impl Ends {
         }
     }
 
-    /// The controller is made anew with its accounts as they stand, and its name. Want of memory drops the controllers.
+    /// The controller is made anew with its accounts as they stand, and its name, such that it hands logons on or asks
+    /// nobody. Want of memory drops the controllers.
     #[tactic(auto, using(crate::proofs::EndLaws::renewed_is, crate::proofs::EndLaws::none_run, crate::proofs::EndLaws::renewed_run))]
-    pub(crate) fn renew_controller(&mut self, alloc: Global, at: usize) -> Result<(), NoMemory>
+    pub(crate) fn renew_controller(
+        &mut self,
+        alloc: Global,
+        hands_on: bool,
+        at: usize,
+    ) -> Result<(), NoMemory>
         ensures ends { OnOk result (self.new
-            ≡ renew_controller (slice_get self.old.controllers at) at self.old) }
+            ≡ renew_controller hands_on (slice_get self.old.controllers at) at self.old) }
         ensures clients { self.new.clients ≡ self.old.clients }
     {
         if at >= self.controllers.len() {
             return Ok(());
         }
         let controllers = mem::replace(&mut self.controllers, Vec::new(alloc));
-        self.controllers = renew_at(alloc, controllers, at)?;
+        self.controllers = renew_at(alloc, hands_on, controllers, at)?;
         Ok(())
     }
 
@@ -352,18 +358,37 @@ fn change_member(alloc: Global, member: &mut Member, secret: [u8; 16]) -> Result
 /// The controllers, of which the one at the place is made anew. Want of memory drops them.
 fn renew_at(
     alloc: Global,
+    hands_on: bool,
     controllers: Vec<Controller>,
     at: usize,
 ) -> Result<Vec<Controller>, NoMemory>
     requires { at < length controllers.items }
     ensures { IfOk result (λ after. (old : ControllerState) →
         slice_get controllers.items at ≡ Some old →
-        after.items ≡ slice_set controllers.items at (first_state old.table old.name)) }
+        after.items ≡ slice_set controllers.items at
+        (fresh_controller hands_on old.table old.name)) }
 {
     let mut controllers = controllers;
     let (table, name) = controllers.remove(at).into_parts();
-    controllers.insert(at, Controller::new(alloc, table, name)?)?;
+    controllers.insert(at, fresh_controller(alloc, hands_on, table, name)?)?;
     Ok(controllers)
+}
+
+/// A controller of that name over these accounts, which hands logons on to the controllers of trusted domains or asks
+/// nobody.
+pub(crate) fn fresh_controller(
+    alloc: Global,
+    hands_on: bool,
+    table: Table,
+    name: Name,
+) -> Result<Controller, NoMemory>
+    ensures { IfOk result (λ controller. controller ≡ fresh_controller hands_on table name) }
+{
+    if hands_on {
+        Controller::with_trusts(alloc, table, name)
+    } else {
+        Controller::new(alloc, table, name)
+    }
 }
 
 /// The clients, of which those that had no outcome are let go: a client without a name stands in the place of each.

@@ -36,6 +36,8 @@ pub enum LinkKind {
     ToMember,
     /// From a member to a controller.
     ToController,
+    /// From a controller to another one.
+    Between,
     /// From a stranger to a controller or member.
     Stranger,
 }
@@ -47,6 +49,7 @@ fn same_kind(one: LinkKind, other: LinkKind) -> bool
     match (one, other) {
         (LinkKind::ToMember, LinkKind::ToMember) => true,
         (LinkKind::ToController, LinkKind::ToController) => true,
+        (LinkKind::Between, LinkKind::Between) => true,
         (LinkKind::Stranger, LinkKind::Stranger) => true,
         _ => false,
     }
@@ -73,6 +76,7 @@ impl LinkKind {
 pub enum Route {
     ToMember { client: usize, member: usize },
     ToController { member: usize, controller: usize },
+    Between { from: usize, to: usize },
     Stranger(EndId),
 }
 
@@ -84,6 +88,7 @@ impl Route {
         match self {
             Route::ToMember { .. } => LinkKind::ToMember,
             Route::ToController { .. } => LinkKind::ToController,
+            Route::Between { .. } => LinkKind::Between,
             Route::Stranger(_) => LinkKind::Stranger,
         }
     }
@@ -102,6 +107,7 @@ impl Route {
         match self {
             Route::ToMember { client, .. } => Some(EndId::Client(client)),
             Route::ToController { member, .. } => Some(EndId::Member(member)),
+            Route::Between { from, .. } => Some(EndId::Controller(from)),
             Route::Stranger(_) => None,
         }
     }
@@ -130,6 +136,7 @@ impl Route {
         match self {
             Route::ToMember { member, .. } => EndId::Member(member),
             Route::ToController { controller, .. } => EndId::Controller(controller),
+            Route::Between { to, .. } => EndId::Controller(to),
             Route::Stranger(to) => to,
         }
     }
@@ -210,6 +217,7 @@ pub struct WorldLinks {
     routes: Vec<Route>,
     to_members: Vec<u32>,
     to_controllers: Vec<u32>,
+    between: Vec<u32>,
     strangers: Vec<u32>,
     handed: Vec<u32>,
 }
@@ -224,7 +232,7 @@ impl Model for WorldLinks {
     ghost view = { λ l. l.routes.items };
 
     ghost invariant = { λ l. AreIndexes l.routes.items l.to_members.items l.to_controllers.items
-        l.strangers.items l.handed.items };
+        l.between.items l.strangers.items l.handed.items };
 }
 
 impl WorldLinks {
@@ -236,6 +244,7 @@ impl WorldLinks {
             routes: Vec::new(alloc),
             to_members: Vec::new(alloc),
             to_controllers: Vec::new(alloc),
+            between: Vec::new(alloc),
             strangers: Vec::new(alloc),
             handed: Vec::new(alloc),
         }
@@ -265,12 +274,14 @@ impl WorldLinks {
             mut routes,
             mut to_members,
             mut to_controllers,
+            mut between,
             mut strangers,
             mut handed,
         } = self;
         let number = routes.len() as u32;
         to_members = push_if(to_members, route.is_of(LinkKind::ToMember), number)?;
         to_controllers = push_if(to_controllers, route.is_of(LinkKind::ToController), number)?;
+        between = push_if(between, route.is_of(LinkKind::Between), number)?;
         strangers = push_if(strangers, route.is_of(LinkKind::Stranger), number)?;
         handed = push_if(handed, route.kind().is_handed(), number)?;
         routes.push(route)?;
@@ -278,6 +289,7 @@ impl WorldLinks {
             routes,
             to_members,
             to_controllers,
+            between,
             strangers,
             handed,
         })
@@ -290,6 +302,7 @@ impl WorldLinks {
         match kind {
             LinkKind::ToMember => chosen_in(number, self.to_members.as_slice()),
             LinkKind::ToController => chosen_in(number, self.to_controllers.as_slice()),
+            LinkKind::Between => chosen_in(number, self.between.as_slice()),
             LinkKind::Stranger => chosen_in(number, self.strangers.as_slice()),
         }
     }

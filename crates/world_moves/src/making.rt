@@ -8,7 +8,7 @@ ghost use Rattle.world_moves.specs.World.{IsPlan, first_world, first_controllers
 
 use crate::bag::Bag;
 use crate::counting::Counts;
-use crate::ends::Ends;
+use crate::ends::{Ends, fresh_controller};
 use crate::links::{OpenLinks, WorldLinks};
 use crate::maker::Maker;
 use crate::plan::{ClientPlans, ClientTask, ClientTasks, MemberPlans, Plan, Tables};
@@ -29,15 +29,24 @@ pub(crate) fn first_state(alloc: Global, plan: Plan) -> Result<State, NoMemory>
         controllers,
         members,
         clients,
+        hands_on,
         now,
         seed,
     } = plan;
     let client_plans = tasks_of(alloc, clients)?;
-    let ends = first_ends(alloc, tables, controllers, &members, &client_plans)?;
+    let ends = first_ends(
+        alloc,
+        hands_on,
+        tables,
+        controllers,
+        &members,
+        &client_plans,
+    )?;
     Ok(State {
         ends,
         member_plans: members,
         client_plans,
+        hands_on,
         links: WorldLinks::new(alloc),
         open_links: OpenLinks::new(alloc),
         bag: Bag::new(alloc),
@@ -52,18 +61,19 @@ pub(crate) fn first_state(alloc: Global, plan: Plan) -> Result<State, NoMemory>
 #[tactic(auto, using(crate::proofs::RunningLaws::fresh_running))]
 fn first_ends(
     alloc: Global,
+    hands_on: bool,
     tables: Tables,
     names: Names,
     members: &MemberPlans,
     clients: &ClientTasks,
 ) -> Result<Ends, NoMemory>
     ensures { IfOk result (λ ends. ends ≡ record {
-      controllers = first_controllers tables names;
+      controllers = first_controllers hands_on tables names;
       members = map fresh_member members.now;
       clients = map fresh_client clients.now;
     }) }
 {
-    let controllers = first_controllers(alloc, tables, names)?;
+    let controllers = first_controllers(alloc, hands_on, tables, names)?;
     let members = first_members(alloc, members)?;
     let clients = first_clients(alloc, clients)?;
     if !can_be_numbered(controllers.len(), members.len(), clients.len()) {
@@ -85,16 +95,18 @@ fn can_be_numbered(controllers: usize, members: usize, clients: usize) -> bool
 /// The controllers: each takes its table and its name.
 fn first_controllers(
     alloc: Global,
+    hands_on: bool,
     tables: Tables,
     names: Names,
 ) -> Result<Vec<Controller>, NoMemory>
-    ensures { IfOk result (λ controllers. controllers.items ≡ first_controllers tables names) }
+    ensures { IfOk result (λ controllers.
+        controllers.items ≡ first_controllers hands_on tables names) }
 {
     let mut controllers = Vec::new(alloc);
     let mut names = names.into_vec().into_iter();
     for table in tables.into_vec() {
         match names.next() {
-            Some(name) => controllers.push(Controller::new(alloc, table, name)?)?,
+            Some(name) => controllers.push(fresh_controller(alloc, hands_on, table, name)?)?,
             None => return Ok(controllers),
         }
     }

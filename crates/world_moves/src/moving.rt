@@ -3,7 +3,7 @@
 ghost use Rattle.std.specs.Prelude.{◌≡◌, ◌≢◌, [], Err, ◌<◌, ◌≤◌, ◌+◌, ◌*◌, ◌^◌, length, IfOk, OnOk, OnErr, slice_get};
 ghost use Rattle.end_links.specs.Bounds.{AreShortSends};
 ghost use Rattle.world_moves.specs.Bounds.{DrawsWithin, draw_limit, piece_draws, unit_draws};
-ghost use Rattle.world_moves.specs.Moving.{act, start, open_link, stranger, end_of_peer, route_to, answered_link, answer, connect_by, without_first, connect, fail_dial, come, onward, lose, deliver, hand, shut, renewed, restart, change, changed, moment_after, tick};
+ghost use Rattle.world_moves.specs.Moving.{act, start, open_link, stranger, end_of_peer, between_if, route_to, answered_link, answer, connect_by, without_first, connect, fail_dial, come, onward, lose, deliver, hand, shut, renewed, restart, change, changed, moment_after, tick};
 ghost use Rattle.world_moves.specs.Outcomes.{KeepsOutcomes};
 ghost use Rattle.world_moves.specs.World.{IsMove};
 
@@ -329,7 +329,7 @@ impl State {
         ensures outcomes { OnErr result (KeepsOutcomes self.old self.new) }
     {
         match end {
-            EndId::Controller(at) => { self.ends.renew_controller(alloc, at) }
+            EndId::Controller(at) => self.ends.renew_controller(alloc, self.hands_on, at),
             EndId::Member(at) => match self.member_plans.get(at) {
                 Some(plan) => {
                     let member = Member::new(alloc, plan.copy(alloc)?)?;
@@ -453,7 +453,19 @@ fn route_to(end: EndId, to: Option<EndId>) -> Option<Route>
         (EndId::Member(member), Some(EndId::Controller(controller))) => {
             Some(Route::ToController { member, controller })
         }
+        (EndId::Controller(from), Some(EndId::Controller(to))) => between_if(from == to, from, to),
         _ => None,
+    }
+}
+
+/// The route of a controller that dials another one: a dial to itself fails.
+fn between_if(is_itself: bool, from: usize, to: usize) -> Option<Route>
+    ensures { result ≡ between_if is_itself from to }
+{
+    if is_itself {
+        None
+    } else {
+        Some(Route::Between { from, to })
     }
 }
 

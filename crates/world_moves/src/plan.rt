@@ -25,12 +25,16 @@ pub type ClientPlans = List<ClientPlan>;
 /// The ends of a world, its first moment in units of 100 ns since 1601-01-01, and the seed of the maker of challenges
 /// from which all ends draw (this project's own choice). There are as many tables as controllers. Ends are numbered
 /// from 0: controllers, members, clients; an address is the number of an end as one byte.
+///
+/// Where `hands_on` is set, each controller hands logons on to the controllers of the domains that its table trusts,
+/// whose addresses are such numbers too. Where it isn't, none does, and trusted domains of a table are passed over.
 #[derive(Drop)]
 pub struct Plan {
     pub tables: Tables,
     pub controllers: Names,
     pub members: MemberPlans,
     pub clients: ClientPlans,
+    pub hands_on: bool,
     pub now: u64,
     pub seed: [u8; 32],
 }

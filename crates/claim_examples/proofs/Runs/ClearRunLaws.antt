@@ -42,10 +42,12 @@ use Rattle.world_moves.specs.declared.moves.Move.{Move}
 use Rattle.world_moves.specs.declared.moves.Move.TheVariants as move
 use Rattle.world_moves.specs.declared.plan.Plan.{Plan}
 use Rattle.world_moves.specs.declared.state.State.{State}
+use Rattle.world_moves.specs.Alone.{HandsNothingOn}
 use Rattle.world_moves.specs.Counting.{is_in}
 use Rattle.world_moves.specs.Choosing.{chosen_place}
 use Rattle.world_moves.specs.Forms.{HasForms}
 use Rattle.world_moves.specs.World.{IsPlan, World, first_world, happens, run}
+use Rattle.world_moves.proofs.AloneLaws.{plain_plan}
 use Rattle.domain_world.specs.Claims.{AcceptsOnlyGranted, IsAccepted, TravelsAsZeros, Wraps}
 use Rattle.domain_world.specs.Claims.Completeness.{IsPlainMove, IsQuiet, IsQuietAt, OneAtATime, started_in}
 use Rattle.domain_world.specs.Claims.LetIn.{IsLetInBy, LetsInWhoAsked}
@@ -441,14 +443,15 @@ first_logons_are_clear = record {
   claimed = λ proved.
       let clear = ann_clear.clear in
       let schedule = an_example_logs_on.schedule in
+      let nobody : HandsNothingOn ann_plan = plain_plan ann_plan refl in
       record {
-        only = proved.only schedule clear;
-        all = proved.all schedule clear;
-        keys = proved.keys schedule clear;
-        counts = proved.counts schedule clear;
-        sequences = proved.sequences schedule clear;
-        called = proved.called schedule clear;
-        answered = proved.answered schedule clear.apart;
+        only = proved.only nobody schedule clear;
+        all = proved.all nobody schedule clear;
+        keys = proved.keys nobody schedule clear;
+        counts = proved.counts nobody schedule clear;
+        sequences = proved.sequences nobody schedule clear;
+        called = proved.called nobody schedule clear;
+        answered = proved.answered nobody schedule clear.apart;
       };
   plain = ann_plain;
   once = ann_once;

@@ -40,6 +40,7 @@ use Rattle.logon_runs.proofs.First.FirstLogonRunLaws.{joined_still}
 use Rattle.logon_runs.proofs.First.FirstWorldLaws.{comes_first, first_shows, first_worlds_run}
 use Rattle.logon_runs.proofs.Seen.LinkSceneLaws.{meetings_are_seen}
 use Rattle.domain_world.specs.Claims.OneByOne.{HaveOwnMembers}
+use Rattle.world_moves.proofs.AloneLaws.{plain_plan}
 use Rattle.domain_world.proofs.Clear.ClearWalkLaws.{none_clashes}
 use Rattle.domain_world.proofs.Completeness.ApartLaws.{own_member}
 use Rattle.domain_world.proofs.Completeness.SuccessLaws.{each_succeeds}
@@ -221,8 +222,8 @@ ann_can_succeed = record {
   can = ann_can_so;
   comes = ann_comes;
   arrives = ann_arrives;
-  succeeds = (each_succeeds ann_plan ann_moves ann_comes).0 ann_can_so ann_arrives;
+  succeeds = (each_succeeds ann_plan ann_moves (plain_plan ann_plan refl) ann_comes).0 ann_can_so ann_arrives;
   each = ann_each;
-  unclashed = none_clashes ann_plan ann_moves;
+  unclashed = none_clashes ann_plan ann_moves (plain_plan ann_plan refl);
   fails_clash = λ claim. let is : true ≡ false = claim ann_comes_so ann_each in absurd (let x = is in cc);
 }

@@ -51,9 +51,10 @@ use Rattle.domain_world.proofs.Accepting.LetInStepLaws.{change_silent, changed_k
 use Rattle.domain_world.proofs.Frames.ComingLaws.{CameFrom}
 use Rattle.domain_world.proofs.Accepting.Messages.MessageNoteLaws.{AreCarried, IsAnsweredFor, for_stable, let_in_stable, notes_grow, one_so, turns_answer}
 use Rattle.domain_world.proofs.Frames.TurnFrameLaws.{turns_told}
-use Rattle.domain_world.proofs.Frames.EndFrameLaws.{Ends, KeepsEnds, ends_after, ends_in}
+use Rattle.domain_world.proofs.Frames.EndFrameLaws.{Ends, KeepsEndsBy, every_ends_after, ends_in}
 use Rattle.domain_world.proofs.Frames.NoBytesLaws.{IsNoBytes}
-use Rattle.domain_world.proofs.Frames.EndNoteLaws.{noted_by}
+use Rattle.domain_world.proofs.Frames.EveryStepLaws.{every_noted as noted_by}
+use Rattle.domain_world.proofs.Frames.MoveKeepLaws.{every}
 use Rattle.domain_world.proofs.Frames.EventLaws.{calm_no_bytes}
 use Rattle.domain_world.proofs.Frames.GivenLaws.{told_cases}
 use Rattle.outside.specs.declared.event.Event.{Event}
@@ -312,7 +313,7 @@ end_goes end w piece s after given b carries kept =
 
 -- ---- a run
 
-kept_on : KeepsEnds IsKept
+kept_on : KeepsEndsBy every IsKept
 kept_on = record {
   calm = λ at on end what s given b calm kept. calm_goes at on end what s given b (calm_no_bytes what calm) (calm_meets end s.links what calm) kept;
   dialled = λ at end link s given b side kept. calm_goes at None end (event.Dialled link) s given b tt (side_meets end s.links link side) kept;
@@ -358,7 +359,7 @@ first_kept plan on = record {
 pub run_holds : (plan : Plan) (moves : List Move) → HoldsOf (past plan moves).world (past plan moves).book
 run_holds plan moves =
     let p : Past = past plan moves in
-    let kept : IsKept p.world.moves None (ends_in p.world.state) [] p.book = ends_after IsKept kept_on plan moves (first_kept plan) in
+    let kept : IsKept p.world.moves None (ends_in p.world.state) [] p.book = every_ends_after IsKept kept_on plan moves (first_kept plan) in
     record { keeps = kept.keeps; known = kept.known }
 
 -- in every run a member lets in only who asked

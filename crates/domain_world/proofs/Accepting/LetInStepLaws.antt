@@ -19,7 +19,7 @@ use Rattle.step_notes.specs.Records.{MessageTaken}
 use Rattle.world_moves.specs.declared.links.EndId.{EndId}
 use Rattle.world_moves.specs.declared.links.EndId.TheVariants.{Controller, Member, Client}
 use Rattle.world_moves.specs.declared.links.Route.{Route}
-use Rattle.world_moves.specs.declared.links.Route.TheVariants.{ToController, Stranger, ToMember}
+use Rattle.world_moves.specs.declared.links.Route.TheVariants.{Between, ToController, Stranger, ToMember}
 use Rattle.world_moves.specs.declared.state.State.{State}
 use Rattle.world_moves.specs.Acting.{Given, given_by, hear}
 use Rattle.world_moves.specs.Ends.{EndStates, EndStep, actions_by}
@@ -34,7 +34,7 @@ use Rattle.step_notes.proofs.Members.UnservedLaws.{LinksIn, Opens, in_so, step_k
 use Rattle.domain_world.proofs.Challenges.MessageOnceLaws.{set_cases}
 use Rattle.domain_world.proofs.Frames.NoBytesLaws.{IsNoBytes}
 use Rattle.domain_world.proofs.Frames.EndFrameLaws.{IsCalm, by_calm}
-use Rattle.domain_world.proofs.Frames.OpenMadeLaws.{IsAtSide}
+use Rattle.domain_world.proofs.Frames.OpenMadeLaws.{IsOnSide}
 use Rattle.domain_world.proofs.Frames.EventLaws.{by_no_bytes}
 use Rattle.world_moves.proofs.ChangeLaws.{by_change, member_begun}
 
@@ -206,12 +206,13 @@ last_accepted end route links is at same = (tt, record { route = route; at = got
 -- the end dialled the link that is answered
 dialled_by : (links : List Route) (link at : ℕ) (route : Route) → slice_get links link ≡ Some route → dialler_of route ≡ Some (Member at) → IsDialledBy links at link
 dialled_by links link at (ToMember client member) made side = let x = side in cc
+dialled_by links link at (Between from to) made side = let x = side in cc
 dialled_by links link at (Stranger to) made side = let x = side in cc
 dialled_by links link at (ToController member controller) made side =
     let same : member ≡ at = (let x = side in cc) in
     record { controller = controller; at = made ∙ ap (λ (k : ℕ). Some (ToController k controller)) same }
 
-pub side_meets : (end : EndId) (links : List Route) (link : ℕ) → IsAtSide links link true end → Meets end links (event.Dialled link)
+pub side_meets : (end : EndId) (links : List Route) (link : ℕ) → IsOnSide links link true end → Meets end links (event.Dialled link)
 side_meets end links link side at is = (dialled_by links link at side.route side.made (side.side ∙ ap (λ (one : EndId). Some one) is), tt)
 
 -- ---- an end is made anew

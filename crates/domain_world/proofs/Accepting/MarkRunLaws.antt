@@ -31,18 +31,20 @@ use Rattle.world_moves.specs.declared.links.EndId.TheVariants.{Client, Controlle
 use Rattle.world_moves.specs.declared.links.Route.{Route}
 use Rattle.world_moves.specs.declared.plan.Plan.{Plan}
 use Rattle.world_moves.specs.declared.state.State.{State}
-use Rattle.world_moves.specs.Acting.{Given, Heard, done, hear, hear_and_act, heard_by}
-use Rattle.world_moves.specs.Ends.{EndStates, EndStep, controller_step, member_step}
+use Rattle.world_moves.specs.Acting.{Given, Heard, done, heard_by}
+use Rattle.world_moves.specs.Ends.{EndStates, EndStep, member_step}
 use Rattle.world_moves.specs.Links.{acceptor_of, is_own, kind_of}
 use Rattle.world_moves.specs.MemberPlans.{AreAlikeButSecrets}
-use Rattle.world_moves.specs.Moving.{begun, renewed, with_link, changed}
+use Rattle.world_moves.specs.Moving.{begun, with_link, changed}
 use Rattle.world_moves.specs.World.{first_world}
+use Rattle.world_moves.specs.Alone.{alone_controller_step as controller_step, hear_alone as hear}
 use Rattle.domain_world.specs.Claims.{IsLinkOf}
 use Rattle.domain_world.specs.Claims.MarkedUnits.{AnswersHaveCalls, CallsAreMarked, IsMarkedAsCall, IsMarkedAsReply, RepliesAreMarked}
 use Rattle.domain_world.specs.Claims.OpeningReplies.{IsMarkedAsOpened, OpeningsAreMarked}
 use Rattle.domain_world.specs.Claims.OwnChallenges.{HasOwnChallenge}
 use Rattle.domain_world.specs.Past.{Coming, Past, accepted_of, answers_of, at_controller, at_member, judged_of, marks_of, note_at, note_client, note_controller, note_given, note_member, note_messages, numbers_on, past, sent_at, controller_asked}
 use Rattle.domain_world.specs.Schedules.{OfSchedules}
+use Rattle.domain_world.proofs.Frames.AloneStepLaws.{act_alone as hear_and_act, renewed_alone as renewed}
 use Rattle.domain_world.proofs.Accepting.AnsweredLaws.{StandsFor, channel_there}
 use Rattle.domain_world.proofs.Accepting.Heard.JudgedRunLaws.{judged_first, judged_keeps}
 use Rattle.domain_world.proofs.Accepting.Heard.JudgedUnitLaws.{AreOwn, JudgedFact}
@@ -180,7 +182,7 @@ module _ (plan : Plan) (c : ControllerState) (at : ℕ) (w : Coming) (piece : Li
       (let piece_of : IsPieceOf s n w piece = subst (λ (from : Source). CameFrom from s w piece) source came in
       let same : piece_of.route ≡ side.route = some_is piece_of.route side.route (sym piece_of.made ∙ side.made) in
       subst (λ (t : State). length marks ≤ length (numbers_on w.link true s.bag t.bag)) (sym is)
-      (numbers_enough side.route (Controller at) w.link true (controller_way w.back side.route at side.side) desk_heard.actions marks desk_heard.state side.made
+      (numbers_enough side.route (Controller at) w.link true (controller_way w.back side.route at side.apart side.side) desk_heard.actions marks desk_heard.state side.made
       (sym (ap (λ (r : Route). is_own (kind_of r)) same) ∙ ap is_own piece_of.same_kind ∙ own n piece_of.unit piece_of.there)
       (controller_front c w.link piece s.moment s.chances.left (at_controller at c w s)))) in
       record {
@@ -343,14 +345,14 @@ abbrev MarkFacts : Plan → RunFact
 MarkFacts plan = BothFacts (BothFacts (Known plan) JudgedFact) (WhileFew most_steps (MarksHold plan))
 
 marks_hold : OfSchedules (λ plan moves. MarksHold plan 0 (past plan moves).world.state [] (past plan moves).book)
-marks_hold plan moves schedule =
+marks_hold plan moves nobody schedule =
     let beneath : RunFact = BothFacts (Known plan) JudgedFact in
     let after : HoldsAfterRun (MarkFacts plan) plan moves =
     run_keeps (MarkFacts plan) (BothFine (BothFine KnownAction AnyAction) AnyAction)
     (join beneath (WhileFew most_steps (MarksHold plan)) (BothFine KnownAction AnyAction) AnyAction
     (join (Known plan) JudgedFact KnownAction AnyAction (known_keep plan) (with_side QuietFact (Known plan) JudgedFact AnyAction (λ n s given b known. known.0.0) judged_keeps))
     (with_side (WhileFew most_steps MarksRestOn) beneath (WhileFew most_steps (MarksHold plan)) AnyAction (marks_rest plan) (while_few most_steps MarksRestOn (MarksHold plan) (marks_keep plan))))
-    plan moves (has_bytes plan moves schedule) (
+    plan moves nobody (has_bytes plan moves nobody schedule) (
       (
         ((quiet_first plan schedule.start schedule.forms, first_calls plan), ap (λ (drawn : List (List ℕ)). drawn ++ given_all plan) (challenges_from-none plan.seed 0 0)),
         judged_first,
@@ -361,9 +363,9 @@ marks_hold plan moves schedule =
 
 -- the unit of each message's call is marked so
 pub calls_marked : OfSchedules (λ plan moves. CallsAreMarked (past plan moves))
-calls_marked plan moves schedule =
+calls_marked plan moves nobody schedule =
     let p : Past = past plan moves in
-    let holds = marks_hold plan moves schedule in
+    let holds = marks_hold plan moves nobody schedule in
     all_zip (IsGood (IsCallOn plan p.world.state.links p.book.sent)) (λ (message : MessageTaken). HasOwnChallenge p message)
     (λ (message : MessageTaken). (n : ℕ) → message.call ≡ Some n → IsMarkedAsCall p message.member n) p.book.messages
     (λ message good own n is.
@@ -383,18 +385,18 @@ calls_marked plan moves schedule =
 
 -- and a message whose answer was taken has a call: no other message came on its link
 pub answers_have_calls : OfSchedules (λ plan moves. AnswersHaveCalls (past plan moves))
-answers_have_calls plan moves schedule =
+answers_have_calls plan moves nobody schedule =
     let messages : List MessageTaken = (past plan moves).book.messages in
     all_by_place (λ (message : MessageTaken). (u : ℕ) → message.reply ≡ Some u → (n : ℕ) × (message.call ≡ Some n)) messages (λ k message there u reply.
     let found : Placed (IsCalledOn message.link) messages =
-    placed (IsCalledOn message.link) messages (all_at (IfAnswered messages) messages k message (schedules_called plan moves schedule) there u reply) in
+    placed (IsCalledOn message.link) messages (all_at (IfAnswered messages) messages k message (schedules_called plan moves nobody schedule) there u reply) in
     let same : found.item ≡ message =
     apart_same (λ (one : MessageTaken). one.link) messages (messages_apart plan moves) found.place k found.item message found.there there found.is.0 in
     (found.is.1, ap (λ (one : MessageTaken). one.call) (sym same) ∙ found.is.2))
 
 -- and so is the reply to each call that passed, and came in a unit of the bag
 pub replies_marked : OfSchedules (λ plan moves. RepliesAreMarked (past plan moves))
-replies_marked plan moves schedule =
+replies_marked plan moves nobody schedule =
     let p : Past = past plan moves in
     all_zip (HasReply (IsMarkedAt p.book.sent)) IsJudgedRight (λ (j : Judging). (n : ℕ) → j.source ≡ InUnit n → has_passed j.how ≡ true → IsMarkedAsReply p j n) p.book.judged
     (λ j has right n came passed.
@@ -402,14 +404,14 @@ replies_marked plan moves schedule =
     let it = has n stands.channel came stands.passed in
     let marked : IsMarkedAt p.book.sent j.at it.0 (ReplyTo stands.channel j.number n) = it.2 in
     record { reply = it.0; is = it.1; sent = marked.one; there = marked.there; channel = stands.channel; passed = stands.passed; mark = marked.is; step = marked.step })
-    (marks_hold plan moves schedule).2.replies (judged_rightly plan moves)
+    (marks_hold plan moves nobody schedule).2.replies (judged_rightly plan moves)
 
 -- and so is the reply to each opening that was accepted, and came in a unit of the bag
 pub openings_marked : OfSchedules (λ plan moves. OpeningsAreMarked (past plan moves))
-openings_marked plan moves schedule =
+openings_marked plan moves nobody schedule =
     let p : Past = past plan moves in
     all_weaker (HasAnswer (IsMarkedAt p.book.sent)) (λ (one : ChannelAccepted). (n : ℕ) → one.source ≡ InUnit n → IsMarkedAsOpened p one n) p.book.accepted
     (λ one has n came.
     let it = has n came in
     let marked : IsMarkedAt p.book.sent one.at it.0 (Opened one.channel one.number n) = it.2 in
-    record { reply = it.0; is = it.1; sent = marked.one; there = marked.there; mark = marked.is; step = marked.step }) (marks_hold plan moves schedule).2.opened
+    record { reply = it.0; is = it.1; sent = marked.one; there = marked.there; mark = marked.is; step = marked.step }) (marks_hold plan moves nobody schedule).2.opened

@@ -1,11 +1,10 @@
 -- A run begins as it is to go on: nothing is under way.
 -- It serves `runs_begin`.
-use Rattle.std.proofs.Common.{◌≡◌, ℕ, zero, suc, List, [], ◌∷◌, map, inl, inr, Some, None, slice_get, refl, sym, ap, ◌∙◌, subst, arith}
+use Rattle.std.proofs.Common.{◌≡◌, Bool, ℕ, zero, suc, List, [], ◌∷◌, map, inl, inr, Some, None, slice_get, refl, sym, ap, ◌∙◌, subst, arith}
 use Rattle.std.specs.List.{AllByRecursion}
 use Rattle.account_table.specs.AccountTable.{AccountTable}
 use Rattle.channel_client.specs.Effects.{View}
 use Rattle.channel_client.specs.Machine.{fresh_requester}
-use Rattle.domain_controller.specs.Step.{first_state}
 use Rattle.domain_controller.specs.State.{State as ControllerState}
 use Rattle.domain_controller.specs.declared.state.Running.{Running as ControllerRunning}
 use Rattle.member_server.specs.Machine.{caller_of, fresh_member}
@@ -16,8 +15,10 @@ use Rattle.member_server.specs.declared.state.Running.{Running as MemberRunning}
 use Rattle.channel_events.specs.Requests.{CallsAreApart, Holds, Requests}
 use Rattle.world_moves.specs.declared.plan.Plan.{Plan}
 use Rattle.world_moves.specs.World.{first_controllers, first_world}
+use Rattle.world_moves.specs.Ends.{fresh_controller}
 use Rattle.domain_world.specs.Accepting.Runs.{AskedIsOut, IsQuietLink, IsQuietTurn, NumbersSuffice, RunsBegin, RunsStandSo, seen_in, view_with}
 use Rattle.domain_world.specs.Past.{past, requester_in, running_in}
+use Rattle.domain_world.proofs.Frames.AloneStepLaws.{fresh_by}
 use Rattle.domain_world.proofs.Requests.ByRequesterLaws.{by_requester, by_requester_apart, seen_so}
 use Rattle.channel_events.proofs.ListLaws.{got_nothing, no_some, some_is}
 use Rattle.step_notes.specs.Records.{OfMember}
@@ -27,15 +28,16 @@ use Rattle.step_notes.specs.Records.{OfMember}
 abbrev empty_running : ControllerRunning
 empty_running = record { computers = record { pending = []; channels = []; sessions = [] }; links = [] }
 
-first_controller : (tables : List AccountTable) (names : List (List ℕ)) (i : ℕ) (c : ControllerState) (running : ControllerRunning) →
-    slice_get (first_controllers tables names) i ≡ Some c → c.running ≡ Some running → AllByRecursion (IsQuietLink []) running.links
-first_controller [] names i c running there runs = absurd (got_nothing i c there)
-first_controller (table ∷ tables) [] i c running there runs = absurd (got_nothing i c there)
-first_controller (table ∷ tables) (name ∷ names) zero c running there runs =
-    let is : first_state table name ≡ c = some_is (first_state table name) c there in
-    let same : empty_running ≡ running = some_is empty_running running (ap (λ (s : ControllerState). s.running) is ∙ runs) in
+first_controller : (hands_on : Bool) (tables : List AccountTable) (names : List (List ℕ)) (i : ℕ) (c : ControllerState) (running : ControllerRunning) →
+    slice_get (first_controllers hands_on tables names) i ≡ Some c → c.running ≡ Some running → AllByRecursion (IsQuietLink []) running.links
+first_controller hands_on [] names i c running there runs = absurd (got_nothing i c there)
+first_controller hands_on (table ∷ tables) [] i c running there runs = absurd (got_nothing i c there)
+first_controller hands_on (table ∷ tables) (name ∷ names) zero c running there runs =
+    let is : fresh_controller hands_on table name ≡ c = some_is (fresh_controller hands_on table name) c there in
+    let fresh : Some empty_running ≡ (fresh_controller hands_on table name).running = fresh_by (λ (s : ControllerState). Some empty_running ≡ s.running) table name refl refl hands_on in
+    let same : empty_running ≡ running = some_is empty_running running (fresh ∙ ap (λ (s : ControllerState). s.running) is ∙ runs) in
     subst (λ (r : ControllerRunning). AllByRecursion (IsQuietLink []) r.links) same tt
-first_controller (table ∷ tables) (name ∷ names) (suc i) c running there runs = first_controller tables names i c running there runs
+first_controller hands_on (table ∷ tables) (name ∷ names) (suc i) c running there runs = first_controller hands_on tables names i c running there runs
 
 -- ---- members
 
@@ -102,7 +104,7 @@ first_stands : (plan : Plan) → RunsStandSo plan []
 first_stands plan = record {
   quiet = record {
     bag = λ n unit there of. absurd (got_nothing n unit there);
-    controllers = first_controller plan.tables plan.controllers;
+    controllers = first_controller plan.hands_on plan.tables plan.controllers;
     members = λ i m running there runs. (first_member plan.members i m running there runs).quiet;
   };
   requests = by_requester (first_requests plan);

@@ -24,35 +24,35 @@ use Rattle.domain_world.proofs.Requests.CalledRunLaws.{schedules_call}
 
 -- what was made as an opening was sent as a request of that number
 openings_small : OfSchedules (λ plan moves. OpeningsAreSmall (past plan moves))
-openings_small plan moves schedule n number channel one there mark =
-    let had : IsOfUnit OfMark tt (past plan moves).world.state.bag n one.mark = marks_fit plan moves schedule n one there in
+openings_small plan moves nobody schedule n number channel one there mark =
+    let had : IsOfUnit OfMark tt (past plan moves).world.state.bag n one.mark = marks_fit plan moves nobody schedule n one there in
     let fits : FitsMark had.unit (Opening channel number) = subst (λ (m : Mark). FitsMark had.unit m) mark had.holds in
     let sent : IsRequestSent number 15 had.unit.bytes = (fits (λ plain. plain)).1 in sent.small
 
 pub units_heard : OfSchedules (λ plan moves. UnitsAreHeard (past plan moves))
-units_heard plan moves schedule =
-    let stands : RunsStandSo plan moves = schedules_stand plan moves schedule (draws_differ plan moves) in
-    let turns : TurnsAreHeard (past plan moves) = turns_run plan moves schedule in
+units_heard plan moves nobody schedule =
+    let stands : RunsStandSo plan moves = schedules_stand plan moves nobody schedule (draws_differ plan moves) in
+    let turns : TurnsAreHeard (past plan moves) = turns_run plan moves nobody schedule in
     record {
-      whole = marked_whole plan moves schedule;
-      judged = judged_as_carried plan moves schedule;
-      called = schedules_call plan moves schedule;
+      whole = marked_whole plan moves nobody schedule;
+      judged = judged_as_carried plan moves nobody schedule;
+      called = schedules_call plan moves nobody schedule;
       numbers = runs_heard.numbers (past plan moves) stands.requests stands.shows.marks stands.apart;
       openings = record {
         numbers = requests_numbered (past plan moves) stands.requests stands.shows.marks stands.apart;
-        answered = λ clear. replies_to_openings plan moves schedule clear;
-        small = openings_small plan moves schedule;
+        answered = λ clear. replies_to_openings plan moves nobody schedule clear;
+        small = openings_small plan moves nobody schedule;
       };
       turns = turns.turns;
-      back = replies_back plan moves schedule;
+      back = replies_back plan moves nobody schedule;
       told = turns.told;
       let_in = turns.let_in;
-      made = messages_made plan moves schedule;
+      made = messages_made plan moves nobody schedule;
       taken = messages_taken plan moves;
     }
 
 -- and no two requests on a channel have one number
 pub schedules_number : OfSchedules (λ plan moves. RequestsHaveNumbers (past plan moves))
-schedules_number plan moves schedule =
-    let stands : RunsStandSo plan moves = schedules_stand plan moves schedule (draws_differ plan moves) in
+schedules_number plan moves nobody schedule =
+    let stands : RunsStandSo plan moves = schedules_stand plan moves nobody schedule (draws_differ plan moves) in
     requests_numbered (past plan moves) stands.requests stands.shows.marks stands.apart

@@ -7,6 +7,7 @@ use Rattle.step_notes.specs.Records.{RequesterId, Sent}
 use Rattle.world_moves.specs.declared.moves.Move.{Move}
 use Rattle.world_moves.specs.declared.plan.Plan.{Plan}
 use Rattle.world_moves.specs.Draws.{DrawsDiffer}
+use Rattle.world_moves.specs.Alone.{HandsNothingOn}
 use Rattle.domain_world.specs.Accepting.Answered.{AnswersAreHeard}
 use Rattle.domain_world.specs.Accepting.Carried.{CallsHaveNumbers}
 use Rattle.domain_world.specs.Accepting.Units.{HasMarksOf, RunsAreHeard, UnitsAreHeard}
@@ -40,14 +41,14 @@ calls_numbered : (past : Past) (r : Requests RequesterId) → HasMarksOf past r 
 calls_numbered past r marks apart n m number timestamp later c d one other there also mark mark_too same =
     requests_numbered past r marks apart n m number c d one other there also (subst (IsRequest c number) (sym mark) (refl, refl)) (subst (IsRequest d number) (sym mark_too) (refl, refl)) same
 
-pub heard_in : (plan : Plan) (moves : List Move) → UnitsAreHeard (past plan moves) → DrawsDiffer (past plan moves).world → AnswersAreHeard (past plan moves)
-heard_in plan moves heard differ =
+pub heard_in : (plan : Plan) (moves : List Move) → HandsNothingOn plan → UnitsAreHeard (past plan moves) → DrawsDiffer (past plan moves).world → AnswersAreHeard (past plan moves)
+heard_in plan moves nobody heard differ =
     let its : Past = past plan moves in
     record {
       passes = passes_unclashed plan moves;
       alike = carried_heard.alike its heard.judged;
       asks = carried_heard.asks its heard.judged heard.called;
-      answers = carried_heard.answers its heard.whole (marks_have_their_way plan moves) heard.judged (passes_unclashed plan moves) (replies_carry plan moves) heard.numbers heard.openings heard.turns;
+      answers = carried_heard.answers its heard.whole (marks_have_their_way plan moves nobody) heard.judged (passes_unclashed plan moves) (replies_carry plan moves nobody) heard.numbers heard.openings heard.turns;
       told = read_back.told its heard.back heard.told;
       messages = messages_apart plan moves;
       let_in = read_back.let_in its heard.back heard.let_in;
@@ -58,9 +59,9 @@ pub runs_heard : RunsAreHeard
 runs_heard = record {
   numbers = calls_numbered;
   heard = heard_in;
-  only = λ plan moves heard differ clear. accepts_only (past plan moves) (is_proved plan moves differ) (heard_in plan moves heard differ) clear;
-  all = λ plan moves heard differ clear. accepts_all (past plan moves) (is_proved plan moves differ) (heard_in plan moves heard differ) clear;
-  keys = λ plan moves heard differ clear. keys_agree (past plan moves) (is_proved plan moves differ) (heard_in plan moves heard differ) clear;
-  counts = λ plan moves heard differ clear. raises_once (past plan moves) (is_proved plan moves differ) (heard_in plan moves heard differ) clear;
-  names = λ plan moves heard differ calm. lets_in_by_name (past plan moves) (is_proved plan moves differ) (heard_in plan moves heard differ) calm;
+  only = λ plan moves nobody heard differ clear. accepts_only (past plan moves) (is_proved plan moves nobody differ) (heard_in plan moves nobody heard differ) clear;
+  all = λ plan moves nobody heard differ clear. accepts_all (past plan moves) (is_proved plan moves nobody differ) (heard_in plan moves nobody heard differ) clear;
+  keys = λ plan moves nobody heard differ clear. keys_agree (past plan moves) (is_proved plan moves nobody differ) (heard_in plan moves nobody heard differ) clear;
+  counts = λ plan moves nobody heard differ clear. raises_once (past plan moves) (is_proved plan moves nobody differ) (heard_in plan moves nobody heard differ) clear;
+  names = λ plan moves nobody heard differ calm. lets_in_by_name (past plan moves) (is_proved plan moves nobody differ) (heard_in plan moves nobody heard differ) calm;
 }

@@ -24,9 +24,9 @@ use Rattle.world_moves.specs.World.{first_world}
 use Rattle.domain_world.specs.Past.{Coming, at_member, note_member, note_messages, past}
 use Rattle.channel_events.proofs.ListLaws.{got_append, got_behind}
 use Rattle.step_notes.proofs.Members.UnservedLaws.{LinksIn, Opens, Took, bytes_took, in_so, step_known}
-use Rattle.domain_world.proofs.Frames.FrameLaws.{IsQuiet, run_stays}
+use Rattle.domain_world.proofs.Frames.FrameLaws.{IsQuiet}
 use Rattle.domain_world.proofs.Frames.TurnFrameLaws.{turns_taken}
-use Rattle.domain_world.proofs.Frames.MemberFrameLaws.{AmongMembers, KeepsMembers, MembersFact, members_written}
+use Rattle.domain_world.proofs.Frames.MemberFrameLaws.{KeepsMembers, MembersFact, members_after}
 use Rattle.domain_world.proofs.Frames.EndNoteLaws.{taken_so, takings_of}
 use Rattle.domain_world.proofs.Frames.EventLaws.{by_quiet}
 use Rattle.world_moves.proofs.ChangeLaws.{member_begun}
@@ -199,4 +199,4 @@ first_kept plan = record {
 
 -- in every run a link takes at most one AUTHENTICATE
 pub messages_once : (plan : Plan) (moves : List Move) → AllPairs (λ (one other : ℕ). one ≢ other) (past plan moves).book.taken
-messages_once plan moves = (run_stays takings_of (AmongMembers takings_of Keeps keeps_on) (members_written takings_of Keeps keeps_on) plan moves (first_kept plan)).once
+messages_once plan moves = (members_after takings_of Keeps keeps_on plan moves (first_kept plan)).once

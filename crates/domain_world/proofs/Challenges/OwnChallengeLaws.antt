@@ -39,9 +39,8 @@ use Rattle.channel_events.proofs.ListLaws.{got_append, got_behind}
 use Rattle.step_notes.proofs.Members.UnservedLaws.{LinksIn, Opens, in_so, step_known}
 use Rattle.domain_world.proofs.Challenges.MessageOnceLaws.{each_put, fresh_links, messages_once, quiet_opens}
 use Rattle.domain_world.proofs.Challenges.OwnLinkLaws.{AtMostOne, IsDrawn, IsLinkIn, IsOwn, IsSentAt, IsSentOn, IsTakenIn, all_sent, all_so, all_taken, bytes_drawn, bytes_one, bytes_own, link_more, one_behind, one_earlier, own_more, own_opened, sent_among}
-use Rattle.domain_world.proofs.Frames.FrameLaws.{run_stays}
 use Rattle.domain_world.proofs.Frames.AllLaws.{all_join}
-use Rattle.domain_world.proofs.Frames.MemberFrameLaws.{AmongMembers, KeepsMembers, MembersFact, members_written}
+use Rattle.domain_world.proofs.Frames.MemberFrameLaws.{KeepsMembers, MembersFact, members_after}
 use Rattle.domain_world.proofs.Frames.TurnFrameLaws.{asked_leave}
 use Rattle.world_moves.proofs.ChangeLaws.{member_begun}
 
@@ -344,7 +343,7 @@ apart_so challenges drawn drew differ apart i j d lt within same =
 -- in every run each link has its own CHALLENGE
 pub links_own : (plan : Plan) (moves : List Move) →
     AreOwn (notes_of (past plan moves).book) (past plan moves).world.state.ends.members (past plan moves).world.state.chances.drawn (past plan moves).world.state.links
-links_own plan moves = run_stays notes_of (AmongMembers notes_of Owns owns_on) (members_written notes_of Owns owns_on) plan moves (first_owns plan)
+links_own plan moves = members_after notes_of Owns owns_on plan moves (first_owns plan)
 
 -- in every run whose draws differ each message is for the own unused challenge of its link
 pub messages_own : (plan : Plan) (moves : List Move) → DrawsDiffer (past plan moves).world → MessagesHaveOwnChallenges (past plan moves)

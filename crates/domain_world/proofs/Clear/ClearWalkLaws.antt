@@ -52,9 +52,10 @@ use Rattle.domain_world.proofs.Completeness.SuccessLaws.{first_enough}
 use Rattle.domain_world.proofs.Clear.NoServersLaws.{no_servers}
 use Rattle.domain_world.proofs.Clear.PhaseClearLaws.{IsClean, IsClearFor, IsPlanned, connect_clean, connect_clear, link_clean, onward_clear, rest_clean, start_clean, tick_clean, tick_clear}
 use Rattle.domain_world.proofs.Frames.MemberPlanLaws.{found_but_secret}
-use Rattle.domain_world.proofs.Frames.PlacedLaws.{placed_first}
+use Rattle.domain_world.proofs.Frames.AloneFrameLaws.{stands_first}
 use Rattle.world_moves.specs.Choosing.{chosen_place}
 use Rattle.world_moves.specs.declared.moves.Move.TheVariants as move
+use Rattle.world_moves.specs.Alone.{HandsNothingOn}
 
 -- ---- how far a logon is
 
@@ -332,24 +333,24 @@ module _ (plan : Plan) (is : IsPlan plan) (forms : HasForms plan) (servers : Has
 
 -- ---- a run
 
-first_along : (plan : Plan) (moves : List Move) → ComesOneAtATime (past plan moves) moves → Along plan moves (first_world plan)
-first_along plan moves comes =
-    record { plain = comes.plain; quiet = comes.quiet; same = ends_stay.none (first_world plan).state; below = comes.schedule.forms.now; placed = placed_first plan }
+first_along : (plan : Plan) (moves : List Move) → HandsNothingOn plan → ComesOneAtATime (past plan moves) moves → Along plan moves (first_world plan)
+first_along plan moves nobody comes =
+    record { plain = comes.plain; quiet = comes.quiet; same = ends_stay.none (first_world plan).state; below = comes.schedule.forms.now; stands = stands_first plan nobody }
 
-with_servers : (plan : Plan) (moves : List Move) → HasServers plan → NoneClashes (past plan moves) moves
-with_servers plan moves servers comes owns =
+with_servers : (plan : Plan) (moves : List Move) → HandsNothingOn plan → HasServers plan → NoneClashes (past plan moves) moves
+with_servers plan moves nobody servers comes owns =
     let first : World = first_world plan in
     let is : IsPlan plan = comes.schedule.start in
     let forms : HasForms plan = comes.schedule.forms in
-    clear_from plan is forms servers (book moves first blank) moves first blank (first_along plan moves comes) owns refl
-    (inl (record { rest = logons_come_to_rest.first plan is forms; enough = first_enough plan (length moves) comes.schedule.few }, record { apart = refl; marked = refl }))
+    clear_from plan is forms servers (book moves first blank) moves first blank (first_along plan moves nobody comes) owns refl
+    (inl (record { rest = logons_come_to_rest.first plan is forms nobody; enough = first_enough plan (length moves) comes.schedule.few }, record { apart = refl; marked = refl }))
 
 -- by whether there is a controller, and a member
-by_servers : (plan : Plan) (moves : List Move) (tables : List AccountTable) (members : List MemberPlan) → plan.tables ≡ tables → plan.members ≡ members → NoneClashes (past plan moves) moves
-by_servers plan moves [] members no_table is comes owns = no_servers plan moves comes.schedule (first_along plan moves comes) (inl no_table)
-by_servers plan moves (table ∷ tables) [] is no_member comes owns = no_servers plan moves comes.schedule (first_along plan moves comes) (inr no_member)
-by_servers plan moves (table ∷ tables) (member ∷ members) is are comes owns =
-    with_servers plan moves
+by_servers : (plan : Plan) (moves : List Move) (nobody : HandsNothingOn plan) (tables : List AccountTable) (members : List MemberPlan) → plan.tables ≡ tables → plan.members ≡ members → NoneClashes (past plan moves) moves
+by_servers plan moves nobody [] members no_table is comes owns = no_servers plan moves nobody comes.schedule (first_along plan moves nobody comes) (inl no_table)
+by_servers plan moves nobody (table ∷ tables) [] is no_member comes owns = no_servers plan moves nobody comes.schedule (first_along plan moves nobody comes) (inr no_member)
+by_servers plan moves nobody (table ∷ tables) (member ∷ members) is are comes owns =
+    with_servers plan moves nobody
     (record {
       controller = 0;
       table = table;
@@ -359,5 +360,5 @@ by_servers plan moves (table ∷ tables) (member ∷ members) is are comes owns 
       is_member_plan = ap (λ (all : List MemberPlan). slice_get all 0) are;
     }) comes owns
 
-pub none_clashes : (plan : Plan) (moves : List Move) → NoneClashes (past plan moves) moves
-none_clashes plan moves = by_servers plan moves plan.tables plan.members refl refl
+pub none_clashes : (plan : Plan) (moves : List Move) → HandsNothingOn plan → NoneClashes (past plan moves) moves
+none_clashes plan moves nobody = by_servers plan moves nobody plan.tables plan.members refl refl

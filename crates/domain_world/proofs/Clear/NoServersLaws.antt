@@ -24,7 +24,7 @@ use Rattle.world_moves.specs.declared.links.EndId.{EndId}
 use Rattle.world_moves.specs.declared.links.EndId.TheVariants.{Client, Controller, Member}
 use Rattle.world_moves.specs.declared.links.OpenLink.{OpenLink}
 use Rattle.world_moves.specs.declared.links.Route.{Route}
-use Rattle.world_moves.specs.declared.links.Route.TheVariants.{Stranger, ToController, ToMember}
+use Rattle.world_moves.specs.declared.links.Route.TheVariants.{Between, Stranger, ToController, ToMember}
 use Rattle.world_moves.specs.declared.moves.Move.{Move}
 use Rattle.world_moves.specs.declared.plan.Plan.{Plan}
 use Rattle.world_moves.specs.declared.state.State.{State}
@@ -43,7 +43,9 @@ use Rattle.logon_runs.proofs.Any.AnyLogonLaws.{controller_within, many_controlle
 use Rattle.logon_runs.proofs.Seen.StepOnLaws.{by_step}
 use Rattle.channel_events.proofs.ListLaws.{got_nothing, some_is}
 use Rattle.world_moves.specs.Choosing.{chosen_place}
+use Rattle.world_moves.specs.Alone.{HandsNothingOn, hear_alone}
 use Rattle.domain_world.specs.Past.{Coming, book, controller_asked, note, note_at, note_member, past}
+use Rattle.domain_world.proofs.Frames.AloneStepLaws.{act_alone}
 use Rattle.domain_world.proofs.Accepting.LetInStepLaws.{IsDialledBy}
 use Rattle.domain_world.proofs.Accepting.Quiet.QuietRunLaws.{has_bytes, quiet_first, quiet_keeps}
 use Rattle.domain_world.proofs.Accepting.Quiet.QuietStepLaws.{MemberIsQuiet, QuietAction, QuietFact, QuietState}
@@ -61,6 +63,7 @@ use Rattle.domain_world.proofs.Frames.StepFrameLaws.{AnyAction, BothFacts, BothF
 abbrev pub IsToMember : Route → Type 0
 IsToMember (ToMember client member) = Unit {0}
 IsToMember (ToController member controller) = ⊥
+IsToMember (Between from to) = ⊥
 IsToMember (Stranger to) = ⊥
 
 abbrev pub AreToMembers : List Route → Type 0
@@ -86,6 +89,7 @@ ClearFact n s given b = AreToMembers s.links → b.clash ≡ false
 -- no controller hears bytes
 no_controller : (back : Bool) (route : Route) (at : ℕ) → IsToMember route → side_of back route ≡ Some (Controller at) → ⊥
 no_controller back (ToController member controller) at is side = is
+no_controller back (Between from to) at is side = is
 no_controller back (Stranger to) at is side = is
 no_controller false (ToMember client member) at is side = absurd cc
 no_controller true (ToMember client member) at is side = absurd cc
@@ -124,14 +128,14 @@ so_heard n end heard given b clear = record { holds = clear; fine = all_any hear
 
 clear_keeps : Keeps QuietFact ClearFact AnyAction
 clear_keeps = record {
-  calm = λ n end what s given b calm quiet clear. so_heard n end (hear end what s) given b clear;
-  dialled = λ n end link s given b side quiet clear. so_heard n end (hear end (event.Dialled link) s) given b clear;
+  calm = λ n end what s given b calm quiet clear. so_heard n end (hear_alone end what s) given b clear;
+  dialled = λ n end link s given b side quiet clear. so_heard n end (hear_alone end (event.Dialled link) s) given b clear;
   opens = λ n route s given b quiet clear.
-      so_heard n (acceptor_of route) (hear (acceptor_of route) (event.Opened (length s.links)) (with_link route s)) given b (λ all. clear (links_before s.links route all));
+      so_heard n (acceptor_of route) (hear_alone (acceptor_of route) (event.Opened (length s.links)) (with_link route s)) given b (λ all. clear (links_before s.links route all));
   begins = λ n client plan s given b is quiet clear. so_heard n (Client client) (begun client plan s) given b clear;
   comes = λ n end w piece s given b side came bytes marked quiet clear.
-      so_heard n end (hear end (event.Bytes w.link piece) s) given (note_at (Some end) w piece s (hear_and_act end (event.Bytes w.link piece) s).state b)
-      (λ all. comes_clear end w piece s (hear_and_act end (event.Bytes w.link piece) s).state b side all quiet (clear all));
+      so_heard n end (hear_alone end (event.Bytes w.link piece) s) given (note_at (Some end) w piece s (act_alone end (event.Bytes w.link piece) s).state b)
+      (λ all. comes_clear end w piece s (act_alone end (event.Bytes w.link piece) s).state b side all quiet (clear all));
   acts = λ n end what s given b fine quiet clear. clear;
   shuts = λ n link s given b quiet clear. clear;
   answers = λ n link there s given b is quiet clear. clear;
@@ -144,10 +148,10 @@ clear_keeps = record {
   over = λ n at s given b quiet clear. clear;
 }
 
-pub clear_while : (plan : Plan) (moves : List Move) → IsSchedule plan moves → AreToMembers (past plan moves).world.state.links → (past plan moves).book.clash ≡ false
-clear_while plan moves is all =
+pub clear_while : (plan : Plan) (moves : List Move) → HandsNothingOn plan → IsSchedule plan moves → AreToMembers (past plan moves).world.state.links → (past plan moves).book.clash ≡ false
+clear_while plan moves nobody is all =
     let after : HoldsAfterRun (BothFacts QuietFact ClearFact) plan moves =
-    run_keeps (BothFacts QuietFact ClearFact) (BothFine QuietAction AnyAction) (join QuietFact ClearFact QuietAction AnyAction quiet_keeps clear_keeps) plan moves (has_bytes plan moves is)
+    run_keeps (BothFacts QuietFact ClearFact) (BothFine QuietAction AnyAction) (join QuietFact ClearFact QuietAction AnyAction quiet_keeps clear_keeps) plan moves nobody (has_bytes plan moves nobody is)
     (quiet_first plan is.start is.forms, λ none. refl) in
     after.holds.1 all
 
@@ -222,11 +226,14 @@ no_route (Member member) (Some (Controller at)) route never is = absurd (never a
 no_route (Member member) (Some (Member other)) route never is = absurd (some_not is)
 no_route (Member member) (Some (Client other)) route never is = absurd (some_not is)
 no_route (Member member) None route never is = absurd (some_not is)
-no_route (Controller controller) found route never is = absurd (some_not is)
+no_route (Controller from) (Some (Controller at)) route never is = absurd (never at refl)
+no_route (Controller from) (Some (Member other)) route never is = absurd (some_not is)
+no_route (Controller from) (Some (Client other)) route never is = absurd (some_not is)
+no_route (Controller from) None route never is = absurd (some_not is)
 
 no_controllers : (plan : Plan) (s : State) → plan.tables ≡ [] → HasSameEnds (first_world plan).state s → (peer : List ℕ) (at : ℕ) → end_of_peer peer s.ends ≡ Some (Controller at) → ⊥
 no_controllers plan s none same peer at is =
-    omega (arith, controller_within peer s.ends at is, same.ends.controllers, many_controllers plan.tables plan.controllers, ap length none)
+    omega (arith, controller_within peer s.ends at is, same.ends.controllers, many_controllers plan.hands_on plan.tables plan.controllers, ap length none)
 
 step_stays : (plan : Plan) (what : Move) (s : State) → plan.tables ≡ [] → HasSameEnds (first_world plan).state s → IsStepOn what → AreToMembers s.links → AreToMembers (act s what).state.links
 step_stays plan what s none same steps all =
@@ -244,39 +251,39 @@ links_stay plan (what ∷ moves) w none along all =
 
 -- ---- without members nothing comes
 
-abbrev IsNoMember : EndId → Type 0
-IsNoMember (Member at) = ⊥
-IsNoMember (Controller at) = Unit {0}
-IsNoMember (Client at) = Unit {0}
+abbrev IsOfClient : EndId → Type 0
+IsOfClient (Member at) = ⊥
+IsOfClient (Controller at) = ⊥
+IsOfClient (Client at) = Unit {0}
 
--- the dials that wait are none of a member
-abbrev AreOfOthers : List WaitingDial → Type 0
-AreOfOthers dials = AllByRecursion (λ (dial : WaitingDial). IsNoMember dial.end) dials
+-- the dials that wait are all of clients
+abbrev AreOfClients : List WaitingDial → Type 0
+AreOfClients dials = AllByRecursion (λ (dial : WaitingDial). IsOfClient dial.end) dials
 
--- no link was made, nothing was sent, and no member dials
+-- no link was made, nothing was sent, and clients alone dial
 record IsBare (s : State) : Type 0 where
   links : s.links ≡ []
   opened : s.open_links ≡ []
   bag : s.bag ≡ []
-  dials : AreOfOthers s.dials
+  dials : AreOfClients s.dials
 
-dials_behind : (dials more : List WaitingDial) → AreOfOthers dials → AreOfOthers more → AreOfOthers (dials ++ more)
+dials_behind : (dials more : List WaitingDial) → AreOfClients dials → AreOfClients more → AreOfClients (dials ++ more)
 dials_behind [] more all others = others
 dials_behind (dial ∷ dials) more all others = (all.0, dials_behind dials more all.1 others)
 
-dials_left : (keep : WaitingDial → Bool) (dials : List WaitingDial) → AreOfOthers dials → AreOfOthers (filter keep dials)
+dials_left : (keep : WaitingDial → Bool) (dials : List WaitingDial) → AreOfClients dials → AreOfClients (filter keep dials)
 dials_left keep [] all = tt
 dials_left keep (dial ∷ dials) all = elim (cases_Bool (keep dial)) [ inl kept ↦ rw kept (all.0, dials_left keep dials all.1) | inr gone ↦ rw gone (dials_left keep dials all.1) ]
 
-dials_later : (dials : List WaitingDial) → AreOfOthers dials → AreOfOthers (drop 1 dials)
+dials_later : (dials : List WaitingDial) → AreOfClients dials → AreOfClients (drop 1 dials)
 dials_later [] all = tt
 dials_later (dial ∷ dials) all = all.1
 
-first_other : (dials : List WaitingDial) (dial : WaitingDial) → slice_get dials 0 ≡ Some dial → AreOfOthers dials → IsNoMember dial.end
+first_other : (dials : List WaitingDial) (dial : WaitingDial) → slice_get dials 0 ≡ Some dial → AreOfClients dials → IsOfClient dial.end
 first_other [] dial is all = absurd (some_not is)
-first_other (first ∷ dials) dial is all = subst (λ (one : WaitingDial). IsNoMember one.end) (some_is first dial is) all.0
+first_other (first ∷ dials) dial is all = subst (λ (one : WaitingDial). IsOfClient one.end) (some_is first dial is) all.0
 
--- an end that isn't a member's acts
+-- a client acts
 none_sent : (end : EndId) (what : Action) → [] ++ units_of_action [] end what ≡ []
 none_sent end (action.Send link bytes) = refl
 none_sent end (action.Keep bytes) = refl
@@ -285,7 +292,7 @@ none_sent end (action.Close link cause) = refl
 none_sent end (action.Told link outcome) = refl
 none_sent end (action.Judged how) = refl
 
-own_dials : (end : EndId) (what : Action) → IsNoMember end → AreOfOthers (dials_of_action end what)
+own_dials : (end : EndId) (what : Action) → IsOfClient end → AreOfClients (dials_of_action end what)
 own_dials end (action.Dial peer) is = (is, tt)
 own_dials end (action.Send link bytes) is = tt
 own_dials end (action.Keep bytes) is = tt
@@ -293,7 +300,7 @@ own_dials end (action.Close link cause) is = tt
 own_dials end (action.Told link outcome) is = tt
 own_dials end (action.Judged how) is = tt
 
-acts_bare : (closed : Option ℕ) (end : EndId) (what : Action) (s : State) → IsNoMember end → IsBare s → IsBare (perform_by closed end what s).state
+acts_bare : (closed : Option ℕ) (end : EndId) (what : Action) (s : State) → IsOfClient end → IsBare s → IsBare (perform_by closed end what s).state
 acts_bare None end what s is bare = record {
   links = bare.links;
   opened = bare.opened;
@@ -303,11 +310,11 @@ acts_bare None end what s is bare = record {
 acts_bare (Some link) end what s is bare =
     subst (λ (there : Option OpenLink). IsBare (close_open there end link s).state) (sym (ap (λ (map : OpenMap). lookup same_number link map) bare.opened)) bare
 
-all_bare : (end : EndId) (actions : List Action) (s : State) → IsNoMember end → IsBare s → IsBare (perform_all end actions s).state
+all_bare : (end : EndId) (actions : List Action) (s : State) → IsOfClient end → IsBare s → IsBare (perform_all end actions s).state
 all_bare end [] s is bare = bare
 all_bare end (what ∷ actions) s is bare = all_bare end actions (perform end what s).state is (acts_bare (link_closed what) end what s is bare)
 
-hears_bare : (end : EndId) (what : Event) (s : State) → IsNoMember end → IsBare s → IsBare (hear_and_act end what s).state
+hears_bare : (end : EndId) (what : Event) (s : State) → IsOfClient end → IsBare s → IsBare (hear_and_act end what s).state
 hears_bare end what s is bare =
     all_bare end (hear end what s).actions (hear end what s).state is (record { links = bare.links; opened = bare.opened; bag = bare.bag; dials = bare.dials })
 
@@ -328,9 +335,9 @@ start_bare : (at : Option ℕ) (s : State) → IsBare s → IsBare (start_at at 
 start_bare None s bare = bare
 start_bare (Some at) s bare = start_by_bare (slice_get s.client_plans at) at s bare
 
-no_way : (end : EndId) (found : Option EndId) → IsNoMember end → ((at : ℕ) → found ≡ Some (Member at) → ⊥) → route_to end found ≡ None
+no_way : (end : EndId) (found : Option EndId) → IsOfClient end → ((at : ℕ) → found ≡ Some (Member at) → ⊥) → route_to end found ≡ None
 no_way (Member at) found is never = absurd is
-no_way (Controller at) found is never = refl
+no_way (Controller at) found is never = absurd is
 no_way (Client at) None is never = refl
 no_way (Client at) (Some (Member member)) is never = absurd (never member refl)
 no_way (Client at) (Some (Controller controller)) is never = refl
@@ -339,7 +346,7 @@ no_way (Client at) (Some (Client other)) is never = refl
 no_members : (plan : Plan) (s : State) → plan.members ≡ [] → HasSameEnds (first_world plan).state s → (peer : List ℕ) (at : ℕ) → end_of_peer peer s.ends ≡ Some (Member at) → ⊥
 no_members plan s none same peer at is = omega (arith, member_within peer s.ends at is, same.ends.members, many_members plan.members, ap length none)
 
-connect_bare : (first : Option WaitingDial) (s : State) → ((dial : WaitingDial) → first ≡ Some dial → IsNoMember dial.end) →
+connect_bare : (first : Option WaitingDial) (s : State) → ((dial : WaitingDial) → first ≡ Some dial → IsOfClient dial.end) →
     ((peer : List ℕ) (at : ℕ) → end_of_peer peer s.ends ≡ Some (Member at) → ⊥) → IsBare s → IsBare (connect_first first s).state
 connect_bare None s others never bare = bare
 connect_bare (Some dial) s others never bare =
@@ -365,7 +372,7 @@ clear_bare plan (what ∷ moves) w b none along bare clean =
 
 -- ---- a run
 
-pub no_servers : (plan : Plan) (moves : List Move) → IsSchedule plan moves → Along plan moves (first_world plan) → (plan.tables ≡ []) ⊎ (plan.members ≡ []) → (past plan moves).book.clash ≡ false
-no_servers plan moves is along (inl tables) = clear_while plan moves is (links_stay plan moves (first_world plan) tables along tt)
-no_servers plan moves is along (inr members) =
+pub no_servers : (plan : Plan) (moves : List Move) → HandsNothingOn plan → IsSchedule plan moves → Along plan moves (first_world plan) → (plan.tables ≡ []) ⊎ (plan.members ≡ []) → (past plan moves).book.clash ≡ false
+no_servers plan moves nobody is along (inl tables) = clear_while plan moves nobody is (links_stay plan moves (first_world plan) tables along tt)
+no_servers plan moves nobody is along (inr members) =
     clear_bare plan moves (first_world plan) blank members along (record { links = refl; opened = refl; bag = refl; dials = tt }) (record { apart = refl; marked = refl })

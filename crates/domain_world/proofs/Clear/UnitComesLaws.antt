@@ -351,7 +351,7 @@ module _ (s : State) (t : Turn) (next number : ℕ) (what : Step) (request : Rpc
       ≡ (done (Controller t.at_controller) (after_hearing (with_controller_at t.at_controller after s.ends) rest actions (settle n s))).state.bag
   call_done actions after n steps =
       ap (λ (h : Heard). (done (Controller t.at_controller) h).state.bag)
-      (waiting_comes.controller (settle n s) t.at_controller call_at after (event.Bytes t.link call_bytes) rest actions shows.controller
+      (waiting_comes.controller (settle n s) t.at_controller call_at after (event.Bytes t.link call_bytes) rest actions shows.controller shows.alone
       (ap₂ (λ (now : ℕ) (l : List (List ℕ)). controller_step_of call_at (event.Bytes t.link call_bytes) now l) shows.moment shows.left ∙ steps
       ∙ ap (λ (l : List (List ℕ)). whole_step l rest actions after) (sym shows.left)))
 

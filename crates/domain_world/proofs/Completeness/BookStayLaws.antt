@@ -10,10 +10,10 @@ use Rattle.world_moves.specs.declared.moves.Move.{Move}
 use Rattle.world_moves.specs.declared.state.State.{State}
 use Rattle.world_moves.specs.World.{World, run}
 use Rattle.domain_world.specs.Past.{Coming, answers_of, book, judged_of, note_at, numbers_on, onto, told_in}
+use Rattle.domain_world.proofs.Frames.AloneFrameLaws.{StandsAlone}
 use Rattle.domain_world.proofs.Challenges.OwnLinkLaws.{one_earlier}
 use Rattle.domain_world.proofs.Frames.BookFrameLaws.{book_stays}
 use Rattle.domain_world.proofs.Frames.FrameLaws.{Fact, StaysWritten, later_stays}
-use Rattle.domain_world.proofs.Frames.PlacedLaws.{IsPlaced}
 use Rattle.domain_world.proofs.Frames.EndNoteLaws.{book_by, bytes_told, judged_so}
 
 -- ---- one of several
@@ -24,11 +24,11 @@ one_onto P (item ∷ items) older one = one_onto P items (item ∷ older) (inr o
 
 -- ---- what was told
 
-pub told_stays : (P : OutcomeTold → Type 0) (moves : List Move) (w : World) (b : Book) → IsPlaced w.state → OneOf P b.told → OneOf P (book moves w b).told
-told_stays P moves w b placed one =
+pub told_stays : (P : OutcomeTold → Type 0) (moves : List Move) (w : World) (b : Book) → StandsAlone w.state → OneOf P b.told → OneOf P (book moves w b).told
+told_stays P moves w b stands one =
     book_stays (λ (now : Book). OneOf P now.told)
     (λ end w piece s after now is. subst (OneOf P) (sym (bytes_told end w piece s after now)) is)
-    (λ at given after now is. one_earlier P now.told (told_in given at) is) moves w b placed one
+    (λ at given after now is. one_earlier P now.told (told_in given at) is) moves w b stands.placed one
 
 -- ---- what was judged
 
@@ -38,8 +38,8 @@ bytes_judged P end w piece s after b one =
     (λ at c is. one_onto P (judged_of (answers_of at c w piece s) (numbers_on w.link true s.bag after.bag)) b.judged one)
     (λ at m is. subst (OneOf P) (sym (judged_so.members m at w piece s after b)) one) (λ at c is. one) end
 
-pub judged_stays : (P : Judging → Type 0) (moves : List Move) (w : World) (b : Book) → IsPlaced w.state → OneOf P b.judged → OneOf P (book moves w b).judged
-judged_stays P moves w b placed one = book_stays (λ (now : Book). OneOf P now.judged) (bytes_judged P) (λ at given after now is. is) moves w b placed one
+pub judged_stays : (P : Judging → Type 0) (moves : List Move) (w : World) (b : Book) → StandsAlone w.state → OneOf P b.judged → OneOf P (book moves w b).judged
+judged_stays P moves w b stands one = book_stays (λ (now : Book). OneOf P now.judged) (bytes_judged P) (λ at given after now is. is) moves w b stands.placed one
 
 -- ---- links
 
@@ -61,6 +61,6 @@ link_is number route = record {
   given = λ at given after b. refl;
 }
 
-pub link_stays : (number : ℕ) (route : Route) (moves : List Move) (w : World) (b : Book) → IsPlaced w.state → slice_get w.state.links number ≡ Some route → slice_get (run moves w).state.links number ≡ Some route
+pub link_stays : (number : ℕ) (route : Route) (moves : List Move) (w : World) (b : Book) → StandsAlone w.state → slice_get w.state.links number ≡ Some route → slice_get (run moves w).state.links number ≡ Some route
 unfolding LinkIs
-link_stays number route moves w b placed is = later_stays (λ (now : Book). tt) (LinkIs number route) (link_is number route) moves w b placed is
+link_stays number route moves w b stands is = later_stays (λ (now : Book). tt) (LinkIs number route) (link_is number route) moves w b stands is

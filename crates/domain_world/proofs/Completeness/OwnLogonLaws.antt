@@ -32,8 +32,8 @@ use Rattle.logon_runs.proofs.Phases.PhaseLaws.{phases_go_on}
 use Rattle.domain_world.specs.Claims.{TravelsAsZeros}
 use Rattle.domain_world.specs.Claims.Completeness.{IsMadeForClient, KeyArrives}
 use Rattle.domain_world.specs.Past.{book, note, told_in}
+use Rattle.domain_world.proofs.Frames.AloneFrameLaws.{StandsAlone}
 use Rattle.domain_world.proofs.Accepting.Turns.TurnChangedLaws.{one_after}
-use Rattle.domain_world.proofs.Frames.PlacedLaws.{IsPlaced}
 use Rattle.domain_world.proofs.Completeness.BookStayLaws.{judged_stays, told_stays}
 use Rattle.domain_world.proofs.Completeness.JudgedNoteLaws.{IsGrant, grant_noted}
 
@@ -54,15 +54,15 @@ IsWritten p (IsAsking o) b = Unit {0}
 IsWritten p (WasJudged a o) b = OneOf (IsGrant p (key_of_channel o) (base_key p.meeting.task (message_for (own p) a))) b.judged
 IsWritten p (WasTold a) b = OneOf (IsTold p a) b.told
 
-pub written_stays : (p : Coming) (far : Progress) (what : Move) (w : World) (b : Book) → IsPlaced w.state → IsWritten p far b → IsWritten p far (note w what b)
-written_stays p NotYet what w b placed is = tt
-written_stays p (IsOpening client server) what w b placed is = tt
-written_stays p (WasOpened client server) what w b placed is = tt
-written_stays p (IsSetting o) what w b placed is = tt
-written_stays p (WasSet o) what w b placed is = tt
-written_stays p (IsAsking o) what w b placed is = tt
-written_stays p (WasJudged a o) what w b placed is = judged_stays (IsGrant p (key_of_channel o) (base_key p.meeting.task (message_for (own p) a))) (what ∷ []) w b placed is
-written_stays p (WasTold a) what w b placed is = told_stays (IsTold p a) (what ∷ []) w b placed is
+pub written_stays : (p : Coming) (far : Progress) (what : Move) (w : World) (b : Book) → StandsAlone w.state → IsWritten p far b → IsWritten p far (note w what b)
+written_stays p NotYet what w b stands is = tt
+written_stays p (IsOpening client server) what w b stands is = tt
+written_stays p (WasOpened client server) what w b stands is = tt
+written_stays p (IsSetting o) what w b stands is = tt
+written_stays p (WasSet o) what w b stands is = tt
+written_stays p (IsAsking o) what w b stands is = tt
+written_stays p (WasJudged a o) what w b stands is = judged_stays (IsGrant p (key_of_channel o) (base_key p.meeting.task (message_for (own p) a))) (what ∷ []) w b stands is
+written_stays p (WasTold a) what w b stands is = told_stays (IsTold p a) (what ∷ []) w b stands is
 
 -- no key of its own calls that was granted travels as zeros
 abbrev pub IsSafe : Coming → Book → Type 0
@@ -75,10 +75,10 @@ AreSafeFor task computer controller b = AllByRecursion (KeyArrives task computer
 abbrev pub AreSafe : Coming → Book → Type 0
 AreSafe p b = AreSafeFor p.meeting.task p.meeting.caller.computer p.meeting.at_controller b
 
-pub safe_then : (p : Coming) (moves : List Move) (w : World) (b : Book) → IsPlaced w.state → AreSafe p (book moves w b) → IsSafe p b
-safe_then p moves w b placed safe key base one zeros =
+pub safe_then : (p : Coming) (moves : List Move) (w : World) (b : Book) → StandsAlone w.state → AreSafe p (book moves w b) → IsSafe p b
+safe_then p moves w b stands safe key base one zeros =
     let found = one_found (IsGrant p key base) (KeyArrives p.meeting.task p.meeting.caller.computer p.meeting.at_controller) (book moves w b).judged safe
-    (judged_stays (IsGrant p key base) moves w b placed one) in
+    (judged_stays (IsGrant p key base) moves w b stands one) in
     let j : Judging = found.0 in
     of_network (λ (c : LogonCall). IsMadeForClient p.meeting.task p.meeting.caller.computer p.meeting.at_controller j c → TravelsAsZeros j c.info → ⊥) j.asked found.1.call found.1.asks
     (found.2 found.1.how) found.1.own (found.1.zeros zeros)
@@ -97,7 +97,7 @@ told_so p a w b turn answer rest is =
 
 -- ---- a unit comes
 
-module _ (p : Coming) (w : World) (b : Book) (known : IsKnown p) (user : HasUser p) (may : MayLogOnAt p w.state) (placed : IsPlaced w.state) (safe : IsSafe p (note w move.Onward b)) where
+module _ (p : Coming) (w : World) (b : Book) (known : IsKnown p) (user : HasUser p) (may : MayLogOnAt p w.state) (stands : StandsAlone w.state) (safe : IsSafe p (note w move.Onward b)) where
   -- the user's hash is there, where the logon is judged
   asked_at : (a : Asked) (who : WhoAsked p a) (v : TurnAt) (o c : SecureChannelState) (timestamp : ℕ) (left : List (List ℕ)) (moment : ℕ) → Fits p (Calls a who v (Third o c timestamp)) →
       Shows w.state (scene_of p (Calls a who v (Third o c timestamp)) left moment) → HasUserAt p w.state (Calls a who v (Third o c timestamp)) move.Onward
@@ -124,7 +124,7 @@ module _ (p : Coming) (w : World) (b : Book) (known : IsKnown p) (user : HasUser
   granted_written a who v o c timestamp judged_at accounts left moment fits shows is =
       let tells : TellsIn p w.state a v =
       grants_tell.tells p w.state a who v o c timestamp judged_at accounts left moment known fits
-      (safe (key_of_channel o) (base_key p.meeting.task (message_for (own p) a)) (written_stays p (WasJudged a o) move.Onward w b placed is)) shows in
+      (safe (key_of_channel o) (base_key p.meeting.task (message_for (own p) a)) (written_stays p (WasJudged a o) move.Onward w b stands is)) shows in
       told_so p a w b (length v.links) tells.answer tells.rest tells.are
 
   pub onward_written : (phase : LogonPhase p) (left : List (List ℕ)) (moment : ℕ) → Fits p phase → Shows w.state (scene_of p phase left moment) → IsWritten p (progress_of phase) b →
@@ -144,9 +144,9 @@ module _ (p : Coming) (w : World) (b : Book) (known : IsKnown p) (user : HasUser
   onward_written (Granted a who v o c timestamp judged_at accounts) left moment fits shows is =
       granted_written a who v o c timestamp judged_at accounts left moment fits shows is
   onward_written (Sets a who v o c timestamp new accounts) left moment fits shows is = tt
-  onward_written (Named a e on one other back) left moment fits shows is = written_stays p (WasTold a) move.Onward w b placed is
-  onward_written (Echoes a e on one asks) left moment fits shows is = written_stays p (WasTold a) move.Onward w b placed is
-  onward_written (Echoed a e talk one other back) left moment fits shows is = written_stays p (WasTold a) move.Onward w b placed is
+  onward_written (Named a e on one other back) left moment fits shows is = written_stays p (WasTold a) move.Onward w b stands is
+  onward_written (Echoes a e on one asks) left moment fits shows is = written_stays p (WasTold a) move.Onward w b stands is
+  onward_written (Echoed a e talk one other back) left moment fits shows is = written_stays p (WasTold a) move.Onward w b stands is
 
   call_arrives : (a : Asked) (who : WhoAsked p a) (v : TurnAt) (aim : Aim) (left : List (List ℕ)) (moment : ℕ) → Fits p (Calls a who v aim) → Shows w.state (scene_of p (Calls a who v aim) left moment) →
       ArrivesAt p (Calls a who v aim) move.Onward

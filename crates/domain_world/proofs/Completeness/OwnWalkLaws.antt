@@ -34,9 +34,8 @@ use Rattle.logon_runs.proofs.Seen.StepOnLaws.{by_step, if_other}
 use Rattle.logon_runs.proofs.Failing.TurnedAwayLaws.{logons_are_turned_away}
 use Rattle.domain_world.specs.Claims.Completeness.{InEachState, IsQuiet, MayLogOnIn, info_planned, started_in}
 use Rattle.domain_world.specs.Past.{book, note}
+use Rattle.domain_world.proofs.Frames.AloneFrameLaws.{StandsAlone, stands_next}
 use Rattle.domain_world.proofs.Completeness.ApartLaws.{info_same}
-use Rattle.domain_world.proofs.Frames.MoveFrameLaws.{placed_next}
-use Rattle.domain_world.proofs.Frames.PlacedLaws.{IsPlaced}
 use Rattle.domain_world.proofs.Completeness.BookStayLaws.{link_stays, told_stays}
 use Rattle.domain_world.proofs.Completeness.OwnLogonLaws.{AreSafe, IsSafe, IsTold, IsWritten, onward_arrives, onward_written, safe_then, written_stays}
 use Rattle.domain_world.proofs.Completeness.RestingLaws.{Along, Started, along_next, goes_further, rests_then, stays_so, units_quiet}
@@ -82,16 +81,16 @@ record GoesSoFar (p : Coming) (s after : State) (b : Book) : Type 0 where
   so_far : IsSoFar p after b
   few : DrawsFew s.chances.left after.chances.left
 
-module _ (p : Coming) (w : World) (b : Book) (known : IsKnown p) (user : HasUser p) (ready : IsReady p w.state) (may : MayLogOnAt p w.state) (placed : IsPlaced w.state) where
+module _ (p : Coming) (w : World) (b : Book) (known : IsKnown p) (user : HasUser p) (ready : IsReady p w.state) (may : MayLogOnAt p w.state) (stands : StandsAlone w.state) where
   onward_goes : IsSafe p (note w move.Onward b) → (at : IsUnderWay p w.state) → IsWritten p (progress_of at.phase) b → GoesSoFar p w.state (act w.state move.Onward).state (note w move.Onward b)
   onward_goes safe at written =
       let asked : HasUserAt p w.state at.phase move.Onward = phases_go_on.has_user p w.state at move.Onward user may in
-      let arrives : ArrivesAt p at.phase move.Onward = onward_arrives p w b known user may placed safe at.phase at.left at.moment at.fits at.shows in
+      let arrives : ArrivesAt p at.phase move.Onward = onward_arrives p w b known user may stands safe at.phase at.left at.moment at.fits at.shows in
       record {
         so_far = record {
           far = progress_onward at.phase;
           comes = phases_go_on.goes_so_far p w.state move.Onward known ready tt at asked arrives;
-          written = onward_written p w b known user may placed safe at.phase at.left at.moment at.fits at.shows written;
+          written = onward_written p w b known user may stands safe at.phase at.left at.moment at.fits at.shows written;
         };
         few = phases_go_on.draws p w.state move.Onward known ready tt at asked arrives;
       }
@@ -104,7 +103,7 @@ module _ (p : Coming) (w : World) (b : Book) (known : IsKnown p) (user : HasUser
         so_far = record {
           far = progress_of at.phase;
           comes = phases_go_on.goes_so_far p w.state move.Connect known ready tt at asked arrives;
-          written = written_stays p (progress_of at.phase) move.Connect w b placed written;
+          written = written_stays p (progress_of at.phase) move.Connect w b stands written;
         };
         few = phases_go_on.draws p w.state move.Connect known ready tt at asked arrives;
       }
@@ -117,7 +116,7 @@ module _ (p : Coming) (w : World) (b : Book) (known : IsKnown p) (user : HasUser
         so_far = record {
           far = progress_of at.phase;
           comes = phases_go_on.goes_so_far p w.state (move.Tick more) known ready tt at asked arrives;
-          written = written_stays p (progress_of at.phase) (move.Tick more) w b placed written;
+          written = written_stays p (progress_of at.phase) (move.Tick more) w b stands written;
         };
         few = phases_go_on.draws p w.state (move.Tick more) known ready tt at asked arrives;
       }
@@ -134,7 +133,7 @@ module _ (p : Coming) (w : World) (b : Book) (known : IsKnown p) (user : HasUser
         so_far = record {
           far = WasTold over.asked;
           comes = inr (later.0, ap (λ (a : Asked). WasTold a) later.1);
-          written = written_stays p (WasTold over.asked) what w b placed written;
+          written = written_stays p (WasTold over.asked) what w b stands written;
         };
         few = none_drawn w.state.chances.left (act w.state what).state.chances.left
             (logons_are_turned_away.over_draws p w.state what steps (logons_are_turned_away.over p w.state over));
@@ -165,8 +164,8 @@ module _ (plan : Plan) (is : IsPlan plan) (forms : HasForms plan) (servers : Has
     asked = over.0.asked;
     is_in = stays_so plan is forms servers p.meeting.at_client moves w along apart
         (rests_then plan (length moves) s0 started_one w started quiet) ∙ over.0.shows.client;
-    told = told_stays (IsTold p over.0.asked) moves w b along.placed (subst (λ (f : Progress). IsWritten p f b) (sym over.1) written);
-    joined = link_stays (own p).link (ToMember p.meeting.at_client p.meeting.at_member) moves w b along.placed
+    told = told_stays (IsTold p over.0.asked) moves w b along.stands (subst (λ (f : Progress). IsWritten p f b) (sym over.1) written);
+    joined = link_stays (own p).link (ToMember p.meeting.at_client p.meeting.at_member) moves w b along.stands
         (ap (λ (links : List Route). slice_get links (own p).link) over.0.shows.links ∙ over.0.fits.joined_so);
   }
 
@@ -187,8 +186,8 @@ module _ (plan : Plan) (is : IsPlan plan) (forms : HasForms plan) (servers : Has
       OwnEnds p (what ∷ moves) w b
   own_steps what moves w b steps then_on along enough may safe reached started apart so_far =
       let goes : GoesSoFar p w.state (act w.state what).state (note w what b) =
-      goes_by p w b known user (ready_so (length moves) w reached along.below enough) (may_at p w.state may.0) along.placed so_far.far so_far.comes so_far.written what steps
-      (safe_then p moves (happens w what) (note w what b) (placed_next what w b along.placed) safe) in
+      goes_by p w b known user (ready_so (length moves) w reached along.below enough) (may_at p w.state may.0) along.stands so_far.far so_far.comes so_far.written what steps
+      (safe_then p moves (happens w what) (note w what b) (stands_next what w b along.stands) safe) in
       let ends : OwnEnds p moves (happens w what) (note w what b) =
       then_on (along_next plan what moves w along) (enough_after (length moves) w.state.chances.left (act w.state what).state.chances.left enough goes.few) may.1 safe
       (reached_so p w.state (act w.state what).state reached (ends_stay.acts w.state what)) (goes_further plan (length moves) s0 started_one w.state what steps along.below started) apart goes.so_far in

@@ -36,8 +36,7 @@ use Rattle.logon_runs.proofs.Seen.WaitingLaws.{waiting_comes}
 use Rattle.logon_runs.proofs.Seen.StepOnLaws.{by_step}
 use Rattle.step_notes.specs.Records.{blank}
 use Rattle.domain_world.specs.Claims.Completeness.{IsPlainMove, IsQuiet, OneAtATime, started_in}
-use Rattle.domain_world.proofs.Frames.MoveFrameLaws.{placed_next}
-use Rattle.domain_world.proofs.Frames.PlacedLaws.{IsPlaced}
+use Rattle.domain_world.proofs.Frames.AloneFrameLaws.{StandsAlone, stands_next}
 use Rattle.domain_world.proofs.Completeness.MomentLaws.{moment_below, start_chances}
 use Rattle.domain_world.proofs.Completeness.PlainLaws.{by_plain, later_starts}
 
@@ -212,7 +211,7 @@ pub record Along (plan : Plan) (moves : List Move) (w : World) : Type 0 where
   pub quiet : OneAtATime moves w
   pub same : HasSameEnds (first_world plan).state w.state
   pub below : w.state.moment < 2 ^ 64
-  pub placed : IsPlaced w.state
+  pub stands : StandsAlone w.state
 
 pub along_next : (plan : Plan) (what : Move) (moves : List Move) (w : World) → Along plan (what ∷ moves) w → Along plan moves (happens w what)
 along_next plan what moves w along = record {
@@ -220,7 +219,7 @@ along_next plan what moves w along = record {
   quiet = along.quiet.1;
   same = both_same (first_world plan).state w.state (act w.state what).state along.same (ends_stay.acts w.state what);
   below = moment_below w.state what along.below;
-  placed = placed_next what w blank along.placed;
+  stands = stands_next what w blank along.stands;
 }
 
 -- ---- a client that isn't started any more

@@ -21,6 +21,7 @@ use Rattle.world_moves.specs.Choosing.{chosen_place}
 use Rattle.world_moves.specs.Forms.{HasForms}
 use Rattle.world_moves.specs.Moving.{act, start}
 use Rattle.world_moves.specs.World.{IsPlan, World, first_world, happens, outcome_by, run}
+use Rattle.world_moves.specs.Alone.{HandsNothingOn}
 use Rattle.logon_runs.specs.AnyLogons.{HasServers}
 use Rattle.logon_runs.specs.Seen.Others.{IsStepOn}
 use Rattle.logon_runs.specs.Rests.{CanBeGranted, HasBegun, HasEnough, coming_of}
@@ -38,7 +39,7 @@ use Rattle.domain_world.proofs.Completeness.ApartLaws.{can_be_granted, has_serve
 use Rattle.domain_world.proofs.Completeness.MomentLaws.{start_bag, start_chances}
 use Rattle.domain_world.proofs.Completeness.OwnLogonLaws.{AreSafeFor, IsTold}
 use Rattle.domain_world.proofs.Completeness.OwnWalkLaws.{IsSoFar, OwnEnds, may_at, own_goes}
-use Rattle.domain_world.proofs.Frames.PlacedLaws.{placed_first}
+use Rattle.domain_world.proofs.Frames.AloneFrameLaws.{stands_first}
 use Rattle.domain_world.proofs.Completeness.RestingLaws.{Along, BeginsSo, along_next, Resting, Started, begins_so, fewer_moves, goes_further, rests_on, rests_then}
 use Rattle.domain_world.proofs.Completeness.PlainLaws.{by_plain, later_starts, with_starts}
 
@@ -244,13 +245,13 @@ first_enough plan moves few = record {
   blocks = first_left_blocks plan;
 }
 
-pub each_succeeds : (plan : Plan) (moves : List Move) → EachSucceeds (past plan moves) moves
-each_succeeds plan moves comes =
+pub each_succeeds : (plan : Plan) (moves : List Move) → HandsNothingOn plan → EachSucceeds (past plan moves) moves
+each_succeeds plan moves nobody comes =
     let first : World = first_world plan in
     let is : IsPlan plan = comes.schedule.start in
     let forms : HasForms plan = comes.schedule.forms in
     all_given (λ (client : ℕ). CanSucceed plan moves client) (λ client can. OwnKeysArrive (past plan moves) moves client can → Succeeds (past plan moves) moves client can) (HasServers plan) (started_in moves (length plan.clients)) (λ client can. has_servers plan moves client can)
     (λ servers. each_from plan moves is forms servers (run moves first) (book moves first blank) moves first blank
-    (record { plain = comes.plain; quiet = comes.quiet; same = ends_stay.none first.state; below = forms.now; placed = placed_first plan })
+    (record { plain = comes.plain; quiet = comes.quiet; same = ends_stay.none first.state; below = forms.now; stands = stands_first plan nobody })
     comes.once (λ Fact each. each) refl refl
-    (inl (record { rest = logons_come_to_rest.first plan is forms; enough = first_enough plan (length moves) comes.schedule.few })))
+    (inl (record { rest = logons_come_to_rest.first plan is forms nobody; enough = first_enough plan (length moves) comes.schedule.few })))

@@ -1,7 +1,7 @@
 -- What holds of each unit of the bag and its mark, through all moves of a run: whatever holds where an end makes a unit
 -- for a mark, and goes on holding as more is written down. It may rest on something of the ends, the maker of
 -- challenges and the links that holds through all moves (`FrameLaws`). It is an instance of `MoveFrameLaws`.
--- It serves `Proved.marked`.
+-- It serves `Proved.ways`, `Proved.replies`, `Proved.opened` and others.
 use Rattle.std.proofs.Common.{◌≡◌, ℕ, ◌+◌, Bool, true, false, List, [], ◌∷◌, ◌++◌, drop, length, map, inl, inr, Option, Some, None, slice_get, refl, ap, sym, subst, ◌∙◌, arith, length-append}
 use Rattle.std.specs.Prelude.{◌-◌, ◌≤◌, replicate}
 use Rattle.std.specs.List.{AllByRecursion}
@@ -21,22 +21,25 @@ use Rattle.world_moves.specs.declared.links.Route.{Route}
 use Rattle.world_moves.specs.declared.moves.Move.{Move}
 use Rattle.world_moves.specs.declared.plan.Plan.{Plan}
 use Rattle.world_moves.specs.declared.state.State.{State}
-use Rattle.world_moves.specs.Acting.{Heard, done, heard_by, hear_and_act}
+use Rattle.world_moves.specs.Acting.{Heard, done, heard_by}
 use Rattle.world_moves.specs.Bag.{settle_at, settled}
-use Rattle.world_moves.specs.Ends.{EndStep, actions_by, client_step, controller_step, member_step}
-use Rattle.world_moves.specs.World.{World, first_world, happens, run}
-use Rattle.domain_world.specs.Claims.MarkedUnits.{EachUnitIsMarked}
-use Rattle.domain_world.specs.Past.{Coming, answers_of, at_controller, book, marks_of, note, note_at, note_client, note_coming, note_controller, note_member, note_messages, numbers_on, past, sent_at, note_given}
+use Rattle.world_moves.specs.Ends.{EndStep, actions_by, client_step, member_step}
+use Rattle.world_moves.specs.World.{first_world}
+use Rattle.world_moves.specs.Alone.{HandsNothingOn, alone_controller_step as controller_step}
+use Rattle.domain_world.specs.Past.{Coming, answers_of, at_controller, marks_of, note_at, note_client, note_controller, note_member, note_messages, numbers_on, past, sent_at, note_given}
 use Rattle.channel_events.proofs.ListLaws.{got_append, got_nothing}
 use Rattle.world_moves.proofs.LinkFrameLaws.{IsOnLink, StaysOnLinks, actions_stay, quiet_stays}
 use Rattle.world_moves.proofs.EndKindLaws.{is_client}
+use Rattle.domain_world.proofs.Frames.AloneStepLaws.{act_alone as hear_and_act}
 use Rattle.domain_world.proofs.Frames.FrameLaws.{Fact, HoldsIn, StaysWritten, OfSide, side_keeps}
 use Rattle.domain_world.proofs.Frames.FrontLaws.{controller_unit}
 use Rattle.domain_world.proofs.Frames.MarkPlaceLaws.{got_beside, got_later, got_map, got_replicate, got_settled, later_or, marks_length, no_longer, settled_length}
 use Rattle.domain_world.proofs.Frames.NewUnitLaws.{IsNewUnit}
 use Rattle.domain_world.proofs.Frames.OpenMadeLaws.{IsAtSide, IsMore, MoreOf, goes_on, no_more, same_side}
 use Rattle.domain_world.proofs.Frames.TurnFrameLaws.{turns_sent, asked_book, asked_marks}
-use Rattle.domain_world.proofs.Frames.MoveFrameLaws.{AtWork, Both, HoldsAfterMoves, KeepsMoves, MoveFact, NoSide, join_moves, moves_keep, started}
+use Rattle.domain_world.proofs.Frames.AloneFrameLaws.{moves_keep_alone}
+use Rattle.domain_world.proofs.Frames.MoveFrameLaws.{HoldsAfterMoves}
+use Rattle.domain_world.proofs.Frames.MoveKeepLaws.{AtWork, Both, KeepsMoves, MoveFact, NoSide, join_moves, started}
 use Rattle.domain_world.proofs.Frames.EndNoteLaws.{acted_by}
 
 -- ---- what is to hold of each unit
@@ -310,7 +313,7 @@ module _ {X : Type 0} (part : Book → X) (Side : X → Fact) (P : UnitFact X) (
   marks_keep : (Known : Type 0) → KeepsMoves Known (OfSide part Side written) (MarkFact part P)
   marks_keep Known = record {
     closes = λ n p end link s given b work side marks. marks;
-    opens = λ n at dial route s given b side marks. record { each = marks.each; all = tt };
+    opens = λ n at dial route s given b out side marks. record { each = marks.each; all = tt };
     dialled = λ n at end link s given b here side marks. marks;
     fails = λ n at end s b side marks. marks;
     begins = λ n at client plan s b is side marks. marks;
@@ -348,11 +351,11 @@ module _ {X : Type 0} (part : Book → X) (Side : X → Fact) (P : UnitFact X) (
       Both (OfSide part Side written) (MarkFact part P) 0 (started 0 on) (first_world plan).state [] blank
   first_marked plan on holds = (holds, record { each = λ number one there. absurd (got_nothing number one there); all = all_for on [] [] [] refl })
 
-  run_marked : (plan : Plan) (moves : List Move) → HoldsIn (Side (part blank)) (first_world plan).state →
+  run_marked : (plan : Plan) (moves : List Move) → HandsNothingOn plan → HoldsIn (Side (part blank)) (first_world plan).state →
       OfEachUnit P (part (past plan moves).book) (past plan moves).world.state.bag (past plan moves).book.sent
-  run_marked plan moves holds =
+  run_marked plan moves nobody holds =
       let after : HoldsAfterMoves ⊥ (Both (OfSide part Side written) (MarkFact part P)) plan moves =
-      moves_keep ⊥ (Both (OfSide part Side written) (MarkFact part P)) (marked_keep ⊥) plan moves (λ none. absurd none) (λ on. first_marked plan on holds) in after.holds.1.each
+      moves_keep_alone ⊥ (Both (OfSide part Side written) (MarkFact part P)) (marked_keep ⊥) plan moves nobody (λ none. absurd none) (λ on. first_marked plan on holds) in after.holds.1.each
 
 -- ---- a run
 
@@ -372,10 +375,10 @@ new_marked part Side P stays = record {
 }
 
 -- in every run it holds of each unit
-pub run_stays_marked : {X : Type 0} (part : Book → X) (Side : X → Fact) (P : UnitFact X) → StaysWritten part Side → MarksStay part Side P → (plan : Plan) (moves : List Move) →
+pub run_stays_marked : {X : Type 0} (part : Book → X) (Side : X → Fact) (P : UnitFact X) → StaysWritten part Side → MarksStay part Side P → (plan : Plan) (moves : List Move) → HandsNothingOn plan →
     HoldsIn (Side (part blank)) (first_world plan).state →
     OfEachUnit P (part (past plan moves).book) (past plan moves).world.state.bag (past plan moves).book.sent
-run_stays_marked part Side P written stays plan moves holds = run_marked part Side P written (new_marked part Side P stays) plan moves holds
+run_stays_marked part Side P written stays plan moves nobody holds = run_marked part Side P written (new_marked part Side P stays) plan moves nobody holds
 
 -- ---- nothing but that each unit has its mark
 
@@ -410,20 +413,3 @@ nothing_marked = record {
   controllers = λ c at w piece s b is side hears all units more on place unit mark there marked. tt;
   members = λ m at w piece s b is side hears all units more on place unit mark there marked. tt;
 }
-
--- no unit is left without a mark at the end of a move
-none_left : (moves : List Move) (w : World) (b : Book) → length w.state.bag ≤ length b.sent → length (run moves w).state.bag ≤ length (book moves w b).sent
-none_left [] w b all = all
-none_left (what ∷ moves) w b all =
-    let come : Book = note_coming what w.moves w.state b in
-    let more : ℕ = length (happens w what).state.bag - length come.sent in
-    none_left moves (happens w what) (note w what b)
-    (omega (arith, length-append come.sent (replicate more (sent_at w.moves Plain)), length-replicate more (sent_at w.moves Plain)))
-
--- in every run each unit of the bag has its mark
-pub each_marked : (plan : Plan) (moves : List Move) → EachUnitIsMarked (past plan moves)
-each_marked plan moves =
-    let sent : List Sent = (past plan moves).book.sent in
-    let bag : List BagUnit = (past plan moves).world.state.bag in
-    let each : OfEachUnit no_more_of tt bag sent = run_marked no_part no_side no_more_of nothing_written nothing_marked plan moves tt in
-    omega (arith, no_longer sent bag (λ k one there. ((each k one there).unit, (each k one there).there)), none_left moves (first_world plan) blank (omega arith))

@@ -11,17 +11,21 @@ use Rattle.world_moves.specs.declared.links.EndId.{EndId}
 use Rattle.world_moves.specs.declared.moves.Move.{Move}
 use Rattle.world_moves.specs.declared.plan.Plan.{Plan}
 use Rattle.world_moves.specs.declared.state.State.{State}
-use Rattle.world_moves.specs.Acting.{Given, hear_and_act, perform_quietly}
+use Rattle.world_moves.specs.Acting.{Given, perform_quietly}
 use Rattle.world_moves.specs.Moving.{settle}
 use Rattle.world_moves.specs.World.{first_world}
+use Rattle.world_moves.specs.Alone.{HandsNothingOn}
 use Rattle.world_moves.proofs.LinkFrameLaws.{quiet_stays}
 use Rattle.domain_world.specs.Past.{Coming, note_at, note_given, past}
+use Rattle.domain_world.proofs.Frames.AloneStepLaws.{act_alone as hear_and_act}
 use Rattle.domain_world.proofs.Frames.BagFrameLaws.{IsServer, StepsMark, UnitFact, MarkFact, bag_at, first_marked, marked_keep}
 use Rattle.domain_world.proofs.Frames.ComingLaws.{CameFrom, StillHas, kept_same, kept_settled, StillIn, kept_sent}
 use Rattle.domain_world.proofs.Frames.FrameLaws.{Fact, HoldsIn, StaysWritten, OfSide}
 use Rattle.domain_world.proofs.Frames.OpenMadeLaws.{IsAtSide}
 use Rattle.domain_world.proofs.Frames.StepFrameLaws.{ActionFact, Keeps, NoFact, RunFact, OfSteps, steps_keep}
-use Rattle.domain_world.proofs.Frames.MoveFrameLaws.{Both, HoldsAfterMoves, KeepsMoves, MoveFact, NoSide, join_moves, moves_keep}
+use Rattle.domain_world.proofs.Frames.AloneFrameLaws.{moves_keep_alone}
+use Rattle.domain_world.proofs.Frames.MoveFrameLaws.{HoldsAfterMoves}
+use Rattle.domain_world.proofs.Frames.MoveKeepLaws.{Both, KeepsMoves, MoveFact, NoSide, join_moves}
 use Rattle.domain_world.proofs.Frames.PlacedLaws.{HasBytes}
 use Rattle.outside.specs.declared.action.Action.{Action}
 
@@ -74,7 +78,7 @@ module _ {X : Type 0} (Holds : RunFact) (Fine : ActionFact) (keeps : Keeps NoFac
   bag_moves : KeepsMoves (Unit {0}) (Both Marked (OfSteps Holds Fine)) OfBag
   bag_moves = record {
     closes = λ n p end link s given b work side fits. fits;
-    opens = λ n at dial route s given b side fits. fits;
+    opens = λ n at dial route s given b out side fits. fits;
     dialled = λ n at end link s given b here side fits. fits;
     fails = λ n at end s b side fits. fits;
     begins = λ n at client plan s b is side fits. fits;
@@ -94,9 +98,9 @@ module _ {X : Type 0} (Holds : RunFact) (Fine : ActionFact) (keeps : Keeps NoFac
   }
 
   -- in every run
-  pub run_fits : (plan : Plan) (moves : List Move) → HasBytes plan moves → Holds 0 (first_world plan).state [] blank → HoldsIn (Side (part blank)) (first_world plan).state →
+  pub run_fits : (plan : Plan) (moves : List Move) → HandsNothingOn plan → HasBytes plan moves → Holds 0 (first_world plan).state [] blank → HoldsIn (Side (part blank)) (first_world plan).state →
       Fits [] blank → Fits (past plan moves).world.state.bag (past plan moves).book
-  run_fits plan moves has holds side fits =
+  run_fits plan moves nobody has holds side fits =
       let known : Type 0 = Unit {0} in
       let beneath : MoveFact = Both Marked (OfSteps Holds Fine) in
       let all : KeepsMoves known NoSide (Both beneath OfBag) =
@@ -104,4 +108,4 @@ module _ {X : Type 0} (Holds : RunFact) (Fine : ActionFact) (keeps : Keeps NoFac
       (join_moves known Marked (OfSteps Holds Fine) (marked_keep part Side AnyUnit written (any_unit part Side) known)
       (steps_keep Holds Fine keeps Marked (λ n w s given b marked. marked.1.all) (λ n at on s given b marked. keeps.over n at s given b tt))) bag_moves in
       let after : HoldsAfterMoves known (Both beneath OfBag) plan moves =
-      moves_keep known (Both beneath OfBag) all plan moves (λ one. has) (λ on. ((first_marked part Side AnyUnit written (any_unit part Side) plan on side, (holds, tt)), fits)) in after.holds.1
+      moves_keep_alone known (Both beneath OfBag) all plan moves nobody (λ one. has) (λ on. ((first_marked part Side AnyUnit written (any_unit part Side) plan on side, (holds, tt)), fits)) in after.holds.1

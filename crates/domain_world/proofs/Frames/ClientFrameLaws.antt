@@ -1,7 +1,7 @@
 -- What holds of each client through the moves of a world, by its plan, the links and what is written down as made: what
 -- holds through its own steps, whatever other clients make. It is an instance of `EndFrameLaws`.
 -- It serves `Proved.clients` and `Proved.made`.
-use Rattle.std.proofs.Common.{◌≡◌, ℕ, List, [], ◌∷◌, ◌++◌, length, map, Some, refl, sym, subst, slice_get, slice_set}
+use Rattle.std.proofs.Common.{◌≡◌, ℕ, List, [], ◌∷◌, ◌++◌, length, map, Some, refl, sym, ap, subst, slice_get, slice_set}
 use Rattle.std.specs.Prelude.{true, flat_map}
 use Rattle.outside.specs.Drawing.{Drawing}
 use Rattle.outside.specs.declared.event.Event.{Event}
@@ -21,13 +21,15 @@ use Rattle.world_moves.specs.Acting.{hear_and_act}
 use Rattle.world_moves.specs.Ends.{EndStates, EndStep, client_step, end_step}
 use Rattle.world_moves.specs.Links.{acceptor_of}
 use Rattle.world_moves.specs.Moving.{renewed, changed}
-use Rattle.world_moves.proofs.EndKindLaws.{IfClient, clients_by, renew_by}
+use Rattle.world_moves.proofs.EndKindLaws.{IfClient, clients_by, is_controller, renew_by}
 use Rattle.domain_world.specs.Past.{Coming, note_at, note_client, past}
 use Rattle.domain_world.proofs.Challenges.MessageOnceLaws.{each_put}
-use Rattle.domain_world.proofs.Frames.EndFrameLaws.{EndFact, IsCalm, KeepsEnds, by_calm, ends_after}
+use Rattle.domain_world.proofs.Frames.EndFrameLaws.{EndFact, IsCalm, KeepsEndsBy, by_calm, every_ends_after}
 use Rattle.domain_world.proofs.Frames.MarkPlaceLaws.{got_map}
-use Rattle.domain_world.proofs.Frames.OpenMadeLaws.{IsAtSide}
-use Rattle.domain_world.proofs.Frames.EndNoteLaws.{made_so, noted_by}
+use Rattle.domain_world.proofs.Frames.OpenMadeLaws.{IsAtSide, IsOnSide}
+use Rattle.domain_world.proofs.Frames.EndNoteLaws.{made_so}
+use Rattle.domain_world.proofs.Frames.EveryStepLaws.{dialled_apart, every_noted as noted_by}
+use Rattle.domain_world.proofs.Frames.MoveKeepLaws.{every}
 use Rattle.world_moves.proofs.ChangeLaws.{by_change}
 use Rattle.outside.specs.declared.action.Action.{Action}
 
@@ -99,8 +101,8 @@ module _ (plans : List ClientPlan) (Fits : ClientFact) (Made : MadeFact) (keeps 
   calm_meets : (end : EndId) (links : List Route) (what : Event) → IsCalm what → Meets end links what
   calm_meets end links what calm at is = by_calm (λ (one : Event). MeetsClient links at one) (λ link. tt) tt tt what calm
 
-  dialled_meets : (end : EndId) (links : List Route) (link : ℕ) → IsAtSide links link true end → Meets end links (event.Dialled link)
-  dialled_meets end links link side at is = subst (λ (one : EndId). IsAtSide links link true one) is side
+  dialled_meets : (end : EndId) (links : List Route) (link : ℕ) → IsOnSide links link true end → Meets end links (event.Dialled link)
+  dialled_meets end links link side at is = subst (λ (one : EndId). IsAtSide links link true one) is (dialled_apart links link end (ap is_controller is) side)
 
   -- ---- bytes come
 
@@ -146,7 +148,7 @@ module _ (plans : List ClientPlan) (Fits : ClientFact) (Made : MadeFact) (keeps 
   abbrev OfClients : EndFact
   OfClients at on now given b = ByPlans now.client_plans now.ends now.links b.made
 
-  of_keeps : KeepsEnds OfClients
+  of_keeps : KeepsEndsBy every OfClients
   of_keeps = record {
     calm = λ at on end what s given b calm holds. record {
       same = holds.same;
@@ -185,4 +187,4 @@ module _ (plans : List ClientPlan) (Fits : ClientFact) (Made : MadeFact) (keeps 
 pub clients_after : (plan : Plan) (moves : List Move) (Fits : ClientFact) (Made : MadeFact) (keeps : KeepsClients plan.clients Fits Made) → Made [] [] →
     AreKept plan.clients Fits Made keeps (past plan moves).world.state.ends.clients (past plan moves).world.state.links (past plan moves).book.made
 clients_after plan moves Fits Made keeps made =
-    (ends_after (OfClients plan.clients Fits Made keeps) (of_keeps plan.clients Fits Made keeps) plan moves (λ on. record { same = refl; kept = first_kept plan.clients Fits Made keeps made })).kept
+    (every_ends_after (OfClients plan.clients Fits Made keeps) (of_keeps plan.clients Fits Made keeps) plan moves (λ on. record { same = refl; kept = first_kept plan.clients Fits Made keeps made })).kept

@@ -1,7 +1,7 @@
 -- Where bytes come from that an end hears: a unit of the bag, on a link of its kind, or from outside, on no link
 -- between a member and a controller; and what stays of a unit of the bag. It serves `drive`, `schedules_are_heard` and
 -- `Proved.let_in`.
-use Rattle.std.proofs.Common.{◌≡◌, ℕ, zero, suc, ◌+◌, Bool, true, false, List, [], ◌∷◌, ◌++◌, inl, inr, Option, Some, None, slice_get, if◌then◌else◌, refl, sym, ap, subst, ◌∙◌, arith, drop, length}
+use Rattle.std.proofs.Common.{◌≡◌, ℕ, zero, suc, ◌+◌, ◌==◌, Bool, true, false, List, [], ◌∷◌, ◌++◌, inl, inr, Option, Some, None, slice_get, if◌then◌else◌, refl, sym, ap, subst, ◌∙◌, arith, drop, length}
 use Rattle.wire_base.specs.Numbers.{AreBytes}
 use Rattle.wire_base.proofs.NumberLaws.{AreBytes-drop, AreBytes-take}
 use Rattle.channel_events.specs.Marks.{OneOf}
@@ -11,13 +11,13 @@ use Rattle.world_moves.specs.declared.links.EndId.TheVariants.{Controller, Membe
 use Rattle.world_moves.specs.declared.links.LinkKind.{LinkKind}
 use Rattle.world_moves.specs.declared.links.LinkKind.TheVariants as kind
 use Rattle.world_moves.specs.declared.links.Route.{Route}
-use Rattle.world_moves.specs.declared.links.Route.TheVariants.{ToMember, ToController}
+use Rattle.world_moves.specs.declared.links.Route.TheVariants.{ToMember, ToController, Between}
 use Rattle.world_moves.specs.declared.moves.Move.{Move}
 use Rattle.world_moves.specs.declared.state.State.{State}
 use Rattle.world_moves.specs.Bag.{piece_limit, pieces_in, pieces_of, settle_at, settled}
 use Rattle.world_moves.specs.Choosing.{places_from}
 use Rattle.world_moves.specs.Links.{OpenMap, dialler_of, handed_links, is_handed, is_of, kind_of, links_of, same_kind}
-use Rattle.world_moves.specs.Moving.{act, route_to}
+use Rattle.world_moves.specs.Moving.{act, between_if, route_to}
 use Rattle.world_moves.specs.World.{World, happens, run}
 use Rattle.domain_world.specs.Past.{Coming}
 use Rattle.step_notes.specs.Records.{InUnit, Outside, Source}
@@ -106,13 +106,20 @@ handed_outside links i link is member controller at =
 same_kinds : (one other : LinkKind) → same_kind one other ≡ true → one ≡ other
 same_kinds kind.ToMember kind.ToMember is = refl
 same_kinds kind.ToController kind.ToController is = refl
+same_kinds kind.Between kind.Between is = refl
 same_kinds kind.Stranger kind.Stranger is = refl
 same_kinds kind.ToMember kind.ToController is = absurd cc
+same_kinds kind.ToMember kind.Between is = absurd cc
 same_kinds kind.ToMember kind.Stranger is = absurd cc
 same_kinds kind.ToController kind.ToMember is = absurd cc
+same_kinds kind.ToController kind.Between is = absurd cc
 same_kinds kind.ToController kind.Stranger is = absurd cc
+same_kinds kind.Between kind.ToMember is = absurd cc
+same_kinds kind.Between kind.ToController is = absurd cc
+same_kinds kind.Between kind.Stranger is = absurd cc
 same_kinds kind.Stranger kind.ToMember is = absurd cc
 same_kinds kind.Stranger kind.ToController is = absurd cc
+same_kinds kind.Stranger kind.Between is = absurd cc
 
 -- a link with a route of that kind
 abbrev pub IsLinkOf : List Route → ℕ → LinkKind → Type 0
@@ -142,6 +149,10 @@ piece_bytes bytes are piece one = pieces_bytes (length bytes) bytes are piece on
 
 -- ---- a dial that is connected goes out from the end that dialled
 
+between_dials : (is_itself : Bool) (from to : ℕ) (route : Route) → between_if is_itself from to ≡ Some route → dialler_of route ≡ Some (Controller from)
+between_dials true from to route is = absurd cc
+between_dials false from to route is = let same : Between from to ≡ route = cc in sym (ap dialler_of same)
+
 pub route_dials : (end : EndId) (to : Option EndId) (route : Route) → route_to end to ≡ Some route → dialler_of route ≡ Some end
 route_dials (Client client) (Some (Member member)) route is = let same : ToMember client member ≡ route = cc in sym (ap dialler_of same)
 route_dials (Member member) (Some (Controller controller)) route is = let same : ToController member controller ≡ route = cc in sym (ap dialler_of same)
@@ -152,7 +163,7 @@ route_dials (Member member) None route is = absurd cc
 route_dials (Member member) (Some (Member at)) route is = absurd cc
 route_dials (Member member) (Some (Client at)) route is = absurd cc
 route_dials (Controller controller) None route is = absurd cc
-route_dials (Controller controller) (Some (Controller at)) route is = absurd cc
+route_dials (Controller controller) (Some (Controller at)) route is = between_dials (controller == at) controller at route is
 route_dials (Controller controller) (Some (Member at)) route is = absurd cc
 route_dials (Controller controller) (Some (Client at)) route is = absurd cc
 

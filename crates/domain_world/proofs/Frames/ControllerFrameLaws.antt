@@ -12,10 +12,11 @@ use Rattle.step_notes.specs.Records.{Book}
 use Rattle.world_moves.specs.declared.links.EndId.{EndId}
 use Rattle.world_moves.specs.declared.state.State.{State}
 use Rattle.world_moves.specs.Acting.{Given}
-use Rattle.world_moves.specs.Ends.{EndStates, EndStep, drawn_on, end_step}
+use Rattle.world_moves.specs.Ends.{EndStates, EndStep, drawn_on}
 use Rattle.world_moves.specs.Links.{acceptor_of}
+use Rattle.world_moves.specs.Alone.{alone_end_step as end_step}
 use Rattle.domain_world.specs.Past.{Coming, note_at, note_controller, note_given}
-use Rattle.world_moves.proofs.EndKindLaws.{step_by}
+use Rattle.domain_world.proofs.Frames.AloneStepLaws.{alone_by as step_by}
 use Rattle.domain_world.proofs.Frames.EndNoteLaws.{OfControllers, noted_by}
 use Rattle.domain_world.proofs.Frames.FrameLaws.{Fact, HoldsAfter, HoldsIn, StaysWritten}
 use Rattle.domain_world.proofs.Frames.LeftLaws.{DrawsOn, end_draws}

@@ -10,9 +10,11 @@ use Rattle.outside.specs.Machine.{Part, Stepped, step_by}
 use Rattle.outside.specs.declared.action.Action.{Action}
 use Rattle.outside.specs.declared.action.StepRefused.{StepRefused}
 use Rattle.outside.specs.declared.event.Event.{Event}
+use Rattle.outside.specs.declared.event.Event.TheVariants as event
 use Rattle.outside.proofs.CounterLaws.{blocks-challenges_from, challenges_from-distinct, challenges_from-none}
 use Rattle.domain_controller.specs.State.{State as ControllerState}
 use Rattle.domain_controller.specs.Step as controller
+use Rattle.domain_controller.specs.TrustStep as trusting
 use Rattle.domain_controller.specs.declared.state.Running.{Running as ControllerRunning}
 use Rattle.logon_client.specs.Machine as client
 use Rattle.logon_client.specs.State.{State as ClientState}
@@ -21,15 +23,19 @@ use Rattle.logon_client.specs.declared.state.Running.{Running as ClientRunning}
 use Rattle.member_server.specs.Machine as member
 use Rattle.member_server.specs.State.{State as MemberState}
 use Rattle.member_server.specs.declared.state.Running.{Running as MemberRunning}
-use Rattle.step_notes.specs.Records.{Book}
 use Rattle.world_moves.specs.declared.links.EndId.{EndId}
 use Rattle.world_moves.specs.declared.moves.Move.{Move}
 use Rattle.world_moves.specs.declared.plan.Plan.{Plan}
 use Rattle.world_moves.specs.Draws.{DrawsAreBlocks, DrawsDiffer}
-use Rattle.world_moves.specs.Ends.{EndStates, EndStep, end_step}
-use Rattle.world_moves.proofs.EndKindLaws.{step_by as end_by}
+use Rattle.world_moves.specs.Ends.{EndStates, EndStep, end_step as every_step}
+use Rattle.world_moves.specs.Links.{acceptor_of}
+use Rattle.world_moves.specs.Alone.{alone_end_step as end_step}
 use Rattle.domain_world.specs.Past.{past}
-use Rattle.domain_world.proofs.Frames.FrameLaws.{Fact, StaysWritten, run_stays}
+use Rattle.world_moves.proofs.EndKindLaws.{step_by as every_by}
+use Rattle.domain_world.proofs.Frames.AloneStepLaws.{alone_by as end_by}
+use Rattle.domain_world.proofs.Frames.EndFrameLaws.{EndFact, KeepsEndsBy, every_ends_after}
+use Rattle.domain_world.proofs.Frames.EveryStepLaws.{every_rests}
+use Rattle.domain_world.proofs.Frames.MoveKeepLaws.{every}
 use Rattle.domain_world.proofs.Frames.LeftLaws.{end_rests}
 
 -- ---- a step
@@ -86,23 +92,36 @@ end_all end what now ends chances =
     (λ at c is rest. same_all chances (client.step_of c what now chances.left).drawn (client.step_of c what now chances.left).left (client_draws c.running c what now chances.left rest)) end
     (end_rests end what now ends chances)
 
+-- the same in every world, whether its controllers ask others or not
+trusting_draws : (r : Option ControllerRunning) (c : ControllerState) (what : Event) (now : ℕ) (left : List (List ℕ)) → IsRest (trusting.trust_step_on r c what now left).left left →
+    DrawsRest (trusting.trust_step_on r c what now left) left
+trusting_draws None c what now left rest = refl
+trusting_draws (Some running) c what now left rest = part_draws _ _ _ left (trusting.trust_step_part running c what now left) rest
+
+every_all : (end : EndId) (what : Event) (now : ℕ) (ends : EndStates) (chances : Drawing) → all_of (every_step end what now ends chances).chances ≡ all_of chances
+every_all end what now ends chances =
+    every_by (λ (one : EndId) (step : EndStep). IsRest step.chances.left chances.left → all_of step.chances ≡ all_of chances) what now ends chances (λ one rest. refl)
+    (λ at c is rest.
+    same_all chances (trusting.trust_step_of c what now chances.left).drawn (trusting.trust_step_of c what now chances.left).left (trusting_draws c.running c what now chances.left rest))
+    (λ at m is rest. same_all chances (member.step_of m what now chances.left).drawn (member.step_of m what now chances.left).left (member_draws m.running m what now chances.left rest))
+    (λ at c is rest. same_all chances (client.step_of c what now chances.left).drawn (client.step_of c what now chances.left).left (client_draws c.running c what now chances.left rest)) end
+    (every_rests end what now ends chances)
+
 -- ---- a run
 
-abbrev AreOf : List (List ℕ) → Unit {0} → Fact
-AreOf all x ends chances links = all_of chances ≡ all
+abbrev AreOf : List (List ℕ) → EndFact
+AreOf all at on now given b = all_of now.chances ≡ all
 
-of_stays : (all : List (List ℕ)) → StaysWritten (λ (b : Book). tt) (AreOf all)
+of_stays : (all : List (List ℕ)) → KeepsEndsBy every (AreOf all)
 of_stays all = record {
-  stays = λ x. record {
-    hears = λ end what now ends chances links quiet is. end_all end what now ends chances ∙ is;
-    opens = λ route now ends chances links is. end_all _ _ now ends chances ∙ is;
-    controllers = λ c at ends chances links there is. is;
-    members = λ plan at ends chances links is. is;
-    changes = λ secret running at ends chances links there none is. is;
-    clients = λ client at ends chances links is. is;
-  };
-  bytes = λ end w piece s after b is. end_all end _ s.moment s.ends s.chances ∙ is;
-  given = λ at given after b. refl;
+  calm = λ at on end what s given b calm is. every_all end what s.moment s.ends s.chances ∙ is;
+  dialled = λ at end link s given b side is. every_all end (event.Dialled link) s.moment s.ends s.chances ∙ is;
+  opens = λ at route s given b is. every_all (acceptor_of route) (event.Opened (length s.links)) s.moment s.ends s.chances ∙ is;
+  begins = λ at client plan s b there is. is;
+  comes = λ end w piece s given b side came is. every_all end (event.Bytes w.link piece) s.moment s.ends s.chances ∙ is;
+  renews = λ at end s b is. is;
+  changes = λ at member secret s b is. is;
+  over = λ at on next s given b is. is;
 }
 
 -- all that the maker of a plan gives
@@ -111,8 +130,8 @@ given_all plan = challenges_from plan.seed 0 0 (most_draws - 0)
 
 run_all : (plan : Plan) (moves : List Move) → all_of (past plan moves).world.state.chances ≡ given_all plan
 run_all plan moves =
-    run_stays (λ (b : Book). tt) (AreOf (given_all plan)) (of_stays (given_all plan)) plan moves
-    (ap (λ (drawn : List (List ℕ)). drawn ++ given_all plan) (challenges_from-none plan.seed 0 0))
+    every_ends_after (AreOf (given_all plan)) (of_stays (given_all plan)) plan moves
+    (λ on. ap (λ (drawn : List (List ℕ)). drawn ++ given_all plan) (challenges_from-none plan.seed 0 0))
 
 -- ---- a front of them
 

@@ -14,10 +14,12 @@ use Rattle.step_notes.specs.Records.{Book, ChannelAccepted, Judging, MessageMade
 use Rattle.world_moves.specs.declared.links.EndId.{EndId}
 use Rattle.world_moves.specs.declared.links.EndId.TheVariants.{Controller, Member, Client}
 use Rattle.world_moves.specs.declared.state.State.{State}
-use Rattle.world_moves.specs.Ends.{EndStep, client_done, client_step, controller_done, controller_step, end_step, member_done, member_step, no_step}
-use Rattle.world_moves.specs.Acting.{done, heard_by, hear_and_act}
+use Rattle.world_moves.specs.Ends.{EndStep, client_done, client_step, controller_done, member_done, member_step, no_step}
+use Rattle.world_moves.specs.Acting.{done, heard_by}
+use Rattle.world_moves.specs.Alone.{alone_controller_step as controller_step, alone_end_step as end_step}
 use Rattle.domain_world.specs.Past.{Coming, note_at, note_client, note_controller, note_member, note_messages}
 use Rattle.world_moves.proofs.EndKindLaws.{is_controller}
+use Rattle.domain_world.proofs.Frames.AloneStepLaws.{act_alone as hear_and_act}
 use Rattle.domain_world.proofs.Frames.TurnFrameLaws.{asked_leave, turns_told}
 
 -- ---- where an end isn't there, nothing is done and nothing written down

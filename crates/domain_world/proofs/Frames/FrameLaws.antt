@@ -19,18 +19,19 @@ use Rattle.world_moves.specs.declared.links.EndId.{EndId}
 use Rattle.world_moves.specs.declared.links.Route.{Route}
 use Rattle.world_moves.specs.declared.moves.Move.{Move}
 use Rattle.world_moves.specs.declared.state.State.{State}
-use Rattle.world_moves.specs.Acting.{Given, hear_and_act}
-use Rattle.world_moves.specs.Ends.{EndStates, EndStep, end_step, with_client, with_member}
+use Rattle.world_moves.specs.Acting.{Given}
+use Rattle.world_moves.specs.Ends.{EndStates, EndStep, with_client, with_member}
 use Rattle.world_moves.specs.Links.{acceptor_of}
-use Rattle.world_moves.specs.Moving.{changed, renewed}
+use Rattle.world_moves.specs.Moving.{changed}
 use Rattle.world_moves.specs.World.{World, first_world, run}
 use Rattle.domain_world.specs.Past.{Coming, book, note_at, note_given, past}
+use Rattle.domain_world.proofs.Frames.AloneStepLaws.{act_alone as hear_and_act, renew_alone_by as renew_by, renewed_alone as renewed}
 use Rattle.domain_world.proofs.Frames.EndFrameLaws.{EndFact, IsCalm, KeepsEnds, by_calm, ends_after, ends_keep, ends_later}
-use Rattle.domain_world.proofs.Frames.MoveFrameLaws.{KeepsMoves, MoveFact, NoSide}
-use Rattle.domain_world.proofs.Frames.PlacedLaws.{IsPlaced}
+use Rattle.domain_world.proofs.Frames.MoveKeepLaws.{KeepsMoves, MoveFact, NoSide}
+use Rattle.domain_world.proofs.Frames.AloneFrameLaws.{StandsAlone}
 use Rattle.world_moves.specs.declared.plan.Plan.{Plan}
+use Rattle.world_moves.specs.Alone.{HandsNothingOn, alone_end_step as end_step}
 use Rattle.world_moves.proofs.ChangeLaws.{by_change, member_begun}
-use Rattle.world_moves.proofs.EndKindLaws.{renew_by}
 
 -- ---- what is to hold
 
@@ -117,7 +118,7 @@ module _ (Fits : PlannedFact) (stays : StaysByPlans Fits) where
       by_change (λ (ends : EndStates) (actions : List Action). Fits s.client_plans ends s.chances s.links) at secret s.ends holds
       (λ running is none. stays.changes secret running at s.client_plans s.ends s.chances s.links is none holds)
 
-calm_quiet : (what : Event) → IsCalm what → IsQuiet what
+pub calm_quiet : (what : Event) → IsCalm what → IsQuiet what
 calm_quiet = by_calm IsQuiet (λ link. tt) tt tt
 
 -- ---- with what is written down
@@ -157,9 +158,9 @@ module _ {X : Type 0} (part : Book → X) (Fits : X → PlannedFact) (written : 
   }
 
   -- through all moves of a run
-  pub run_stays_by_plans : (plan : Plan) (moves : List Move) → HoldsByPlans (Fits (part blank)) (first_world plan).state →
+  pub run_stays_by_plans : (plan : Plan) (moves : List Move) → HandsNothingOn plan → HoldsByPlans (Fits (part blank)) (first_world plan).state →
       HoldsByPlans (Fits (part (past plan moves).book)) (past plan moves).world.state
-  run_stays_by_plans plan moves holds = ends_after Planned planned_keeps plan moves (λ on. holds)
+  run_stays_by_plans plan moves nobody holds = ends_after Planned planned_keeps plan moves nobody (λ on. holds)
 
 -- where the plans don't matter
 module _ {X : Type 0} (part : Book → X) (Fits : X → Fact) (written : StaysWritten part Fits) where
@@ -172,10 +173,10 @@ module _ {X : Type 0} (part : Book → X) (Fits : X → Fact) (written : StaysWr
       ends_keep (Planned part (λ x plans. Fits x) (written_by_plans part Fits written)) (planned_keeps part (λ x plans. Fits x) (written_by_plans part Fits written)) Known
 
   -- through all moves of a run
-  pub run_stays : (plan : Plan) (moves : List Move) → HoldsIn (Fits (part blank)) (first_world plan).state → HoldsIn (Fits (part (past plan moves).book)) (past plan moves).world.state
-  run_stays plan moves holds = run_stays_by_plans part (λ x plans. Fits x) (written_by_plans part Fits written) plan moves holds
+  pub run_stays : (plan : Plan) (moves : List Move) → HandsNothingOn plan → HoldsIn (Fits (part blank)) (first_world plan).state → HoldsIn (Fits (part (past plan moves).book)) (past plan moves).world.state
+  run_stays plan moves nobody holds = run_stays_by_plans part (λ x plans. Fits x) (written_by_plans part Fits written) plan moves nobody holds
 
   -- the same from any world on
-  pub later_stays : (moves : List Move) (w : World) (b : Book) → IsPlaced w.state → HoldsIn (Fits (part b)) w.state → HoldsIn (Fits (part (book moves w b))) (run moves w).state
-  later_stays moves w b placed holds =
-      ends_later (Planned part (λ x plans. Fits x) (written_by_plans part Fits written)) (planned_keeps part (λ x plans. Fits x) (written_by_plans part Fits written)) moves w b placed (λ on. holds)
+  pub later_stays : (moves : List Move) (w : World) (b : Book) → StandsAlone w.state → HoldsIn (Fits (part b)) w.state → HoldsIn (Fits (part (book moves w b))) (run moves w).state
+  later_stays moves w b stands holds =
+      ends_later (Planned part (λ x plans. Fits x) (written_by_plans part Fits written)) (planned_keeps part (λ x plans. Fits x) (written_by_plans part Fits written)) moves w b stands (λ on. holds)

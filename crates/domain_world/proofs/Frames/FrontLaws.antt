@@ -31,11 +31,12 @@ use Rattle.world_moves.specs.declared.bag.BagUnit.{BagUnit}
 use Rattle.world_moves.specs.declared.links.EndId.{EndId}
 use Rattle.world_moves.specs.declared.links.EndId.TheVariants.{Controller}
 use Rattle.world_moves.specs.declared.links.Route.{Route}
-use Rattle.world_moves.specs.declared.links.Route.TheVariants.{ToMember, ToController, Stranger}
+use Rattle.world_moves.specs.declared.links.Route.TheVariants.{ToMember, ToController, Between, Stranger}
 use Rattle.world_moves.specs.declared.state.State.{State}
 use Rattle.world_moves.specs.Acting.{Heard as Done, done, heard_by}
-use Rattle.world_moves.specs.Ends.{actions_by, controller_step}
+use Rattle.world_moves.specs.Ends.{actions_by}
 use Rattle.world_moves.specs.Links.{acceptor_of, is_accepted_by, same_end}
+use Rattle.world_moves.specs.Alone.{alone_controller_step as controller_step}
 use Rattle.domain_world.specs.Past.{marks_of, numbers_on}
 use Rattle.controller_calls.proofs.ReplyLaws.{JudgesOne, judges_one}
 use Rattle.domain_controller.proofs.UnitLaws.{heard_comes}
@@ -44,7 +45,7 @@ use Rattle.step_notes.proofs.Controllers.NotedLaws.{IsOn, heard_on}
 use Rattle.world_moves.proofs.LinkFrameLaws.{IsOnLink}
 use Rattle.domain_world.proofs.Frames.MarkPlaceLaws.{IsHere, all_push}
 use Rattle.domain_world.proofs.Frames.NewUnitLaws.{IsFront, IsNewUnit, new_or_plain}
-use Rattle.domain_world.proofs.Frames.OpenMadeLaws.{IsAtSide, side_of}
+use Rattle.domain_world.proofs.Frames.OpenMadeLaws.{IsApart, IsAtSide, side_of}
 use Rattle.end_links.proofs.KeepLaws.{StaysServing, served_stays}
 use Rattle.outside.specs.declared.action.Action.TheVariants as action
 use Rattle.outside.specs.declared.event.Event.TheVariants as event
@@ -180,13 +181,14 @@ controller_front c link piece now left w =
           (λ actions is. units_have_marks.controller c link piece now left w actions is);
     }
 
-pub controller_way : (back : Bool) (route : Route) (at : ℕ) → side_of back route ≡ Some (Controller at) → is_accepted_by (Controller at) route ≡ true
-controller_way false route at is =
+pub controller_way : (back : Bool) (route : Route) (at : ℕ) → IsApart route → side_of back route ≡ Some (Controller at) → is_accepted_by (Controller at) route ≡ true
+controller_way false route at apart is =
     let same : acceptor_of route ≡ Controller at = cc in
     ap (λ (end : EndId). same_end end (Controller at)) same ∙ (Decides-eqb at at).1 refl
-controller_way true (ToMember client member) at is = absurd cc
-controller_way true (ToController member controller) at is = absurd cc
-controller_way true (Stranger to) at is = absurd cc
+controller_way true (ToMember client member) at apart is = absurd cc
+controller_way true (ToController member controller) at apart is = absurd cc
+controller_way true (Between from to) at apart is = absurd apart
+controller_way true (Stranger to) at apart is = absurd cc
 
 -- of the units that go into the bag where bytes come at a controller, each is made for no channel, or is one that it
 -- sends on their link for its mark
@@ -200,4 +202,4 @@ pub controller_unit : (c : ControllerState) (at link : ℕ) (back : Bool) (piece
 controller_unit c at link back piece s w side units is on place unit mark there marked =
     let heard : Done = heard_by (controller_step (Some c) at (event.Bytes link piece) s.moment s.ends s.chances) s in
     new_or_plain side.route (Controller at) link true heard.actions (answered_marks (map (answer_on link w) (units_of_controller c link piece s.moment s.chances.left))) heard.state units place unit mark
-    side.made (controller_way back side.route at side.side) (controller_front c link piece s.moment s.chances.left w) is on there marked
+    side.made (controller_way back side.route at side.apart side.side) (controller_front c link piece s.moment s.chances.left w) is on there marked

@@ -32,9 +32,10 @@ use Rattle.member_server.specs.Machine.{step_of as member_step_of}
 use Rattle.step_notes.proofs.Members.RestLaws.{client_leaves_rest, member_leaves}
 use Rattle.world_moves.specs.declared.links.EndId.{EndId}
 use Rattle.world_moves.specs.declared.plan.Plan.{Plan}
-use Rattle.world_moves.specs.Ends.{EndStates, EndStep, end_step}
+use Rattle.world_moves.specs.Ends.{EndStates, EndStep}
 use Rattle.world_moves.specs.World.{first_world}
-use Rattle.world_moves.proofs.EndKindLaws.{step_by as end_by}
+use Rattle.world_moves.specs.Alone.{alone_end_step as end_step}
+use Rattle.domain_world.proofs.Frames.AloneStepLaws.{alone_by as end_by}
 
 -- challenges of 8 bytes
 abbrev pub AreEights : List (List ℕ) → Type 0

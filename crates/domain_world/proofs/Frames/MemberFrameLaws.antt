@@ -1,27 +1,38 @@
 -- What holds through the moves of a world of its members, of what was drawn and is left, of the links, and of a part of
 -- the book that members' bytes change alone: whatever holds through each step of a member, and as others draw. It is an
--- instance of `FrameLaws`. It serves `messages_are_made`, `Proved.messages`, `Proved.kept` and others.
+-- instance of `FrameLaws`, and of `EndFrameLaws` in every world. It serves `messages_are_made`, `Proved.messages`,
+-- `Proved.kept` and others.
 use Rattle.std.proofs.Common.{◌≡◌, ℕ, List, [], ◌∷◌, ◌++◌, length, Some, None, slice_get, slice_set, refl, sym, subst}
 use Rattle.outside.specs.Drawing.{Drawing}
+use Rattle.outside.specs.declared.action.Action.{Action}
 use Rattle.outside.specs.declared.event.Event.{Event}
 use Rattle.outside.specs.declared.event.Event.TheVariants as event
 use Rattle.member_server.specs.State.{State as MemberState}
 use Rattle.member_server.specs.Machine.{fresh_member, step_of}
 use Rattle.member_server.specs.declared.plan.MemberPlan.{MemberPlan}
-use Rattle.step_notes.specs.Records.{Book}
+use Rattle.step_notes.specs.Records.{Book, blank}
 use Rattle.world_moves.specs.declared.links.EndId.{EndId}
 use Rattle.world_moves.specs.declared.links.EndId.TheVariants.{Member}
 use Rattle.world_moves.specs.declared.links.Route.{Route}
+use Rattle.world_moves.specs.declared.moves.Move.{Move}
+use Rattle.world_moves.specs.declared.plan.Plan.{Plan}
 use Rattle.world_moves.specs.declared.state.State.{State}
-use Rattle.world_moves.specs.Acting.{Given}
-use Rattle.world_moves.specs.Ends.{EndStates, EndStep, drawn_on, end_step}
+use Rattle.world_moves.specs.Acting.{Given, hear, hear_and_act}
+use Rattle.world_moves.specs.Ends.{EndStates, EndStep, drawn_on}
 use Rattle.world_moves.specs.Links.{acceptor_of}
-use Rattle.domain_world.specs.Past.{Coming, note_at, note_given, note_member}
-use Rattle.world_moves.proofs.EndKindLaws.{step_by}
+use Rattle.world_moves.specs.Moving.{with_link}
+use Rattle.world_moves.specs.World.{first_world}
+use Rattle.world_moves.specs.Alone.{alone_end_step as end_step}
+use Rattle.domain_world.specs.Past.{Coming, note_at, note_given, note_member, past}
+use Rattle.domain_world.proofs.Frames.AloneStepLaws.{alone_by as step_by}
 use Rattle.domain_world.proofs.Frames.EndNoteLaws.{OfMembers, noted_by}
-use Rattle.domain_world.proofs.Frames.FrameLaws.{Fact, HoldsAfter, HoldsIn, IsQuiet, StaysWritten}
+use Rattle.world_moves.proofs.EndKindLaws.{renew_by, step_by as every_by}
+use Rattle.domain_world.proofs.Frames.EndFrameLaws.{EndFact, KeepsEndsBy, every_ends_after}
+use Rattle.domain_world.proofs.Frames.EveryStepLaws.{every_draws, every_noted}
+use Rattle.domain_world.proofs.Frames.MoveKeepLaws.{every}
+use Rattle.domain_world.proofs.Frames.FrameLaws.{calm_quiet, Fact, HoldsAfter, HoldsIn, IsQuiet, StaysWritten}
 use Rattle.domain_world.proofs.Frames.LeftLaws.{DrawsOn, end_draws}
-use Rattle.world_moves.proofs.ChangeLaws.{member_begun}
+use Rattle.world_moves.proofs.ChangeLaws.{by_change, member_begun}
 use Rattle.member_server.specs.declared.state.Running.{Running}
 
 -- of the members, what was drawn and is left, and the links
@@ -107,3 +118,55 @@ module _ {X : Type 0} (part : Book → X) (Fits : X → MembersFact) (keeps : Ke
     bytes = bytes_keep;
     given = keeps.given;
   }
+
+  -- ---- in every world, whether its controllers ask others or not
+
+  abbrev OfEvery : EndFact
+  OfEvery at on now given b = Fits (part b) now.ends.members now.chances now.links
+
+  every_hears : (x : X) (end : EndId) (what : Event) (s : State) → IsQuiet what → Fits x s.ends.members s.chances s.links →
+      Fits x (hear end what s).state.ends.members (hear end what s).state.chances s.links
+  every_hears x end what s quiet fits =
+      every_by (λ (one : EndId) (step : EndStep). DrawsOn s.chances step.chances → Fits x step.ends.members step.chances s.links) what s.moment s.ends s.chances (λ one draws. fits)
+      (λ at c is draws. keeps.draws x s.ends.members s.chances _ s.links draws fits) (λ at m is draws. keeps.hears x m at what s.moment s.ends.members s.chances s.links quiet is fits)
+      (λ at c is draws. keeps.draws x s.ends.members s.chances _ s.links draws fits) end (every_draws end what s.moment s.ends s.chances)
+
+  every_opens : (x : X) (route : Route) (s : State) → Fits x s.ends.members s.chances s.links →
+      let heard = hear (acceptor_of route) (event.Opened (length s.links)) (with_link route s) in Fits x heard.state.ends.members heard.state.chances (s.links ++ route ∷ [])
+  every_opens x route s fits =
+      let more : Fits x s.ends.members s.chances (s.links ++ route ∷ []) = keeps.opens x route s.ends.members s.chances s.links fits in
+      every_by (λ (one : EndId) (step : EndStep). acceptor_of route ≡ one → DrawsOn s.chances step.chances → Fits x step.ends.members step.chances (s.links ++ route ∷ []))
+      (event.Opened (length s.links)) s.moment s.ends s.chances (λ one accepts draws. more) (λ at c is accepts draws. keeps.draws x s.ends.members s.chances _ (s.links ++ route ∷ []) draws more)
+      (λ at m is accepts draws. keeps.accepts x m at route s.moment s.ends.members s.chances s.links accepts is fits)
+      (λ at c is accepts draws. keeps.draws x s.ends.members s.chances _ (s.links ++ route ∷ []) draws more) (acceptor_of route) refl
+      (every_draws (acceptor_of route) (event.Opened (length s.links)) s.moment s.ends s.chances)
+
+  every_comes : (end : EndId) (w : Coming) (piece : List ℕ) (s after : State) (b : Book) → Fits (part b) s.ends.members s.chances s.links →
+      let heard = hear end (event.Bytes w.link piece) s in Fits (part (note_at (Some end) w piece s after b)) heard.state.ends.members heard.state.chances s.links
+  every_comes end w piece s after b fits =
+      every_noted (λ (one : EndId) (step : EndStep) (now : Book). DrawsOn s.chances step.chances → Fits (part now) step.ends.members step.chances s.links) w piece s after b (λ one draws. fits)
+      (λ at c is draws. others_keep (part b) _ s.ends.members s.chances _ s.links (keeps.of.controllers c at w piece s after b) draws fits)
+      (λ at m is draws. keeps.comes m at w piece s after b is fits)
+      (λ at c is draws. others_keep (part b) _ s.ends.members s.chances _ s.links (keeps.of.clients c at w piece s b) draws fits) end
+      (every_draws end (event.Bytes w.link piece) s.moment s.ends s.chances)
+
+  every_keeps : KeepsEndsBy every OfEvery
+  every_keeps = record {
+    calm = λ at on end what s given b calm fits. every_hears (part b) end what s (calm_quiet what calm) fits;
+    dialled = λ at end link s given b side fits. every_hears (part b) end (event.Dialled link) s tt fits;
+    opens = λ at route s given b fits. every_opens (part b) route s fits;
+    begins = λ at client plan s b is fits. fits;
+    comes = λ end w piece s given b side came fits. every_comes end w piece s (hear_and_act end (event.Bytes w.link piece) s).state b fits;
+    renews = λ at end s b fits.
+        renew_by (λ (one : EndId) (ends : EndStates). Fits (part b) ends.members s.chances s.links) s (λ one. fits) (λ k c is. fits)
+        (λ k plan is. keeps.anew (part b) plan k s.ends.members s.chances s.links fits) (λ k plan is. fits) end;
+    changes = λ at member secret s b fits.
+        by_change (λ (ends : EndStates) (actions : List Action). Fits (part b) ends.members s.chances s.links) member secret s.ends fits
+        (λ running is none. keeps.changes (part b) secret running member s.ends.members s.chances s.links is none fits);
+    over = λ at on next s given b fits. subst (λ (x : X). Fits x s.ends.members s.chances s.links) (sym (keeps.given at given s b)) fits;
+  }
+
+  -- in every run
+  pub members_after : (plan : Plan) (moves : List Move) → Fits (part blank) (first_world plan).state.ends.members (first_world plan).state.chances (first_world plan).state.links →
+      Fits (part (past plan moves).book) (past plan moves).world.state.ends.members (past plan moves).world.state.chances (past plan moves).world.state.links
+  members_after plan moves fits = every_ends_after OfEvery every_keeps plan moves (λ on. fits)

@@ -32,7 +32,7 @@ use Rattle.world_moves.specs.Links.{accepted, acceptor_of, answered, dialler_of,
 use Rattle.world_moves.specs.Moving.{act, answer_by, answered_link, begun, change_at, changed, come_by, come_on_own, connect_by, connect_first, deliver_by, deliver_on, deliver_unit, end_of_peer, fail_first, hand_on, lose_by, onward_by, open_link, renewed, restart_at, restart_by, route_to, settle, shut_at, shut_by, start_at, start_by, stranger_at, stranger_by, tick, with_link, without_first}
 use Rattle.world_moves.specs.World.{World, first_world, happens, run}
 use Rattle.domain_world.specs.Claims.Sessions.{end_by, restarted}
-use Rattle.domain_world.specs.Past.{Coming, book, note, note_at, note_chosen, note_coming, note_deliver, note_given, note_hand, note_on, note_onward, note_own, note_pieces, note_unit, past}
+use Rattle.domain_world.specs.Past.{Coming, book, note, note_at, note_chosen, note_coming, note_deliver, note_hand, note_on, note_onward, note_own, note_pieces, note_unit, past}
 use Rattle.channel_events.proofs.ListLaws.{got_last, got_nothing}
 use Rattle.world_moves.proofs.BagLaws.{pieces_few}
 use Rattle.world_moves.proofs.BoundLaws.{hears_links}
@@ -41,208 +41,9 @@ use Rattle.world_moves.proofs.LinkFrameLaws.{LinkFact, StaysOnLinks, closed_stay
 use Rattle.world_moves.proofs.OpenLaws.{forgotten_fewer, put_more, taken_fewer, taken_one}
 use Rattle.world_moves.proofs.QuietLaws.{closes_alone}
 use Rattle.domain_world.proofs.Frames.ComingLaws.{CameFrom, IsFromOutside, IsLinkOf, chosen_of, handed_outside, kept_same, piece_bytes, route_dials, run_still}
-use Rattle.domain_world.proofs.Frames.OpenMadeLaws.{IsAtSide, hears_side}
+use Rattle.domain_world.proofs.Frames.MoveKeepLaws.{AtWork, IsHeard, KeepsCalmMovesBy, KeepsMovesBy, MoveFact, NoSide, Progress, but_renewed, coming, every, started, waiting, with_rest}
+use Rattle.domain_world.proofs.Frames.OpenMadeLaws.{IsOnSide, hears_side}
 use Rattle.domain_world.proofs.Frames.PlacedLaws.{Placed, IsPlaced, placed_stay, Since, since_sent, HandsBytes, IsBytesBag, bag_before, settled_bag, settled_link, same_piece, HasBytes, bytes_in}
-
--- ---- what is to hold
-
--- what is under way in a move: between two moves, before a step and within it
-pub record Progress : Type 0 where
-  -- after how many moves
-  pub at : ℕ
-  -- what comes in this move, or None where no bytes come
-  pub on : Option Coming
-  -- while an end does what it does at bytes: the state once all of that is done
-  pub to : Option State
-  -- the end whose dial is answered
-  pub dial : Option EndId
-  -- what ends gave and isn't done yet
-  pub rest : Given
-
--- after so many steps of ends: of what is under way, the state, what ends gave in this move, and the book
-abbrev pub MoveFact : Type 1
-MoveFact = ℕ → Progress → State → Given → Book → Type 0
-
--- nothing is left to do
-abbrev pub started : ℕ → Option Coming → Progress
-started at on = record { at = at; on = on; to = None; dial = None; rest = [] }
-
--- no bytes come, and the dial of that end is answered, if of any
-abbrev pub waiting : ℕ → Option EndId → Progress
-waiting at dial = record { at = at; on = None; to = None; dial = dial; rest = [] }
-
--- bytes come
-abbrev pub coming : Coming → Progress
-coming w = started w.at (Some w)
-
-abbrev pub with_rest : Given → Progress → Progress
-with_rest given p = record p { rest = given ++ p.rest }
-
--- an end has heard something, and its actions aren't done yet
-abbrev pub IsHeard : MoveFact → ℕ → Progress → EndId → Heard → Given → Book → Type 0
-IsHeard Holds n p end heard given b = Holds (n + 1) (with_rest (given_by end heard.actions) p) heard.state (given ++ given_by end heard.actions) b
-
--- An end may act, or hear that a link closed: at a move without bytes, or within the step at bytes that is under way.
-abbrev pub AtWork : Option Coming → Option State → Type 0
-AtWork None to = Unit {0}
-AtWork (Some w) None = ⊥
-AtWork (Some w) (Some after) = Unit {0}
-
--- It holds on where an end takes a step, where an action is done, and where one thing changes beside that. It may rest
--- on a side fact, of which the same is shown apart (`join_moves` puts the two together). `Known` is what is known of
--- the run: that what comes are bytes, and that few pieces come in a move.
-pub record KeepsMoves (Known : Type 0) (Side Holds : MoveFact) : Type 0 where
-  -- an end takes a step
-  pub closes : (n : ℕ) (p : Progress) (end : EndId) (link : ℕ) (s : State) (given : Given) (b : Book) → AtWork p.on p.to → Side n p s given b → Holds n p s given b →
-      IsHeard Holds n p end (hear end (event.Closed link) s) given b
-  pub opens : (n at : ℕ) (dial : Option EndId) (route : Route) (s : State) (given : Given) (b : Book) → Side n (waiting at dial) s given b → Holds n (waiting at dial) s given b →
-      IsHeard Holds n (waiting at dial) (acceptor_of route) (hear (acceptor_of route) (event.Opened (length s.links)) (with_link route s)) given b
-  pub dialled : (n at : ℕ) (end : EndId) (link : ℕ) (s : State) (given : Given) (b : Book) → IsAtSide s.links link true end → Side n (waiting at (Some end)) s given b →
-      Holds n (waiting at (Some end)) s given b → IsHeard Holds n (waiting at None) end (hear end (event.Dialled link) s) given b
-  pub fails : (n at : ℕ) (end : EndId) (s : State) (b : Book) → Side n (waiting at (Some end)) s [] b → Holds n (waiting at (Some end)) s [] b →
-      IsHeard Holds n (waiting at None) end (hear end event.DialFailed s) [] b
-  pub begins : (n at client : ℕ) (plan : ClientPlan) (s : State) (b : Book) → slice_get s.client_plans client ≡ Some plan → Side n (waiting at None) s [] b →
-      Holds n (waiting at None) s [] b → IsHeard Holds n (waiting at None) (Client client) (begun client plan s) [] b
-  pub comes : (n : ℕ) (end : EndId) (w : Coming) (piece : List ℕ) (s : State) (given : Given) (b : Book) → IsAtSide s.links w.link w.back end → CameFrom w.source s w piece →
-      (Known → AreBytes piece) → Side n (coming w) s given b → Holds n (coming w) s given b →
-      let after : State = (hear_and_act end (event.Bytes w.link piece) s).state in
-      IsHeard Holds n (record (coming w) { to = Some after }) end (hear end (event.Bytes w.link piece) s) given (note_at (Some end) w piece s after b)
-  -- the step at bytes is done
-  pub reaches : (n : ℕ) (w : Coming) (s : State) (given : Given) (b : Book) → Side n (record (coming w) { to = Some s }) s given b → Holds n (record (coming w) { to = Some s }) s given b →
-      Holds n (coming w) s given b
-  -- an action is done: a unit goes into the bag, a dial waits, or a text is kept
-  pub acts : (n : ℕ) (p : Progress) (end : EndId) (what : Action) (s : State) (given : Given) (b : Book) → AtWork p.on p.to → Side n (with_rest ((end, what) ∷ []) p) s given b →
-      Holds n (with_rest ((end, what) ∷ []) p) s given b → Holds n p (perform_quietly end what s) given b
-  -- one thing changes
-  pub shuts : (n : ℕ) (p : Progress) (link : ℕ) (s : State) (given : Given) (b : Book) → AtWork p.on p.to → Side n p s given b → Holds n p s given b → Holds n p (shut_link link s) given b
-  pub answers : (n at : ℕ) (dial : Option EndId) (link : ℕ) (there : OpenLink) (s : State) (given : Given) (b : Book) → lookup same_number link s.open_links ≡ Some there →
-      Side n (waiting at dial) s given b → Holds n (waiting at dial) s given b → Holds n (waiting at dial) (answered_link link there s) given b
-  pub forgets : (n at : ℕ) (end : EndId) (s : State) (b : Book) → Side n (waiting at None) s [] b → Holds n (waiting at None) s [] b → Holds n (waiting at None) (forget end s) [] b
-  pub settles : (n at : ℕ) (on : Option Coming) (number : ℕ) (s : State) (b : Book) → Side n (started at on) s [] b → Holds n (started at on) s [] b →
-      Holds n (started at on) (settle number s) [] b
-  -- the first dial waits no more
-  pub dials : (n at : ℕ) (dial : WaitingDial) (s : State) (b : Book) → slice_get s.dials 0 ≡ Some dial → Side n (waiting at None) s [] b → Holds n (waiting at None) s [] b →
-      Holds n (waiting at (Some dial.end)) (without_first s) [] b
-  pub renews : (n at : ℕ) (end : EndId) (s : State) (b : Book) → Side n (waiting at None) s [] b → Holds n (waiting at None) s [] b → Holds n (waiting at None) (renewed end (forget end s)) [] b
-  -- a member begins to change its secret
-  pub changes : (n at member : ℕ) (secret : List ℕ) (s : State) (b : Book) → Side n (waiting at None) s [] b → Holds n (waiting at None) s [] b →
-      IsHeard Holds n (waiting at None) (Member member) (changed member secret s) [] b
-  pub ticks : (n at more : ℕ) (s : State) (b : Book) → Side n (waiting at None) s [] b → Holds n (waiting at None) s [] b → Holds n (waiting at None) (tick more s) [] b
-  -- the move is over, and what ends gave is written down; whatever comes in the next one
-  pub over : (n at : ℕ) (on next : Option Coming) (s : State) (given : Given) (b : Book) → Side n (started at on) s given b → Holds n (started at on) s given b →
-      Holds n (started (at + 1) next) s [] (note_given at given s b)
-
--- The same but for an end that is made anew, where it isn't known to hold on.
-pub record KeepsCalmMoves (Known : Type 0) (Side Holds : MoveFact) : Type 0 where
-  -- an end takes a step
-  pub closes : (n : ℕ) (p : Progress) (end : EndId) (link : ℕ) (s : State) (given : Given) (b : Book) → AtWork p.on p.to → Side n p s given b → Holds n p s given b →
-      IsHeard Holds n p end (hear end (event.Closed link) s) given b
-  pub opens : (n at : ℕ) (dial : Option EndId) (route : Route) (s : State) (given : Given) (b : Book) → Side n (waiting at dial) s given b → Holds n (waiting at dial) s given b →
-      IsHeard Holds n (waiting at dial) (acceptor_of route) (hear (acceptor_of route) (event.Opened (length s.links)) (with_link route s)) given b
-  pub dialled : (n at : ℕ) (end : EndId) (link : ℕ) (s : State) (given : Given) (b : Book) → IsAtSide s.links link true end → Side n (waiting at (Some end)) s given b →
-      Holds n (waiting at (Some end)) s given b → IsHeard Holds n (waiting at None) end (hear end (event.Dialled link) s) given b
-  pub fails : (n at : ℕ) (end : EndId) (s : State) (b : Book) → Side n (waiting at (Some end)) s [] b → Holds n (waiting at (Some end)) s [] b →
-      IsHeard Holds n (waiting at None) end (hear end event.DialFailed s) [] b
-  pub begins : (n at client : ℕ) (plan : ClientPlan) (s : State) (b : Book) → slice_get s.client_plans client ≡ Some plan → Side n (waiting at None) s [] b →
-      Holds n (waiting at None) s [] b → IsHeard Holds n (waiting at None) (Client client) (begun client plan s) [] b
-  pub comes : (n : ℕ) (end : EndId) (w : Coming) (piece : List ℕ) (s : State) (given : Given) (b : Book) → IsAtSide s.links w.link w.back end → CameFrom w.source s w piece →
-      (Known → AreBytes piece) → Side n (coming w) s given b → Holds n (coming w) s given b →
-      let after : State = (hear_and_act end (event.Bytes w.link piece) s).state in
-      IsHeard Holds n (record (coming w) { to = Some after }) end (hear end (event.Bytes w.link piece) s) given (note_at (Some end) w piece s after b)
-  -- the step at bytes is done
-  pub reaches : (n : ℕ) (w : Coming) (s : State) (given : Given) (b : Book) → Side n (record (coming w) { to = Some s }) s given b → Holds n (record (coming w) { to = Some s }) s given b →
-      Holds n (coming w) s given b
-  -- an action is done: a unit goes into the bag, a dial waits, or a text is kept
-  pub acts : (n : ℕ) (p : Progress) (end : EndId) (what : Action) (s : State) (given : Given) (b : Book) → AtWork p.on p.to → Side n (with_rest ((end, what) ∷ []) p) s given b →
-      Holds n (with_rest ((end, what) ∷ []) p) s given b → Holds n p (perform_quietly end what s) given b
-  -- one thing changes
-  pub shuts : (n : ℕ) (p : Progress) (link : ℕ) (s : State) (given : Given) (b : Book) → AtWork p.on p.to → Side n p s given b → Holds n p s given b → Holds n p (shut_link link s) given b
-  pub answers : (n at : ℕ) (dial : Option EndId) (link : ℕ) (there : OpenLink) (s : State) (given : Given) (b : Book) → lookup same_number link s.open_links ≡ Some there →
-      Side n (waiting at dial) s given b → Holds n (waiting at dial) s given b → Holds n (waiting at dial) (answered_link link there s) given b
-  pub forgets : (n at : ℕ) (end : EndId) (s : State) (b : Book) → Side n (waiting at None) s [] b → Holds n (waiting at None) s [] b → Holds n (waiting at None) (forget end s) [] b
-  pub settles : (n at : ℕ) (on : Option Coming) (number : ℕ) (s : State) (b : Book) → Side n (started at on) s [] b → Holds n (started at on) s [] b →
-      Holds n (started at on) (settle number s) [] b
-  -- the first dial waits no more
-  pub dials : (n at : ℕ) (dial : WaitingDial) (s : State) (b : Book) → slice_get s.dials 0 ≡ Some dial → Side n (waiting at None) s [] b → Holds n (waiting at None) s [] b →
-      Holds n (waiting at (Some dial.end)) (without_first s) [] b
-  -- a member begins to change its secret
-  pub changes : (n at member : ℕ) (secret : List ℕ) (s : State) (b : Book) → Side n (waiting at None) s [] b → Holds n (waiting at None) s [] b →
-      IsHeard Holds n (waiting at None) (Member member) (changed member secret s) [] b
-  pub ticks : (n at more : ℕ) (s : State) (b : Book) → Side n (waiting at None) s [] b → Holds n (waiting at None) s [] b → Holds n (waiting at None) (tick more s) [] b
-  -- the move is over, and what ends gave is written down; whatever comes in the next one
-  pub over : (n at : ℕ) (on next : Option Coming) (s : State) (given : Given) (b : Book) → Side n (started at on) s given b → Holds n (started at on) s given b →
-      Holds n (started (at + 1) next) s [] (note_given at given s b)
-
-abbrev pub NoSide : MoveFact
-NoSide n p s given b = Unit {0}
-
--- what holds on where an end is made anew too
-pub but_renewed : (Known : Type 0) (Holds : MoveFact) → KeepsMoves Known NoSide Holds → KeepsCalmMoves Known NoSide Holds
-but_renewed Known Holds keeps = record {
-  closes = keeps.closes;
-  opens = keeps.opens;
-  dialled = keeps.dialled;
-  fails = keeps.fails;
-  begins = keeps.begins;
-  comes = keeps.comes;
-  reaches = keeps.reaches;
-  acts = keeps.acts;
-  shuts = keeps.shuts;
-  answers = keeps.answers;
-  forgets = keeps.forgets;
-  settles = keeps.settles;
-  dials = keeps.dials;
-  changes = keeps.changes;
-  ticks = keeps.ticks;
-  over = keeps.over;
-}
-
-abbrev pub Both : MoveFact → MoveFact → MoveFact
-Both A B n p s given b = A n p s given b × B n p s given b
-
-pub join_moves : (Known : Type 0) (A B : MoveFact) → KeepsMoves Known NoSide A → KeepsMoves Known A B → KeepsMoves Known NoSide (Both A B)
-join_moves Known A B one other = record {
-  closes = λ n p end link s given b work none holds. (one.closes n p end link s given b work tt holds.0, other.closes n p end link s given b work holds.0 holds.1);
-  opens = λ n at dial route s given b none holds. (one.opens n at dial route s given b tt holds.0, other.opens n at dial route s given b holds.0 holds.1);
-  dialled = λ n at end link s given b side none holds. (one.dialled n at end link s given b side tt holds.0, other.dialled n at end link s given b side holds.0 holds.1);
-  fails = λ n at end s b none holds. (one.fails n at end s b tt holds.0, other.fails n at end s b holds.0 holds.1);
-  begins = λ n at client plan s b is none holds. (one.begins n at client plan s b is tt holds.0, other.begins n at client plan s b is holds.0 holds.1);
-  comes = λ n end w piece s given b side came bytes none holds.
-      (one.comes n end w piece s given b side came bytes tt holds.0, other.comes n end w piece s given b side came bytes holds.0 holds.1);
-  reaches = λ n w s given b none holds. (one.reaches n w s given b tt holds.0, other.reaches n w s given b holds.0 holds.1);
-  acts = λ n p end what s given b work none holds. (one.acts n p end what s given b work tt holds.0, other.acts n p end what s given b work holds.0 holds.1);
-  shuts = λ n p link s given b work none holds. (one.shuts n p link s given b work tt holds.0, other.shuts n p link s given b work holds.0 holds.1);
-  answers = λ n at dial link there s given b is none holds. (one.answers n at dial link there s given b is tt holds.0, other.answers n at dial link there s given b is holds.0 holds.1);
-  forgets = λ n at end s b none holds. (one.forgets n at end s b tt holds.0, other.forgets n at end s b holds.0 holds.1);
-  settles = λ n at on number s b none holds. (one.settles n at on number s b tt holds.0, other.settles n at on number s b holds.0 holds.1);
-  dials = λ n at dial s b is none holds. (one.dials n at dial s b is tt holds.0, other.dials n at dial s b is holds.0 holds.1);
-  renews = λ n at end s b none holds. (one.renews n at end s b tt holds.0, other.renews n at end s b holds.0 holds.1);
-  changes = λ n at member secret s b none holds. (one.changes n at member secret s b tt holds.0, other.changes n at member secret s b holds.0 holds.1);
-  ticks = λ n at more s b none holds. (one.ticks n at more s b tt holds.0, other.ticks n at more s b holds.0 holds.1);
-  over = λ n at on next s given b none holds. (one.over n at on next s given b tt holds.0, other.over n at on next s given b holds.0 holds.1);
-}
-
--- what rests on nothing rests on any side fact
-pub beside : (Known : Type 0) (Side Holds : MoveFact) → KeepsMoves Known NoSide Holds → KeepsMoves Known Side Holds
-beside Known Side Holds keeps = record {
-  closes = λ n p end link s given b work side holds. keeps.closes n p end link s given b work tt holds;
-  opens = λ n at dial route s given b side holds. keeps.opens n at dial route s given b tt holds;
-  dialled = λ n at end link s given b here side holds. keeps.dialled n at end link s given b here tt holds;
-  fails = λ n at end s b side holds. keeps.fails n at end s b tt holds;
-  begins = λ n at client plan s b is side holds. keeps.begins n at client plan s b is tt holds;
-  comes = λ n end w piece s given b here came bytes side holds. keeps.comes n end w piece s given b here came bytes tt holds;
-  reaches = λ n w s given b side holds. keeps.reaches n w s given b tt holds;
-  acts = λ n p end what s given b work side holds. keeps.acts n p end what s given b work tt holds;
-  shuts = λ n p link s given b work side holds. keeps.shuts n p link s given b work tt holds;
-  answers = λ n at dial link there s given b is side holds. keeps.answers n at dial link there s given b is tt holds;
-  forgets = λ n at end s b side holds. keeps.forgets n at end s b tt holds;
-  settles = λ n at on number s b side holds. keeps.settles n at on number s b tt holds;
-  dials = λ n at dial s b is side holds. keeps.dials n at dial s b is tt holds;
-  renews = λ n at end s b side holds. keeps.renews n at end s b tt holds;
-  changes = λ n at member secret s b side holds. keeps.changes n at member secret s b tt holds;
-  ticks = λ n at more s b side holds. keeps.ticks n at more s b tt holds;
-  over = λ n at on next s given b side holds. keeps.over n at on next s given b tt holds;
-}
 
 -- ---- how many links are open
 
@@ -262,7 +63,7 @@ none_dialled (dial ∷ dials) none = absurd (let x = none in cc)
 
 -- ---- a part of a move
 
-module _ (Known : Type 0) (Holds : MoveFact) (keeps : KeepsCalmMoves Known NoSide Holds) where
+module _ (Known : Type 0) (Holds : MoveFact) (keeps : KeepsCalmMovesBy every Known NoSide Holds) where
   -- it holds after it, and no more steps were taken than are allowed; a link that is open allows two
   record After (p : Progress) (most : ℕ) (acted : Acted) (given : Given) (b : Book) : Type 0 where
     steps : ℕ
@@ -365,24 +166,24 @@ module _ (Known : Type 0) (Holds : MoveFact) (keeps : KeepsCalmMoves Known NoSid
   start_part None n at s b holds = nothing (waiting at None) (n + 1 + 2 * length s.open_links) n s [] b holds (omega arith)
   start_part (Some client) n at s b holds = start_by_part (slice_get s.client_plans client) client n at s b refl holds
 
-  open_part : (dial : Option EndId) (route : Route) (n at : ℕ) (s : State) (b : Book) → Holds n (waiting at dial) s [] b →
+  open_part : (dial : Option EndId) (route : Route) (n at : ℕ) (s : State) (b : Book) → dialler_of route ≡ dial → Holds n (waiting at dial) s [] b →
       After (waiting at dial) (n + 3 + 2 * length s.open_links) (open_link route s) [] b
-  open_part dial route n at s b holds =
+  open_part dial route n at s b out holds =
       let before : State = with_link route s in
       widen (waiting at dial) (n + 1 + 2 * length before.open_links) (n + 3 + 2 * length s.open_links) (open_link route s) [] b
       (omega (arith, length-append s.open_links ((length s.links, accepted route) ∷ [])))
-      (done_part (waiting at dial) tt n (acceptor_of route) (hear (acceptor_of route) (event.Opened (length s.links)) before) [] b (keeps.opens n at dial route s [] b tt holds))
+      (done_part (waiting at dial) tt n (acceptor_of route) (hear (acceptor_of route) (event.Opened (length s.links)) before) [] b (keeps.opens n at dial route s [] b out tt holds))
 
   stranger_by_part : (end : Option EndId) (n at : ℕ) (s : State) (b : Book) → Holds n (waiting at None) s [] b → Quietly at (n + 3 + 2 * length s.open_links) (stranger_by end s) [] b
   stranger_by_part None n at s b holds = nothing (waiting at None) (n + 3 + 2 * length s.open_links) n s [] b holds (omega arith)
-  stranger_by_part (Some end) n at s b holds = open_part None (Stranger end) n at s b holds
+  stranger_by_part (Some end) n at s b holds = open_part None (Stranger end) n at s b refl holds
 
   stranger_part : (number : Option ℕ) (n at : ℕ) (s : State) (b : Book) → Holds n (waiting at None) s [] b → Quietly at (n + 3 + 2 * length s.open_links) (stranger_at number s) [] b
   stranger_part None n at s b holds = nothing (waiting at None) (n + 3 + 2 * length s.open_links) n s [] b holds (omega arith)
   stranger_part (Some number) n at s b holds = stranger_by_part (end_at number s.ends) n at s b holds
 
   answer_part : (there : Option OpenLink) (end : EndId) (link n at : ℕ) (s : State) (given : Given) (b : Book) → lookup same_number link s.open_links ≡ there →
-      IsAtSide s.links link true end → Holds n (waiting at (Some end)) s given b → Quietly at (n + 3 + 2 * length s.open_links) (answer_by there end link s) given b
+      IsOnSide s.links link true end → Holds n (waiting at (Some end)) s given b → Quietly at (n + 3 + 2 * length s.open_links) (answer_by there end link s) given b
   answer_part None end link n at s given b is side holds =
       let first : Quietly at (n + 1 + 2 * length s.open_links) (hear_and_act end (event.Dialled link) s) given b =
       done_part (waiting at None) tt n end (hear end (event.Dialled link) s) given b (keeps.dialled n at end link s given b side tt holds) in
@@ -404,11 +205,11 @@ module _ (Known : Type 0) (Holds : MoveFact) (keeps : KeepsCalmMoves Known NoSid
       widen (waiting at None) (n + 1 + 2 * length s.open_links) (n + 6 + 2 * length s.open_links) (hear_and_act end event.DialFailed s) [] b (omega arith)
       (done_part (waiting at None) tt n end (hear end event.DialFailed s) [] b (keeps.fails n at end s b tt holds))
   connect_by_part (Some route) end n at s b dials holds =
-      let first : After (waiting at (Some end)) (n + 3 + 2 * length s.open_links) (open_link route s) [] b = open_part (Some end) route n at s b holds in
+      let first : After (waiting at (Some end)) (n + 3 + 2 * length s.open_links) (open_link route s) [] b = open_part (Some end) route n at s b (dials route refl) holds in
       let after : State = (open_link route s).state in
       let made : slice_get after.links (length s.links) ≡ Some route =
       ap (λ (l : List Route). slice_get l (length s.links)) (hears_links (acceptor_of route) (event.Opened (length s.links)) (with_link route s)) ∙ got_last s.links route in
-      let side : IsAtSide after.links (length s.links) true end = record { route = route; made = made; side = dials route refl } in
+      let side : IsOnSide after.links (length s.links) true end = record { route = route; made = made; side = dials route refl } in
       followed (waiting at None) (n + 6 + 2 * length s.open_links) (open_link route s) (λ later. answer_by (lookup same_number (length s.links) later.open_links) end (length s.links) later) [] b
       (widen (waiting at None) (first.steps + 3 + 2 * length after.open_links) (n + 6 + 2 * length s.open_links)
       (answer_by (lookup same_number (length s.links) after.open_links) end (length s.links) after) (open_link route s).given b (omega (arith, first.few))
@@ -477,7 +278,7 @@ module _ (Known : Type 0) (Holds : MoveFact) (keeps : KeepsCalmMoves Known NoSid
       After (coming w) (n + 1 + 2 * length s.open_links) (hear_and_act_if end (event.Bytes w.link piece) s) given (note_at end w piece s (hear_and_act_if end (event.Bytes w.link piece) s).state b)
   piece_part None w piece n s given b is came bytes placed holds = nothing (coming w) (n + 1 + 2 * length s.open_links) n s given b holds (omega arith)
   piece_part (Some end) w piece n s given b is came bytes placed holds =
-      let side : IsAtSide s.links w.link w.back end = hears_side w.back w.link s.links s.open_links end placed.made is in
+      let side : IsOnSide s.links w.link w.back end = hears_side w.back w.link s.links s.open_links end placed.made is in
       let after : State = (hear_and_act end (event.Bytes w.link piece) s).state in
       let now : Book = note_at (Some end) w piece s after b in
       let all : After (record (coming w) { to = Some after }) (n + 1 + 2 * length s.open_links) (hear_and_act end (event.Bytes w.link piece) s) given now =
@@ -639,8 +440,8 @@ module _ (Known : Type 0) (Holds : MoveFact) (keeps : KeepsCalmMoves Known NoSid
 
 -- ---- a run
 
-module _ (Known : Type 0) (Holds : MoveFact) (keeps : KeepsMoves Known NoSide Holds) where
-  abbrev Calm : KeepsCalmMoves Known NoSide Holds
+module _ (Known : Type 0) (Holds : MoveFact) (keeps : KeepsMovesBy every Known NoSide Holds) where
+  abbrev Calm : KeepsCalmMovesBy every Known NoSide Holds
   Calm = but_renewed Known Holds keeps
 
   -- a move, at which an end may be made anew
@@ -666,7 +467,7 @@ module _ (Known : Type 0) (Holds : MoveFact) (keeps : KeepsMoves Known NoSide Ho
       record { steps = later.steps; holds = later.holds; few = λ known. omega (arith, later.few known, moved.few known) }
 
 -- the same where what holds says of the bag that its units are short, and have bytes
-module _ (Holds : MoveFact) (keeps : KeepsMoves (Unit {0}) NoSide Holds)
+module _ (Holds : MoveFact) (keeps : KeepsMovesBy every (Unit {0}) NoSide Holds)
     (says : (n at : ℕ) (s : State) (b : Book) → Holds n (started at None) s [] b → IsBytesBag s.bag) where
   carry_part : (moves : List Move) (n : ℕ) (w : World) (b : Book) → AllByRecursion HandsBytes moves → IsPlaced w.state → HoldsFor (Unit {0}) Holds (Calm (Unit {0}) Holds keeps) n w.moves w.state b →
       Ran (Unit {0}) Holds keeps n moves w b
@@ -685,7 +486,7 @@ pub record HoldsAfterMoves (Known : Type 0) (Holds : MoveFact) (plan : Plan) (mo
   pub holds : Holds steps (started (past plan moves).world.moves None) (past plan moves).world.state [] (past plan moves).book
   pub few : Known → steps + 2 * length (past plan moves).world.state.open_links ≤ 10 * length moves
 
-pub moves_keep : (Known : Type 0) (Holds : MoveFact) → KeepsMoves Known NoSide Holds → (plan : Plan) (moves : List Move) → (Known → HasBytes plan moves) →
+pub moves_keep : (Known : Type 0) (Holds : MoveFact) → KeepsMovesBy every Known NoSide Holds → (plan : Plan) (moves : List Move) → (Known → HasBytes plan moves) →
     ((on : Option Coming) → Holds 0 (started 0 on) (first_world plan).state [] blank) → HoldsAfterMoves Known Holds plan moves
 moves_keep Known Holds keeps plan moves has holds =
     let bag : List BagUnit = (past plan moves).world.state.bag in
@@ -696,7 +497,7 @@ moves_keep Known Holds keeps plan moves has holds =
     record { steps = ran.steps; holds = ran.holds None; few = λ known. omega (arith, ran.few known) }
 
 -- so it is where what is handed in are bytes, and what holds says so of the bag
-pub moves_carry : (Holds : MoveFact) → KeepsMoves (Unit {0}) NoSide Holds → ((n at : ℕ) (s : State) (b : Book) → Holds n (started at None) s [] b → IsBytesBag s.bag) →
+pub moves_carry : (Holds : MoveFact) → KeepsMovesBy every (Unit {0}) NoSide Holds → ((n at : ℕ) (s : State) (b : Book) → Holds n (started at None) s [] b → IsBytesBag s.bag) →
     (plan : Plan) (moves : List Move) → AllByRecursion HandsBytes moves → ((on : Option Coming) → Holds 0 (started 0 on) (first_world plan).state [] blank) →
     HoldsAfterMoves (Unit {0}) Holds plan moves
 moves_carry Holds keeps says plan moves handed holds =
@@ -707,7 +508,7 @@ moves_carry Holds keeps says plan moves handed holds =
 -- ---- from any world on
 
 -- So it does after a run from any world in which links and units have their places, where nothing of bytes is asked.
-pub later_keeps : (Holds : MoveFact) → KeepsMoves ⊥ NoSide Holds → (moves : List Move) (w : World) (b : Book) → IsPlaced w.state → ((on : Option Coming) → Holds 0 (started w.moves on) w.state [] b) →
+pub later_keeps : (Holds : MoveFact) → KeepsMovesBy every ⊥ NoSide Holds → (moves : List Move) (w : World) (b : Book) → IsPlaced w.state → ((on : Option Coming) → Holds 0 (started w.moves on) w.state [] b) →
     (n : ℕ) × Holds n (started (run moves w).moves None) (run moves w).state [] (book moves w b)
 later_keeps Holds keeps moves w b placed holds =
     let ran : Ran ⊥ Holds keeps 0 moves w b = run_part ⊥ Holds keeps moves 0 w b (λ none. absurd none) (λ none. absurd none) placed holds in (ran.steps, ran.holds None)
@@ -716,10 +517,10 @@ later_keeps Holds keeps moves w b placed holds =
 abbrev AnyMove : MoveFact
 AnyMove n p s given b = Unit {0}
 
-any_keeps : KeepsMoves ⊥ NoSide AnyMove
+any_keeps : KeepsMovesBy every ⊥ NoSide AnyMove
 any_keeps = record {
   closes = λ n p end link s given b work none holds. tt;
-  opens = λ n at dial route s given b none holds. tt;
+  opens = λ n at dial route s given b out none holds. tt;
   dialled = λ n at end link s given b side none holds. tt;
   fails = λ n at end s b none holds. tt;
   begins = λ n at client plan s b is none holds. tt;
@@ -746,7 +547,7 @@ placed_next what w b placed =
 -- ---- a move at which no end is made anew
 
 -- it holds on through it, though it isn't known to where one is
-pub move_keeps : (Holds : MoveFact) → KeepsCalmMoves ⊥ NoSide Holds → (what : Move) (w : World) (b : Book) → restarted what w.state ≡ None → IsPlaced w.state →
+pub move_keeps : (Holds : MoveFact) → KeepsCalmMovesBy every ⊥ NoSide Holds → (what : Move) (w : World) (b : Book) → restarted what w.state ≡ None → IsPlaced w.state →
     ((on : Option Coming) → Holds 0 (started w.moves on) w.state [] b) →
     (n : ℕ) × ((next : Option Coming) → Holds n (started (happens w what).moves next) (happens w what).state [] (note w what b))
 move_keeps Holds keeps what w b none placed holds =

@@ -10,6 +10,7 @@ use Rattle.world_moves.specs.declared.bag.BagUnit.{BagUnit}
 use Rattle.world_moves.specs.declared.links.EndId.{EndId}
 use Rattle.world_moves.specs.declared.links.OpenLink.{OpenLink}
 use Rattle.world_moves.specs.declared.links.Route.{Route}
+use Rattle.world_moves.specs.declared.links.Route.TheVariants.{ToMember, ToController, Between, Stranger}
 use Rattle.world_moves.specs.Links.{OpenMap, accepted, acceptor_of, answered, dialler_of, end_if, forget_end, forgotten_by, hearer_of, hearer_on, open_if}
 use Rattle.channel_events.proofs.ListLaws.{all_weaker, got_append, got_last}
 use Rattle.world_moves.proofs.LinkFrameLaws.{IsOnLink, LinkFact, StaysAlways, StaysOnLinks}
@@ -99,10 +100,27 @@ heard_side false there end is = side_if there.acceptor (Some (acceptor_of there.
 heard_side true there end is = side_if there.dialler (dialler_of there.route) end is
 
 -- a link, with the end at one of its sides
+pub record IsOnSide (links : List Route) (link : ℕ) (back : Bool) (end : EndId) : Type 0 where
+  pub route : Route
+  pub made : slice_get links link ≡ Some route
+  pub side : side_of back route ≡ Some end
+
+-- a link that isn't between controllers
+abbrev pub IsApart : Route → Type 0
+IsApart (ToMember client member) = Unit {0}
+IsApart (ToController member controller) = Unit {0}
+IsApart (Between from to) = ⊥
+IsApart (Stranger to) = Unit {0}
+
+-- such a link, with the end at one of its sides
 pub record IsAtSide (links : List Route) (link : ℕ) (back : Bool) (end : EndId) : Type 0 where
   pub route : Route
   pub made : slice_get links link ≡ Some route
   pub side : side_of back route ≡ Some end
+  pub apart : IsApart route
+
+pub on_side : (links : List Route) (link : ℕ) (back : Bool) (end : EndId) → IsAtSide links link back end → IsOnSide links link back end
+on_side links link back end at = record { route = at.route; made = at.made; side = at.side }
 
 pub same_side : (one other : EndId) (links : List Route) (link : ℕ) (back : Bool) → IsAtSide links link back one → IsAtSide links link back other → one ≡ other
 same_side one other links link back first second =
@@ -111,13 +129,13 @@ same_side one other links link back first second =
     let both : Some one ≡ Some other = sym first.side ∙ ap (λ (r : Route). side_of back r) route ∙ second.side in cc
 
 hears_at : (back : Bool) (found : Option OpenLink) (links : List Route) (link : ℕ) (end : EndId) → ((there : OpenLink) → found ≡ Some there → slice_get links link ≡ Some there.route) →
-    hearer_of back found ≡ Some end → IsAtSide links link back end
+    hearer_of back found ≡ Some end → IsOnSide links link back end
 hears_at back None links link end made is = absurd cc
 hears_at back (Some there) links link end made is = record { route = there.route; made = made there refl; side = heard_side back there end is }
 
 -- the end that hears what goes on a link is at that side of it
 pub hears_side : (back : Bool) (link : ℕ) (links : List Route) (map : OpenMap) (end : EndId) → AllByRecursion (IsAsMade links) map → hearer_of back (lookup same_number link map) ≡ Some end →
-    IsAtSide links link back end
+    IsOnSide links link back end
 hears_side back link links map end all is = hears_at back (lookup same_number link map) links link end (λ there found. found_made link there links map all found) is
 
 -- ---- what an end does adds units to the bag

@@ -18,16 +18,20 @@ use Rattle.world_moves.specs.declared.links.Route.{Route}
 use Rattle.world_moves.specs.declared.moves.Move.{Move}
 use Rattle.world_moves.specs.declared.plan.Plan.{Plan}
 use Rattle.world_moves.specs.declared.state.State.{State}
-use Rattle.world_moves.specs.Acting.{Given, Heard, forget, given_by, hear, hear_and_act, perform_quietly, shut_link}
+use Rattle.world_moves.specs.Acting.{Given, Heard, forget, given_by, perform_quietly, shut_link}
 use Rattle.world_moves.specs.Links.{acceptor_of}
-use Rattle.world_moves.specs.Moving.{answered_link, begun, changed, renewed, settle, tick, with_link, without_first}
+use Rattle.world_moves.specs.Moving.{answered_link, begun, changed, settle, tick, with_link, without_first}
 use Rattle.world_moves.specs.World.{first_world}
+use Rattle.world_moves.specs.Alone.{HandsNothingOn, hear_alone as hear}
 use Rattle.domain_world.specs.Past.{Coming, note_at, note_given, past}
+use Rattle.domain_world.proofs.Frames.AloneStepLaws.{act_alone as hear_and_act, renewed_alone as renewed}
 use Rattle.domain_world.proofs.Frames.BagFrameLaws.{IsServer, no_more_of, no_part, no_side, nothing_marked, nothing_written, AllFor, MarkFact, first_marked, marked_keep}
 use Rattle.domain_world.proofs.Frames.ComingLaws.{CameFrom}
 use Rattle.domain_world.proofs.Frames.OpenMadeLaws.{IsAtSide}
 use Rattle.domain_world.proofs.Frames.EndFrameLaws.{IsCalm}
-use Rattle.domain_world.proofs.Frames.MoveFrameLaws.{Both, HoldsAfterMoves, IsHeard, KeepsMoves, MoveFact, NoSide, Progress, beside, coming, join_moves, moves_keep, started, waiting, moves_carry}
+use Rattle.domain_world.proofs.Frames.AloneFrameLaws.{moves_keep_alone, moves_carry_alone}
+use Rattle.domain_world.proofs.Frames.MoveFrameLaws.{HoldsAfterMoves}
+use Rattle.domain_world.proofs.Frames.MoveKeepLaws.{Both, IsHeard, KeepsMoves, MoveFact, NoSide, Progress, beside, coming, join_moves, started, waiting}
 use Rattle.domain_world.proofs.Frames.PlacedLaws.{HasBytes, HandsBytes, IsBytesBag}
 use Rattle.domain_world.proofs.Frames.FrameLaws.{OfSide, side_keeps}
 
@@ -234,7 +238,7 @@ module _ {Over : Type 0} (Holds : RunFact) (Fine : ActionFact) (keeps : KeepsWit
   pub steps_keep : KeepsMoves (Unit {0}) Beneath (OfSteps Holds Fine)
   steps_keep = record {
     closes = λ n p end link s given b work side holds. so_heard n p end (hear end (event.Closed link) s) given b (keeps.calm n end (event.Closed link) s given b tt tt holds.0) holds.1;
-    opens = λ n at dial route s given b side holds.
+    opens = λ n at dial route s given b out side holds.
         so_heard n (waiting at dial) (acceptor_of route) (hear (acceptor_of route) (event.Opened (length s.links)) (with_link route s)) given b (keeps.opens n route s given b tt holds.0) tt;
     dialled = λ n at end link s given b here side holds.
         so_heard n (waiting at None) end (hear end (event.Dialled link) s) given b (keeps.dialled n end link s given b here tt holds.0) tt;
@@ -274,9 +278,9 @@ Marked = Both Nothing (MarkFact no_part no_more_of)
 -- where something else is known in each move, with which it holds on where a move is over
 pub run_beside : {Over : Type 0} → (Holds : RunFact) (Fine : ActionFact) → KeepsWith Over NoFact Holds Fine → (Also : MoveFact) → KeepsMoves (Unit {0}) NoSide Also →
     ((n at : ℕ) (on : Option Coming) (s : State) (given : Given) (b : Book) → Also n (started at on) s given b → Holds n s given b → Holds n s [] (note_given at given s b)) →
-    (plan : Plan) (moves : List Move) → HasBytes plan moves → ((on : Option Coming) → Also 0 (started 0 on) (first_world plan).state [] blank) →
+    (plan : Plan) (moves : List Move) → HandsNothingOn plan → HasBytes plan moves → ((on : Option Coming) → Also 0 (started 0 on) (first_world plan).state [] blank) →
     Holds 0 (first_world plan).state [] blank → HoldsAfterRun Holds plan moves
-run_beside Holds Fine keeps Also also over plan moves has more holds =
+run_beside Holds Fine keeps Also also over plan moves nobody has more holds =
     let known : Type 0 = Unit {0} in
     let beneath : MoveFact = Both Marked Also in
     let all : KeepsMoves known NoSide (Both beneath (OfSteps Holds Fine)) =
@@ -284,24 +288,24 @@ run_beside Holds Fine keeps Also also over plan moves has more holds =
     (join_moves known Marked Also (marked_keep no_part no_side no_more_of nothing_written nothing_marked known) (beside known Marked Also also))
     (steps_keep Holds Fine keeps beneath (λ n w s given b side. side.0.1.all) (λ n at on s given b side. over n at on s given b side.1)) in
     let after : HoldsAfterMoves known (Both beneath (OfSteps Holds Fine)) plan moves =
-    moves_keep known (Both beneath (OfSteps Holds Fine)) all plan moves (λ one. has)
+    moves_keep_alone known (Both beneath (OfSteps Holds Fine)) all plan moves nobody (λ one. has)
     (λ on. ((first_marked no_part no_side no_more_of nothing_written nothing_marked plan on tt, more on), (holds, tt))) in
     record { steps = after.steps; holds = after.holds.1.0; few = after.few tt }
 
-pub run_keeps : (Holds : RunFact) (Fine : ActionFact) → Keeps NoFact Holds Fine → (plan : Plan) (moves : List Move) → HasBytes plan moves →
+pub run_keeps : (Holds : RunFact) (Fine : ActionFact) → Keeps NoFact Holds Fine → (plan : Plan) (moves : List Move) → HandsNothingOn plan → HasBytes plan moves →
     Holds 0 (first_world plan).state [] blank → HoldsAfterRun Holds plan moves
-run_keeps Holds Fine keeps plan moves has holds =
-    run_beside Holds Fine keeps Nothing (side_keeps no_part no_side nothing_written (Unit {0})) (λ n at on s given b none. keeps.over n at s given b tt) plan moves has (λ on. tt) holds
+run_keeps Holds Fine keeps plan moves nobody has holds =
+    run_beside Holds Fine keeps Nothing (side_keeps no_part no_side nothing_written (Unit {0})) (λ n at on s given b none. keeps.over n at s given b tt) plan moves nobody has (λ on. tt) holds
 
 -- so it is where what is handed in are bytes, and what holds says of the bag that its units are short, and have bytes
 pub run_carries : (Holds : RunFact) (Fine : ActionFact) → Keeps NoFact Holds Fine → ((n : ℕ) (s : State) (b : Book) → Holds n s [] b → IsBytesBag s.bag) →
-    (plan : Plan) (moves : List Move) → AllByRecursion HandsBytes moves → Holds 0 (first_world plan).state [] blank → HoldsAfterRun Holds plan moves
-run_carries Holds Fine keeps says plan moves handed holds =
+    (plan : Plan) (moves : List Move) → HandsNothingOn plan → AllByRecursion HandsBytes moves → Holds 0 (first_world plan).state [] blank → HoldsAfterRun Holds plan moves
+run_carries Holds Fine keeps says plan moves nobody handed holds =
     let known : Type 0 = Unit {0} in
     let all : KeepsMoves known NoSide (Both Marked (OfSteps Holds Fine)) =
     join_moves known Marked (OfSteps Holds Fine) (marked_keep no_part no_side no_more_of nothing_written nothing_marked known)
     (steps_keep Holds Fine keeps Marked (λ n w s given b side. side.1.all) (λ n at on s given b side. keeps.over n at s given b tt)) in
     let after : HoldsAfterMoves known (Both Marked (OfSteps Holds Fine)) plan moves =
-    moves_carry (Both Marked (OfSteps Holds Fine)) all (λ n at s b holds. says n s b holds.1.0) plan moves handed
+    moves_carry_alone (Both Marked (OfSteps Holds Fine)) all (λ n at s b holds. says n s b holds.1.0) plan moves nobody handed
     (λ on. (first_marked no_part no_side no_more_of nothing_written nothing_marked plan on tt, (holds, tt))) in
     record { steps = after.steps; holds = after.holds.1.0; few = after.few tt }

@@ -1,6 +1,6 @@
 -- In every run a controller grants a Logon call exactly where it is to be granted, by the accounts of the plan.
 -- It serves `Proved.grants`, `Proved.alone` and `Proved.statuses`.
-use Rattle.std.proofs.Common.{◌≡◌, ◌↔◌, ℕ, zero, suc, true, List, [], ◌∷◌, ◌++◌, Option, Some, None, Ok, Err, inl, inr, slice_get, slice_set, refl, sym, ap, subst, ◌∙◌}
+use Rattle.std.proofs.Common.{◌≡◌, Bool, ◌↔◌, ℕ, zero, suc, true, List, [], ◌∷◌, ◌++◌, Option, Some, None, Ok, Err, inl, inr, slice_get, slice_set, refl, sym, ap, subst, ◌∙◌}
 use Rattle.std.specs.List.{AllByRecursion}
 use Rattle.wire_base.specs.Maps.{lookup, same_number}
 use Rattle.authenticators.specs.SecureChannels.{SecureChannelState}
@@ -34,12 +34,15 @@ use Rattle.world_moves.specs.declared.moves.Move.{Move}
 use Rattle.world_moves.specs.declared.plan.Plan.{Plan}
 use Rattle.world_moves.specs.declared.state.State.{State}
 use Rattle.world_moves.specs.World.{first_controllers, first_world}
+use Rattle.world_moves.specs.Alone.{HandsNothingOn}
+use Rattle.world_moves.specs.Ends.{fresh_controller}
 use Rattle.domain_world.specs.Claims.Grants.{GrantsWhoMayLogOn, IsGrantedRightly, IsToBeGranted, users_of}
 use Rattle.domain_world.specs.Claims.Statuses.{TellsItsStatus}
 use Rattle.domain_world.specs.Past.{Coming, answers_of, at_controller, judged_of, note_controller, numbers_on, past}
 use Rattle.step_notes.proofs.Controllers.GrantVerdictLaws.{IsServedGrant, granted_status, served_grant}
 use Rattle.step_notes.proofs.Controllers.JudgedCallLaws.{if_network, status_done}
 use Rattle.step_notes.proofs.Controllers.JudgedStepLaws.{told_kept, same_status}
+use Rattle.domain_world.proofs.Frames.AloneStepLaws.{fresh_by}
 use Rattle.domain_world.proofs.Challenges.MessageOnceLaws.{set_cases}
 use Rattle.domain_world.proofs.Frames.FrameLaws.{run_stays}
 use Rattle.domain_world.proofs.Frames.ControllerFrameLaws.{AmongControllers, ControllersFact, KeepsControllers, controllers_written}
@@ -193,18 +196,20 @@ stand_on plan = record {
 
 -- ---- at first
 
-pub first_planned : (tables : List AccountTable) (names : List (List ℕ)) (at : ℕ) (c : ControllerState) → slice_get (first_controllers tables names) at ≡ Some c →
+pub first_planned : (hands_on : Bool) (tables : List AccountTable) (names : List (List ℕ)) (at : ℕ) (c : ControllerState) → slice_get (first_controllers hands_on tables names) at ≡ Some c →
     (slice_get tables at ≡ Some c.table) × (slice_get names at ≡ Some c.name)
-first_planned [] names at c there = absurd cc
-first_planned (table ∷ tables) [] at c there = absurd cc
-first_planned (table ∷ tables) (name ∷ names) zero c there =
-    let is : first_state table name ≡ c = cc in (ap (λ (x : ControllerState). Some x.table) is, ap (λ (x : ControllerState). Some x.name) is)
-first_planned (table ∷ tables) (name ∷ names) (suc at) c there = first_planned tables names at c there
+first_planned hands_on [] names at c there = absurd cc
+first_planned hands_on (table ∷ tables) [] at c there = absurd cc
+first_planned hands_on (table ∷ tables) (name ∷ names) zero c there =
+    let is : fresh_controller hands_on table name ≡ c = cc in
+    subst (λ (x : ControllerState). (Some table ≡ Some x.table) × (Some name ≡ Some x.name)) is
+    (fresh_by (λ (x : ControllerState). (Some table ≡ Some x.table) × (Some name ≡ Some x.name)) table name (refl, refl) (refl, refl) hands_on)
+first_planned hands_on (table ∷ tables) (name ∷ names) (suc at) c there = first_planned hands_on tables names at c there
 
 first_stands : (plan : Plan) → StandsByPlan plan [] (first_world plan).state.ends.controllers
 first_stands plan = record {
   judged = tt;
-  each = λ at c there. let both = first_planned plan.tables plan.controllers at c there in
+  each = λ at c there. let both = first_planned plan.hands_on plan.tables plan.controllers at c there in
       record { planned = c.table; is = both.0; states = states-none c.table; name_is = both.1 };
 }
 
@@ -242,20 +247,20 @@ all_rightly plan (j ∷ judgings) planned right users = (
 )
 
 -- after all moves of a run
-stand_after : (plan : Plan) (moves : List Move) → StandsByPlan plan (past plan moves).book.judged (past plan moves).world.state.ends.controllers
-stand_after plan moves =
-    run_stays judgings_of (AmongControllers judgings_of (ByPlan plan) (stand_on plan)) (controllers_written judgings_of (ByPlan plan) (stand_on plan)) plan moves (first_stands plan)
+stand_after : (plan : Plan) (moves : List Move) → HandsNothingOn plan → StandsByPlan plan (past plan moves).book.judged (past plan moves).world.state.ends.controllers
+stand_after plan moves nobody =
+    run_stays judgings_of (AmongControllers judgings_of (ByPlan plan) (stand_on plan)) (controllers_written judgings_of (ByPlan plan) (stand_on plan)) plan moves nobody (first_stands plan)
 
 -- in every run each call that passed was told with its status
-pub each_status : (plan : Plan) (moves : List Move) → AllByRecursion TellsItsStatus (past plan moves).book.judged
-each_status plan moves =
+pub each_status : (plan : Plan) (moves : List Move) → HandsNothingOn plan → AllByRecursion TellsItsStatus (past plan moves).book.judged
+each_status plan moves nobody =
     all_weaker (IsByPlan plan) TellsItsStatus (past plan moves).book.judged (λ j planned. planned.1)
-    (stand_after plan moves).judged
+    (stand_after plan moves nobody).judged
 
 -- in every run a controller grants a Logon call exactly where it is to be granted, by the accounts of the plan
-pub grants_who_may : (plan : Plan) (moves : List Move) → AllByRecursion (HasUsers plan) (past plan moves).book.judged → GrantsWhoMayLogOn (past plan moves)
-grants_who_may plan moves users =
+pub grants_who_may : (plan : Plan) (moves : List Move) → HandsNothingOn plan → AllByRecursion (HasUsers plan) (past plan moves).book.judged → GrantsWhoMayLogOn (past plan moves)
+grants_who_may plan moves nobody users =
     all_rightly plan (past plan moves).book.judged
-    (stand_after plan moves).judged
+    (stand_after plan moves nobody).judged
     (judged_rightly plan moves)
     users

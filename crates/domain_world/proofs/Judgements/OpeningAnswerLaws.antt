@@ -15,6 +15,7 @@ use Rattle.world_moves.specs.declared.bag.BagUnit.{BagUnit}
 use Rattle.world_moves.specs.declared.moves.Move.{Move}
 use Rattle.world_moves.specs.declared.plan.Plan.{Plan}
 use Rattle.world_moves.specs.Forms.{IsSchedule}
+use Rattle.world_moves.specs.Alone.{HandsNothingOn}
 use Rattle.domain_world.specs.Accepting.Answered.{IsItsWay}
 use Rattle.domain_world.specs.Accepting.Carried.{call_carried}
 use Rattle.step_notes.specs.HeardWhole.{request_read}
@@ -66,7 +67,7 @@ module _ (bag : List BagUnit) (number n : ℕ) (carried : IsCarriedOpening bag n
 
 -- ---- a run
 
-module _ (plan : Plan) (moves : List Move) (schedule : IsSchedule plan moves) (calm : (past plan moves).book.clash ≡ false) where
+module _ (plan : Plan) (moves : List Move) (nobody : HandsNothingOn plan) (schedule : IsSchedule plan moves) (calm : (past plan moves).book.clash ≡ false) where
   abbrev p : Past
   p = past plan moves
 
@@ -78,18 +79,18 @@ module _ (plan : Plan) (moves : List Move) (schedule : IsSchedule plan moves) (c
   answers_at n one channel number request there at =
       let a : ChannelAccepted = at.item in
       let clash : clashes (Some a.channel) (unit_in a.source) p.book.sent ≡ false =
-      all_at (λ (x : ChannelAccepted). clashes (Some x.channel) (unit_in x.source) p.book.sent ≡ false) p.book.accepted at.place a ((replies_answer_openings plan moves).unclashed calm) at.there in
+      all_at (λ (x : ChannelAccepted). clashes (Some x.channel) (unit_in x.source) p.book.sent ≡ false) p.book.accepted at.place a ((replies_answer_openings plan moves nobody).unclashed calm) at.there in
       let made : IsMadeFor a.channel request p.book.sent =
       made_unless a.channel request p.book.sent (ap (λ (u : Option ℕ). clashes (Some a.channel) u p.book.sent) (sym (ap unit_in at.is.came)) ∙ clash) in
       let carried : IsCarriedOpening p.world.state.bag a.number request =
-      all_at (IsOpenedWell p.world.state.bag) p.book.accepted at.place a (openings_carried plan moves schedule) at.there request at.is.came in
-      let had : IsOfUnit OfMark tt p.world.state.bag request made.sent.mark = marks_fit plan moves schedule request made.sent made.noted in
+      all_at (IsOpenedWell p.world.state.bag) p.book.accepted at.place a (openings_carried plan moves nobody schedule) at.there request at.is.came in
+      let had : IsOfUnit OfMark tt p.world.state.bag request made.sent.mark = marks_fit plan moves nobody schedule request made.sent made.noted in
       let unit : had.unit ≡ carried.carrier = some_is had.unit carried.carrier (sym had.there ∙ carried.there) in
       let marked : IsOpeningMark made.sent.mark made.named a.number =
-      marked_opening p.world.state.bag a.number request carried (bytes_in p.world.state.bag (has_bytes plan moves schedule).bytes request carried.carrier carried.there) made.named made.sent.mark made.made
-      (subst (λ (u : BagUnit). FitsMark u made.sent.mark) unit had.holds) (marks_have_their_way plan moves request carried.carrier made.sent carried.there made.noted) in
+      marked_opening p.world.state.bag a.number request carried (bytes_in p.world.state.bag (has_bytes plan moves nobody schedule).bytes request carried.carrier carried.there) made.named made.sent.mark made.made
+      (subst (λ (u : BagUnit). FitsMark u made.sent.mark) unit had.holds) (marks_have_their_way plan moves nobody request carried.carrier made.sent carried.there made.noted) in
       let answer : IsMarkedAsOpened p a request =
-      all_at (λ (x : ChannelAccepted). (k : ℕ) → x.source ≡ InUnit k → IsMarkedAsOpened p x k) p.book.accepted at.place a (openings_marked plan moves schedule) at.there request at.is.came in
+      all_at (λ (x : ChannelAccepted). (k : ℕ) → x.source ≡ InUnit k → IsMarkedAsOpened p x k) p.book.accepted at.place a (openings_marked plan moves nobody schedule) at.there request at.is.came in
       let reply : answer.reply ≡ n = some_is answer.reply n (sym answer.is ∙ at.is.answer) in
       let same : answer.sent ≡ one = some_is answer.sent one (sym answer.there ∙ ap (λ (k : ℕ). slice_get p.book.sent k) reply ∙ there) in
       record {
@@ -105,5 +106,5 @@ module _ (plan : Plan) (moves : List Move) (schedule : IsSchedule plan moves) (c
   pub replies_to_openings : RepliesAreToOpenings p
   replies_to_openings n one channel number request there mark =
       let has : OneOf (IsThat channel number request n) p.book.accepted =
-      subst (λ (m : Mark). IsReplyOfOpening p.book.accepted n m) mark ((replies_answer_openings plan moves).replies n one there) in
+      subst (λ (m : Mark). IsReplyOfOpening p.book.accepted n m) mark ((replies_answer_openings plan moves nobody).replies n one there) in
       answers_at n one channel number request there (placed (IsThat channel number request n) p.book.accepted has)

@@ -25,6 +25,7 @@ use Rattle.world_moves.specs.declared.plan.Plan.{Plan}
 use Rattle.world_moves.specs.declared.state.State.{State}
 use Rattle.world_moves.specs.Acting.{done, heard_by}
 use Rattle.world_moves.specs.Ends.{member_step}
+use Rattle.world_moves.specs.Alone.{HandsNothingOn}
 use Rattle.domain_world.specs.Claims.OpeningReplies.{IsAcceptedIn, IsReplyOfOpening, RepliesAnswerOpenings}
 use Rattle.domain_world.specs.Past.{Coming, accepted_of, answers_of, at_controller, first_of, is_sent_on, later_of, marks_by, marks_of, note_at, note_member, numbers_on, onto, past, replied_with}
 use Rattle.channel_events.proofs.ListLaws.{got_nothing, some_is}
@@ -200,11 +201,11 @@ opened_stay = record {
 
 -- ---- a run
 
-pub replies_answer_openings : (plan : Plan) (moves : List Move) → RepliesAnswerOpenings (past plan moves)
-replies_answer_openings plan moves = record {
+pub replies_answer_openings : (plan : Plan) (moves : List Move) → HandsNothingOn plan → RepliesAnswerOpenings (past plan moves)
+replies_answer_openings plan moves nobody = record {
   replies = λ number sent marked.
       let of : IsOfUnit OfUnit (past plan moves).book.accepted (past plan moves).world.state.bag number sent.mark =
-      run_stays_marked acceptings_of NothingElse OfUnit nothing_else opened_stay plan moves tt number sent marked in
+      run_stays_marked acceptings_of NothingElse OfUnit nothing_else opened_stay plan moves nobody tt number sent marked in
       of.holds;
   unclashed = openings_unclashed plan moves;
 }

@@ -1,5 +1,5 @@
 -- In every run openings are accepted in order, through each step of a controller. It serves `Proved.openings`.
-use Rattle.std.proofs.Common.{◌≡◌, ◌≢◌, ◌⊎◌, ℕ, ◌-◌, zero, suc, true, List, [], ◌∷◌, ◌++◌, map, Option, Some, None, refl, sym, ap, subst, ◌∙◌, inl, inr, arith, slice_get, slice_set}
+use Rattle.std.proofs.Common.{◌≡◌, Bool, ◌≢◌, ◌⊎◌, ℕ, ◌-◌, zero, suc, true, List, [], ◌∷◌, ◌++◌, map, Option, Some, None, refl, sym, ap, subst, ◌∙◌, inl, inr, arith, slice_get, slice_set}
 use Rattle.wire_base.specs.Maps.{IsMap}
 use Rattle.wire_base.specs.Names.{SameName, same_name}
 use Rattle.outside.specs.Counter.{most_draws}
@@ -13,6 +13,7 @@ use Rattle.account_table.specs.LookUps.{knows_in}
 use Rattle.authenticators.specs.Channels.{ChannelIdentity}
 use Rattle.domain_controller.specs.Machine.{Desk, answer_authenticate, answer_challenge, answer_judged}
 use Rattle.domain_controller.specs.State.{State as ControllerState}
+use Rattle.domain_controller.specs.TrustStep.{first_trust_state}
 use Rattle.domain_controller.specs.Step.{first_state, state_after, step_of}
 use Rattle.domain_controller.specs.declared.state.Running.{Running}
 use Rattle.controller_calls.proofs.OutcomeLaws.{judged_comes}
@@ -24,12 +25,15 @@ use Rattle.world_moves.specs.declared.moves.Move.{Move}
 use Rattle.world_moves.specs.declared.plan.Plan.{Plan}
 use Rattle.world_moves.specs.declared.state.State.{State}
 use Rattle.world_moves.specs.World.{first_controllers, first_world}
+use Rattle.world_moves.specs.Alone.{HandsNothingOn}
+use Rattle.world_moves.specs.Ends.{fresh_controller}
 use Rattle.domain_world.specs.Claims.Openings.{IsLastAccepted, IsUnused, OpeningsAreInOrder, last_accepted}
 use Rattle.domain_world.specs.Past.{Coming, accepted_of, answers_of, at_controller, first_of, later_of, numbers_on, onto, past, replied_with}
 use Rattle.channel_events.proofs.ListLaws.{no_some}
 use Rattle.step_notes.proofs.Controllers.ComputerLaws.{judged_pending}
 use Rattle.step_notes.proofs.Controllers.KeptNoteLaws.{calls_are_kept}
 use Rattle.step_notes.proofs.Controllers.NotedLaws.{NotedFact, StaysThrough, step_says}
+use Rattle.domain_world.proofs.Frames.AloneStepLaws.{fresh_by}
 use Rattle.domain_world.proofs.Challenges.MessageOnceLaws.{set_cases}
 use Rattle.domain_world.proofs.Frames.ControllerFrameLaws.{AmongControllers, ControllersFact, KeepsControllers, controllers_written}
 use Rattle.domain_world.proofs.Frames.EndNoteLaws.{accepted_so, acceptings_of}
@@ -323,12 +327,13 @@ follow_on = record {
 
 -- ---- at first
 
-pub each_fresh : (P : ControllerState → Type 0) → ((table : AccountTable) (name : List ℕ) → P (first_state table name)) → (tables : List AccountTable) (names : List (List ℕ)) (at : ℕ) (c : ControllerState) →
-    slice_get (first_controllers tables names) at ≡ Some c → P c
-each_fresh P one [] names at c there = absurd cc
-each_fresh P one (table ∷ tables) [] at c there = absurd cc
-each_fresh P one (table ∷ tables) (name ∷ names) zero c there = let is : first_state table name ≡ c = cc in subst P is (one table name)
-each_fresh P one (table ∷ tables) (name ∷ names) (suc at) c there = each_fresh P one tables names at c there
+pub each_fresh : (P : ControllerState → Type 0) → ((table : AccountTable) (name : List ℕ) → P (first_state table name)) → ((table : AccountTable) (name : List ℕ) → P (first_trust_state table name)) →
+    (hands_on : Bool) (tables : List AccountTable) (names : List (List ℕ)) (at : ℕ) (c : ControllerState) → slice_get (first_controllers hands_on tables names) at ≡ Some c → P c
+each_fresh P one other hands_on [] names at c there = absurd cc
+each_fresh P one other hands_on (table ∷ tables) [] at c there = absurd cc
+each_fresh P one other hands_on (table ∷ tables) (name ∷ names) zero c there =
+    let is : fresh_controller hands_on table name ≡ c = cc in subst P is (fresh_by P table name (one table name) (other table name) hands_on)
+each_fresh P one other hands_on (table ∷ tables) (name ∷ names) (suc at) c there = each_fresh P one other hands_on tables names at c there
 
 first_follows : (plan : Plan) → OpeningsFollow [] (first_world plan).state.chances.left (first_world plan).state.ends.controllers
 first_follows plan =
@@ -339,20 +344,21 @@ first_follows plan =
         spent = tt;
         once = λ i j d lt within. absurd (omega (arith, within));
       };
-      each = λ at c there. each_fresh (λ (x : ControllerState). AreOpenedIf [] left at x.running) (λ table name. fresh_opened [] left at) plan.tables plan.controllers at c there;
+      each = λ at c there. each_fresh (λ (x : ControllerState). AreOpenedIf [] left at x.running) (λ table name. fresh_opened [] left at) (λ table name. fresh_opened [] left at) plan.hands_on plan.tables plan.controllers at c there;
       one = λ at other c d name more server there also waits too.
-          absurd (each_fresh (λ (x : ControllerState). waits_if x.running name ≡ Some server → ⊥) (λ table own waits. no_some server waits) plan.tables plan.controllers at c there waits);
+          absurd (each_fresh (λ (x : ControllerState). waits_if x.running name ≡ Some server → ⊥) (λ table own waits. no_some server waits) (λ table own waits. no_some server waits) plan.hands_on plan.tables
+          plan.controllers at c there waits);
     }
 
-openings_follow : (plan : Plan) (moves : List Move) → OpeningsFollow (past plan moves).book.accepted (past plan moves).world.state.chances.left (past plan moves).world.state.ends.controllers
-openings_follow plan moves = run_stays acceptings_of (AmongControllers acceptings_of Follows follow_on) (controllers_written acceptings_of Follows follow_on) plan moves (first_follows plan)
+openings_follow : (plan : Plan) (moves : List Move) → HandsNothingOn plan → OpeningsFollow (past plan moves).book.accepted (past plan moves).world.state.chances.left (past plan moves).world.state.ends.controllers
+openings_follow plan moves nobody = run_stays acceptings_of (AmongControllers acceptings_of Follows follow_on) (controllers_written acceptings_of Follows follow_on) plan moves nobody (first_follows plan)
 
 -- in every run openings are accepted in order
-pub openings_in_order : (plan : Plan) (moves : List Move) → OpeningsAreInOrder (past plan moves)
-openings_in_order plan moves =
+pub openings_in_order : (plan : Plan) (moves : List Move) → HandsNothingOn plan → OpeningsAreInOrder (past plan moves)
+openings_in_order plan moves nobody =
     let accepted : List ChannelAccepted = (past plan moves).book.accepted in
     let left : List (List ℕ) = (past plan moves).world.state.chances.left in
-    let follow : OpeningsFollow accepted left (past plan moves).world.state.ends.controllers = openings_follow plan moves in
+    let follow : OpeningsFollow accepted left (past plan moves).world.state.ends.controllers = openings_follow plan moves nobody in
     record {
       once = follow.order.once;
       last = λ controller computer channel at.

@@ -39,6 +39,7 @@ use Rattle.world_moves.specs.declared.plan.Plan.{Plan}
 use Rattle.world_moves.specs.declared.state.State.{State}
 use Rattle.world_moves.specs.Acting.{done, heard_by}
 use Rattle.world_moves.specs.Ends.{actions_by, member_step}
+use Rattle.world_moves.specs.Alone.{HandsNothingOn}
 use Rattle.domain_world.specs.Claims.Replies.{IsReplyOfOne, RepliesCarryTheirJudgement}
 use Rattle.domain_world.specs.Past.{Coming, answers_of, first_of, judged_of, later_of, is_sent_on, marks_by, marks_of, note_at, note_controller, note_member, numbers_on, onto, past, with_reply, controller_asked}
 use Rattle.channel_events.proofs.ListLaws.{got_nothing, some_is}
@@ -280,10 +281,10 @@ replies_stay = record {
 -- ---- a run
 
 -- in every run each reply carries what was judged
-pub replies_carry : (plan : Plan) (moves : List Move) → RepliesCarryTheirJudgement (past plan moves)
-replies_carry plan moves number unit sent there marked =
+pub replies_carry : (plan : Plan) (moves : List Move) → HandsNothingOn plan → RepliesCarryTheirJudgement (past plan moves)
+replies_carry plan moves nobody number unit sent there marked =
     let judgings : List Judging = (past plan moves).book.judged in
     let of : IsOfUnit OfUnit judgings (past plan moves).world.state.bag number sent.mark =
-    run_stays_marked (λ (b : Book). b.judged) NothingElse OfUnit nothing_else replies_stay plan moves tt number sent marked in
+    run_stays_marked (λ (b : Book). b.judged) NothingElse OfUnit nothing_else replies_stay plan moves nobody tt number sent marked in
     subst (λ (bytes : List ℕ). IsReplyOfOne judgings number bytes sent.mark) (sym (plain_is (past plan moves).book.sent number unit))
     (subst (λ (one : BagUnit). IsReplyOfOne judgings number one.bytes sent.mark) (some_is of.unit unit (sym of.there ∙ there)) of.holds)

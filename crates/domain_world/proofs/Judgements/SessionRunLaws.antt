@@ -8,7 +8,7 @@ use Rattle.outside.specs.declared.event.Event.TheVariants as event
 use Rattle.authenticators.specs.SecureChannels.{SecureChannelState}
 use Rattle.interactive_logon.specs.declared.sessions.Session.{Session}
 use Rattle.domain_controller.specs.State.{State as ControllerState}
-use Rattle.domain_controller.specs.Step.{first_state, step_of}
+use Rattle.domain_controller.specs.Step.{step_of}
 use Rattle.domain_controller.specs.declared.state.Running.{Running}
 use Rattle.outside.specs.Drawing.{Drawing}
 use Rattle.step_notes.specs.ControllerNotes.{Answered, Where, has_passed}
@@ -19,25 +19,25 @@ use Rattle.world_moves.specs.declared.moves.Move.{Move}
 use Rattle.world_moves.specs.declared.moves.Move.TheVariants as move
 use Rattle.world_moves.specs.declared.plan.Plan.{Plan}
 use Rattle.world_moves.specs.declared.state.State.{State}
-use Rattle.world_moves.specs.Acting.{forget, hear_and_act}
+use Rattle.world_moves.specs.Acting.{forget}
 use Rattle.world_moves.specs.Choosing.{chosen_place}
-use Rattle.world_moves.specs.Ends.{EndStates, EndStep, count_of, end_step, renew_client, renew_controller, renew_member}
+use Rattle.world_moves.specs.Ends.{EndStates, EndStep, count_of, fresh_controller, renew_client, renew_controller, renew_member}
 use Rattle.world_moves.specs.Links.{acceptor_of}
 use Rattle.world_moves.specs.Moving.{act, renewed, restart_at, restart_by}
 use Rattle.world_moves.specs.World.{World, first_world, happens, run}
+use Rattle.world_moves.specs.Alone.{HandsNothingOn, alone_end_step as end_step}
 use Rattle.logon_client.specs.declared.plan.ClientPlan.{ClientPlan}
 use Rattle.member_server.specs.declared.plan.MemberPlan.{MemberPlan}
 use Rattle.domain_world.specs.Claims.Sessions.{AreBySince, ControllerRenewed, end_by, is_since, last_start, renewal_by, renewals, restarted, sessions_behind, sessions_if, sessions_on, sessions_since, since_if, start_before, start_if}
 use Rattle.domain_world.specs.Past.{Coming, answers_of, at_controller, book, first_of, judged_of, later_of, note, note_at, note_coming, note_controller, numbers_on, onto, past, with_reply}
-use Rattle.channel_events.proofs.ListLaws.{all_weaker, got_nothing, no_some}
-use Rattle.world_moves.proofs.EndKindLaws.{step_by}
+use Rattle.channel_events.proofs.ListLaws.{all_weaker, no_some}
 use Rattle.domain_world.proofs.Challenges.MessageOnceLaws.{each_put}
+use Rattle.domain_world.proofs.Frames.AloneFrameLaws.{StandsAlone, stands_first, stands_next}
+use Rattle.domain_world.proofs.Frames.AloneStepLaws.{act_alone as hear_and_act, alone_by as step_by, fresh_by}
 use Rattle.domain_world.proofs.Frames.EndFrameLaws.{EndFact, KeepsCalmEnds, ends_through}
 use Rattle.domain_world.proofs.Frames.EndNoteLaws.{judged_so, noted_by}
 use Rattle.domain_world.proofs.Frames.EventLaws.{calm_no_bytes}
-use Rattle.domain_world.proofs.Frames.MoveFrameLaws.{placed_next}
 use Rattle.domain_world.proofs.Frames.NoBytesLaws.{IsNoBytes, KeepsComputers, does_nothing_else}
-use Rattle.domain_world.proofs.Frames.PlacedLaws.{IsPlaced}
 use Rattle.domain_world.proofs.Judgements.OpeningRunLaws.{each_fresh}
 use Rattle.domain_world.proofs.Judgements.ChainLaws.{AreChained, IsBy, left_behind, left_of}
 use Rattle.domain_world.proofs.Judgements.SessionStepLaws.{RunningChains, RunsWith, kept_sessions, step_chains}
@@ -334,19 +334,20 @@ module _ (at : ℕ) (starts : List ControllerRenewed) (judgings : List Judging) 
   anew_early early k =
       (omega arith, all_weaker (λ (one : ControllerRenewed). one.moves ≤ at) (λ (one : ControllerRenewed). one.moves ≤ at + 1) starts (λ one is. omega (arith, is)) early)
 
-  controller_anew : (found : Option ControllerState) (k : ℕ) (ends : EndStates) → slice_get ends.controllers k ≡ found → Stand starts at judgings ends.controllers →
-      Stand (renewal k ∷ starts) (at + 1) judgings (renew_controller found k ends).controllers
-  controller_anew None k ends is stands = record {
+  controller_anew : (hands_on : Bool) (found : Option ControllerState) (k : ℕ) (ends : EndStates) → slice_get ends.controllers k ≡ found → Stand starts at judgings ends.controllers →
+      Stand (renewal k ∷ starts) (at + 1) judgings (renew_controller hands_on found k ends).controllers
+  controller_anew hands_on None k ends is stands = record {
     judged = judged_later (renewal k) judgings refl stands.made stands.judged;
     each = λ n c there.
         other_kept k n c.running (ne_eqb k n (λ same. no_some c (sym is ∙ ap (λ (m : ℕ). slice_get ends.controllers m) same ∙ there))) (stands.each n c there);
     made = (later_stands starts at judgings ends.controllers stands).made;
     early = anew_early stands.early k;
   }
-  controller_anew (Some c) k ends is stands = record {
+  controller_anew hands_on (Some c) k ends is stands = record {
     judged = judged_later (renewal k) judgings refl stands.made stands.judged;
-    each = each_put (λ (n : ℕ) (x : ControllerState). RunsWith (sessions_since n (last_start n (renewal k ∷ starts)) judgings) x.running) ends.controllers k (first_state c.table c.name)
-        (λ n x differs there. other_kept k n x.running (ne_eqb k n (λ same. differs (sym same))) (stands.each n x there)) (own_fresh k stands.made);
+    each = each_put (λ (n : ℕ) (x : ControllerState). RunsWith (sessions_since n (last_start n (renewal k ∷ starts)) judgings) x.running) ends.controllers k
+        (fresh_controller hands_on c.table c.name) (λ n x differs there. other_kept k n x.running (ne_eqb k n (λ same. differs (sym same))) (stands.each n x there))
+        (fresh_by (λ (x : ControllerState). RunsWith (sessions_since k (last_start k (renewal k ∷ starts)) judgings) x.running) c.table c.name (own_fresh k stands.made) (own_fresh k stands.made) hands_on);
     made = (later_stands starts at judgings ends.controllers stands).made;
     early = anew_early stands.early k;
   }
@@ -361,7 +362,7 @@ module _ (at : ℕ) (starts : List ControllerRenewed) (judgings : List Judging) 
 
   end_anew : (end : EndId) (s : State) → Stand starts at judgings s.ends.controllers →
       Stand (renewal_by (Some end) (at + 1) ++ starts) (at + 1) judgings (renewed end (forget end s)).ends.controllers
-  end_anew (Controller k) s stands = controller_anew (slice_get s.ends.controllers k) k s.ends refl stands
+  end_anew (Controller k) s stands = controller_anew s.hands_on (slice_get s.ends.controllers k) k s.ends refl stands
   end_anew (Member k) s stands =
       subst (λ (controllers : List ControllerState). Stand starts (at + 1) judgings controllers) (sym (member_anew (slice_get s.member_plans k) k s.ends))
       (later_stands starts at judgings s.ends.controllers stands)
@@ -396,22 +397,22 @@ restarts (move.Tick more) at s b end is = absurd (no_some end is)
 
 -- ---- a run
 
-one_move : (end : Option EndId) (what : Move) (w : World) (b : Book) (starts : List ControllerRenewed) → restarted what w.state ≡ end → IsPlaced w.state →
+one_move : (end : Option EndId) (what : Move) (w : World) (b : Book) (starts : List ControllerRenewed) → restarted what w.state ≡ end → StandsAlone w.state →
     Stand starts w.moves b.judged w.state.ends.controllers →
     Stand (renewal_by end (w.moves + 1) ++ starts) (w.moves + 1) (note w what b).judged (happens w what).state.ends.controllers
-one_move None what w b starts is placed stands = ends_through (Stands starts) (stands_on starts) what w b is placed (λ on. stands) None
-one_move (Some end) what w b starts is placed stands =
+one_move None what w b starts is alone stands = ends_through (Stands starts) (stands_on starts) what w b is alone (λ on. stands) None
+one_move (Some end) what w b starts is alone stands =
     let so : IsRestart what w.moves w.state b end = restarts what w.moves w.state b end is in
     subst (λ (s : State). Stand (renewal_by (Some end) (w.moves + 1) ++ starts) (w.moves + 1) (note_coming what w.moves w.state b).judged s.ends.controllers) (sym so.acts)
     (subst (λ (x : Book). Stand (renewal_by (Some end) (w.moves + 1) ++ starts) (w.moves + 1) x.judged (renewed end (forget end w.state)).ends.controllers) (sym so.notes)
     (end_anew w.moves starts b.judged end w.state stands))
 
-all_moves : (moves : List Move) (w : World) (b : Book) (starts : List ControllerRenewed) → IsPlaced w.state → Stand starts w.moves b.judged w.state.ends.controllers →
+all_moves : (moves : List Move) (w : World) (b : Book) (starts : List ControllerRenewed) → StandsAlone w.state → Stand starts w.moves b.judged w.state.ends.controllers →
     Stand (renewals moves w starts) (run moves w).moves (book moves w b).judged (run moves w).state.ends.controllers
-all_moves [] w b starts placed stands = stands
-all_moves (what ∷ moves) w b starts placed stands =
-    all_moves moves (happens w what) (note w what b) (renewal_by (restarted what w.state) (w.moves + 1) ++ starts) (placed_next what w b placed)
-    (one_move (restarted what w.state) what w b starts refl placed stands)
+all_moves [] w b starts alone stands = stands
+all_moves (what ∷ moves) w b starts alone stands =
+    all_moves moves (happens w what) (note w what b) (renewal_by (restarted what w.state) (w.moves + 1) ++ starts) (stands_next what w b alone)
+    (one_move (restarted what w.state) what w b starts refl alone stands)
 
 -- in every run sessions follow the calls
 pub record SessionsStand (plan : Plan) (moves : List Move) : Type 0 where
@@ -419,12 +420,12 @@ pub record SessionsStand (plan : Plan) (moves : List Move) : Type 0 where
   pub each : (k : ℕ) (c : ControllerState) → slice_get (past plan moves).world.state.ends.controllers k ≡ Some c →
       RunsWith (sessions_since k (last_start k (renewals moves (first_world plan) [])) (past plan moves).book.judged) c.running
 
-pub sessions_stand : (plan : Plan) (moves : List Move) → SessionsStand plan moves
-sessions_stand plan moves =
+pub sessions_stand : (plan : Plan) (moves : List Move) → HandsNothingOn plan → SessionsStand plan moves
+sessions_stand plan moves nobody =
     let stands : Stand (renewals moves (first_world plan) []) (past plan moves).world.moves (past plan moves).book.judged (past plan moves).world.state.ends.controllers =
-    all_moves moves (first_world plan) blank [] (record { made = tt; kinds = λ k unit there. absurd (got_nothing k unit there) }) (record {
+    all_moves moves (first_world plan) blank [] (stands_first plan nobody) (record {
       judged = tt;
-      each = λ k c there. each_fresh (λ (x : ControllerState). RunsWith [] x.running) (λ table name. refl) plan.tables plan.controllers k c there;
+      each = λ k c there. each_fresh (λ (x : ControllerState). RunsWith [] x.running) (λ table name. refl) (λ table name. refl) plan.hands_on plan.tables plan.controllers k c there;
       made = tt;
       early = tt;
     }) in

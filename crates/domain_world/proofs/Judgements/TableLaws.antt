@@ -13,6 +13,7 @@ use Rattle.world_moves.specs.declared.moves.Move.{Move}
 use Rattle.world_moves.specs.declared.plan.Plan.{Plan}
 use Rattle.world_moves.specs.declared.state.State.{State}
 use Rattle.world_moves.specs.World.{first_world}
+use Rattle.world_moves.specs.Alone.{HandsNothingOn}
 use Rattle.domain_world.specs.Claims.Tables.{AreByEarlier, IsLeft, TablesFollowVerdicts, accounts_after, accounts_if, left_by, left_if, left_on}
 use Rattle.domain_world.specs.Past.{Coming, answers_of, at_controller, first_of, judged_of, later_of, note_controller, numbers_on, onto, past, with_reply}
 use Rattle.step_notes.proofs.Controllers.JudgedStepLaws.{on_next}
@@ -172,12 +173,12 @@ one_table one other is = cc
 first_stands : (plan : Plan) → Stand plan [] (first_world plan).state.ends.controllers
 first_stands plan = record {
   judged = tt;
-  each = λ at c there planned is. one_table c.table planned (sym (first_planned plan.tables plan.controllers at c there).0 ∙ is);
+  each = λ at c there planned is. one_table c.table planned (sym (first_planned plan.hands_on plan.tables plan.controllers at c there).0 ∙ is);
 }
 
 -- in every run accounts change by verdicts alone
-pub tables_follow : (plan : Plan) (moves : List Move) → TablesFollowVerdicts (past plan moves)
-tables_follow plan moves =
+pub tables_follow : (plan : Plan) (moves : List Move) → HandsNothingOn plan → TablesFollowVerdicts (past plan moves)
+tables_follow plan moves nobody =
     let stands : Stand plan (past plan moves).book.judged (past plan moves).world.state.ends.controllers =
-    run_stays judgings_of (AmongControllers judgings_of (Stands plan) (stand_on plan)) (controllers_written judgings_of (Stands plan) (stand_on plan)) plan moves (first_stands plan) in
+    run_stays judgings_of (AmongControllers judgings_of (Stands plan) (stand_on plan)) (controllers_written judgings_of (Stands plan) (stand_on plan)) plan moves nobody (first_stands plan) in
     record { judged = stands.judged; stands = stands.each }

@@ -22,13 +22,14 @@ use Rattle.world_moves.specs.declared.links.EndId.TheVariants.{Controller, Membe
 use Rattle.world_moves.specs.declared.moves.Move.{Move}
 use Rattle.world_moves.specs.declared.plan.Plan.{Plan}
 use Rattle.world_moves.specs.declared.state.State.{State}
-use Rattle.world_moves.specs.Acting.{Given, given_by, hear_and_act}
+use Rattle.world_moves.specs.Acting.{Given, given_by}
 use Rattle.world_moves.specs.Ends.{EndStep, actions_by, client_step, member_step}
 use Rattle.world_moves.specs.Links.{acceptor_of}
 use Rattle.world_moves.specs.Moving.{begun, with_link, changed}
 use Rattle.domain_world.specs.Claims.{AreRightlyTold, AreTheirJudgements, PassesTheNextCredential, judgements_of_calls}
 use Rattle.domain_world.specs.Past.{Coming, answers_of, at_controller, first_of, judged_of, judgement_by, judgements_in, later_of, note_at, note_client, note_controller, note_member, note_messages, numbers_on, onto, past, with_reply}
 use Rattle.step_notes.proofs.Controllers.JudgedStepLaws.{Told, how_is, told_call}
+use Rattle.domain_world.proofs.Frames.AloneStepLaws.{act_alone as hear_and_act, alone_by as end_by}
 use Rattle.domain_world.proofs.Judgements.JudgedLaws.{AreRight, judged_rightly}
 use Rattle.domain_world.proofs.Frames.TurnFrameLaws.{asked_leave}
 use Rattle.domain_world.proofs.Frames.EndFrameLaws.{EndFact, KeepsEnds, ends_after}
@@ -42,8 +43,8 @@ use Rattle.domain_world.proofs.Frames.EventLaws.{calm_no_bytes}
 use Rattle.outside.specs.declared.action.Action.TheVariants as action
 use Rattle.outside.specs.declared.action.Judged.TheVariants as judged
 use Rattle.outside.specs.declared.event.Event.TheVariants as event
-use Rattle.world_moves.specs.Acting as acting
-use Rattle.world_moves.proofs.EndKindLaws.{is_controller, step_by as end_by}
+use Rattle.world_moves.specs.Alone.{HandsNothingOn, hear_alone}
+use Rattle.world_moves.proofs.EndKindLaws.{is_controller}
 
 -- ---- what is told of calls
 
@@ -161,7 +162,7 @@ others_quiet (Member member) other (what ∷ actions) at = others_quiet (Member 
 others_quiet (Client client) other [] at = refl
 others_quiet (Client client) other (what ∷ actions) at = others_quiet (Client client) other actions at
 
-end_quiet : (end : EndId) (what : Event) (s : State) (at : ℕ) → IsNoBytes what → judgements_in (given_by end (acting.hear end what s).actions) at ≡ []
+end_quiet : (end : EndId) (what : Event) (s : State) (at : ℕ) → IsNoBytes what → judgements_in (given_by end (hear_alone end what s).actions) at ≡ []
 end_quiet end what s at none =
     end_by (λ (one : EndId) (step : EndStep). judgements_in (given_by one step.actions) at ≡ []) what s.moment s.ends s.chances (λ one. refl)
     (λ k c is. controller_quiet c what k at s.moment s.chances.left none)
@@ -223,7 +224,7 @@ controller_told c controller w piece s after given b told =
     refl
 
 end_told : (end : EndId) (w : Coming) (piece : List ℕ) (s after : State) (given : Given) (b : Book) → AreTold w.at given b →
-    AreTold w.at (given ++ given_by end (acting.hear end (event.Bytes w.link piece) s).actions) (note_at (Some end) w piece s after b)
+    AreTold w.at (given ++ given_by end (hear_alone end (event.Bytes w.link piece) s).actions) (note_at (Some end) w piece s after b)
 end_told end w piece s after given b told =
     let what : Event = event.Bytes w.link piece in
     noted_by (λ (one : EndId) (step : EndStep) (now : Book). AreTold w.at (given ++ given_by one step.actions) now) w piece s after b
@@ -244,13 +245,13 @@ ToldSoFar at on ends given b = AreTold at given b
 
 told_keeps : KeepsEnds ToldSoFar
 told_keeps = record {
-  calm = λ at on end what s given b none told. none_told at given (given_by end (acting.hear end what s).actions) b b told (end_quiet end what s at (calm_no_bytes what none)) refl refl;
+  calm = λ at on end what s given b none told. none_told at given (given_by end (hear_alone end what s).actions) b b told (end_quiet end what s at (calm_no_bytes what none)) refl refl;
   dialled = λ at end link s given b side told.
-      none_told at given (given_by end (acting.hear end (event.Dialled link) s).actions) b b told (end_quiet end (event.Dialled link) s at tt) refl refl;
+      none_told at given (given_by end (hear_alone end (event.Dialled link) s).actions) b b told (end_quiet end (event.Dialled link) s at tt) refl refl;
   opens = λ at route s given b told.
       let end : EndId = acceptor_of route in
       let what : Event = event.Opened (length s.links) in
-      none_told at given (given_by end (acting.hear end what (with_link route s)).actions) b b told (end_quiet end what (with_link route s) at tt) refl refl;
+      none_told at given (given_by end (hear_alone end what (with_link route s)).actions) b b told (end_quiet end what (with_link route s) at tt) refl refl;
   begins = λ at client plan s b is told.
       none_told at [] (given_by (Client client) (begun client plan s).actions) b b told (others_quiet (Client client) refl (begun client plan s).actions at) refl refl;
   comes = λ end w piece s given b side came told. end_told end w piece s (hear_and_act end (event.Bytes w.link piece) s).state given b told;
@@ -260,8 +261,8 @@ told_keeps = record {
   over = λ at on next s given b told. told;
 }
 
-pub judgements_told : (plan : Plan) (moves : List Move) → tellings (past plan moves).book.judged ≡ (past plan moves).book.judgements
-judgements_told plan moves = ends_after ToldSoFar told_keeps plan moves (λ on. refl)
+pub judgements_told : (plan : Plan) (moves : List Move) → HandsNothingOn plan → tellings (past plan moves).book.judged ≡ (past plan moves).book.judgements
+judgements_told plan moves nobody = ends_after ToldSoFar told_keeps plan moves nobody (λ on. refl)
 
 -- ---- each is right
 
@@ -303,7 +304,7 @@ all_rightly [] right = tt
 all_rightly (j ∷ judgings) right = one_rightly j.how j (tellings judgings) judgings refl right.0 (all_rightly judgings right.1)
 
 -- in every run a controller passes an authenticator exactly where it is the next one
-pub passes_the_next : (plan : Plan) (moves : List Move) → PassesTheNextCredential (past plan moves)
-passes_the_next plan moves =
-    subst (λ told. AreRightlyTold told (past plan moves).book.judged) (judgements_told plan moves)
+pub passes_the_next : (plan : Plan) (moves : List Move) → HandsNothingOn plan → PassesTheNextCredential (past plan moves)
+passes_the_next plan moves nobody =
+    subst (λ told. AreRightlyTold told (past plan moves).book.judged) (judgements_told plan moves nobody)
     (all_rightly (past plan moves).book.judged (judged_rightly plan moves))

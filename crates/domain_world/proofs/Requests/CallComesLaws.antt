@@ -38,7 +38,8 @@ use Rattle.world_moves.specs.declared.links.Route.{Route}
 use Rattle.world_moves.specs.declared.links.Route.TheVariants.{ToController}
 use Rattle.world_moves.specs.declared.state.State.{State}
 use Rattle.world_moves.specs.Acting.{heard_by, perform_all, unit_on}
-use Rattle.world_moves.specs.Ends.{EndStep, actions_by, controller_step, member_step}
+use Rattle.world_moves.specs.Ends.{EndStep, actions_by, member_step}
+use Rattle.world_moves.specs.Alone.{alone_controller_step as controller_step}
 use Rattle.domain_world.specs.Accepting.Answered.{IsItsWay}
 use Rattle.domain_world.specs.Past.{Coming, answers_of, at_controller, at_member, first_of, marks_of, note_controller, note_messages, numbers_on, sent_at, controller_asked}
 use Rattle.domain_world.proofs.Accepting.LetInStepLaws.{IsAcceptedBy, IsDialledBy}

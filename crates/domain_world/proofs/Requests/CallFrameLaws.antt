@@ -34,18 +34,21 @@ use Rattle.world_moves.specs.declared.links.Route.TheVariants.{ToController}
 use Rattle.world_moves.specs.declared.moves.Move.{Move}
 use Rattle.world_moves.specs.declared.plan.Plan.{Plan}
 use Rattle.world_moves.specs.declared.state.State.{State}
-use Rattle.world_moves.specs.Acting.{Given, hear, hear_and_act, plans_after}
+use Rattle.world_moves.specs.Acting.{Given, plans_after}
 use Rattle.world_moves.specs.Draws.{DrawsDiffer}
-use Rattle.world_moves.specs.Ends.{EndStates, EndStep, controller_step, member_step}
+use Rattle.world_moves.specs.Ends.{EndStates, EndStep, member_step}
 use Rattle.world_moves.specs.Forms.{IsSchedule}
 use Rattle.world_moves.specs.Links.{acceptor_of, kind_of}
-use Rattle.world_moves.specs.Moving.{begun, renewed, with_link, changed}
+use Rattle.world_moves.specs.Moving.{begun, with_link, changed}
 use Rattle.world_moves.specs.World.{first_world}
-use Rattle.world_moves.proofs.EndKindLaws.{IfMember, renew_by, step_by}
+use Rattle.world_moves.specs.Alone.{HandsNothingOn, alone_controller_step as controller_step, hear_alone as hear}
+use Rattle.world_moves.proofs.EndKindLaws.{IfMember}
 use Rattle.domain_world.specs.Accepting.Carried.{IsWholeUnit}
 use Rattle.domain_world.specs.Accepting.Runs.{AskedIsOut, BagIsWhole, IsOut, IsQuiet, IsQuietTurn, RunsStandSo, Shows}
 use Rattle.domain_world.specs.Past.{Coming, Past, note_at, note_given, note_member, past, sent_at, controller_asked}
 use Rattle.domain_world.specs.Schedules.{OfSchedules}
+use Rattle.domain_world.proofs.Frames.OpenMadeLaws.{on_side}
+use Rattle.domain_world.proofs.Frames.AloneStepLaws.{act_alone as hear_and_act, alone_by as step_by, renew_alone_by as renew_by, renewed_alone as renewed}
 use Rattle.domain_world.proofs.Accepting.LetInStepLaws.{IsDialledBy, Meets, MeetsMember, calm_meets, last_accepted, side_meets}
 use Rattle.domain_world.proofs.Accepting.Quiet.QuietRunLaws.{one_piece, has_bytes, is_quiet, quiet_first, quiet_keeps}
 use Rattle.domain_world.proofs.Accepting.Quiet.QuietStepLaws.{QuietAction, QuietFact}
@@ -202,7 +205,7 @@ calls_keep = record {
     fine = any_fine end s.links (hear end what s).actions;
   };
   dialled = λ n end link s given b side quiet kept. record {
-    holds = hears_so n end (event.Dialled link) s b (side_meets end s.links link side) kept;
+    holds = hears_so n end (event.Dialled link) s b (side_meets end s.links link (on_side s.links link true end side)) kept;
     fine = any_fine end s.links (hear end (event.Dialled link) s).actions;
   };
   opens = λ n route s given b quiet kept. record {
@@ -299,13 +302,13 @@ calls_stand plan moves steps kept few schedule differ =
 
 -- so a schedule whose draws differ stands as it is to, where any fact is kept by which its ends are quiet
 pub stand_so : (Quiet : RunFact) (Fine : ActionFact) → ((n : ℕ) (s : State) (given : Given) (b : Book) → Quiet n s given b → IsQuiet s) → Keeps NoFact Quiet Fine →
-    (plan : Plan) (moves : List Move) → Quiet 0 (first_world plan).state [] blank → HasBytes plan moves → IsSchedule plan moves →
+    (plan : Plan) (moves : List Move) → HandsNothingOn plan → Quiet 0 (first_world plan).state [] blank → HasBytes plan moves → IsSchedule plan moves →
     DrawsDiffer (past plan moves).world → RunsStandSo plan moves
-stand_so Quiet Fine so keeps plan moves first bytes schedule differ =
+stand_so Quiet Fine so keeps plan moves nobody first bytes schedule differ =
     let both : Keeps NoFact (BothFacts Quiet CallsKept) (BothFine Fine AnyAction) =
     join Quiet CallsKept Fine AnyAction keeps (with_side QuietSide Quiet CallsKept AnyAction so calls_keep) in
     let after : HoldsAfterRun (BothFacts Quiet CallsKept) plan moves =
-    run_keeps (BothFacts Quiet CallsKept) (BothFine Fine AnyAction) both plan moves bytes (first, first_calls plan) in
+    run_keeps (BothFacts Quiet CallsKept) (BothFine Fine AnyAction) both plan moves nobody bytes (first, first_calls plan) in
     let stand : CallsStand plan moves = calls_stand plan moves after.steps after.holds.1 after.few schedule differ in
     record {
       quiet = so after.steps (past plan moves).world.state [] (past plan moves).book after.holds.0;
@@ -317,15 +320,15 @@ stand_so Quiet Fine so keeps plan moves first bytes schedule differ =
 
 -- so it is of each schedule
 pub schedules_stand : OfSchedules (λ plan moves. DrawsDiffer (past plan moves).world → RunsStandSo plan moves)
-schedules_stand plan moves schedule differ =
-    stand_so QuietFact QuietAction (λ n s given b quiet. is_quiet s quiet) quiet_keeps plan moves (quiet_first plan schedule.start schedule.forms) (has_bytes plan moves schedule)
+schedules_stand plan moves nobody schedule differ =
+    stand_so QuietFact QuietAction (λ n s given b quiet. is_quiet s quiet) quiet_keeps plan moves nobody (quiet_first plan schedule.start schedule.forms) (has_bytes plan moves nobody schedule)
     schedule differ
 
 -- and where the answer of a message was taken, there is a call on its link
 pub schedules_called : OfSchedules (λ plan moves. AreCalled (past plan moves).book.messages)
-schedules_called plan moves schedule =
+schedules_called plan moves nobody schedule =
     let both : Keeps NoFact (BothFacts QuietFact CallsKept) (BothFine QuietAction AnyAction) =
     join QuietFact CallsKept QuietAction AnyAction quiet_keeps (with_side QuietSide QuietFact CallsKept AnyAction (λ n s given b quiet. is_quiet s quiet) calls_keep) in
     let after : HoldsAfterRun (BothFacts QuietFact CallsKept) plan moves =
-    run_keeps (BothFacts QuietFact CallsKept) (BothFine QuietAction AnyAction) both plan moves (has_bytes plan moves schedule) (quiet_first plan schedule.start schedule.forms, first_calls plan) in
+    run_keeps (BothFacts QuietFact CallsKept) (BothFine QuietAction AnyAction) both plan moves nobody (has_bytes plan moves nobody schedule) (quiet_first plan schedule.start schedule.forms, first_calls plan) in
     (after.holds.1 (omega (arith, after.few, schedule.few)) (draws_differ plan moves)).answered

@@ -22,7 +22,8 @@ use Rattle.step_notes.proofs.Members.CallKeptLaws.{fresh_asks, change_asks}
 use Rattle.step_notes.proofs.Members.KeptLogonLaws.{Dials}
 use Rattle.step_notes.proofs.Members.UnservedLaws.{Opens}
 use Rattle.world_moves.specs.declared.links.Route.{Route}
-use Rattle.world_moves.specs.Ends.{EndStates, client_step, controller_step, member_step, with_client, with_member}
+use Rattle.world_moves.specs.Ends.{EndStates, client_step, member_step, with_client, with_member}
+use Rattle.world_moves.specs.Alone.{alone_controller_step as controller_step}
 use Rattle.domain_world.specs.Past.{controller_of_plan}
 use Rattle.domain_world.proofs.Accepting.LetInStepLaws.{IsAcceptedBy, IsDialledBy}
 use Rattle.domain_world.proofs.Requests.CallHoldsLaws.{CallsHold, differ_front, ends_other, marks_in, member_changed, more_steps, requests_at, views_at}

@@ -18,6 +18,7 @@ use Rattle.world_moves.specs.declared.plan.Plan.{Plan}
 use Rattle.world_moves.specs.declared.state.State.{State}
 use Rattle.world_moves.specs.Acting.{Given}
 use Rattle.world_moves.specs.World.{first_world}
+use Rattle.world_moves.specs.Alone.{HandsNothingOn}
 use Rattle.domain_world.specs.Accepting.Carried.{IsCalledFor, MessagesAreCalled}
 use Rattle.domain_world.specs.Claims.{info_asked}
 use Rattle.domain_world.specs.Past.{past}
@@ -77,12 +78,12 @@ all_own (message ∷ messages) apart = (
 
 -- in every run
 pub messages_called : (Holds : RunFact) (Fine : ActionFact) → Keeps NoFact Holds Fine → ((n : ℕ) (s : State) (given : Given) (b : Book) → Holds n s given b → CallSide s) →
-    (plan : Plan) (moves : List Move) → HasBytes plan moves → Holds 0 (first_world plan).state [] blank → MessagesAreCalled (past plan moves)
-messages_called Holds Fine keeps gives plan moves has holds =
+    (plan : Plan) (moves : List Move) → HandsNothingOn plan → HasBytes plan moves → Holds 0 (first_world plan).state [] blank → MessagesAreCalled (past plan moves)
+messages_called Holds Fine keeps gives plan moves nobody has holds =
     let messages : List MessageTaken = (past plan moves).book.messages in
     let bag : List BagUnit = (past plan moves).world.state.bag in
     let called : CalledIn bag (past plan moves).book =
-    run_fits Holds Fine keeps messages_in EachKept kept_written CalledIn (called_keep Holds gives) plan moves has holds (all_fresh [] plan.members) tt in
+    run_fits Holds Fine keeps messages_in EachKept kept_written CalledIn (called_keep Holds gives) plan moves nobody has holds (all_fresh [] plan.members) tt in
     all_zip (IsGood (IsCallAt bag messages)) (AsksOwn messages) (λ (message : MessageTaken). (n : ℕ) → message.call ≡ Some n → IsCalledFor (past plan moves) message n) messages
     (λ message good own n is.
     let at : IsCallAt bag messages message.link n = good n is in
@@ -116,5 +117,5 @@ quiet_side s quiet = record {
 
 -- so it is in each schedule
 pub schedules_call : OfSchedules (λ plan moves. MessagesAreCalled (past plan moves))
-schedules_call plan moves schedule =
-    messages_called QuietFact QuietAction quiet_keeps (λ n s given b quiet. quiet_side s quiet) plan moves (has_bytes plan moves schedule) (quiet_first plan schedule.start schedule.forms)
+schedules_call plan moves nobody schedule =
+    messages_called QuietFact QuietAction quiet_keeps (λ n s given b quiet. quiet_side s quiet) plan moves nobody (has_bytes plan moves nobody schedule) (quiet_first plan schedule.start schedule.forms)

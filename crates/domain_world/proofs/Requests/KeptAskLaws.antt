@@ -14,8 +14,7 @@ use Rattle.world_moves.specs.declared.plan.Plan.{Plan}
 use Rattle.domain_world.specs.Claims.AskedFor.{MembersAskForKept}
 use Rattle.domain_world.specs.Past.{past}
 use Rattle.step_notes.proofs.Members.CallKeptLaws.{change_asks, fresh_asks, step_asks}
-use Rattle.domain_world.proofs.Frames.FrameLaws.{run_stays}
-use Rattle.domain_world.proofs.Frames.MemberFrameLaws.{AmongMembers, KeepsMembers, MembersFact, members_written}
+use Rattle.domain_world.proofs.Frames.MemberFrameLaws.{KeepsMembers, MembersFact, members_after}
 use Rattle.world_moves.proofs.ChangeLaws.{member_begun}
 
 -- ---- a run
@@ -64,4 +63,4 @@ ask_on = record {
 
 -- in every run each member asks for what it keeps
 pub members_ask : (plan : Plan) (moves : List Move) → MembersAskForKept (past plan moves)
-members_ask plan moves = run_stays no_part (AmongMembers no_part Ask ask_on) (members_written no_part Ask ask_on) plan moves (fresh_ask plan.members)
+members_ask plan moves = members_after no_part Ask ask_on plan moves (fresh_ask plan.members)

@@ -35,6 +35,7 @@ use Rattle.world_moves.specs.declared.bag.BagUnit.{BagUnit}
 use Rattle.world_moves.specs.declared.moves.Move.{Move}
 use Rattle.world_moves.specs.declared.plan.Plan.{Plan}
 use Rattle.world_moves.specs.declared.state.State.{State}
+use Rattle.world_moves.specs.Alone.{HandsNothingOn}
 use Rattle.domain_world.specs.Accepting.Answered.{IsItsWay, MarksHaveTheirWay}
 use Rattle.domain_world.specs.Past.{at_controller, is_sent_on, marks_by, marks_of, past, controller_asked}
 use Rattle.channel_events.proofs.ListLaws.{got_nothing, some_is}
@@ -200,8 +201,8 @@ ways_stay = record {
 }
 
 -- in every run
-pub marks_have_their_way : (plan : Plan) (moves : List Move) → MarksHaveTheirWay (past plan moves)
-marks_have_their_way plan moves number unit one there marked =
+pub marks_have_their_way : (plan : Plan) (moves : List Move) → HandsNothingOn plan → MarksHaveTheirWay (past plan moves)
+marks_have_their_way plan moves nobody number unit one there marked =
     let is : IsOfUnit OfUnit tt (past plan moves).world.state.bag number one.mark =
-    run_stays_marked (λ (b : Book). tt) NothingElse OfUnit nothing_else ways_stay plan moves tt number one marked in
+    run_stays_marked (λ (b : Book). tt) NothingElse OfUnit nothing_else ways_stay plan moves nobody tt number one marked in
     subst (λ (u : BagUnit). IsItsWay u.back one.mark) (some_is is.unit unit (sym is.there ∙ there)) is.holds

@@ -14,15 +14,19 @@ use Rattle.world_moves.specs.declared.links.EndId.TheVariants.{Client, Member}
 use Rattle.world_moves.specs.declared.moves.Move.{Move}
 use Rattle.world_moves.specs.declared.state.State.{State}
 use Rattle.world_moves.specs.declared.state.WaitingDial.{WaitingDial}
-use Rattle.world_moves.specs.Acting.{Given, Heard, forget, given_by, hear, hear_and_act, perform_quietly}
+use Rattle.world_moves.specs.Acting.{Given, Heard, forget, given_by, perform_quietly}
 use Rattle.world_moves.specs.Ends.{EndStates}
 use Rattle.world_moves.specs.Links.{acceptor_of}
-use Rattle.world_moves.specs.Moving.{begun, changed, renewed, with_link, without_first}
+use Rattle.world_moves.specs.Moving.{begun, changed, with_link, without_first}
 use Rattle.world_moves.specs.World.{first_world}
 use Rattle.domain_world.specs.Past.{turns_in, past}
+use Rattle.domain_world.proofs.Frames.AloneStepLaws.{act_alone as hear_and_act, renewed_alone as renewed}
 use Rattle.domain_world.proofs.Frames.EndNoteLaws.{bytes_turns}
-use Rattle.domain_world.proofs.Frames.MoveFrameLaws.{HoldsAfterMoves, KeepsMoves, MoveFact, NoSide, moves_keep}
+use Rattle.domain_world.proofs.Frames.AloneFrameLaws.{moves_keep_alone}
+use Rattle.domain_world.proofs.Frames.MoveFrameLaws.{HoldsAfterMoves}
+use Rattle.domain_world.proofs.Frames.MoveKeepLaws.{KeepsMoves, MoveFact, NoSide}
 use Rattle.world_moves.specs.declared.plan.Plan.{Plan}
+use Rattle.world_moves.specs.Alone.{HandsNothingOn, hear_alone as hear}
 
 -- What is to hold: of whose dial is answered, and of what was given and isn't done yet; of the members' plans, the
 -- ends, the dials and the draws; and of what was given in this move, and the turns that are written down.
@@ -71,7 +75,7 @@ module _ (Holds : DialFact) (keeps : KeepsDials Holds) where
   pub dials_keep : (Known : Type 0) → KeepsMoves Known NoSide OfDials
   dials_keep Known = record {
     closes = λ n p end link s given b work none holds. keeps.closes p.dial p.rest end link s given b.turns holds;
-    opens = λ n at dial route s given b none holds. keeps.opens dial (acceptor_of route) (length s.links) (with_link route s) given b.turns holds;
+    opens = λ n at dial route s given b out none holds. keeps.opens dial (acceptor_of route) (length s.links) (with_link route s) given b.turns holds;
     dialled = λ n at end link s given b side none holds. keeps.dialled end link s given b.turns holds;
     fails = λ n at end s b none holds. keeps.fails end s [] b.turns holds;
     begins = λ n at client plan s b is none holds. keeps.begins client plan s b.turns holds;
@@ -91,6 +95,6 @@ module _ (Holds : DialFact) (keeps : KeepsDials Holds) where
     over = λ n at on next s given b none holds. keeps.over s given b.turns holds;
   }
 
-  pub dials_after : (plan : Plan) (moves : List Move) → AtState Holds None [] (first_world plan).state [] [] → AtState Holds None [] (past plan moves).world.state [] (past plan moves).book.turns
-  dials_after plan moves holds =
-      let after : HoldsAfterMoves ⊥ OfDials plan moves = moves_keep ⊥ OfDials (dials_keep ⊥) plan moves (λ none. absurd none) (λ on. holds) in after.holds
+  pub dials_after : (plan : Plan) (moves : List Move) → HandsNothingOn plan → AtState Holds None [] (first_world plan).state [] [] → AtState Holds None [] (past plan moves).world.state [] (past plan moves).book.turns
+  dials_after plan moves nobody holds =
+      let after : HoldsAfterMoves ⊥ OfDials plan moves = moves_keep_alone ⊥ OfDials (dials_keep ⊥) plan moves nobody (λ none. absurd none) (λ on. holds) in after.holds

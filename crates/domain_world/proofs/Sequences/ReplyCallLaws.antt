@@ -20,12 +20,12 @@ use Rattle.domain_world.proofs.Judgements.UnclashedLaws.{passes_unclashed}
 use Rattle.domain_world.proofs.Requests.MarkWayLaws.{marks_have_their_way}
 
 pub replies_answer : OfSchedules (λ plan moves. (past plan moves).book.clash ≡ false → RepliesAnswerCalls (past plan moves))
-replies_answer plan moves schedule clear n unit one channel number request bag there mark =
+replies_answer plan moves nobody schedule clear n unit one channel number request bag there mark =
     let p : Past = past plan moves in
-    let all : UnitsAreHeard p = units_heard plan moves schedule in
-    let replied = subst (λ (m : Mark). IsReplyOfOne p.book.judged n (plain_form p.book.sent n unit) m) mark (replies_carry plan moves n unit one bag there) in
+    let all : UnitsAreHeard p = units_heard plan moves nobody schedule in
+    let replied = subst (λ (m : Mark). IsReplyOfOne p.book.judged n (plain_form p.book.sent n unit) m) mark (replies_carry plan moves nobody n unit one bag there) in
     let found = placed (λ (j : Judging). (j.reply ≡ Some n) × IsReplyOfCall channel number request j (plain_form p.book.sent n unit)) p.book.judged replied in
-    let asked = requested p all.whole (marks_have_their_way plan moves) all.judged (passes_unclashed plan moves) (replies_carry plan moves) all.numbers clear found.place channel found.item request number
+    let asked = requested p all.whole (marks_have_their_way plan moves nobody) all.judged (passes_unclashed plan moves) (replies_carry plan moves nobody) all.numbers clear found.place channel found.item request number
     (plain_form p.book.sent n unit) found.there found.is.1 in
     record {
       sent = asked.sent;

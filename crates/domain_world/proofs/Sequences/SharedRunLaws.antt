@@ -10,5 +10,5 @@ use Rattle.domain_world.proofs.Sequences.SharedLaws.{sequences_follow}
 use Rattle.domain_world.proofs.Sequences.StampLaws.{calls_stamped}
 
 pub sequences_shared : OfSchedules (λ plan moves. IsClear (past plan moves).book → SequencesAreShared (past plan moves))
-sequences_shared plan moves schedule clear =
-    sequences_follow plan moves (units_heard plan moves schedule) (calls_stamped plan moves schedule) (turns_are_called plan moves schedule clear) clear
+sequences_shared plan moves nobody schedule clear =
+    sequences_follow plan moves nobody (units_heard plan moves nobody schedule) (calls_stamped plan moves nobody schedule) (turns_are_called plan moves nobody schedule clear) clear

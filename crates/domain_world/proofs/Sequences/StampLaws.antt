@@ -19,9 +19,9 @@ use Rattle.domain_world.proofs.Frames.BagFrameLaws.{IsOfUnit}
 use Rattle.domain_world.proofs.Frames.PlainFormLaws.{plain_heard}
 
 pub calls_stamped : OfSchedules (λ plan moves. CallsAreStamped (past plan moves))
-calls_stamped plan moves is n unit one channel number timestamp asked there noted mark whole carried =
+calls_stamped plan moves nobody is n unit one channel number timestamp asked there noted mark whole carried =
     let bag : List BagUnit = (past plan moves).world.state.bag in
-    let had : IsOfUnit OfMark tt bag n one.mark = marks_fit plan moves is n one noted in
+    let had : IsOfUnit OfMark tt bag n one.mark = marks_fit plan moves nobody is n one noted in
     let same : had.unit ≡ unit = some_is had.unit unit (sym had.there ∙ there) in
     let fits : FitsMark unit (Calling channel number timestamp) =
     subst (λ (m : Mark). FitsMark unit m) mark (subst (λ (u : BagUnit). FitsMark u one.mark) same had.holds) in

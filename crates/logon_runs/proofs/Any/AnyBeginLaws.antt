@@ -143,6 +143,7 @@ module _ (plan : Plan) (s : State) (rest : AtRest plan s) (client member control
     client = (rest.clients client three.task three.is_task).rests;
     member = (rest.members member work three.is_member_plan).rests;
     controller = desk.rests;
+    alone = refl;
     links = refl;
     opened = rest.opened;
     units = rest.units;

@@ -17,6 +17,7 @@ use Rattle.channel_client.specs.declared.state.SetStep.TheVariants as set_step
 use Rattle.channel_client.specs.declared.state.Standing.TheVariants as standing
 use Rattle.channel_client.specs.declared.state.Step.TheVariants as step
 use Rattle.domain_controller.specs.State.{State as ControllerState}
+use Rattle.domain_controller.specs.Trusting.{no_trusting}
 use Rattle.member_server.specs.Secrets.{is_denied, secrets_dropped}
 use Rattle.logon_steps.proofs.SetTurnLaws.{set_reply_comes}
 use Rattle.logon_steps.specs.SetTurns.{set_reply_bytes}
@@ -63,8 +64,9 @@ lands_failed : (s : State) (v : Scene) (end : EndId) (peer : List ℕ) (dials : 
     route_to end (end_of_peer peer s.ends) ≡ None → AllByRecursion IsNoClose actions →
     hear end event.DialFailed (without_first s) ≡ after_hearing ends v.left actions (without_first s) →
     slice_get ends.clients v.at_client ≡ Some client → slice_get ends.members v.at_member ≡ Some member → slice_get ends.controllers v.at_controller ≡ Some controller →
+    controller.trusting ≡ no_trusting →
     Shows (connect s).state (with_actions end actions v.left (record v { client = client; member = member; controller = controller; dials = dials }))
-lands_failed s v end peer dials ends actions client member controller shows waits reaches none_close heard is_client is_member is_controller =
+lands_failed s v end peer dials ends actions client member controller shows waits reaches none_close heard is_client is_member is_controller alone =
     let s1 : State = without_first s in
     let s2 : State = (after_hearing ends v.left actions s1).state in
     let s3 : State = perform_all_quietly end actions s2 in
@@ -78,6 +80,7 @@ lands_failed s v end peer dials ends actions client member controller shows wait
       client = ap (λ (e : EndStates). slice_get e.clients v.at_client) leaves.ends ∙ is_client;
       member = ap (λ (e : EndStates). slice_get e.members v.at_member) leaves.ends ∙ is_member;
       controller = ap (λ (e : EndStates). slice_get e.controllers v.at_controller) leaves.ends ∙ is_controller;
+      alone = alone;
       links = leaves.links ∙ shows.links;
       opened = leaves.opened ∙ shows.opened;
       units = leaves.units ∙ ap₂ (λ (u : List BagUnit) (l : List Route). u ++ units_sent l end actions) shows.units shows.links;
@@ -95,7 +98,7 @@ client_fails s v peer dials after actions shows waits reaches none_close step =
     (waiting_comes.client (without_first s) v.at_client v.client after event.DialFailed v.left actions shows.client
     (ap₂ (λ (now : ℕ) (l : List (List ℕ)). client_step_of v.client event.DialFailed now l) shows.moment shows.left ∙ step
     ∙ ap (λ (l : List (List ℕ)). whole_step l v.left actions after) (sym shows.left)))
-    (got_same s.ends.clients v.at_client v.client after shows.client) shows.member shows.controller
+    (got_same s.ends.clients v.at_client v.client after shows.client) shows.member shows.controller shows.alone
 
 member_fails : (s : State) (v : Scene) (peer : List ℕ) (dials : List WaitingDial) (after : MemberState) (actions : List Action) → Shows s v →
     v.dials ≡ record { end = Member v.at_member; peer = peer } ∷ dials → route_to (Member v.at_member) (end_of_peer peer s.ends) ≡ None → AllByRecursion IsNoClose actions →
@@ -106,7 +109,7 @@ member_fails s v peer dials after actions shows waits reaches none_close step =
     (waiting_comes.member (without_first s) v.at_member v.member after event.DialFailed v.left actions shows.member
     (ap₂ (λ (now : ℕ) (l : List (List ℕ)). member_step_of v.member event.DialFailed now l) shows.moment shows.left ∙ step
     ∙ ap (λ (l : List (List ℕ)). whole_step l v.left actions after) (sym shows.left)))
-    shows.client (got_same s.ends.members v.at_member v.member after shows.member) shows.controller
+    shows.client (got_same s.ends.members v.at_member v.member after shows.member) shows.controller shows.alone
 
 pub failings_are_seen : FailingsAreSeen
 failings_are_seen = record {

@@ -168,6 +168,7 @@ ann_can = record {
   is_table = refl;
   name = codes "PDC";
   is_name = refl;
+  alone = tt;
   machine = file1;
   machine_found = file1_found;
   kind = refl;

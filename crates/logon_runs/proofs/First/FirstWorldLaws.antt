@@ -29,7 +29,10 @@ use Rattle.member_server.specs.Machine.{fresh_member}
 use Rattle.world_moves.specs.declared.plan.Plan.{Plan}
 use Rattle.world_moves.specs.Choosing.{chosen_place}
 use Rattle.world_moves.specs.Forms.{HasForms, IsClientPlan, IsMemberPlan, IsTable}
+use Rattle.world_moves.specs.Alone.{TrustsNobody}
+use Rattle.world_moves.specs.Ends.{fresh_controller}
 use Rattle.world_moves.specs.World.{IsPlan, first_controllers, first_world, outcome_by, run}
+use Rattle.world_moves.proofs.AloneLaws.{fresh_alone}
 use Rattle.world_moves.proofs.RangeLaws.{table_in_range}
 use Rattle.logon_steps.specs.Answers.{AreDraws, HasUnits}
 use Rattle.logon_steps.specs.ClientSteps.{client_ended}
@@ -70,12 +73,18 @@ pub got_mapped : {A B : Type 0} (f : A → B) (items : List A) (at : ℕ) (item 
 got_mapped f items at item is = slice_get-map f items at ∙ ap (option_map f) is
 
 -- the controller is made of its table and its name
-pub got_controller : (tables : List AccountTable) (names : List (List ℕ)) (at : ℕ) (table : AccountTable) (name : List ℕ) → slice_get tables at ≡ Some table → slice_get names at ≡ Some name →
-    slice_get (first_controllers tables names) at ≡ Some (first_state table name)
-got_controller [] names at table name is_table is_name = absurd cc
-got_controller (first ∷ tables) [] at table name is_table is_name = absurd cc
-got_controller (first ∷ tables) (other ∷ names) zero table name is_table is_name = cc
-got_controller (first ∷ tables) (other ∷ names) (suc at) table name is_table is_name = got_controller tables names at table name is_table is_name
+controller_of : (hands_on : Bool) (tables : List AccountTable) (names : List (List ℕ)) (at : ℕ) (table : AccountTable) (name : List ℕ) → slice_get tables at ≡ Some table → slice_get names at ≡ Some name →
+    slice_get (first_controllers hands_on tables names) at ≡ Some (fresh_controller hands_on table name)
+controller_of hands_on [] names at table name is_table is_name = absurd cc
+controller_of hands_on (first ∷ tables) [] at table name is_table is_name = absurd cc
+controller_of hands_on (first ∷ tables) (other ∷ names) zero table name is_table is_name = cc
+controller_of hands_on (first ∷ tables) (other ∷ names) (suc at) table name is_table is_name = controller_of hands_on tables names at table name is_table is_name
+
+-- and such that it asks nobody
+pub got_controller : (hands_on : Bool) (tables : List AccountTable) (names : List (List ℕ)) (at : ℕ) (table : AccountTable) (name : List ℕ) → slice_get tables at ≡ Some table →
+    slice_get names at ≡ Some name → TrustsNobody hands_on table → slice_get (first_controllers hands_on tables names) at ≡ Some (first_state table name)
+got_controller hands_on tables names at table name is_table is_name none =
+    controller_of hands_on tables names at table name is_table is_name ∙ ap Some (fresh_alone hands_on table name none)
 
 -- ---- forms
 
@@ -114,7 +123,8 @@ module _ (plan : Plan) (client member controller : ℕ) (can : CanComeIn plan cl
   first_shows = record {
     client = got_mapped fresh_client plan.clients client can.task can.is_task;
     member = got_mapped fresh_member plan.members member can.member_plan can.is_member_plan;
-    controller = got_controller plan.tables plan.controllers controller can.table can.name can.is_table can.is_name;
+    controller = got_controller plan.hands_on plan.tables plan.controllers controller can.table can.name can.is_table can.is_name can.alone;
+    alone = refl;
     links = refl;
     opened = refl;
     units = refl;

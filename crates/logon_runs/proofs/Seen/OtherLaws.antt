@@ -6,7 +6,7 @@ use Rattle.outside.specs.declared.action.Action.{Action}
 use Rattle.outside.specs.declared.event.Event.{Event}
 use Rattle.outside.specs.declared.event.Event.TheVariants as event
 use Rattle.domain_controller.specs.State.{State as ControllerState}
-use Rattle.domain_controller.specs.Step.{step_of as controller_step_of}
+use Rattle.domain_controller.specs.TrustStep.{trust_step_of as controller_step_of}
 use Rattle.logon_client.specs.declared.plan.ClientPlan.{ClientPlan}
 use Rattle.logon_client.specs.State.{State as ClientState}
 use Rattle.logon_client.specs.Machine.{begin_of, fresh_client, step_of as client_step_of}
@@ -17,7 +17,7 @@ use Rattle.world_moves.specs.declared.links.EndId.{EndId}
 use Rattle.world_moves.specs.declared.links.EndId.TheVariants.{Client}
 use Rattle.world_moves.specs.declared.links.OpenLink.{OpenLink}
 use Rattle.world_moves.specs.declared.links.Route.{Route}
-use Rattle.world_moves.specs.declared.links.Route.TheVariants.{Stranger, ToController, ToMember}
+use Rattle.world_moves.specs.declared.links.Route.TheVariants.{Between, Stranger, ToController, ToMember}
 use Rattle.world_moves.specs.declared.moves.Move.{Move}
 use Rattle.world_moves.specs.declared.state.State.{State}
 use Rattle.world_moves.specs.declared.state.WaitingDial.{WaitingDial}
@@ -156,11 +156,13 @@ dialler_so : (t : Three) (route : Route) → IsAmong t route → IsOneIf t (dial
 unfolding IsOneIf
 dialler_so t (ToMember client member) is = is.0
 dialler_so t (ToController member controller) is = is.0
+dialler_so t (Between from to) is = absurd is
 dialler_so t (Stranger to) is = absurd is
 
 acceptor_so : (t : Three) (route : Route) → IsAmong t route → IsOneOf t (acceptor_of route)
 acceptor_so t (ToMember client member) is = is.1
 acceptor_so t (ToController member controller) is = is.1
+acceptor_so t (Between from to) is = absurd is
 acceptor_so t (Stranger to) is = absurd is
 
 hearer_so : (t : Three) (back : Bool) (there : OpenLink) → IsAmong t there.route → IsOneIf t (hearer_on back there)

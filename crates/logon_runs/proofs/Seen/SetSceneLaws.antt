@@ -39,6 +39,7 @@ use Rattle.channel_client.specs.Machine.{SetOutcome, after, change_call, judge_s
 use Rattle.controller_calls.specs.declared.state.Computers.{Computers}
 use Rattle.domain_controller.specs.State.{State as ControllerState}
 use Rattle.domain_controller.specs.Step.{step_of as controller_step_of}
+use Rattle.domain_controller.specs.Trusting.{no_trusting}
 use Rattle.logon_client.specs.State.{State as ClientState}
 use Rattle.member_server.specs.State.{State as MemberState}
 use Rattle.member_server.specs.Machine.{actions_in, at_turn, halted_state, keep_turn, state_in, step_of as member_step_of}
@@ -70,7 +71,7 @@ use Rattle.logon_runs.specs.Seen.WaitingUnits.{Comes, after_hearing, waiting, wi
 use Rattle.logon_runs.proofs.Seen.SceneLaws.{Leaves, first_comes, got_same, performed_quietly, quietly_leave, scenes_go_on, sends_leave}
 use Rattle.logon_runs.proofs.Seen.TurnSceneLaws.{closes_turn, heard_back, heard_there, sent_back, sent_there}
 use Rattle.logon_runs.proofs.Seen.TurningSceneLaws.{scenes_turn}
-use Rattle.logon_runs.proofs.Seen.WaitingLaws.{waiting_comes}
+use Rattle.logon_runs.proofs.Seen.WaitingLaws.{alone_after, waiting_comes}
 
 -- ---- a text is kept before the link is closed
 
@@ -86,8 +87,9 @@ keeps_and_closes : (s : State) (v : Scene) (unit : BagUnit) (later : List BagUni
     hear end (event.Bytes unit.link unit.bytes) (settle comes.number s) ≡ after_hearing ends left all (settle comes.number s) →
     hear other (event.Closed link) (shut_link link kept) ≡ after_hearing others left [] (shut_link link kept) →
     slice_get others.clients v.at_client ≡ Some client → slice_get others.members v.at_member ≡ Some member → slice_get others.controllers v.at_controller ≡ Some controller →
+    controller.trusting ≡ no_trusting →
     Shows (onward s).state (with_actions end actions left (shut_in link (record v { client = client; member = member; controller = controller; units = later })))
-keeps_and_closes s v unit later end other ends others left link cause text actions client member controller shows comes closes none_close heard heard_too is_client is_member is_controller =
+keeps_and_closes s v unit later end other ends others left link cause text actions client member controller shows comes closes none_close heard heard_too is_client is_member is_controller alone =
     let s1 : State = settle comes.number s in
     let all : List Action = action.Keep text ∷ action.Close link cause ∷ actions in
     let s2 : State = (after_hearing ends left all s1).state in
@@ -106,6 +108,7 @@ keeps_and_closes s v unit later end other ends others left link cause text actio
       client = ap (λ (e : EndStates). slice_get e.clients v.at_client) leaves.ends ∙ is_client;
       member = ap (λ (e : EndStates). slice_get e.members v.at_member) leaves.ends ∙ is_member;
       controller = ap (λ (e : EndStates). slice_get e.controllers v.at_controller) leaves.ends ∙ is_controller;
+      alone = alone;
       links = leaves.links ∙ shows.links;
       opened = leaves.opened ∙ ap (λ (o : OpenMap). take_out same_number link o) shows.opened;
       units = leaves.units
@@ -131,9 +134,10 @@ member_keeps s v unit later after controller left link cause text actions shows 
     (waiting_comes.member s1 v.at_member v.member after (event.Bytes unit.link unit.bytes) left all shows.member
     (ap₂ (λ (now : ℕ) (l : List (List ℕ)). member_step_of v.member (event.Bytes unit.link unit.bytes) now l) shows.moment shows.left ∙ step
     ∙ ap (λ (l : List (List ℕ)). whole_step l left all after) (sym shows.left)))
-    (waiting_comes.controller (shut_link link (kept_at (Member v.at_member) ends left all text s1)) v.at_controller v.controller controller (event.Closed link) left [] shows.controller
+    (waiting_comes.controller (shut_link link (kept_at (Member v.at_member) ends left all text s1)) v.at_controller v.controller controller (event.Closed link) left [] shows.controller shows.alone
     (ap (λ (now : ℕ). controller_step_of v.controller (event.Closed link) now left) shows.moment ∙ closed))
     shows.client (got_same s.ends.members v.at_member v.member after shows.member) (got_same s.ends.controllers v.at_controller v.controller controller shows.controller)
+    (alone_after v.controller controller (event.Closed link) v.moment left left [] shows.alone closed)
 
 -- ---- the reply that opens the channel
 

@@ -11,6 +11,7 @@ use Rattle.outside.specs.Drawing.{Drawing}
 use Rattle.outside.specs.Machine.{whole_step}
 use Rattle.domain_controller.specs.State.{State as ControllerState}
 use Rattle.domain_controller.specs.Step.{step_of as controller_step_of}
+use Rattle.domain_controller.specs.Trusting.{no_trusting}
 use Rattle.logon_client.specs.State.{State as ClientState}
 use Rattle.logon_client.specs.Machine.{step_of as client_step_of}
 use Rattle.member_server.specs.State.{State as MemberState}
@@ -31,7 +32,7 @@ use Rattle.logon_runs.specs.Scenes.{IsNoClose, Scene, Shows, dials_made, units_s
 use Rattle.logon_runs.specs.Seen.Turnings.{ClosesTo, IsFound, ScenesTurn, connected, shut_in}
 use Rattle.logon_runs.specs.Seen.WaitingUnits.{Comes, after_hearing, with_client_at, with_controller_at, with_member_at}
 use Rattle.logon_runs.proofs.Seen.SceneLaws.{Leaves, first_comes, got_same, performed_quietly, quietly_leave}
-use Rattle.logon_runs.proofs.Seen.WaitingLaws.{waiting_comes}
+use Rattle.logon_runs.proofs.Seen.WaitingLaws.{alone_after, waiting_comes}
 
 -- ---- a link is closed
 
@@ -46,8 +47,9 @@ pub lands_closing : (s : State) (v : Scene) (unit : BagUnit) (later : List BagUn
     hear other (event.Closed link) (shut_link link (after_hearing ends left (action.Close link cause ∷ actions) (settle comes.number s)).state)
     ≡ after_hearing others left [] (shut_link link (after_hearing ends left (action.Close link cause ∷ actions) (settle comes.number s)).state) →
     slice_get others.clients v.at_client ≡ Some client → slice_get others.members v.at_member ≡ Some member → slice_get others.controllers v.at_controller ≡ Some controller →
+    controller.trusting ≡ no_trusting →
     Shows (onward s).state (with_actions end actions left (shut_in link (record v { client = client; member = member; controller = controller; units = later })))
-lands_closing s v unit later end other ends others left link cause actions client member controller shows comes closes none_close heard heard_too is_client is_member is_controller =
+lands_closing s v unit later end other ends others left link cause actions client member controller shows comes closes none_close heard heard_too is_client is_member is_controller alone =
     let s1 : State = settle comes.number s in
     let all : List Action = action.Close link cause ∷ actions in
     let s2 : State = (after_hearing ends left all s1).state in
@@ -65,6 +67,7 @@ lands_closing s v unit later end other ends others left link cause actions clien
       client = ap (λ (e : EndStates). slice_get e.clients v.at_client) leaves.ends ∙ is_client;
       member = ap (λ (e : EndStates). slice_get e.members v.at_member) leaves.ends ∙ is_member;
       controller = ap (λ (e : EndStates). slice_get e.controllers v.at_controller) leaves.ends ∙ is_controller;
+      alone = alone;
       links = leaves.links ∙ shows.links;
       opened = leaves.opened ∙ ap (λ (o : OpenMap). take_out same_number link o) shows.opened;
       units = leaves.units ∙ ap₂ (λ (u : List BagUnit) (l : List Route). u ++ units_sent l end actions) comes.behind shows.links;
@@ -84,8 +87,9 @@ lands_dialled : (s : State) (v : Scene) (end : EndId) (peer : List ℕ) (dials :
     hear (acceptor_of route) (event.Opened (length s.links)) s1 ≡ after_hearing acceptors v.left [] s1 →
     hear end (event.Dialled (length s.links)) s3 ≡ after_hearing ends v.left actions s3 →
     slice_get ends.clients v.at_client ≡ Some client → slice_get ends.members v.at_member ≡ Some member → slice_get ends.controllers v.at_controller ≡ Some controller →
+    controller.trusting ≡ no_trusting →
     Shows (connect s).state (with_actions end actions v.left (connected route dials (record v { client = client; member = member; controller = controller })))
-lands_dialled s v end peer dials route acceptors ends actions client member controller shows waits reaches found none_close opens dialled is_client is_member is_controller =
+lands_dialled s v end peer dials route acceptors ends actions client member controller shows waits reaches found none_close opens dialled is_client is_member is_controller alone =
     let n : ℕ = length s.links in
     let s1 : State = with_link route (without_first s) in
     let s2 : State = (after_hearing acceptors v.left [] s1).state in
@@ -107,6 +111,7 @@ lands_dialled s v end peer dials route acceptors ends actions client member cont
       client = ap (λ (e : EndStates). slice_get e.clients v.at_client) leaves.ends ∙ is_client;
       member = ap (λ (e : EndStates). slice_get e.members v.at_member) leaves.ends ∙ is_member;
       controller = ap (λ (e : EndStates). slice_get e.controllers v.at_controller) leaves.ends ∙ is_controller;
+      alone = alone;
       links = leaves.links ∙ ap (λ (l : List Route). l ++ route ∷ []) shows.links;
       opened = leaves.opened ∙ ap₂ (λ (l : List Route) (o : OpenMap). put same_number (length l) (answered (accepted route)) o) shows.links open_is;
       units = leaves.units ∙ ap₂ (λ (u : List BagUnit) (l : List Route). u ++ units_sent (l ++ route ∷ []) end actions) shows.units shows.links;
@@ -127,9 +132,10 @@ scenes_turn = record {
       (waiting_comes.member s1 v.at_member v.member after (event.Bytes unit.link unit.bytes) left all shows.member
       (ap₂ (λ (now : ℕ) (l : List (List ℕ)). member_step_of v.member (event.Bytes unit.link unit.bytes) now l) shows.moment shows.left ∙ step
       ∙ ap (λ (l : List (List ℕ)). whole_step l left all after) (sym shows.left)))
-      (waiting_comes.controller (shut_link link s2) v.at_controller v.controller controller (event.Closed link) left [] shows.controller
+      (waiting_comes.controller (shut_link link s2) v.at_controller v.controller controller (event.Closed link) left [] shows.controller shows.alone
       (ap (λ (now : ℕ). controller_step_of v.controller (event.Closed link) now left) shows.moment ∙ closed))
-      shows.client (got_same s.ends.members v.at_member v.member after shows.member) (got_same s.ends.controllers v.at_controller v.controller controller shows.controller);
+      shows.client (got_same s.ends.members v.at_member v.member after shows.member) (got_same s.ends.controllers v.at_controller v.controller controller shows.controller)
+      (alone_after v.controller controller (event.Closed link) v.moment left left [] shows.alone closed);
   client_closes = λ s v unit later after member left link cause actions shows first closes none_close step closed.
       let comes : Comes s unit later (Client v.at_client) = first_comes s v unit later (Client v.at_client) shows first in
       let s1 : State = settle comes.number s in
@@ -142,7 +148,7 @@ scenes_turn = record {
       ∙ ap (λ (l : List (List ℕ)). whole_step l left all after) (sym shows.left)))
       (waiting_comes.member (shut_link link s2) v.at_member v.member member (event.Closed link) left [] shows.member
       (ap (λ (now : ℕ). member_step_of v.member (event.Closed link) now left) shows.moment ∙ closed))
-      (got_same s.ends.clients v.at_client v.client after shows.client) (got_same s.ends.members v.at_member v.member member shows.member) shows.controller;
+      (got_same s.ends.clients v.at_client v.client after shows.client) (got_same s.ends.members v.at_member v.member member shows.member) shows.controller shows.alone;
   client_dials = λ s v peer dials after member actions shows waits reach found none_close opens dialled.
       let route : Route = ToMember v.at_client v.at_member in
       let s1 : State = with_link route (without_first s) in
@@ -157,7 +163,7 @@ scenes_turn = record {
       (waiting_comes.client s3 v.at_client v.client after (event.Dialled (length s.links)) v.left actions shows.client
       (ap (λ (l : List Route). client_step_of v.client (event.Dialled (length l)) s.moment v.left) shows.links
       ∙ ap (λ (now : ℕ). client_step_of v.client (event.Dialled (length v.links)) now v.left) shows.moment ∙ dialled))
-      (got_same s.ends.clients v.at_client v.client after shows.client) (got_same s.ends.members v.at_member v.member member shows.member) shows.controller;
+      (got_same s.ends.clients v.at_client v.client after shows.client) (got_same s.ends.members v.at_member v.member member shows.member) shows.controller shows.alone;
   member_dials = λ s v peer dials after controller actions shows waits reach found none_close opens dialled.
       let route : Route = ToController v.at_member v.at_controller in
       let s1 : State = with_link route (without_first s) in
@@ -165,18 +171,20 @@ scenes_turn = record {
       let s3 : State = answered_link (length s.links) (accepted route) (after_hearing acceptors v.left [] s1).state in
       lands_dialled s v (Member v.at_member) peer dials route acceptors (with_member_at v.at_member after acceptors) actions v.client after controller shows waits
       (ap (route_to (Member v.at_member)) reach) found none_close
-      (waiting_comes.controller s1 v.at_controller v.controller controller (event.Opened (length s.links)) v.left [] shows.controller
+      (waiting_comes.controller s1 v.at_controller v.controller controller (event.Opened (length s.links)) v.left [] shows.controller shows.alone
       (ap (λ (l : List Route). controller_step_of v.controller (event.Opened (length l)) s.moment s.chances.left) shows.links
       ∙ ap₂ (λ (now : ℕ) (l : List (List ℕ)). controller_step_of v.controller (event.Opened (length v.links)) now l) shows.moment shows.left ∙ opens
       ∙ ap (λ (l : List (List ℕ)). whole_step l v.left [] controller) (sym shows.left)))
       (waiting_comes.member s3 v.at_member v.member after (event.Dialled (length s.links)) v.left actions shows.member
       (ap (λ (l : List Route). member_step_of v.member (event.Dialled (length l)) s.moment v.left) shows.links
       ∙ ap (λ (now : ℕ). member_step_of v.member (event.Dialled (length v.links)) now v.left) shows.moment ∙ dialled))
-      shows.client (got_same s.ends.members v.at_member v.member after shows.member) (got_same s.ends.controllers v.at_controller v.controller controller shows.controller);
+      shows.client (got_same s.ends.members v.at_member v.member after shows.member) (got_same s.ends.controllers v.at_controller v.controller controller shows.controller)
+      (alone_after v.controller controller (event.Opened (length v.links)) v.moment v.left v.left [] shows.alone opens);
   ticks = λ s v more shows. record {
     client = shows.client;
     member = shows.member;
     controller = shows.controller;
+    alone = shows.alone;
     links = shows.links;
     opened = shows.opened;
     units = shows.units;

@@ -7,9 +7,14 @@ use Rattle.std.proofs.lemmas.Bool.{cases_Bool}
 use Rattle.std.proofs.Math.ListN.{drop_of_length-le}
 use Rattle.std.proofs.lemmas.List.{take-append-drop}
 use Rattle.wire_base.specs.Maps.{lookup, same_number}
+use Rattle.outside.specs.declared.action.Action.{Action}
+use Rattle.outside.specs.declared.event.Event.{Event}
 use Rattle.outside.specs.declared.event.Event.TheVariants as event
-use Rattle.outside.specs.Machine.{Stepped}
+use Rattle.outside.specs.Machine.{Stepped, whole_step}
 use Rattle.domain_controller.specs.State.{State as ControllerState}
+use Rattle.domain_controller.specs.Step.{step_of}
+use Rattle.domain_controller.specs.Trusting.{no_trusting}
+use Rattle.domain_controller.proofs.TrustAloneLaws.{steps_alone}
 use Rattle.logon_client.specs.State.{State as ClientState}
 use Rattle.member_server.specs.State.{State as MemberState}
 use Rattle.world_moves.specs.declared.bag.BagUnit.{BagUnit}
@@ -155,6 +160,12 @@ oldest_comes s unit later there end oldest some short opened hearer =
       behind = oldest.behind;
     }
 
+-- a controller that asks no other asks none after a step
+pub alone_after : (c after : ControllerState) (what : Event) (now : ℕ) (left rest : List (List ℕ)) (actions : List Action) → c.trusting ≡ no_trusting →
+    step_of c what now left ≡ whole_step left rest actions after → after.trusting ≡ no_trusting
+alone_after c after what now left rest actions alone step =
+    sym (ap (λ (stepped : Stepped ControllerState). stepped.state.trusting) (steps_alone.step c what now left alone ∙ step)) ∙ steps_alone.stays c what now left alone
+
 pub waiting_comes : WaitingComes
 waiting_comes = record {
   none = none_waits;
@@ -163,9 +174,10 @@ waiting_comes = record {
   added = added_waits;
   comes = λ s unit later there end waits some short opened hearer. oldest_comes s unit later there end (oldest_waits s.bag unit later waits) some short opened hearer;
   idle = λ s none. ap (λ (f : Option ℕ). onward_by f s) (none_waits s.bag none);
-  controller = λ s at controller after what left actions found step.
+  controller = λ s at controller after what left actions found alone step.
       ap (λ (c : Option ControllerState). heard_by (controller_step c at what s.moment s.ends s.chances) s) found
-      ∙ ap (λ (stepped : Stepped ControllerState). heard_by (controller_done stepped at s.ends s.chances) s) step;
+      ∙ ap (λ (stepped : Stepped ControllerState). heard_by (controller_done stepped at s.ends s.chances) s)
+      (steps_alone.step controller what s.moment s.chances.left alone ∙ step);
   member = λ s at member after what left actions found step.
       ap (λ (m : Option MemberState). heard_by (member_step m at what s.moment s.ends s.chances) s) found
       ∙ ap (λ (stepped : Stepped MemberState). heard_by (member_done stepped at s.ends s.chances) s) step;

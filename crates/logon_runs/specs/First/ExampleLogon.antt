@@ -74,6 +74,7 @@ ann_plan = record {
   controllers = codes "PDC" ∷ [];
   members = file1_plan ∷ [];
   clients = ann_task ∷ [];
+  hands_on = false;
   now = 0;
   seed = replicate 32 0;
 }

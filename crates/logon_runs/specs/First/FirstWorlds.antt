@@ -20,6 +20,7 @@ use Rattle.world_moves.specs.declared.links.EndId.TheVariants.{Controller, Membe
 use Rattle.world_moves.specs.declared.moves.Move.{Move}
 use Rattle.world_moves.specs.declared.moves.Move.TheVariants as move
 use Rattle.world_moves.specs.declared.plan.Plan.{Plan}
+use Rattle.world_moves.specs.Alone.{TrustsNobody}
 use Rattle.world_moves.specs.Choosing.{chosen_place}
 use Rattle.world_moves.specs.Forms.{HasForms}
 use Rattle.world_moves.specs.Moving.{end_of_peer}
@@ -54,7 +55,8 @@ logon_moves number silent =
 -- ---- the plan
 
 -- A client, the member that it reaches, and that member's controller: the computer's account is an enabled workstation
--- with the member's one secret, the user's hash is the one stored, and he may log on at the first moment.
+-- with the member's one secret, the user's hash is the one stored, and he may log on at the first moment. The
+-- controller asks nobody.
 pub record CanComeIn (plan : Plan) (client member controller : ℕ) : Type 0 where
   pub task : ClientPlan
   pub is_task : slice_get plan.clients client ≡ Some task
@@ -66,6 +68,7 @@ pub record CanComeIn (plan : Plan) (client member controller : ℕ) : Type 0 whe
   pub is_table : slice_get plan.tables controller ≡ Some table
   pub name : List ℕ
   pub is_name : slice_get plan.controllers controller ≡ Some name
+  pub alone : TrustsNobody plan.hands_on table
   pub machine : Account
   pub machine_found : account_in table.accounts (machine_name member_plan.computer) ≡ Some machine
   pub kind : machine.kind ≡ Workstation

@@ -5,7 +5,7 @@ use Rattle.world_moves.specs.declared.links.EndId.{EndId}
 use Rattle.world_moves.specs.declared.links.EndId.TheVariants.{Controller, Member, Client}
 use Rattle.world_moves.specs.declared.links.OpenLink.{OpenLink}
 use Rattle.world_moves.specs.declared.links.Route.{Route}
-use Rattle.world_moves.specs.declared.links.Route.TheVariants.{ToMember, ToController, Stranger}
+use Rattle.world_moves.specs.declared.links.Route.TheVariants.{ToMember, ToController, Between, Stranger}
 use Rattle.world_moves.specs.declared.moves.Move.{Move}
 use Rattle.world_moves.specs.declared.moves.Move.TheVariants as move
 use Rattle.world_moves.specs.declared.state.State.{State}
@@ -30,6 +30,7 @@ IsOneOf t (Controller at) = at ≡ t.controller
 abbrev pub IsAmong : Three → Route → Type 0
 IsAmong t (ToMember client member) = (client ≡ t.client) × (member ≡ t.member)
 IsAmong t (ToController member controller) = (member ≡ t.member) × (controller ≡ t.controller)
+IsAmong t (Between from to) = ⊥
 IsAmong t (Stranger to) = ⊥
 
 -- each link that is open is

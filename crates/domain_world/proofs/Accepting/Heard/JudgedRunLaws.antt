@@ -23,15 +23,17 @@ use Rattle.world_moves.specs.declared.links.EndId.TheVariants.{Controller, Clien
 use Rattle.world_moves.specs.declared.moves.Move.{Move}
 use Rattle.world_moves.specs.declared.plan.Plan.{Plan}
 use Rattle.world_moves.specs.declared.state.State.{State}
-use Rattle.world_moves.specs.Acting.{Given, Heard, hear, hear_and_act}
+use Rattle.world_moves.specs.Acting.{Given, Heard}
 use Rattle.world_moves.specs.Forms.{IsSchedule}
 use Rattle.world_moves.specs.Links.{acceptor_of}
 use Rattle.world_moves.specs.Moving.{begun, with_link, changed}
+use Rattle.world_moves.specs.Alone.{HandsNothingOn, hear_alone as hear}
 use Rattle.domain_world.specs.Accepting.Carried.{IsJudgedAsCarried, JudgedAsCarried}
 use Rattle.domain_world.specs.Accepting.ReadBack.{RepliesAreReadBack}
 use Rattle.domain_world.specs.Past.{Coming, Past, answers_of, at_controller, judged_of, note_at, note_controller, numbers_on, past, plain_form}
 use Rattle.channel_events.proofs.ListLaws.{got_nothing}
 use Rattle.domain_world.specs.Schedules.{OfSchedules}
+use Rattle.domain_world.proofs.Frames.AloneStepLaws.{act_alone as hear_and_act}
 use Rattle.domain_world.proofs.Accepting.Heard.JudgedUnitLaws.{AllHeardSo, AnyAction, CarriedIf, HeardSo, IsCarriedCall, IsJudgedWell, IsWholeCarried, JudgedFact, JudgedStand, acts_stand, answer_holds, any_actions, any_heard, running_so, settled_stand, unit_so, whole_carried}
 use Rattle.domain_world.proofs.Accepting.ListPlaceLaws.{all_at}
 use Rattle.domain_world.proofs.Accepting.Quiet.QuietStepLaws.{ControllerIsQuiet, QuietAction, QuietFact, QuietState}
@@ -136,12 +138,12 @@ judged_keeps = record {
 pub judged_first : JudgedStand [] []
 judged_first = record { kinds = λ n unit there. absurd (got_nothing n unit there); judged = tt }
 
-module _ (plan : Plan) (moves : List Move) (is : IsSchedule plan moves) where
+module _ (plan : Plan) (moves : List Move) (nobody : HandsNothingOn plan) (is : IsSchedule plan moves) where
   pub judged_stand : JudgedStand (past plan moves).world.state.bag (past plan moves).book.judged
   judged_stand =
       let ran : HoldsAfterRun (BothFacts QuietFact JudgedFact) plan moves =
-      run_keeps (BothFacts QuietFact JudgedFact) (BothFine QuietAction AnyAction) (join QuietFact JudgedFact QuietAction AnyAction quiet_keeps judged_keeps) plan moves
-      (has_bytes plan moves is) (quiet_first plan is.start is.forms, judged_first) in
+      run_keeps (BothFacts QuietFact JudgedFact) (BothFine QuietAction AnyAction) (join QuietFact JudgedFact QuietAction AnyAction quiet_keeps judged_keeps) plan moves nobody
+      (has_bytes plan moves nobody is) (quiet_first plan is.start is.forms, judged_first) in
       ran.holds.1
 
 carried_as : (past : Past) (js : List Judging) → AllByRecursion (IsJudgedWell past.world.state.bag) js →
@@ -166,14 +168,14 @@ carried_as past (j ∷ js) all = (
 
 -- each call that was judged is that of the unit in which it came
 pub judged_as_carried : OfSchedules (λ plan moves. JudgedAsCarried (past plan moves))
-judged_as_carried plan moves is = carried_as (past plan moves) (past plan moves).book.judged (judged_stand plan moves is).judged
+judged_as_carried plan moves nobody is = carried_as (past plan moves) (past plan moves).book.judged (judged_stand plan moves nobody is).judged
 
 -- ---- replies
 
 -- a reply to a call that passed is read as it was made
 pub replies_back : OfSchedules (λ plan moves. RepliesAreReadBack (past plan moves))
-replies_back plan moves is n unit one there noted channel number request place j judged mark reply whole =
+replies_back plan moves nobody is n unit one there noted channel number request place j judged mark reply whole =
     let well : IsJudgedWell (past plan moves).world.state.bag j =
-    all_at (IsJudgedWell (past plan moves).world.state.bag) (past plan moves).book.judged place j (judged_stand plan moves is).judged judged in
+    all_at (IsJudgedWell (past plan moves).world.state.bag) (past plan moves).book.judged place j (judged_stand plan moves nobody is).judged judged in
     let call : IsCarriedCall (past plan moves).world.state.bag j.number j.asked request = well.carried request reply.came in
     (replies_are_read.read j (plain_form (past plan moves).book.sent n unit) reply.carries whole.frames whole.unit well.range call.level whole.heard).read

@@ -35,7 +35,7 @@ use Rattle.world_moves.specs.declared.links.EndId.{EndId}
 use Rattle.world_moves.specs.declared.links.EndId.TheVariants.{Controller}
 use Rattle.world_moves.specs.declared.links.LinkKind.TheVariants as kind
 use Rattle.world_moves.specs.declared.links.Route.{Route}
-use Rattle.world_moves.specs.declared.links.Route.TheVariants.{ToMember, ToController, Stranger}
+use Rattle.world_moves.specs.declared.links.Route.TheVariants.{ToMember, ToController, Between, Stranger}
 use Rattle.world_moves.specs.declared.state.State.{State}
 use Rattle.world_moves.specs.Acting.{perform_quietly, unit_on}
 use Rattle.world_moves.specs.Bag.{settle_at}
@@ -51,7 +51,7 @@ use Rattle.domain_world.proofs.Accepting.Quiet.QuietRunLaws.{one_piece}
 use Rattle.domain_world.proofs.Accepting.Quiet.QuietStepLaws.{IsMade, WholeBag}
 use Rattle.domain_world.proofs.Frames.ComingLaws.{IsPieceOf, IsStill, StillHas, kept_settled}
 use Rattle.domain_world.proofs.Frames.MarkPlaceLaws.{got_beside, settled_length}
-use Rattle.domain_world.proofs.Frames.OpenMadeLaws.{IsAtSide, side_of}
+use Rattle.domain_world.proofs.Frames.OpenMadeLaws.{IsApart, IsAtSide, side_of}
 use Rattle.domain_world.proofs.Frames.StepFrameLaws.{ActionFact, RunFact}
 use Rattle.domain_world.proofs.Judgements.JudgedLaws.{HoldsIf, judging_holds, opening_holds}
 
@@ -148,12 +148,13 @@ acts_stand end what s js stand =
 -- ---- where a piece comes from that a controller hears
 
 -- a controller hears on links to it and on a stranger's, and on no other
-pub route_of : (back : Bool) (route : Route) (at : ℕ) → side_of back route ≡ Some (Controller at) → is_own (kind_of route) ≡ true → (member : ℕ) × (route ≡ ToController member at)
-route_of back (Stranger to) at is own = absurd (let never : false ≡ true = own in cc)
-route_of false (ToController member controller) at is own = (member, ap (λ (n : ℕ). ToController member n) (let same : controller ≡ at = cc in same))
-route_of true (ToController member controller) at is own = absurd cc
-route_of false (ToMember one server) at is own = absurd cc
-route_of true (ToMember one server) at is own = absurd cc
+pub route_of : (back : Bool) (route : Route) (at : ℕ) → IsApart route → side_of back route ≡ Some (Controller at) → is_own (kind_of route) ≡ true → (member : ℕ) × (route ≡ ToController member at)
+route_of back (Between from to) at apart is own = absurd apart
+route_of back (Stranger to) at apart is own = absurd (let never : false ≡ true = own in cc)
+route_of false (ToController member controller) at apart is own = (member, ap (λ (n : ℕ). ToController member n) (let same : controller ≡ at = cc in same))
+route_of true (ToController member controller) at apart is own = absurd cc
+route_of false (ToMember one server) at apart is own = absurd cc
+route_of true (ToMember one server) at apart is own = absurd cc
 
 -- the piece is a whole unit of the bag, on a link that a member dialled
 pub record IsWholeCarried (s : State) (number : ℕ) (w : Coming) (piece : List ℕ) : Type 0 where
@@ -167,7 +168,7 @@ pub whole_carried : (s : State) (number at : ℕ) (w : Coming) (piece : List ℕ
     IsWholeCarried s number w piece
 whole_carried s number at w piece whole own side came =
     let same_route : side.route ≡ came.route = some_is side.route came.route (sym side.made ∙ came.made) in
-    let route = route_of w.back side.route at side.side (ap (λ (r : Route). is_own (kind_of r)) same_route ∙ ap is_own came.same_kind ∙ own number came.unit came.there) in
+    let route = route_of w.back side.route at side.apart side.side (ap (λ (r : Route). is_own (kind_of r)) same_route ∙ ap is_own came.same_kind ∙ own number came.unit came.there) in
     let is : came.unit.kind ≡ kind.ToController = sym came.same_kind ∙ ap kind_of (sym same_route) ∙ ap kind_of route.1 in
     let send : IsWholeSend came.unit.bytes = (whole number came.unit came.there).0 is in
     record {

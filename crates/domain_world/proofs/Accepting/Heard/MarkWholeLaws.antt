@@ -25,6 +25,7 @@ use Rattle.member_server.specs.declared.state.Running.{Running}
 use Rattle.end_links.specs.Sending.{request_of}
 use Rattle.channel_client.specs.Whole.{InRangeRequester}
 use Rattle.domain_world.specs.Schedules.{OfSchedules}
+use Rattle.domain_world.proofs.Frames.AloneStepLaws.{act_alone as hear_and_act}
 use Rattle.domain_world.proofs.Accepting.CarriedLaws.{one_whole}
 use Rattle.channel_events.specs.Marks.{Mark, Plain, Opening, Opened, Calling, ReplyTo}
 use Rattle.step_notes.specs.JudgedInRange.{IsReadAsMade}
@@ -41,10 +42,11 @@ use Rattle.world_moves.specs.declared.links.Route.TheVariants.{ToController}
 use Rattle.world_moves.specs.declared.moves.Move.{Move}
 use Rattle.world_moves.specs.declared.plan.Plan.{Plan}
 use Rattle.world_moves.specs.declared.state.State.{State}
-use Rattle.world_moves.specs.Acting.{Given, Heard, done, heard_by, hear_and_act}
-use Rattle.world_moves.specs.Ends.{EndStep, client_step, controller_step, member_step}
+use Rattle.world_moves.specs.Acting.{Given, Heard, done, heard_by}
+use Rattle.world_moves.specs.Ends.{EndStep, client_step, member_step}
 use Rattle.world_moves.specs.Forms.{IsSchedule}
 use Rattle.world_moves.specs.Links.{is_own, kind_of}
+use Rattle.world_moves.specs.Alone.{HandsNothingOn, alone_controller_step as controller_step}
 use Rattle.world_moves.proofs.LinkFrameLaws.{IsOnLink, actions_stay}
 use Rattle.domain_world.specs.Accepting.Carried.{IsAsMarked, IsNoAnswer, IsPlain, MarkedUnitsAreWhole, IsNotJudged, call_judged}
 use Rattle.domain_world.specs.Claims.Replies.{IsReplyOfOne}
@@ -141,7 +143,7 @@ controller_kind : (links : List Route) (unit : BagUnit) (link : ℕ) (back : Boo
     unit.kind ≡ kind.ToController
 controller_kind links unit link back at on here side =
     let same : on.route ≡ side.route = some_is on.route side.route (sym on.made ∙ ap (λ (n : ℕ). slice_get links n) here ∙ side.made) in
-    let route = route_of back side.route at side.side (ap (λ (r : Route). is_own (kind_of r)) (sym same) ∙ on.own) in
+    let route = route_of back side.route at side.apart side.side (ap (λ (r : Route). is_own (kind_of r)) (sym same) ∙ on.own) in
     member_kind links unit link route.0 at on here (side.made ∙ ap (λ (r : Route). Some r) route.1)
 
 controller_fits : (c : ControllerState) (at : ℕ) (w : Coming) (piece : List ℕ) (s : State) (b : Book) → IsAtSide s.links w.link w.back (Controller at) → length b.sent ≡ length s.bag →
@@ -278,31 +280,31 @@ module _ (bag : List BagUnit) (js : List Judging) (stand : JudgedStand bag js) (
 
 -- ---- a run
 
-module _ (plan : Plan) (moves : List Move) (is : IsSchedule plan moves) where
+module _ (plan : Plan) (moves : List Move) (nobody : HandsNothingOn plan) (is : IsSchedule plan moves) where
   has : HasBytes plan moves
-  has = has_bytes plan moves is
+  has = has_bytes plan moves nobody is
 
   pub marks_fit : MarksFit (past plan moves).world.state.bag (past plan moves).book
   marks_fit =
-      run_fits QuietFact QuietAction quiet_keeps no_part no_side nothing_written MarksFit marks_keep plan moves has (quiet_first plan is.start is.forms) tt
+      run_fits QuietFact QuietAction quiet_keeps no_part no_side nothing_written MarksFit marks_keep plan moves nobody has (quiet_first plan is.start is.forms) tt
       (λ number one there. absurd (got_nothing number one there))
 
   after_quiet : QuietState (past plan moves).world.state
-  after_quiet = let ran : HoldsAfterRun QuietFact plan moves = run_keeps QuietFact QuietAction quiet_keeps plan moves has (quiet_first plan is.start is.forms) in ran.holds
+  after_quiet = let ran : HoldsAfterRun QuietFact plan moves = run_keeps QuietFact QuietAction quiet_keeps plan moves nobody has (quiet_first plan is.start is.forms) in ran.holds
 
 -- each unit that was made for a channel is whole, and what its mark says
 pub marked_whole : OfSchedules (λ plan moves. MarkedUnitsAreWhole (past plan moves))
-marked_whole plan moves is n unit one there noted not =
+marked_whole plan moves nobody is n unit one there noted not =
     let bag : List BagUnit = (past plan moves).world.state.bag in
-    let has : HasBytes plan moves = has_bytes plan moves is in
-    let quiet : QuietState (past plan moves).world.state = after_quiet plan moves is in
-    let had : IsOfUnit OfMark tt bag n one.mark = marks_fit plan moves is n one noted in
+    let has : HasBytes plan moves = has_bytes plan moves nobody is in
+    let quiet : QuietState (past plan moves).world.state = after_quiet plan moves nobody is in
+    let had : IsOfUnit OfMark tt bag n one.mark = marks_fit plan moves nobody is n one noted in
     let same : had.unit ≡ unit = some_is had.unit unit (sym had.there ∙ there) in
     let fits : (unit.kind ≡ kind.ToController) × CarriesMark one.mark unit.bytes =
     subst (λ (u : BagUnit). (u.kind ≡ kind.ToController) × CarriesMark one.mark u.bytes) same (had.holds not) in
     let send : IsWholeSend unit.bytes = (quiet.bag n unit there).0 fits.0 in
     record {
       whole = record { frames = send.frames; unit = send.unit; heard = heard_plain (past plan moves).book.sent n unit send.frames send.unit send.heard };
-      marked = as_marked bag (past plan moves).book.judged (judged_stand plan moves is) n unit.bytes send.frames send.unit (bytes_in bag has.bytes n unit there) send.heard one.mark fits.1
-          (subst (λ (bytes : List ℕ). IsReplyOfOne (past plan moves).book.judged n bytes one.mark) (plain_is (past plan moves).book.sent n unit) (replies_carry plan moves n unit one there noted));
+      marked = as_marked bag (past plan moves).book.judged (judged_stand plan moves nobody is) n unit.bytes send.frames send.unit (bytes_in bag has.bytes n unit there) send.heard one.mark fits.1
+          (subst (λ (bytes : List ℕ). IsReplyOfOne (past plan moves).book.judged n bytes one.mark) (plain_is (past plan moves).book.sent n unit) (replies_carry plan moves nobody n unit one there noted));
     }

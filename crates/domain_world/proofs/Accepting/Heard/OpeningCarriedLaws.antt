@@ -29,18 +29,20 @@ use Rattle.world_moves.specs.declared.bag.BagUnit.{BagUnit}
 use Rattle.world_moves.specs.declared.links.EndId.{EndId}
 use Rattle.world_moves.specs.declared.links.EndId.TheVariants.{Controller}
 use Rattle.world_moves.specs.declared.links.Route.{Route}
-use Rattle.world_moves.specs.declared.links.Route.TheVariants.{ToMember, ToController, Stranger}
+use Rattle.world_moves.specs.declared.links.Route.TheVariants.{ToMember, ToController, Between, Stranger}
 use Rattle.world_moves.specs.declared.plan.Plan.{Plan}
 use Rattle.world_moves.specs.declared.moves.Move.{Move}
 use Rattle.world_moves.specs.declared.state.State.{State}
-use Rattle.world_moves.specs.Acting.{Heard, hear, hear_and_act}
+use Rattle.world_moves.specs.Acting.{Heard}
 use Rattle.world_moves.specs.Forms.{IsSchedule}
 use Rattle.world_moves.specs.Links.{is_own, kind_of}
+use Rattle.world_moves.specs.Alone.{HandsNothingOn, hear_alone as hear}
 use Rattle.world_moves.proofs.LinkFrameLaws.{actions_stay}
 use Rattle.domain_world.specs.Accepting.Carried.{IsWholeUnit, call_carried}
 use Rattle.domain_world.specs.Accepting.Runs.{IsOfMember}
 use Rattle.domain_world.specs.Past.{Coming, accepted_of, answers_of, at_controller, first_of, later_of, note_at, note_controller, numbers_on, past, replied_with}
 use Rattle.channel_events.proofs.ListLaws.{all_weaker, got_append, some_is}
+use Rattle.domain_world.proofs.Frames.AloneStepLaws.{act_alone as hear_and_act}
 use Rattle.domain_world.proofs.Accepting.Heard.JudgedRunLaws.{judged_first, judged_keeps}
 use Rattle.domain_world.proofs.Accepting.Heard.JudgedUnitLaws.{AnyAction, AreOwn, IsWholeCarried, JudgedFact, whole_carried}
 use Rattle.domain_world.proofs.Accepting.Quiet.QuietListenLaws.{ListensWell, WellUnlessStopped, entries_found}
@@ -50,7 +52,7 @@ use Rattle.domain_world.proofs.Frames.BagFrameLaws.{no_part, no_side, nothing_wr
 use Rattle.domain_world.proofs.Frames.BagStepLaws.{BagKeeps, BookFact, run_fits}
 use Rattle.domain_world.proofs.Frames.ComingLaws.{CameFrom, IsPieceOf, IsStill, StillHas}
 use Rattle.domain_world.proofs.Frames.EndNoteLaws.{accepted_so, book_by}
-use Rattle.domain_world.proofs.Frames.OpenMadeLaws.{IsAtSide, IsMore, MoreOf, goes_on, no_more, side_of}
+use Rattle.domain_world.proofs.Frames.OpenMadeLaws.{IsApart, IsAtSide, IsMore, MoreOf, goes_on, no_more, side_of}
 use Rattle.domain_world.proofs.Frames.StepFrameLaws.{BothFacts, BothFine, Keeps, NoFact, join}
 use Rattle.domain_world.proofs.Judgements.JudgedLaws.{are_if_taken}
 use Rattle.domain_world.proofs.Judgements.OpeningMarkLaws.{onto_all}
@@ -189,12 +191,13 @@ module _ (c : ControllerState) (s : State) (w : Coming) (piece : List ℕ) (numb
 -- ---- the unit in which it came
 
 -- a controller hears what goes to it
-to_it : (back : Bool) (route : Route) (at : ℕ) → side_of back route ≡ Some (Controller at) → is_own (kind_of route) ≡ true → back ≡ false
-to_it back (Stranger to) at is own = absurd (let never : false ≡ true = own in cc)
-to_it false (ToController member controller) at is own = refl
-to_it true (ToController member controller) at is own = absurd cc
-to_it false (ToMember one server) at is own = absurd cc
-to_it true (ToMember one server) at is own = absurd cc
+to_it : (back : Bool) (route : Route) (at : ℕ) → IsApart route → side_of back route ≡ Some (Controller at) → is_own (kind_of route) ≡ true → back ≡ false
+to_it back (Between from to) at apart is own = absurd apart
+to_it back (Stranger to) at apart is own = absurd (let never : false ≡ true = own in cc)
+to_it false (ToController member controller) at apart is own = refl
+to_it true (ToController member controller) at apart is own = absurd cc
+to_it false (ToMember one server) at apart is own = absurd cc
+to_it true (ToMember one server) at apart is own = absurd cc
 
 unit_opens : (s : State) (number at : ℕ) (w : Coming) (piece : List ℕ) (is : IsWholeCarried s number w piece) → AreOwn s.bag → IsAtSide s.links w.link w.back (Controller at) →
     IsPieceOf s number w piece → w.source ≡ InUnit number → (n : ℕ) (asked : AuthCall) → n ≡ is.send.unit.call →
@@ -204,7 +207,7 @@ unit_opens s number at w piece is own side came from n asked numbered carries ot
     let one : came.unit ≡ is.unit = some_is came.unit is.unit (sym came.there ∙ is.there) in
     let route : side.route ≡ came.route = some_is side.route came.route (sym side.made ∙ came.made) in
     let back : w.back ≡ false =
-    to_it w.back side.route at side.side (ap (λ (r : Route). is_own (kind_of r)) route ∙ ap is_own came.same_kind ∙ own number came.unit came.there) in
+    to_it w.back side.route at side.apart side.side (ap (λ (r : Route). is_own (kind_of r)) route ∙ ap is_own came.same_kind ∙ own number came.unit came.there) in
     subst (λ (m : ℕ). IsCarriedOpening s.bag n m) same (record {
       carrier = is.unit;
       there = is.there;
@@ -284,8 +287,8 @@ opens_keep = record {
 
 -- ---- a run
 
-pub openings_carried : (plan : Plan) (moves : List Move) → IsSchedule plan moves → OpensFit (past plan moves).world.state.bag (past plan moves).book
-openings_carried plan moves is =
+pub openings_carried : (plan : Plan) (moves : List Move) → HandsNothingOn plan → IsSchedule plan moves → OpensFit (past plan moves).world.state.bag (past plan moves).book
+openings_carried plan moves nobody is =
     let both : Keeps NoFact (BothFacts QuietFact JudgedFact) (BothFine QuietAction AnyAction) = join QuietFact JudgedFact QuietAction AnyAction quiet_keeps judged_keeps in
-    run_fits (BothFacts QuietFact JudgedFact) (BothFine QuietAction AnyAction) both no_part no_side nothing_written OpensFit opens_keep plan moves (has_bytes plan moves is)
+    run_fits (BothFacts QuietFact JudgedFact) (BothFine QuietAction AnyAction) both no_part no_side nothing_written OpensFit opens_keep plan moves nobody (has_bytes plan moves nobody is)
     (quiet_first plan is.start is.forms, judged_first) tt tt

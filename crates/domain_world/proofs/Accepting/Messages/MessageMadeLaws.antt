@@ -20,13 +20,14 @@ use Rattle.world_moves.specs.declared.links.Route.{Route}
 use Rattle.world_moves.specs.declared.moves.Move.{Move}
 use Rattle.world_moves.specs.declared.plan.Plan.{Plan}
 use Rattle.world_moves.specs.declared.state.State.{State}
-use Rattle.world_moves.specs.Ends.{EndStates, EndStep, client_step, end_step, member_step}
+use Rattle.world_moves.specs.Ends.{EndStates, EndStep, client_step, member_step}
 use Rattle.world_moves.specs.Forms.{IsClientPlan, IsSchedule}
 use Rattle.world_moves.specs.Links.{acceptor_of}
 use Rattle.world_moves.specs.World.{first_world}
-use Rattle.world_moves.proofs.EndKindLaws.{step_by}
+use Rattle.world_moves.specs.Alone.{HandsNothingOn, alone_end_step as end_step}
 use Rattle.domain_world.specs.Accepting.KeysMade.{IsMadeFrom, MessagesAreMade}
 use Rattle.domain_world.specs.Past.{Coming, note_at, note_client, past}
+use Rattle.domain_world.proofs.Frames.AloneStepLaws.{alone_by as step_by}
 use Rattle.domain_world.proofs.Accepting.Messages.ClientOfferLaws.{AreMadeFrom, HasNames}
 use Rattle.domain_world.proofs.Accepting.Messages.ClientPlanLaws.{TaskIn, client_made, task_stays}
 use Rattle.domain_world.proofs.Accepting.ListPlaceLaws.{all_at}
@@ -150,8 +151,8 @@ form_names : (plan : ClientPlan) → IsClientPlan plan → HasNames plan
 form_names plan forms = (units_are plan.user forms.user, units_are plan.domain forms.domain)
 
 -- in every schedule each message that a client made is the answer of its plan
-pub messages_made : (plan : Plan) (moves : List Move) → IsSchedule plan moves → MessagesAreMade (past plan moves)
-messages_made plan moves schedule =
+pub messages_made : (plan : Plan) (moves : List Move) → HandsNothingOn plan → IsSchedule plan moves → MessagesAreMade (past plan moves)
+messages_made plan moves nobody schedule =
     let names : AllByRecursion HasNames plan.clients =
     recursion_from_All HasNames plan.clients (All-weaker IsClientPlan HasNames form_names plan.clients schedule.forms.clients) in
-    (run_stays_by_plans (λ (b : Book). b.made) Answers answers_written plan moves (first_answers plan names)).from
+    (run_stays_by_plans (λ (b : Book). b.made) Answers answers_written plan moves nobody (first_answers plan names)).from

@@ -39,10 +39,9 @@ use Rattle.domain_world.proofs.Accepting.Messages.ChallengeReadLaws.{AreTakenWit
 use Rattle.domain_world.proofs.Accepting.ListPlaceLaws.{all_at, all_by_place, apart_same, placed}
 use Rattle.domain_world.proofs.Challenges.MessageOnceLaws.{each_put, fresh_links, member_is, quiet_opens, route_is}
 use Rattle.domain_world.proofs.Challenges.OwnLinkLaws.{IsLinkIn, IsTakenIn, all_so, all_taken, link_more, one_behind, one_earlier}
-use Rattle.domain_world.proofs.Frames.FrameLaws.{run_stays}
 use Rattle.domain_world.proofs.Frames.LeftLaws.{AreEights, eights_after, eights_rest, first_eights}
 use Rattle.domain_world.proofs.Frames.AllLaws.{all_join}
-use Rattle.domain_world.proofs.Frames.MemberFrameLaws.{AmongMembers, KeepsMembers, MembersFact, members_written}
+use Rattle.domain_world.proofs.Frames.MemberFrameLaws.{KeepsMembers, MembersFact, members_after}
 use Rattle.domain_world.proofs.Frames.TurnFrameLaws.{asked_keep}
 use Rattle.world_moves.proofs.ChangeLaws.{member_begun}
 
@@ -324,7 +323,7 @@ pub messages_taken : (plan : Plan) (moves : List Move) → MessagesAreTakenAsSen
 messages_taken plan moves =
     let run : Past = past plan moves in
     let kept : AreAsSent (written_of run.book) run.world.state.ends.members run.world.state.links run.world.state.chances.left =
-    run_stays written_of (AmongMembers written_of Sends sends_on) (members_written written_of Sends sends_on) plan moves (first_sends plan) in
+    members_after written_of Sends sends_on plan moves (first_sends plan) in
     all_by_place (λ (message : MessageTaken). AllByRecursion (λ (sent : ChallengeSent). sent.link ≡ message.link → IsTakenAsSent message sent) run.book.challenges) run.book.messages
     (λ k message here. all_by_place (λ (sent : ChallengeSent). sent.link ≡ message.link → IsTakenAsSent message sent) run.book.challenges
     (λ l sent there same. sent_for run.book.challenges kept.apart message (all_at (IsForSent run.book.challenges) run.book.messages k message kept.messages here) l sent there same))

@@ -15,6 +15,7 @@ use Rattle.world_moves.specs.declared.moves.Move.TheVariants as move
 use Rattle.domain_world.specs.Accepting.Runs.{IsQuiet, IsQuietLink, IsQuietTurn}
 use Rattle.domain_world.specs.Past.{past}
 use Rattle.domain_world.specs.Schedules.{OfSchedules}
+use Rattle.domain_world.proofs.Frames.AloneStepLaws.{fresh_by, renew_alone_by as renew_by, renew_controller_alone as renew_controller, renewed_alone as renewed}
 use Rattle.domain_world.proofs.Accepting.Quiet.QuietStepLaws.{ClientIsQuiet, ControllerIsQuiet, IsClients, IsMade, Meets, MeetsClient, MeetsMember, MemberIsQuiet, QuietAction, QuietFact, QuietState, StandsQuiet, WholeBag, WholeIfCarried, end_steps, with_bag, RunningIsQuiet}
 use Rattle.domain_world.proofs.Frames.LeftLaws.{first_left_blocks}
 use Rattle.domain_world.proofs.Frames.StepFrameLaws.{HoldsAfterRun, run_carries}
@@ -52,19 +53,18 @@ use Rattle.world_moves.specs.declared.links.EndId.TheVariants.{Member, Client}
 use Rattle.world_moves.specs.declared.links.LinkKind.{LinkKind}
 use Rattle.world_moves.specs.declared.links.LinkKind.TheVariants as kind
 use Rattle.world_moves.specs.declared.links.Route.{Route}
-use Rattle.world_moves.specs.declared.links.Route.TheVariants.{ToMember, ToController, Stranger}
+use Rattle.world_moves.specs.declared.links.Route.TheVariants.{ToMember, ToController, Between, Stranger}
 use Rattle.world_moves.specs.declared.plan.Plan.{Plan}
 use Rattle.world_moves.specs.declared.state.State.{State}
-use Rattle.world_moves.specs.Acting.{Given, hear, perform_quietly, unit_on, units_of_action, plans_after}
+use Rattle.world_moves.specs.Acting.{Given, perform_quietly, unit_on, units_of_action, plans_after}
 use Rattle.world_moves.specs.Bag.{piece_limit, pieces_in, pieces_of, settle_at, AreShortUnits, HaveBytes}
-use Rattle.world_moves.specs.Ends.{EndStates, renew_controller, renew_member, with_member}
+use Rattle.world_moves.specs.Ends.{fresh_controller, EndStates, renew_member, with_member}
 use Rattle.world_moves.specs.Forms.{HasForms, IsMemberPlan, IsTable}
 use Rattle.world_moves.specs.Links.{acceptor_of, dialler_of, kind_of}
-use Rattle.world_moves.specs.Moving.{renewed, settle, with_link, changed}
+use Rattle.world_moves.specs.Moving.{settle, with_link, changed}
 use Rattle.world_moves.specs.World.{IsPlan, first_controllers, first_world, run}
 use Rattle.world_moves.proofs.RangeLaws.{table_in_range}
 use Rattle.world_moves.proofs.QuietLaws.{units_by}
-use Rattle.world_moves.proofs.EndKindLaws.{renew_by}
 use Rattle.domain_world.specs.Accepting.Runs.{IsOfMember}
 use Rattle.domain_world.specs.Past.{Coming}
 use Rattle.channel_events.proofs.ListLaws.{at_end, got_append, got_last, got_nothing, some_is}
@@ -82,6 +82,7 @@ use Rattle.domain_world.proofs.Frames.MemberPlanLaws.{names_alike}
 use Rattle.world_moves.proofs.ChangeLaws.{by_change, member_begun}
 use Rattle.world_moves.proofs.KeptLaws.{plans_alike}
 use Rattle.world_moves.specs.MemberPlans.{AreAlikeButSecrets}
+use Rattle.world_moves.specs.Alone.{hear_alone as hear}
 
 -- ---- links
 
@@ -168,11 +169,13 @@ no_link number P is = absurd (let never = is in cc)
 members_route : (route : Route) (k : ℕ) → dialler_of route ≡ Some (Member k) → (controller : ℕ) × (route ≡ ToController k controller)
 members_route (ToController other controller) k is = (controller, ap (λ (n : ℕ). ToController n controller) (let same : other ≡ k = cc in same))
 members_route (ToMember one server) k is = absurd cc
+members_route (Between from to) k is = absurd cc
 members_route (Stranger to) k is = absurd cc
 
 pub clients_route : (route : Route) (k : ℕ) → dialler_of route ≡ Some (Client k) → (server : ℕ) × (route ≡ ToMember k server)
 clients_route (ToMember other server) k is = (server, ap (λ (n : ℕ). ToMember n server) (let same : other ≡ k = cc in same))
 clients_route (ToController one controller) k is = absurd cc
+clients_route (Between from to) k is = absurd cc
 clients_route (Stranger to) k is = absurd cc
 
 -- the end dialled the link that is answered
@@ -245,6 +248,7 @@ bag_more bag unit whole last n one there =
 members_link : (route : Route) → kind_of route ≡ kind.ToController → (member : ℕ) × ((controller : ℕ) × (route ≡ ToController member controller))
 members_link (ToController member controller) is = (member, (controller, refl))
 members_link (ToMember one server) is = absurd (let never = is in cc)
+members_link (Between from to) is = absurd (let never = is in cc)
 members_link (Stranger to) is = absurd (let never = is in cc)
 
 -- the units that an action sends are bytes, and whole where it goes to a controller
@@ -401,17 +405,17 @@ quiet_keeps = record {
 
 -- ---- at first
 
-controllers_first : (links : List Route) (tables : List AccountTable) (names : List (List ℕ)) → All IsTable tables → All IsName names → (i : ℕ) (c : ControllerState) →
-    slice_get (first_controllers tables names) i ≡ Some c → ControllerIsQuiet links c
-controllers_first links [] names ranges are i c there = absurd (got_nothing i c there)
-controllers_first links (table ∷ tables) [] ranges are i c there = absurd (got_nothing i c there)
-controllers_first links (table ∷ tables) (name ∷ names) ranges are zero c there =
-    subst (λ (one : ControllerState). ControllerIsQuiet links one) (some_is (controller.first_state table name) c there) (record {
-      range = sends_are_whole.first table name (table_in_range table (All-head IsTable table tables ranges)) (All-head IsName name names are);
-      well = tt;
-    })
-controllers_first links (table ∷ tables) (name ∷ names) ranges are (suc i) c there =
-    controllers_first links tables names (All-tail IsTable table tables ranges) (All-tail IsName name names are) i c there
+controllers_first : (links : List Route) (hands_on : Bool) (tables : List AccountTable) (names : List (List ℕ)) → All IsTable tables → All IsName names → (i : ℕ) (c : ControllerState) →
+    slice_get (first_controllers hands_on tables names) i ≡ Some c → ControllerIsQuiet links c
+controllers_first links hands_on [] names ranges are i c there = absurd (got_nothing i c there)
+controllers_first links hands_on (table ∷ tables) [] ranges are i c there = absurd (got_nothing i c there)
+controllers_first links hands_on (table ∷ tables) (name ∷ names) ranges are zero c there =
+    let range = sends_are_whole.first table name (table_in_range table (All-head IsTable table tables ranges)) (All-head IsName name names are) in
+    subst (λ (one : ControllerState). ControllerIsQuiet links one) (some_is (fresh_controller hands_on table name) c there)
+    (fresh_by (λ (one : ControllerState). ControllerIsQuiet links one) table name (record { range = range; well = tt })
+    (record { range = record { name = range.name; table = range.table; running = range.running }; well = tt }) hands_on)
+controllers_first links hands_on (table ∷ tables) (name ∷ names) ranges are (suc i) c there =
+    controllers_first links hands_on tables names (All-tail IsTable table tables ranges) (All-tail IsName name names are) i c there
 
 plans_first : (plans : List MemberPlan) → All IsMemberPlan plans → (k : ℕ) (plan : MemberPlan) → slice_get plans k ≡ Some plan → IsName plan.computer
 plans_first [] are k plan there = absurd (got_nothing k plan there)
@@ -444,7 +448,7 @@ tasks_first (first ∷ plans) all (suc k) plan there = tasks_first plans (All-ta
 pub quiet_first : (plan : Plan) → IsPlan plan → HasForms plan → QuietState (first_world plan).state
 quiet_first plan start forms = record {
   bag = λ n unit there. absurd (got_nothing n unit there);
-  controllers = controllers_first [] plan.tables plan.controllers forms.tables forms.controllers;
+  controllers = controllers_first [] plan.hands_on plan.tables plan.controllers forms.tables forms.controllers;
   members = λ k m there.
       subst (λ (n : ℕ). MemberIsQuiet [] n m.running) (let e : 0 + k ≡ k = omega arith in e) (members_first [] 0 plan.members forms.members k m there);
   clients = λ k c there. clients_first [] plan.clients k k c start.clients there;
@@ -483,21 +487,21 @@ quiet_bag bag whole = record {
 }
 
 quiet_after : OfSchedules (HoldsAfterRun QuietFact)
-quiet_after plan moves is =
-    run_carries QuietFact QuietAction quiet_keeps (λ n s b quiet. quiet_bag s.bag quiet.bag) plan moves (handed moves is.move_forms) (quiet_first plan is.start is.forms)
+quiet_after plan moves nobody is =
+    run_carries QuietFact QuietAction quiet_keeps (λ n s b quiet. quiet_bag s.bag quiet.bag) plan moves nobody (handed moves is.move_forms) (quiet_first plan is.start is.forms)
 
 -- what is known of the units of a world, of a schedule
 pub has_bytes : OfSchedules HasBytes
-has_bytes plan moves is =
+has_bytes plan moves nobody is =
     let bag : List BagUnit = (past plan moves).world.state.bag in
-    let known : IsBytesBag bag = quiet_bag bag (quiet_after plan moves is).holds.bag in
+    let known : IsBytesBag bag = quiet_bag bag (quiet_after plan moves nobody is).holds.bag in
     record { short = short_units bag known.short; bytes = units_have_bytes bag known.bytes; handed = handed moves is.move_forms }
 
 pub units_short : OfSchedules (λ plan moves. AreShortUnits (run moves (first_world plan)).state.bag)
-units_short plan moves is = (has_bytes plan moves is).short
+units_short plan moves nobody is = (has_bytes plan moves nobody is).short
 
 pub units_bytes : OfSchedules (λ plan moves. HaveBytes (run moves (first_world plan)).state.bag)
-units_bytes plan moves is = (has_bytes plan moves is).bytes
+units_bytes plan moves nobody is = (has_bytes plan moves nobody is).bytes
 
 quiet_turn : (links : List Route) (k : ℕ) (how : Dialling) → IfOn (IsDialledBy links k) how → IsQuietTurn how
 quiet_turn links k dialling.Nothing on = tt
@@ -524,4 +528,4 @@ is_quiet s quiet = record {
 }
 
 pub stands_quiet : OfSchedules (λ plan moves. IsQuiet (past plan moves).world.state)
-stands_quiet plan moves is = is_quiet (past plan moves).world.state (quiet_after plan moves is).holds
+stands_quiet plan moves nobody is = is_quiet (past plan moves).world.state (quiet_after plan moves nobody is).holds

@@ -20,16 +20,18 @@ use Rattle.world_moves.specs.declared.links.EndId.TheVariants.{Controller, Clien
 use Rattle.world_moves.specs.declared.moves.Move.{Move}
 use Rattle.world_moves.specs.declared.plan.Plan.{Plan}
 use Rattle.world_moves.specs.declared.state.State.{State}
-use Rattle.world_moves.specs.Acting.{Given, forget, given_by, hear, heard_by, hear_and_act, perform_quietly, shut_link}
+use Rattle.world_moves.specs.Acting.{Given, forget, given_by, heard_by, perform_quietly, shut_link}
 use Rattle.world_moves.specs.Counting.{is_in}
-use Rattle.world_moves.specs.Ends.{EndStates, EndStep, client_step, controller_step, no_step}
+use Rattle.world_moves.specs.Ends.{EndStates, EndStep, client_step, no_step}
 use Rattle.world_moves.specs.Links.{acceptor_of}
 use Rattle.world_moves.specs.MemberPlans.{AreAlikeButSecrets}
-use Rattle.world_moves.specs.Moving.{answered_link, begun, renewed, settle, tick, with_link, without_first, changed as change_begun}
+use Rattle.world_moves.specs.Moving.{answered_link, begun, settle, tick, with_link, without_first, changed as change_begun}
 use Rattle.world_moves.specs.World.{World, first_world}
+use Rattle.world_moves.specs.Alone.{HandsNothingOn, alone_controller_step as controller_step, hear_alone as hear}
 use Rattle.domain_world.specs.Accepting.Carried.{IsAnswerFor, IsAnsweredInTurn, IsTakenInTurn}
 use Rattle.domain_world.specs.Accepting.ReadBack.{IsLetInInTurn, IsToldInTurn, TurnsAreHeard}
 use Rattle.domain_world.specs.Past.{Coming, Past, answers_of, any_clash, note_at, note_client, note_controller, note_given, past, told_in}
+use Rattle.domain_world.proofs.Frames.AloneStepLaws.{act_alone as hear_and_act, renewed_alone as renewed}
 use Rattle.domain_world.proofs.Accepting.Turns.TurnFactLaws.{Any, AreApart, GrowsTo, HasFree, IsAnswered, IsKnown, KeepFree, MarksAreKnown, SameEnds, TurnFacts, apart_from, let_in_stays, marks_before, past_at, taken_stays, told_stays, world_in}
 use Rattle.domain_world.proofs.Accepting.Turns.TurnNotedLaws.{or_false}
 use Rattle.domain_world.proofs.Accepting.Turns.TurnQuietLaws.{change_same, change_stays, action_still, acts_stay, changed_stays, hear_grows, others_hear, others_tell, over_grows, over_stays, quiet_hears, renew_same, renew_stays, same_ends, step_same, told_yet}
@@ -211,15 +213,15 @@ turns_begin plan = (
 
 -- ---- what it comes to
 
-pub turns_of : (n : ℕ) (plan : Plan) (moves : List Move) → TurnsHold plan n (past plan moves).world.state [] (past plan moves).book → TurnsAreHeard (past plan moves)
-turns_of n plan moves holds =
+pub turns_of : (n : ℕ) (plan : Plan) (moves : List Move) → HandsNothingOn plan → TurnsHold plan n (past plan moves).world.state [] (past plan moves).book → TurnsAreHeard (past plan moves)
+turns_of n plan moves nobody holds =
     let p : Past = past plan moves in
     let b : Book = p.book in
     let s : State = p.world.state in
     let v : World = world_in s in
     let grows : GrowsTo s s b b = record { bag = kept_same s.bag; sent = λ k one there. there; ends = same_ends s.ends } in
     let facts : b.clash ≡ false → TurnFacts plan s b b.messages b.answers b.told = λ unclashed.
-    subst (λ (told : List OutcomeTold). TurnFacts plan s b b.messages b.answers told) (append-nil b.told) (holds.1 unclashed (apart_from b.messages (messages_apart plan moves)) (marks_known plan moves)) in
+    subst (λ (told : List OutcomeTold). TurnFacts plan s b b.messages b.answers told) (append-nil b.told) (holds.1 unclashed (apart_from b.messages (messages_apart plan moves)) (marks_known plan moves nobody)) in
     let taken : b.clash ≡ false → AllByRecursion (IsTakenInTurn p) b.answers = λ unclashed.
     all_weaker (IsTakenInTurn (past_at plan s b)) (IsTakenInTurn p) b.answers (taken_stays plan v p.world b b grows) (facts unclashed).taken in
     record {

@@ -28,14 +28,16 @@ use Rattle.world_moves.specs.declared.links.EndId.{EndId}
 use Rattle.world_moves.specs.declared.links.EndId.TheVariants.{Controller, Member, Client}
 use Rattle.world_moves.specs.declared.plan.Plan.{Plan}
 use Rattle.world_moves.specs.declared.state.State.{State}
-use Rattle.world_moves.specs.Acting.{Given, Heard, given_by, hear, heard_by, perform_quietly}
+use Rattle.world_moves.specs.Acting.{Given, Heard, given_by, heard_by, perform_quietly}
 use Rattle.world_moves.specs.Counting.{is_in}
-use Rattle.world_moves.specs.Ends.{EndStates, EndStep, actions_by, client_step, controller_step, end_step, member_step, no_step}
-use Rattle.world_moves.specs.Moving.{renewed, changed}
+use Rattle.world_moves.specs.Ends.{EndStates, EndStep, actions_by, client_step, member_step, no_step}
+use Rattle.world_moves.specs.Moving.{changed}
+use Rattle.world_moves.specs.Alone.{alone_controller_step as controller_step, alone_end_step as end_step, hear_alone as hear}
 use Rattle.world_moves.proofs.LinkFrameLaws.{quiet_stays}
-use Rattle.world_moves.proofs.EndKindLaws.{is_member, renew_by, step_by}
+use Rattle.world_moves.proofs.EndKindLaws.{is_member}
 use Rattle.domain_world.specs.Accepting.ReadBack.{IsLetInInTurn, IsToldInTurn}
 use Rattle.domain_world.specs.Past.{note_given, sent_at, told_by, told_in}
+use Rattle.domain_world.proofs.Frames.AloneStepLaws.{alone_by as step_by, renew_alone_by as renew_by, renewed_alone as renewed}
 use Rattle.domain_world.proofs.Accepting.Turns.TurnFactLaws.{Any, GrowsTo, HasFree, IsAnswered, IsKnown, KeepFree, SameEnds, TurnFacts, facts_stay, past_at}
 use Rattle.domain_world.proofs.Challenges.MessageOnceLaws.{each_put}
 use Rattle.domain_world.proofs.Frames.ComingLaws.{StillHas, StillIn, kept_same, kept_sent}

@@ -10,11 +10,12 @@ use Rattle.step_notes.proofs.Members.KeptLogonLaws.{kept_so}
 use Rattle.world_moves.specs.declared.moves.Move.{Move}
 use Rattle.world_moves.specs.declared.plan.Plan.{Plan}
 use Rattle.world_moves.specs.declared.state.State.{State}
-use Rattle.world_moves.specs.Acting.{Given, hear}
+use Rattle.world_moves.specs.Acting.{Given}
 use Rattle.world_moves.specs.Moving.{begun, with_link, changed}
 use Rattle.world_moves.specs.Forms.{IsSchedule}
 use Rattle.world_moves.specs.Links.{acceptor_of}
 use Rattle.world_moves.specs.World.{first_world}
+use Rattle.world_moves.specs.Alone.{hear_alone as hear}
 use Rattle.domain_world.specs.Accepting.ReadBack.{TurnsAreHeard}
 use Rattle.domain_world.specs.Past.{past}
 use Rattle.channel_events.specs.Marks.{Mark}
@@ -122,7 +123,7 @@ side_first plan moves schedule = (
 )
 
 pub turns_run : OfSchedules (λ plan moves. TurnsAreHeard (past plan moves))
-turns_run plan moves schedule =
+turns_run plan moves nobody schedule =
     let after : HoldsAfterRun (TurnSide plan) plan moves =
-    run_keeps (TurnSide plan) TurnAction (side_keeps plan) plan moves (has_bytes plan moves schedule) (side_first plan moves schedule) in
-    turns_of after.steps plan moves (after.holds.1 (omega (arith, after.few, schedule.few)))
+    run_keeps (TurnSide plan) TurnAction (side_keeps plan) plan moves nobody (has_bytes plan moves nobody schedule) (side_first plan moves schedule) in
+    turns_of after.steps plan moves nobody (after.holds.1 (omega (arith, after.few, schedule.few)))

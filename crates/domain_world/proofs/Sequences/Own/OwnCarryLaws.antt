@@ -20,13 +20,13 @@ use Rattle.world_moves.specs.declared.links.EndId.TheVariants.{Client, Member}
 use Rattle.world_moves.specs.declared.plan.Plan.{Plan}
 use Rattle.world_moves.specs.declared.state.State.{State}
 use Rattle.world_moves.specs.Acting.{Given, given_by}
-use Rattle.world_moves.specs.Ends.{EndStates, renew_client, renew_controller, renew_member, with_member}
+use Rattle.world_moves.specs.Ends.{EndStates, renew_client, renew_member, with_member}
 use Rattle.world_moves.specs.MemberPlans.{AreAlikeButSecrets}
-use Rattle.world_moves.specs.Moving.{begun, changed as begun_change, renewed}
+use Rattle.world_moves.specs.Moving.{begun, changed as begun_change}
 use Rattle.world_moves.specs.World.{first_world}
-use Rattle.world_moves.proofs.EndKindLaws.{renew_by}
 use Rattle.domain_world.specs.Accepting.Sequences.{IsTakenFor}
 use Rattle.domain_world.specs.Past.{controller_asked, running_in}
+use Rattle.domain_world.proofs.Frames.AloneStepLaws.{renew_alone_by as renew_by, renew_controller_alone as renew_controller, renewed_alone as renewed}
 use Rattle.domain_world.proofs.Accepting.Turns.TurnFactLaws.{AreApart, GrowsTo, SameEnds, marks_before, past_at}
 use Rattle.domain_world.proofs.Accepting.Turns.TurnQuietLaws.{change_same, renew_same, same_ends}
 use Rattle.domain_world.proofs.Challenges.MessageApartLaws.{links_in}

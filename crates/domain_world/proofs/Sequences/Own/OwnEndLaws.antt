@@ -40,7 +40,7 @@ known_if Done marks drawn turns controller who (Some running) own =
     subst (λ (all : List ChannelTurn). KnowsCalls Done marks all controller running.logons.channel) (own.1.none refl) own.1.calls
 
 pub turns_are_called : OfSchedules (λ plan moves. IsClear (past plan moves).book → TurnsAreCalled (past plan moves))
-turns_are_called plan moves schedule clear =
+turns_are_called plan moves nobody schedule clear =
     let p : Past = past plan moves in
     let s : State = p.world.state in
     let b : Book = p.book in
@@ -50,14 +50,14 @@ turns_are_called plan moves schedule clear =
     let after : HoldsAfterRun (BothFacts (TurnSide plan) (OwnHolds plan)) plan moves =
     own_run (BothFacts (TurnSide plan) (OwnHolds plan)) (BothFine TurnAction AnyAction) both
     (λ n at now given book known holds.
-    ((side_keeps plan).over n at now given book tt holds.0, own_ends plan n at now given book known holds.1)) plan moves (has_bytes plan moves schedule)
+    ((side_keeps plan).over n at now given book tt holds.0, own_ends plan n at now given book known holds.1)) plan moves nobody (has_bytes plan moves nobody schedule)
     (side_first plan moves schedule, first_own plan) in
     let facts : OwnFacts plan s [] b =
-    after.holds.1 (omega (arith, after.few, schedule.few)) clear.apart (apart_from b.messages (messages_apart plan moves)) (marks_known plan moves) (draws_differ plan moves) in
+    after.holds.1 (omega (arith, after.few, schedule.few)) clear.apart (apart_from b.messages (messages_apart plan moves)) (marks_known plan moves nobody) (draws_differ plan moves) in
     let all : AllKnow (IsTakenFor (past_at plan s b)) s b =
     λ who. known_if (IsTakenFor (past_at plan s b)) (marks_in b.sent) s.chances.drawn b.turns (controller_asked who s) who (asker_in who s.ends) (facts.asks who) in
     turns_called p (IsTakenFor (past_at plan s b))
-    (λ n is. taken_pass plan moves (units_heard plan moves schedule) clear.apart n (record {
+    (λ n is. taken_pass plan moves nobody (units_heard plan moves nobody schedule) clear.apart n (record {
       taken = is.taken;
       call = is.call;
       turn = taken_stays plan (world_in s) p.world b b (record { bag = kept_same s.bag; sent = λ k one there. there; ends = same_ends s.ends }) is.taken is.turn;

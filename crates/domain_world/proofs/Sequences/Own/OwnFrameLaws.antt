@@ -22,9 +22,9 @@ use Rattle.world_moves.specs.declared.links.EndId.{EndId}
 use Rattle.world_moves.specs.declared.links.EndId.TheVariants.{Controller, Member, Client}
 use Rattle.world_moves.specs.declared.state.State.{State}
 use Rattle.world_moves.specs.declared.state.WaitingDial.{WaitingDial}
-use Rattle.world_moves.specs.Acting.{Given, given_by, hear}
-use Rattle.world_moves.specs.Ends.{EndStates, EndStep, actions_by, client_step, controller_step, end_step, member_step, with_client}
-use Rattle.world_moves.proofs.EndKindLaws.{step_by}
+use Rattle.world_moves.specs.Acting.{Given, given_by}
+use Rattle.world_moves.specs.Ends.{EndStates, EndStep, actions_by, client_step, member_step, with_client}
+use Rattle.domain_world.proofs.Frames.AloneStepLaws.{alone_by as step_by}
 use Rattle.domain_world.proofs.Requests.CallHoldsLaws.{SameNumbers, differ_front}
 use Rattle.domain_world.proofs.Requests.StepApartLaws.{Differ}
 use Rattle.domain_world.proofs.Sequences.DialCountLaws.{answered_dials, dials_out, given_append, given_dials, given_other, none_counted}
@@ -37,6 +37,7 @@ use Rattle.secret_change.specs.Secrets.{written_secrets}
 use Rattle.outside.specs.declared.action.Action.TheVariants.{Keep}
 use Rattle.world_moves.proofs.ChangeLaws.{by_change, member_begun, text_begun, with_next}
 use Rattle.world_moves.specs.Moving.{changed}
+use Rattle.world_moves.specs.Alone.{alone_controller_step as controller_step, alone_end_step as end_step, hear_alone as hear}
 
 -- ---- what is known
 

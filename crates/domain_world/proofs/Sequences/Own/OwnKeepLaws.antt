@@ -11,11 +11,13 @@ use Rattle.world_moves.specs.declared.links.EndId.{EndId}
 use Rattle.world_moves.specs.declared.links.EndId.TheVariants.{Controller, Client}
 use Rattle.world_moves.specs.declared.plan.Plan.{Plan}
 use Rattle.world_moves.specs.declared.state.State.{State}
-use Rattle.world_moves.specs.Acting.{Given, given_by, hear, heard_by}
-use Rattle.world_moves.specs.Ends.{EndStep, client_step, controller_step, no_step}
-use Rattle.world_moves.proofs.EndKindLaws.{IfMember, step_by}
+use Rattle.world_moves.specs.Acting.{Given, given_by, heard_by}
+use Rattle.world_moves.specs.Ends.{EndStep, client_step, no_step}
+use Rattle.world_moves.specs.Alone.{alone_controller_step as controller_step, hear_alone as hear}
+use Rattle.world_moves.proofs.EndKindLaws.{IfMember}
 use Rattle.domain_world.specs.Accepting.Sequences.{IsTakenFor}
 use Rattle.domain_world.specs.Past.{note_given, sent_at, turns_in, controller_asked}
+use Rattle.domain_world.proofs.Frames.AloneStepLaws.{alone_by as step_by}
 use Rattle.domain_world.proofs.Accepting.Turns.TurnFactLaws.{AreApart, MarksAreKnown, SameEnds, marks_before, past_at}
 use Rattle.domain_world.proofs.Accepting.Turns.TurnQuietLaws.{hear_grows, over_grows, step_same}
 use Rattle.domain_world.proofs.Challenges.MessageApartLaws.{links_in}

@@ -17,7 +17,8 @@ use Rattle.std.specs.Prelude.{flat_map}
 use Rattle.world_moves.specs.declared.links.EndId.TheVariants.{Member}
 use Rattle.world_moves.specs.declared.plan.Plan.{Plan}
 use Rattle.world_moves.specs.declared.state.State.{State}
-use Rattle.world_moves.specs.Acting.{Given, given_by, hear}
+use Rattle.world_moves.specs.Acting.{Given, given_by}
+use Rattle.world_moves.specs.Alone.{hear_alone as hear}
 use Rattle.world_moves.proofs.EndKindLaws.{of_member}
 use Rattle.domain_world.specs.Past.{Coming, at_member, marks_of, note_member, note_messages, sent_at, with_marks, with_taken}
 use Rattle.domain_world.proofs.Accepting.Turns.TurnFactLaws.{AreApart, apart_front}

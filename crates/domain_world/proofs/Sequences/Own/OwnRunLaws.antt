@@ -33,12 +33,13 @@ use Rattle.world_moves.specs.declared.plan.Plan.{Plan}
 use Rattle.world_moves.specs.declared.state.State.{State}
 use Rattle.world_moves.specs.declared.state.WaitingDial.{WaitingDial}
 use Rattle.world_moves.specs.Acting.{Given, forget, is_of_other, perform_quietly, plans_after}
-use Rattle.world_moves.specs.Moving.{renew}
-use Rattle.world_moves.specs.Ends.{EndStates, renew_client, renew_controller, renew_member}
+use Rattle.world_moves.specs.Ends.{EndStates, renew_client, renew_member}
 use Rattle.world_moves.specs.World.{first_world}
-use Rattle.world_moves.proofs.EndKindLaws.{IfMember, renew_by}
+use Rattle.world_moves.specs.Alone.{HandsNothingOn}
+use Rattle.world_moves.proofs.EndKindLaws.{IfMember}
 use Rattle.domain_world.specs.Claims.SharedSequences.{SequencesAreOwn, Stands, timestamps_on}
 use Rattle.domain_world.specs.Past.{past, running_in, turns_by, turns_in, controller_asked}
+use Rattle.domain_world.proofs.Frames.AloneStepLaws.{renew_alone as renew, renew_alone_by as renew_by, renew_controller_alone as renew_controller}
 use Rattle.domain_world.proofs.Frames.DrawnRunLaws.{draws_differ}
 use Rattle.domain_world.proofs.Sequences.DialCountLaws.{counted, dials_out, done_same, forgotten_few, given_dials, gone_all, none_counted, one_if, waiting_dials}
 use Rattle.domain_world.proofs.Sequences.DialWalkLaws.{AtState, KeepsDials, dials_after}
@@ -348,8 +349,8 @@ own_seed s who channel o turns holds stands =
     ∙ ap (λ (l : List ChannelTurn). channel_seed channel (stamps_on channel l)) (append-nil (mine who turns))
     ∙ ap (channel_seed channel) (own_stamps who channel turns)
 
-pub sequences_own : (plan : Plan) (moves : List Move) → SequencesAreOwn (past plan moves)
-sequences_own plan moves who channel o stands =
+pub sequences_own : (plan : Plan) (moves : List Move) → HandsNothingOn plan → SequencesAreOwn (past plan moves)
+sequences_own plan moves nobody who channel o stands =
     let known : AtState TurnsKnown None [] (past plan moves).world.state [] (past plan moves).book.turns =
-    dials_after TurnsKnown turns_keep plan moves (first_known plan) in
+    dials_after TurnsKnown turns_keep plan moves nobody (first_known plan) in
     own_seed (past plan moves).world.state who channel o (past plan moves).book.turns (known (draws_differ plan moves)) stands

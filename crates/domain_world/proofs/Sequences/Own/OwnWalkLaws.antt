@@ -16,11 +16,13 @@ use Rattle.world_moves.specs.declared.links.EndId.{EndId}
 use Rattle.world_moves.specs.declared.links.EndId.TheVariants.{Member}
 use Rattle.world_moves.specs.declared.plan.Plan.{Plan}
 use Rattle.world_moves.specs.declared.state.State.{State}
-use Rattle.world_moves.specs.Acting.{Given, given_by, hear, hear_and_act, perform_quietly, shut_link, forget}
+use Rattle.world_moves.specs.Acting.{Given, given_by, perform_quietly, shut_link, forget}
 use Rattle.world_moves.specs.Links.{acceptor_of}
 use Rattle.world_moves.specs.Moving.{answered_link, begun, settle, tick, with_link, without_first, changed as begun_change}
+use Rattle.world_moves.specs.Alone.{hear_alone as hear}
 use Rattle.world_moves.proofs.EndKindLaws.{by_member, is_member, no_member}
 use Rattle.domain_world.specs.Past.{Coming, answers_of, any_clash, at_controller, marks_of, note_at, note_client, note_controller, sent_at}
+use Rattle.domain_world.proofs.Frames.AloneStepLaws.{act_alone as hear_and_act}
 use Rattle.domain_world.proofs.Accepting.Turns.TurnNotedLaws.{or_false}
 use Rattle.domain_world.proofs.Accepting.Turns.TurnQuietLaws.{action_still}
 use Rattle.domain_world.proofs.Frames.ComingLaws.{CameFrom, kept_same, kept_settled}

@@ -24,12 +24,14 @@ use Rattle.step_notes.specs.Records.{Book, ChannelTurn, Sent, unit_in, OfMember,
 use Rattle.world_moves.specs.declared.links.EndId.TheVariants.{Member}
 use Rattle.world_moves.specs.declared.plan.Plan.{Plan}
 use Rattle.world_moves.specs.declared.state.State.{State}
-use Rattle.world_moves.specs.Acting.{Given, Heard, given_by, hear, heard_by, hear_and_act, perform_all}
+use Rattle.world_moves.specs.Acting.{Given, Heard, given_by, heard_by, perform_all}
 use Rattle.world_moves.specs.Ends.{actions_by, member_step}
+use Rattle.world_moves.specs.Alone.{hear_alone as hear}
 use Rattle.world_moves.proofs.EndKindLaws.{of_member}
 use Rattle.domain_world.specs.Accepting.Sequences.{IsTakenFor}
 use Rattle.domain_world.specs.Past.{Coming, note_member, sent_at, controller_asked, running_in}
 use Rattle.domain_world.specs.Accepting.Runs.{view_with}
+use Rattle.domain_world.proofs.Frames.AloneStepLaws.{act_alone as hear_and_act}
 use Rattle.domain_world.proofs.Accepting.LetInStepLaws.{IsDialledBy}
 use Rattle.domain_world.proofs.Accepting.Turns.TurnFactLaws.{AreApart, GrowsTo, MarksAreKnown, TurnFacts, apart_front, marks_before, past_at}
 use Rattle.domain_world.proofs.Accepting.Turns.TurnQuietLaws.{told_yet}
