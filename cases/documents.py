@@ -38,6 +38,8 @@ def toml(value):
     if isinstance(value, list):
         return "[" + ", ".join(toml(each) for each in value) + "]"
     assert "'" not in value
+    if any(ord(sign) < 32 for sign in value):
+        return '"' + "".join(f"\\u{ord(sign):04x}" if ord(sign) < 32 else sign for sign in value) + '"'
     return f"'{value}'"
 
 

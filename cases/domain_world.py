@@ -3,7 +3,8 @@
 `world.run WORD ..`: a world of the plan of the words `controller/DOCUMENT/NAME`,
 `member/COMPUTER/DOMAIN/SECRET/CONTROLLER`,
 `client/SERVER/DOMAIN/USER/WORKSTATION/HASH/LEVEL/KIND/ECHO` (as in `controller.run`, `member.run` and `client.run`) and
-`now/MOMENT`, whose seed is 32 zeros, and its moves: `start/NUMBER`, `stranger/NUMBER`, `connect`, `fail`, `onward`,
+`now/MOMENT`, whose seed is 32 zeros, with `trusting` where its controllers hand logons on (`world_trusts.py`), and its
+moves: `start/NUMBER`, `stranger/NUMBER`, `connect`, `fail`, `onward`,
 `lose`, `deliver/UNIT/LINK`, `hand/LINK/WAY/BYTES` (WAY `back` or `forward`), `shut/NUMBER`,
 `restart/NUMBER`, `change/NUMBER/SECRET`, `tick/NUMBER`. The answer is the report, and the outcomes of the clients at
 the first four places.
@@ -179,8 +180,10 @@ class World:
                 assert end in self.members and rest[0] == end.end.kept()
             elif kind == "told":
                 self.counts[{"In": "accepted", "Out": "refused", "NoController": "no_controller"}[rest[0]]] += 1
-            elif rest[0] in ("Passed", "Barred"):
-                self.counts[rest[0].lower()] += 1
+            elif rest[0] in ("Passed", "Forwarded"):
+                self.counts["passed"] += 1
+            elif rest[0] == "Barred":
+                self.counts["barred"] += 1
 
     def hears(self, end, what, *rest):
         self.perform(end, self.hear(end, what, *rest))
@@ -245,13 +248,22 @@ class World:
         if end:
             self.open("stranger", None, end)
 
+    def kind_of_dial(self, end, to):
+        """The kind of the link of a dial to that end; None where it isn't answered. A controller dials others alone."""
+        if end in self.clients:
+            return "to member" if to in self.members else None
+        if to is end or to not in self.controllers:
+            return None
+        return "to controller" if end in self.members else "between"
+
     def connect(self):
         if not self.dials:
             return
         end, address = self.dials.pop(0)
         to = self.ends()[address[0]] if len(address) == 1 and address[0] < len(self.ends()) else None
-        if to in (self.members if end in self.clients else self.controllers):
-            number = self.open("to member" if end in self.clients else "to controller", end, to)
+        kind = self.kind_of_dial(end, to)
+        if kind:
+            number = self.open(kind, end, to)
             if self.links[number]["open"]["to"]:
                 self.links[number]["open"]["from"] = True
                 self.hears(end, "dialled", number)
@@ -290,7 +302,7 @@ class World:
             self.pieces(self.chosen(link, same), unit["back"], unit["bytes"], number % len(self.bag))
 
     def hand(self, link, back, data):
-        number = self.chosen(link, [place for place, each in enumerate(self.links) if each["kind"] != "to controller"])
+        number = self.chosen(link, [place for place, each in enumerate(self.links) if each["kind"] in ("to member", "stranger")])
         if number is not None and not (back and self.links[number]["from"] is None):
             self.pieces(number, back, data)
 

@@ -60,6 +60,7 @@ PROGRAMS = {
         "logon_client",
         "member_server",
         "domain_world",
+        "world_trusts",
     ],
     "top_cases": [
         "nt_top",
