@@ -1,13 +1,14 @@
 #!/usr/bin/env python3
 """How the servers do over TCP: logons a second and processor time a logon at a controller, over one link and over many
 at once, beside those of a bare loop in C (bench/bare.c) in the same run; of logons that it hands on to a trusted
-domain's controller; the time of nt_logon from its start to `in`; and how long a dial that hangs holds the other links
-of a member server.
+domain's controller; the time of nt_logon from its start to `in`, and what its logon takes of the member server's
+processor and of the controller's; and how long a dial that hangs holds the other links of a member server.
 
-usage: links.py FOLDER [one]      FOLDER has the three programs; `one`: over one link alone, for programs that serve no
-more
+usage: links.py FOLDER .. [one]      a FOLDER has the three programs; `one`: over one link alone and without trusts, for
+programs that serve no more links, or know no trusts
 
-The requests are made before the time is taken, by the Python world of cases/. Processor time is what /proc tells of the
+Several folders are measured in turn in each round, so that what else the machine does weighs on all of them alike. The
+requests are made before the time is taken, by the Python world of cases/. Processor time is what /proc tells of the
 server's process. Each wait has an end, and what was started is stopped. The bare loop reads a request of 392 bytes and
 writes a reply of 512, as a logon has them; without a C compiler its lines are left out."""
 
@@ -28,7 +29,7 @@ from rpc_units import write as write_unit
 from sessions import desl
 
 SECRET, HASH, ASKED, CLIENT = b"\x41" * 16, b"\x11" * 16, bytes(range(8)), bytes.fromhex("1011121314151617")
-MANY, SILENT, ROUNDS = 64, 200, 5
+MANY, SILENT, ROUNDS, LOGONS = 64, 200, 15, 60
 LIMIT = 30
 REQUEST, REPLY = 392, 512
 
@@ -160,11 +161,17 @@ def run(servers, members, depth, count, **names):
     return count * len(members) / passed, used / (count * len(members)) * 1e6
 
 
-def best(server, members, depth, count, *others, **names):
-    """The best of some rounds, and their median."""
-    rounds = [run([server, *others], members, depth, count, **names) for _ in range(ROUNDS)]
-    rates, times = sorted(rate for rate, _ in rounds), sorted(time for _, time in rounds)
-    return f"{rates[-1]:8.0f} a second at best, median {rates[ROUNDS // 2]:8.0f}; processor {times[0]:.1f} us at best, median {times[ROUNDS // 2]:.1f}"
+def best(what, *measured, **names):
+    """Prints the best of some rounds and their median, of each that is measured: its name, its servers, and what `run`
+    takes of it. In a round each has its turn."""
+    rounds = [[] for _ in measured]
+    for _ in range(ROUNDS):
+        for taken, (_, servers, members, depth, count) in zip(rounds, measured):
+            taken.append(run(servers, members, depth, count, **names))
+    for taken, (name, *_) in zip(rounds, measured):
+        rates, times = sorted(rate for rate, _ in taken), sorted(time for _, time in taken)
+        print(f"{f'{what}{name}:':45} {rates[-1]:8.0f} a second at best, median {rates[ROUNDS // 2]:8.0f}; "
+              f"processor {times[0]:.1f} us at best, median {times[ROUNDS // 2]:.1f}", flush=True)
 
 
 def bare_loop(folder):
@@ -180,11 +187,12 @@ def bare_loop(folder):
 class Domain:
     """A controller and a member server on ports of their own."""
 
-    def __init__(self, programs, folder):
-        self.programs, self.folder, self.started = programs, folder, []
+    def __init__(self, programs, folder, trusts):
+        self.programs, self.folder, self.started, self.name = programs, folder, [], ""
         self.port, self.member_port, self.trusted_port = free_port(), free_port(), free_port()
         machines = "".join(f'[[machine]]\nname = "M{number}$"\nkind = "workstation"\nhash = "{SECRET.hex()}"\n' for number in range(MANY))
-        self.file("table", f'domain = "CORP"\nsid = "S-1-5-21-1-2-3"\n[[user]]\nname = "ann"\nrid = 1001\nhash = "{HASH.hex()}"\n{machines}[[trust]]\ndomain = "ROAM"\nhash = "{SECRET.hex()}"\naddress = "127.0.0.1:{self.trusted_port}"\n')
+        trust = f'[[trust]]\ndomain = "ROAM"\nhash = "{SECRET.hex()}"\naddress = "127.0.0.1:{self.trusted_port}"\n' if trusts else ""
+        self.file("table", f'domain = "CORP"\nsid = "S-1-5-21-1-2-3"\n[[user]]\nname = "ann"\nrid = 1001\nhash = "{HASH.hex()}"\n{machines}{trust}')
         self.file("trusted", f'domain = "ROAM"\nsid = "S-1-5-21-4-5-6"\n[[user]]\nname = "sam"\nrid = 1001\nhash = "{HASH.hex()}"\n'
                   f'[[machine]]\nname = "CORP$"\nkind = "trust"\nhash = "{SECRET.hex()}"\ncontrollers = ["PDC"]\n')
         self.file("hash", HASH.hex())
@@ -228,15 +236,38 @@ class Domain:
             process.wait()
 
 
-def time_of_logon(domain, boot):
-    """Milliseconds from the start of nt_logon to its line `in`."""
-    begun = time.perf_counter()
+def logon(domain, boot, member):
+    """Milliseconds from the start of nt_logon to its line `in`, and microseconds of the processors of the member server
+    and of the controller until it has ended."""
+    servers = member, domain.server
+    begun, used = time.perf_counter(), list(map(processor, servers))
     process = domain.log_on(domain.member_port, boot)
     line = process.stdout.readline()
     passed = (time.perf_counter() - begun) * 1e3
     process.communicate(timeout=LIMIT)
     assert line.startswith(b"in "), line
-    return passed
+    # the servers take the end of the link behind it
+    time.sleep(0.02)
+    return passed, *((processor(it) - before) * 1e6 for it, before in zip(servers, used))
+
+
+def logons(domains):
+    """Prints what whole logons take at each domain."""
+    taken = [[] for _ in domains]
+    members = []
+    for domain in domains:
+        # a port that was found long before may be some link's by now
+        domain.member_port = free_port()
+        members.append(domain.member(domain.port, domain.member_port, 1))
+        connect(domain.member_port).close()
+    for boot in range(1, LOGONS + 1):
+        for each, domain, member in zip(taken, domains, members):
+            each.append(logon(domain, boot, member))
+    for each, domain in zip(taken, domains):
+        times, at_member, at_controller = map(sorted, zip(*each))
+        print(f"nt_logon from start to in{domain.name}: {times[0]:.1f} ms at best, median {times[LOGONS // 2]:.1f}, worst {times[-1]:.1f}; "
+              f"processor at the member {at_member[0]:.0f} us at best, median {at_member[LOGONS // 2]:.0f}, at the controller "
+              f"{at_controller[0]:.0f} and {at_controller[LOGONS // 2]:.0f}", flush=True)
 
 
 def hanging_dial(domain):
@@ -266,44 +297,52 @@ def hanging_dial(domain):
             link.close()
 
 
+def many_links(domain):
+    """Prints what takes more than one link, or a trust."""
+    trusted, server = domain.trusted_controller(), domain.server
+    connect(domain.trusted_port).close()
+    first, sam = Member(domain.port, 0), {"domain": utf16("ROAM"), "user": utf16("sam")}
+    best("one that is handed on, under way", (domain.name, [server, trusted], [first], 1, 1000), **sam)
+    first.link.close()
+    members = [Member(domain.port, number) for number in range(MANY)]
+    best(f"{MANY} links, one under way on each", (domain.name, [server], members, 1, 300))
+    silent = [connect(domain.port) for _ in range(SILENT - MANY - 10)]
+    best(f"one link beside {len(silent) + MANY} silent ones", (domain.name, [server], members[:1], 1, 10000))
+    for link in silent + [member.link for member in members]:
+        link.close()
+
+
 def main():
-    programs, alone = sys.argv[1], sys.argv[2:] == ["one"]
+    alone = sys.argv[-1] == "one"
+    folders = sys.argv[1:-1] if alone else sys.argv[1:]
     with tempfile.TemporaryDirectory() as folder:
-        domain = Domain(programs, folder)
+        domains = []
         try:
-            server = domain.controller()
-            first = Member(domain.port, 0)
+            for number, programs in enumerate(folders):
+                os.mkdir(place := os.path.join(folder, str(number)))
+                domains.append(Domain(programs, place, not alone))
+                domains[-1].name = f", {programs}" if folders[1:] else ""
+                domains[-1].server = domains[-1].controller()
+            firsts = [Member(domain.port, 0) for domain in domains]
             bare, bare_port = bare_loop(folder)
             if bare:
-                domain.started.append(bare)
+                domains[0].started.append(bare)
                 loop = Exchanges(bare_port)
-                print("bare loop, one under way:        ", best(bare, [loop], 1, 10000))
-            print("one link, one logon under way:   ", best(server, [first], 1, 10000))
-            if bare:
-                print("bare loop, 16 under way:         ", best(bare, [loop], 16, 30000))
-            print("one link, 16 under way:          ", best(server, [first], 16, 30000))
-            if not alone:
-                trusted = domain.trusted_controller()
-                connect(domain.trusted_port).close()
-                sam = {"domain": utf16("ROAM"), "user": utf16("sam")}
-                print("one that is handed on, under way: ", best(server, [first], 1, 1000, trusted, **sam))
+            for depth, count in ((1, 10000), (16, 30000)):
+                what = f"{depth} under way"
+                least = [(f"bare loop, {what}", [bare], [loop], depth, count)] if bare else []
+                best("", *least, *((f"one link, {what}{domain.name}", [domain.server], [first], depth, count)
+                                   for domain, first in zip(domains, firsts)))
+            for first in firsts:
                 first.link.close()
-                members = [Member(domain.port, number) for number in range(MANY)]
-                first = members[0]
-                print(f"{MANY} links, one under way on each:", best(server, members, 1, 300))
-                silent = [connect(domain.port) for _ in range(SILENT - MANY - 10)]
-                print(f"one link beside {len(silent) + MANY} silent ones: ", best(server, [first], 1, 10000))
-                for link in silent + [member.link for member in members[1:]]:
-                    link.close()
-            first.link.close()
-            domain.member(domain.port, domain.member_port, 1)
-            connect(domain.member_port).close()
-            times = sorted(time_of_logon(domain, boot) for boot in range(1, 31))
-            print(f"nt_logon from start to in: {times[0]:.1f} ms at best, median {times[15]:.1f}, worst {times[-1]:.1f}")
-            if not alone:
+            for domain in domains if not alone else ():
+                many_links(domain)
+            logons(domains)
+            for domain in domains if not alone else ():
                 hanging_dial(domain)
         finally:
-            domain.stop()
+            for domain in domains:
+                domain.stop()
 
 
 main()
