@@ -7,7 +7,7 @@ use Rattle.channel_client.specs.Effects.{View}
 use Rattle.channel_events.specs.AcceptedOrder.{Accepted, AcceptedStayInOrder, AreInOrder, BeginsAnew, HasOwn, HoldNoMore, IsAcceptedIn, IsBehind, IsCalled, IsLast, IsMade, IsNoCall, IsOf}
 use Rattle.channel_events.specs.Marks.{Mark, Calling, Opening}
 use Rattle.channel_events.specs.Requests.{CallsAreApart, Holds, IsAsked, IsDrawn, Requests}
-use Rattle.channel_events.proofs.ListLaws.{all_weaker, at_end, got_append, no_some, one_found, some_is}
+use Rattle.wire_base.proofs.ListLaws.{all_weaker, at_end, got_append, no_some, one_found, some_is}
 use Rattle.channel_events.proofs.SameLaws.{same_back, same_on}
 
 -- ---- what follows of what

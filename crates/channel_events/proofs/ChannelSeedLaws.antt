@@ -8,7 +8,7 @@ use Rattle.authenticators.specs.Sequences.{add_to, moved_by, next_seed}
 use Rattle.authenticators.proofs.ChannelLaws.{channel_key-same}
 use Rattle.authenticators.proofs.SeedLaws.{add_to-add_to, add_to-zero}
 use Rattle.channel_events.specs.Seeds.{channel_seed, client_credential}
-use Rattle.channel_events.proofs.ListLaws.{moved_none}
+use Rattle.channel_events.proofs.TimestampLaws.{moved_none}
 
 -- ---- a seed
 

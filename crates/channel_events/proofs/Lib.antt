@@ -1,8 +1,8 @@
 pub mod AcceptedOrderLaws
 pub mod ChannelSeedLaws
-pub mod ListLaws
 pub mod OrderStepLaws
 pub mod RequestLaws
 pub mod RequestStepLaws
 pub mod SameLaws
 pub mod SecretOrderLaws
+pub mod TimestampLaws

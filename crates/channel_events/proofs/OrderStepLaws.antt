@@ -22,7 +22,7 @@ use Rattle.channel_events.specs.OrderSteps.{Asker, InOrder, InOrderAfter, IsItsO
 use Rattle.channel_events.specs.RequestSteps.{IsFreshIf, IsSeen, drawn_if, seen_if, with_seen}
 use Rattle.channel_events.specs.Requests.{Holds, IsCalm, Requests}
 use Rattle.channel_events.proofs.AcceptedOrderLaws.{stay_in_order}
-use Rattle.channel_events.proofs.ListLaws.{no_some, some_is}
+use Rattle.wire_base.proofs.ListLaws.{no_some, some_is}
 use Rattle.channel_events.proofs.RequestLaws.{calmer, same_holds}
 use Rattle.channel_events.proofs.RequestStepLaws.{cases_if}
 

@@ -6,7 +6,7 @@ use Rattle.channel_client.specs.Effects.{Changes, Effect, Stays, Counts, Begins,
 use Rattle.channel_client.specs.Machine.{after}
 use Rattle.channel_events.specs.Marks.{Mark, Calling, Opened, Opening, Plain, ReplyTo}
 use Rattle.channel_events.specs.Requests.{AreSeenBut, CallsAreApart, CallsStayApart, Holds, IsAsked, IsCalm, IsDrawn, IsNoRequest, IsRequest, Requests, Steps, after_step, fresh_view, used_by}
-use Rattle.channel_events.proofs.ListLaws.{at_end, no_some, one_last, one_more, some_is}
+use Rattle.wire_base.proofs.ListLaws.{at_end, no_some, one_last, one_more, some_is}
 
 -- ---- a requester that holds no more than before
 

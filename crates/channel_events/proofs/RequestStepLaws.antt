@@ -19,7 +19,7 @@ use Rattle.channel_client.proofs.EffectLaws.{steps_have_effects}
 use Rattle.channel_events.specs.Marks.{Calling, Opening}
 use Rattle.channel_events.specs.RequestSteps.{AfterTaking, IsFreshIf, IsSeen, IsSeenAfter, RequestersKeepCallsApart, drawn_if, seen_if, with_seen}
 use Rattle.channel_events.specs.Requests.{AreSeenBut, IsCalm, Requests, Steps, after_step, used_by}
-use Rattle.channel_events.proofs.ListLaws.{some_is}
+use Rattle.wire_base.proofs.ListLaws.{some_is}
 use Rattle.channel_events.proofs.RequestLaws.{calls_stay_apart, more_used}
 
 -- ---- one is seen otherwise

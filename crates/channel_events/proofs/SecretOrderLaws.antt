@@ -11,7 +11,7 @@ use Rattle.channel_events.specs.Marks.{Mark, Calling}
 use Rattle.channel_events.specs.Requests.{CallsAreApart, Holds, Requests}
 use Rattle.channel_events.specs.SecretOrder.{AreTogether, AskAlike, HasSecret, IsIn, OpensNoMore, OpensTried, OthersPassed, Sides, StayTogether, Takes}
 use Rattle.channel_events.proofs.AcceptedOrderLaws.{fresh_none, last_so, of_same, uncalled}
-use Rattle.channel_events.proofs.ListLaws.{at_end, no_some, one_found, one_weaker, some_is}
+use Rattle.wire_base.proofs.ListLaws.{at_end, no_some, one_found, one_weaker, some_is}
 use Rattle.channel_events.proofs.SameLaws.{same_back, same_self}
 
 -- ---- openings

@@ -7,7 +7,8 @@ use Rattle.std.specs.List.{AllByRecursion}
 use Rattle.wire_base.specs.Names.{SameName}
 use Rattle.authenticators.specs.Channels.{ChannelIdentity, SameChannel}
 use Rattle.channel_client.specs.Effects.{View}
-use Rattle.channel_events.specs.Marks.{Mark, Calling, OneOf, Opening}
+use Rattle.wire_base.specs.Lists.{OneOf}
+use Rattle.channel_events.specs.Marks.{Mark, Calling, Opening}
 use Rattle.channel_events.specs.Requests.{CallsAreApart, Holds, IsDrawn, Requests}
 
 -- an opening that was accepted: its channel, and whether its call came in a unit that was made for a channel

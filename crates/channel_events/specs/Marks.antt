@@ -1,12 +1,6 @@
--- What a unit is made for, of one secure channel, and that a fact holds of one item of a list (this project's own
--- choice).
-use Rattle.std.specs.Prelude.{ℕ, List, [], ◌∷◌, ◌⊎◌}
+-- What a unit is made for, of one secure channel (this project's own choice).
+use Rattle.std.specs.Prelude.{ℕ}
 use Rattle.authenticators.specs.Channels.{ChannelIdentity}
-
--- the fact holds of one of them
-abbrev pub OneOf : {T : Type 0} → (T → Type 0) → List T → Type 0
-OneOf Fact [] = ⊥
-OneOf Fact (item ∷ items) = Fact item ⊎ OneOf Fact items
 
 -- What a unit was made for: a channel, or none (this project's own choice).
 pub data Mark : Type 0 where

@@ -9,7 +9,8 @@ use Rattle.secret_change.specs.Agreement.{Holds as HoldsSecret}
 use Rattle.secret_change.specs.Secrets.{SecretsState, next_of, tried_of}
 use Rattle.channel_client.specs.Effects.{View}
 use Rattle.channel_events.specs.AcceptedOrder.{Accepted, AreInOrder, BeginsAnew, IsAcceptedIn, IsLast, IsOf}
-use Rattle.channel_events.specs.Marks.{Mark, Calling, OneOf}
+use Rattle.wire_base.specs.Lists.{OneOf}
+use Rattle.channel_events.specs.Marks.{Mark, Calling}
 use Rattle.channel_events.specs.Requests.{CallsAreApart, Requests}
 
 -- that unit is among them

@@ -1,5 +1,5 @@
 -- What bounds what an end sends at a step, and how many challenges it draws there (this project's own choice).
-use Rattle.std.specs.Prelude.{ℕ, ◌+◌, ◌/◌, ◌≤◌, List, length, Option, Some, None, Result, Ok, Err}
+use Rattle.std.specs.Prelude.{ℕ, ◌+◌, ◌*◌, ◌/◌, ◌≤◌, List, length, Option, Some, None, Result, Ok, Err}
 use Rattle.std.specs.List.{AllByRecursion}
 use Rattle.outside.specs.declared.action.Action.{Action}
 use Rattle.outside.specs.declared.action.Action.TheVariants.{Keep, Send, Dial, Close, Told, Judged}
@@ -9,14 +9,14 @@ use Rattle.outside.specs.declared.event.Event.TheVariants.{Bytes}
 use Rattle.outside.specs.Machine.{Part, AnswersBy, left_by}
 use Rattle.rpc_units.specs.declared.refused.UnitRefused.{UnitRefused}
 use Rattle.rpc_units.specs.Stream.{cut_stream}
-use Rattle.end_links.specs.Links.{LinkState}
+use Rattle.end_links.specs.Links.{LinkState, rest_limit}
 use Rattle.end_links.specs.Serving.{Server, ServedPart, StreamsBy, served_cut}
 
 -- ---- sends
 
 -- the most bytes of one send: nine pieces of 65,536
 abbrev pub send_limit : ℕ
-send_limit = 589824
+send_limit = 9 * 65536
 
 abbrev pub IsShortSend : Action → Type 0
 IsShortSend (Keep bytes) = Unit {0}
@@ -53,7 +53,7 @@ pub record ServerDrawsFew {W T : Type 0} (server : Server W T) (extra : T → �
 
 -- the most units that a piece of so many bytes can end: the link's rest has at most 5,839 bytes, and a unit at least 16
 abbrev pub units_in_piece : ℕ → ℕ
-units_in_piece count = (5839 + count) / 16
+units_in_piece count = (rest_limit + count) / 16
 
 -- the most units that an event can end
 abbrev pub units_at : Event → ℕ

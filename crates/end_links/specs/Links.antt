@@ -1,5 +1,5 @@
 -- Links of an end.
-use Rattle.std.specs.Prelude.{ℕ, ◌≤◌, ◌+◌, List, length}
+use Rattle.std.specs.Prelude.{ℕ, ◌≤◌, ◌+◌, ◌*◌, List, length}
 use Rattle.std.specs.List.{sum_by}
 use Rattle.wire_base.specs.Maps.{IsMap, same_number}
 
@@ -19,3 +19,25 @@ held_on said link = length link.1.rest + said link.1.talk
 
 abbrev pub held_by : {T : Type 0} → (T → ℕ) → List (ℕ × LinkState T) → ℕ
 held_by said links = sum_by (held_on said) links
+
+-- ---- the most of it
+
+-- the rest of a link's stream has fewer bytes than the largest unit (5,840)
+abbrev pub rest_limit : ℕ
+rest_limit = 5839
+
+-- the stub bytes of an open call or reply
+abbrev pub open_limit : ℕ
+open_limit = 65536
+
+-- what is said on a link holds those of an open call, and requests that wait, at most as many bytes
+abbrev pub talk_limit : ℕ
+talk_limit = open_limit + open_limit
+
+-- what a link holds at most, whatever end it is of
+abbrev pub link_limit : ℕ
+link_limit = rest_limit + talk_limit
+
+-- what 256 links hold at most
+abbrev pub links_limit : ℕ
+links_limit = 256 * link_limit

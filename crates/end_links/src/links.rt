@@ -2,7 +2,7 @@
 
 ghost use Rattle.std.specs.Prelude.{◌≡◌, ◌≤◌, ◌<◌, ◌+◌, ◌*◌, ℕ, [], length, nat_le, IfOk, IsSome, option_copied};
 ghost use Rattle.wire_base.specs.Maps.{same_number, lookup, put, take_out};
-ghost use Rattle.end_links.specs.Links.{held_by};
+ghost use Rattle.end_links.specs.Links.{held_by, link_limit, links_limit, rest_limit, talk_limit};
 
 use crate::link::Link;
 use std::alloc::Global;
@@ -40,7 +40,7 @@ pub trait SaysHeld {
     fn held(&self) -> usize
         ensures count { result ≡ bytes_held self.now }
         ensures most { result ≤ most_held }
-        ensures few { result ≤ 131072 };
+        ensures few { result ≤ talk_limit };
 }
 
 impl<T> Links<T> {
@@ -110,13 +110,13 @@ impl<T> Links<T> {
     }
 
     /// The bytes that all links hold: the rests of their streams, and what is held by what is said on each. They are at
-    /// most what 256 links hold, and less than 40 MB. It takes no memory.
+    /// most what 256 links hold. It takes no memory.
     pub fn held(&self) -> u64
     where
         T: SaysHeld,
         ensures count { result ≡ held_by T.bytes_held self.now }
-        ensures most { result ≤ 256 * (5839 + T.most_held) }
-        ensures few { result < 40000000 }
+        ensures most { result ≤ 256 * (rest_limit + T.most_held) }
+        ensures few { result ≤ links_limit }
     {
         held_by_all(self.entries.items())
     }
@@ -127,8 +127,8 @@ impl<T> Links<T> {
 fn held_by_all<T: SaysHeld>(links: &[(u32, Link<T>)]) -> u64
     requires { length links.now ≤ 256 }
     ensures count { result ≡ held_by T.bytes_held links.now }
-    ensures most { result ≤ 256 * (5839 + T.most_held) }
-    ensures few { result < 40000000 }
+    ensures most { result ≤ 256 * (rest_limit + T.most_held) }
+    ensures few { result ≤ links_limit }
 {
     let mut held = 0;
     for link in links {
@@ -140,8 +140,8 @@ fn held_by_all<T: SaysHeld>(links: &[(u32, Link<T>)]) -> u64
 /// The bytes that a link holds.
 fn held_by_link<T: SaysHeld>(link: &Link<T>) -> u64
     ensures count { result ≡ length link.now.rest + T.bytes_held link.now.talk }
-    ensures most { result ≤ 5839 + T.most_held }
-    ensures few { result ≤ 136911 }
+    ensures most { result ≤ rest_limit + T.most_held }
+    ensures few { result ≤ link_limit }
 {
     (link.rest_len() + link.talk().held()) as u64
 }

@@ -8,7 +8,7 @@ use Rattle.rpc_units.specs.declared.unit.Unit.{Unit as RpcUnit}
 use Rattle.rpc_units.specs.declared.unit.Body.{Body}
 use Rattle.rpc_units.specs.declared.unit.Body.TheVariants.{Bind, BindAck, BindNak, Auth3, Request, Response, Fault}
 use Rattle.rpc_units.specs.Reading.{unit_of}
-use Rattle.memo_stubs.specs.Memo.{FitsEcho, written_echo_request}
+use Rattle.memo_stubs.specs.Memo.{FitsEcho, echo_request_limit, written_echo_request}
 use Rattle.memo_stubs.proofs.MemoLaws.{request_stub}
 use Rattle.logon_client.specs.declared.outcome.ClientOutcome.TheVariants.{BadPeer}
 use Rattle.logon_client.specs.declared.outcome.PeerFault.TheVariants as peer_fault
@@ -28,7 +28,7 @@ use Rattle.logon_client.specs.Securing.{has_level}
 pub ruleset echoes = (map-range_with_len_more, length-map-range_with_len)
 
 -- the stub of Echo is short
-pub echo_short : (bytes : List ℕ) → FitsEcho bytes → AreBytes bytes → length (written_echo_request bytes) ≤ 4103
+pub echo_short : (bytes : List ℕ) → FitsEcho bytes → AreBytes bytes → length (written_echo_request bytes) ≤ echo_request_limit
 echo_short bytes fits are = omega (arith, (request_stub bytes fits are).short, fits)
 
 -- ---- a unit that is read

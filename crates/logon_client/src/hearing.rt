@@ -16,7 +16,7 @@ ghost use Rattle.logon_client.specs.declared.state.Phase.{Phase};
 ghost use Rattle.logon_client.specs.declared.state.Terms.{Terms};
 ghost use Rattle.rpc_units.specs.Reading.{unit_of};
 ghost use Rattle.rpc_units.specs.Views.{body_shown, trailer_shown, unit_shown};
-ghost use Rattle.memo_stubs.specs.Memo.{FitsEcho, who_of, echo_reply_of, written_echo_request};
+ghost use Rattle.memo_stubs.specs.Memo.{FitsEcho, echo_request_limit, who_of, echo_reply_of, written_echo_request};
 ghost use Rattle.logon_client.specs.Answering.{pairs_by, is_enough};
 ghost use Rattle.logon_client.specs.Machine.{echo_bytes, told, concluded, closed_with, ends, done, fails, asks, asks_call, asks_who, asks_echo, hear_flags, hear_agreed, hear_pairs, hear_challenge, hear_trailer, hear_result, hear_ack, hear_name, hear_echo, hear_reply, hear_joined, hear_fragment, hear_body_opened, hear_unit_opened, hear_opened, hear_secured, hear_response, fault_outcome, outcome_of, is_response, hear_body, hear_call, hear_unit, hear, awaited, talk_on};
 ghost use Rattle.logon_client.specs.Plans.{needs_ess};
@@ -118,7 +118,7 @@ fn echo_bytes(alloc: Global, count: u32) -> Result<Blob, NoMemory>
     Ok(Blob::from_vec(bytes))
 }
 
-/// Sends a call whose stub has at most 4,103 bytes, and whose response is waited for.
+/// Sends a call whose stub is no longer than that of Echo may be, and whose response is waited for.
 fn ask(
     alloc: Global,
     call: Unit,
@@ -129,7 +129,7 @@ fn ask(
 ) -> Result<(Work, Option<Talk>), NoMemory>
     requires whole { IsWholeCall call }
     requires plain { call.trailer ≡ None }
-    requires short { length (stub_of call.body) ≤ 4103 }
+    requires short { length (stub_of call.body) ≤ echo_request_limit }
     ensures { IfOk result (λ end. end ≡ asks_call call terms question link work) }
 {
     let level = work.task.level();
@@ -177,7 +177,7 @@ pub(crate) fn ask_who(
 fn echo_stub(alloc: Global, count: u32) -> Result<Blob, NoMemory>
     requires { count ≤ 4096 }
     ensures value { IfOk result (λ stub. stub ≡ written_echo_request (echo_bytes count)) }
-    ensures short { IfOk result (λ stub. length stub ≤ 4103) }
+    ensures short { IfOk result (λ stub. length stub ≤ echo_request_limit) }
 {
     let bytes = echo_bytes(alloc, count)?;
     read_echo(bytes.bytes());
@@ -188,7 +188,7 @@ fn echo_stub(alloc: Global, count: u32) -> Result<Blob, NoMemory>
 #[tactic(auto, using(crate::proofs::HearingLaws::echo_short))]
 fn read_echo(bytes: &[u8])
     requires { FitsEcho bytes.now }
-    ensures { length (written_echo_request bytes.now) ≤ 4103 }
+    ensures { length (written_echo_request bytes.now) ≤ echo_request_limit }
 {}
 
 /// Sends Echo.

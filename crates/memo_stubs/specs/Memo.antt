@@ -1,6 +1,6 @@
 -- The stubs of the memo interface (this project's own interface; C706 14): the reply of WhoAmI, operation 0, whose
 -- request's stub is passed over, and the request and the reply of Echo, operation 1.
-use Rattle.std.specs.Prelude.{ℕ, ◌≤◌, ◌==◌, List, length, Result, nat_le}
+use Rattle.std.specs.Prelude.{ℕ, ◌+◌, ◌≤◌, ◌==◌, List, length, Result, nat_le}
 use Rattle.ndr_codec.specs.declared.refused.NdrRefused.{NdrRefused}
 use Rattle.ndr_codec.specs.Layout.{start_of, long, raw, text}
 use Rattle.ndr_codec.specs.Parts.{Putting, ◌>>◌}
@@ -60,6 +60,14 @@ echo_reply_of stub = parsed_by memo_refused (λ bytes. bytes) echo_reply stub
 
 abbrev pub FitsEcho : List ℕ → Type 0
 FitsEcho bytes = length bytes ≤ 4096
+
+-- A request's stub has at most its count, of 4 bytes behind 3 that align it, and 4,096 bytes.
+abbrev pub echo_request_limit : ℕ
+echo_request_limit = 3 + 4 + 4096
+
+-- A reply's stub has at most the same, and its status, of 4 bytes behind 3 that align it.
+abbrev pub echo_reply_limit : ℕ
+echo_reply_limit = echo_request_limit + 3 + 4
 
 unfoldable pub put_who_reply : List ℕ → Putting
 put_who_reply name = put text name >> put long 0

@@ -4,7 +4,7 @@ ghost use Rattle.std.specs.Prelude.{ℕ, List, ◌≡◌, ◌+◌, ◌*◌, ◌�
 ghost use Rattle.wire_base.specs.Numbers.{AreBytes};
 ghost use Rattle.wire_base.specs.Units.{AreUnits};
 ghost use Rattle.ndr_codec.specs.Parts.{FitsText};
-ghost use Rattle.memo_stubs.specs.Memo.{FitsEcho, put_echo_request, who_of, echo_request_of, echo_reply_of, written_who_reply, written_echo_request, written_echo_reply};
+ghost use Rattle.memo_stubs.specs.Memo.{FitsEcho, echo_reply_limit, echo_request_limit, put_echo_request, who_of, echo_request_of, echo_reply_of, written_who_reply, written_echo_request, written_echo_reply};
 
 use ndr_codec::Writer;
 use std::alloc::Global;
@@ -75,7 +75,7 @@ pub fn what_is_written_is_read()
     ensures who_short { (name : List ℕ) → FitsText name → AreUnits name →
         length (written_who_reply name) ≤ 24 + 2 * length name }
     ensures request_short { (bytes : List ℕ) → FitsEcho bytes → AreBytes bytes →
-        length (written_echo_request bytes) ≤ 4103 }
+        length (written_echo_request bytes) ≤ echo_request_limit }
     ensures reply_short { (bytes : List ℕ) → FitsEcho bytes → AreBytes bytes →
-        length (written_echo_reply bytes) ≤ 4110 }
+        length (written_echo_reply bytes) ≤ echo_reply_limit }
 {}

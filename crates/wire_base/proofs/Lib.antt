@@ -1,4 +1,5 @@
 pub mod DecimalLaws
+pub mod ListLaws
 pub mod MapLaws
 pub mod MemoryLaws
 pub mod NameLaws

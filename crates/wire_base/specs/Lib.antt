@@ -1,4 +1,5 @@
 pub mod Decimal
+pub mod Lists
 pub mod Maps
 pub mod Memory
 pub mod Names

@@ -63,7 +63,7 @@ use Rattle.controller_calls.specs.declared.state.ChallengePair.{ChallengePair}
 use Rattle.domain_controller.specs.declared.state.Talk.{Talk}
 use Rattle.controller_calls.specs.declared.state.Work.{Work}
 use Rattle.channel_events.specs.Marks.{Calling, Opening}
-use Rattle.channel_events.proofs.ListLaws.{some_is}
+use Rattle.wire_base.proofs.ListLaws.{some_is}
 use Rattle.channel_events.proofs.SameLaws.{same_self}
 use Rattle.step_notes.specs.ChannelNames.{AreFramesOf, AreFramesOfSet, CallsAreNamedAlike, ChallengesAreShared, ChannelsAreNamedAlike, ChannelsStandAsAsked, ExchangesHaveNoClash, Expects, HasChannel, IsOfOther, OpeningsAreNamedAlike, OwnUnitsAreNoClash, StandsOrGoes, WillAsk, WillCallBy, WillOpen, frames_sent, opened_unit, channel_marked, passed_note, place_answered, standing_channel}
 use Rattle.step_notes.specs.ControllerNotes.{Answered, identity_by, channel_in, checked_on, has_passed, judging_by, opened_account, opened_by, opened_if, opened_offer, opening, passing}

@@ -24,7 +24,7 @@ use Rattle.channel_client.specs.declared.state.Step.{Step}
 use Rattle.channel_client.specs.declared.state.Waiting.{Waiting}
 use Rattle.step_notes.specs.EffectNotes.{IsNotedBy, StepsAreNoted, asks_opening, opening_out_of}
 use Rattle.step_notes.specs.MemberNotes.{asked_note, half_channel, taking_note, timestamp_bound}
-use Rattle.channel_events.proofs.ListLaws.{no_some}
+use Rattle.wire_base.proofs.ListLaws.{no_some}
 use Rattle.channel_client.proofs.EffectLaws.{HeardFits, heard_fits}
 use Rattle.logon_stubs.specs.declared.calls.Call.TheVariants as call
 use Rattle.logon_stubs.specs.declared.calls.Reply.TheVariants as reply

@@ -20,7 +20,7 @@ use Rattle.controller_calls.specs.declared.state.ChallengePair.{ChallengePair}
 use Rattle.controller_calls.specs.declared.state.Work.{Work}
 use Rattle.step_notes.specs.ControllerNotes.{identity_by, opened_by}
 use Rattle.step_notes.specs.KeptNotes.{CallsAreKept, IsKeptBy, KeepsNoMore, WaitsIfKnown, server_in, waits_in}
-use Rattle.channel_events.proofs.ListLaws.{no_some, not_both, some_is}
+use Rattle.wire_base.proofs.ListLaws.{no_some, not_both, some_is}
 use Rattle.step_notes.proofs.Controllers.ComputerLaws.{judged_finds, judged_pending, lookup_named}
 use Rattle.controller_calls.proofs.OutcomeLaws.{JudgedComes, judged_comes}
 use Rattle.step_notes.proofs.Controllers.OpenedLaws.{opening_noted}

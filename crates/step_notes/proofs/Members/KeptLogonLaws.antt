@@ -41,7 +41,7 @@ use Rattle.member_server.specs.Work.{Served}
 use Rattle.member_server.proofs.LinkView.{BoundView, Closes, Asks, Overflows, bound_view, logon_at}
 use Rattle.member_server.proofs.OutcomeView.{EndView, Unknown, Tells, Reaches, end_view}
 use Rattle.member_server.proofs.StepFrame.{KeepsEvent, KeepsNext, PartHolds, TakesTurn, TurnHolds, WorkFact, dialled_keeps, each_taken, part_keeps, step_keeps as step_holds, turn_ended, turn_keeps as turn_holds}
-use Rattle.channel_events.specs.Marks.{OneOf}
+use Rattle.wire_base.specs.Lists.{OneOf}
 use Rattle.step_notes.specs.MemberNotes.{LinkAt, is_challenged, link_units, message_after, message_by, message_kept, message_note}
 use Rattle.step_notes.specs.Records.{MessageTaken}
 use Rattle.step_notes.proofs.ServedLaws.{served_noted}

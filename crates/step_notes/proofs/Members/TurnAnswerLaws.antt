@@ -28,7 +28,7 @@ use Rattle.channel_turns.specs.declared.state.TurnTalk.{TurnTalk}
 use Rattle.member_server.specs.Laws.{Takes, heard_from, heard_if, state_after, then_whole, whole_by, whole_units}
 use Rattle.member_server.specs.Machine.{at_turn, work_of}
 use Rattle.member_server.specs.Turns.{AtTurn, do_taken, turn_by_join, turn_server, turn_talk, turn_unit, with_requester, with_work}
-use Rattle.channel_events.specs.Marks.{OneOf}
+use Rattle.wire_base.specs.Lists.{OneOf}
 use Rattle.step_notes.specs.MemberNotes.{TurnNote, taken_note, taking_joined, taking_note, taking_read, turn_note, turn_units_by, turn_units_on}
 
 -- the requester after it took these units

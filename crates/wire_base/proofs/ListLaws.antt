@@ -1,20 +1,17 @@
--- Lists: one of the items, all of them, each two of them, and places; and how far timestamps move a seed.
--- It serves `calls_stay_apart`, `requesters_keep_calls_apart`.
-use Rattle.std.proofs.Common.{◌≡◌, ◌⊎◌, ℕ, zero, suc, ◌+◌, Bool, true, false, List, [], ◌∷◌, ◌++◌, length, inl, inr, Some, None, slice_get, refl, ap, arith}
+-- Lists: one of the items, all of them, each two of them, and what stands at a place.
+use Rattle.std.proofs.Common.{◌≡◌, ◌⊎◌, ℕ, zero, suc, Bool, true, false, List, [], ◌∷◌, ◌++◌, length, inl, inr, Some, None, slice_get, refl, ap, arith}
 use Rattle.std.specs.Prelude.{AllPairs}
 use Rattle.std.specs.List.{AllByRecursion}
 use Rattle.std.proofs.lemmas.List.Elements.{All-from_recursion}
-use Rattle.std.proofs.lemmas.List.Sums.{sum_by-cons}
-use Rattle.authenticators.specs.Sequences.{moved_by}
-use Rattle.channel_events.specs.Marks.{OneOf}
+use Rattle.wire_base.specs.Lists.{OneOf}
 
 -- ---- one of them
 
--- nothing is something
+-- `None` is no `Some`
 pub no_some : {T : Type 0} (item : T) → None ≡ Some item → ⊥
 no_some item is = cc
 
--- a flag is one of both
+-- a flag is not both `true` and `false`
 pub not_both : (flag : Bool) → flag ≡ true → flag ≡ false → ⊥
 not_both flag is isnt = cc
 
@@ -33,12 +30,20 @@ pub one_last : {T : Type 0} (P : T → Type 0) (items : List T) (last : T) → P
 one_last P [] last is = inl is
 one_last P (item ∷ items) last is = inr (one_last P items last is)
 
+pub one_before : {T : Type 0} (P : T → Type 0) (items more : List T) → OneOf P items → OneOf P (items ++ more)
+one_before P [] more one = absurd one
+one_before P (item ∷ items) more one = elim one [ inl here ↦ inl here | inr there ↦ inr (one_before P items more there) ]
+
+pub one_behind : {T : Type 0} (P : T → Type 0) (items more : List T) → OneOf P more → OneOf P (items ++ more)
+one_behind P [] more one = one
+one_behind P (item ∷ items) more one = inr (one_behind P items more one)
+
 -- what holds of all holds of that one
 pub one_found : {T : Type 0} (P Q : T → Type 0) (items : List T) → AllByRecursion Q items → OneOf P items → (item : T) × P item × Q item
 one_found P Q [] all one = absurd one
 one_found P Q (item ∷ items) all one = elim one [ inl here ↦ (item, here, all.0) | inr there ↦ one_found P Q items all.1 there ]
 
--- so, of one of them, what holds of it and what holds of all is a third fact
+-- where a fact of one item and a fact of all give a third, one item has the third
 pub one_with : {T : Type 0} (P Q R : T → Type 0) (items : List T) → ((item : T) → P item → Q item → R item) → AllByRecursion P items → OneOf Q items → OneOf R items
 one_with P Q R [] so all one = one
 one_with P Q R (item ∷ items) so all one = elim one [ inl here ↦ inl (so item all.0 here) | inr there ↦ inr (one_with P Q R items so all.1 there) ]
@@ -78,13 +83,3 @@ got_last items item = got_behind items item []
 pub got_nothing : {T : Type 0} (k : ℕ) (item : T) → slice_get [] k ≡ Some item → ⊥
 got_nothing zero item is = absurd cc
 got_nothing (suc k) item is = absurd cc
-
--- ---- timestamps
-
-pub moved_one : (timestamp : ℕ) (timestamps : List ℕ) → moved_by (timestamp ∷ timestamps) ≡ timestamp + 1 + moved_by timestamps
-unfolding moved_by
-moved_one timestamp timestamps = sum_by-cons (λ n. n + 1) timestamp timestamps
-
-pub moved_none : moved_by [] ≡ 0
-unfolding moved_by
-moved_none = refl
