@@ -107,7 +107,7 @@ abbrev pub reply_causes : Option Reply → Standing → List ℕ → Option Drop
 reply_causes read how secret =
     cause_if (not (is_some read)) drop_cause.BadReply (last_causes (denies read) (is_next read how secret) (is_lacking read))
 
-judged_cause : (q : Question) (r : Reply) (how : Standing) (secret : List ℕ) →
+pub judged_cause : (q : Question) (r : Reply) (how : Standing) (secret : List ℕ) →
     cause_judged (judge q r how secret) ≡ reply_causes (reply_if_read q (Ok r)) how secret
 judged_cause (question.Challenge client) (reply.Challenge r) how secret = challenge_cause (r.status == 0) client r.challenge
 judged_cause (question.Challenge client) (reply.Authenticate r) how secret = refl
@@ -137,7 +137,7 @@ set_return_cause standing.Nothing returned = refl
 set_return_cause (standing.Half client server) returned = refl
 set_return_cause (standing.Open o) returned = set_awaited_cause (is_awaited o.awaited returned.credential) o
 
-set_status_cause : (granted : Bool) (how : Standing) (returned : Authenticator) →
+pub set_status_cause : (granted : Bool) (how : Standing) (returned : Authenticator) →
     cause_judged_set (judge_set_status granted how returned) ≡ last_causes (not granted) (is_return how (Some returned)) false
 set_status_cause false how returned = refl
 set_status_cause true how returned = set_return_cause how returned
@@ -216,7 +216,7 @@ settled_set_cause : (judged : SetOutcome) (s : Requester) → cause_in (settle_s
 settled_set_cause (Ok o) s = refl
 settled_set_cause (Err cause) s = refl
 
-acted_cause : (heard : Hearing) (s : Requester) → cause_in (act heard s).taken ≡ cause_heard heard s.standing s.caller.secret
+pub acted_cause : (heard : Hearing) (s : Requester) → cause_in (act heard s).taken ≡ cause_heard heard s.standing s.caller.secret
 acted_cause hearing.Skip s = refl
 acted_cause (hearing.Next q frames) s = refl
 acted_cause (hearing.Reply q r) s = settled_cause (judge q r s.standing s.caller.secret) s

@@ -145,7 +145,7 @@ Fits (judgement.Opened o) how q = (how ≡ standing.Half o.client o.server) × (
 Fits (judgement.Answer o v) how q = (p : SecureChannelState) × (how ≡ standing.Open p) × (o ≡ after_return true p)
 Fits (judgement.Drop cause) how q = Unit {0}
 
-fits_challenge : (granted : Bool) (client server : List ℕ) → Fits (judge_challenge granted client server) standing.Nothing (question.Challenge client)
+pub fits_challenge : (granted : Bool) (client server : List ℕ) → Fits (judge_challenge granted client server) standing.Nothing (question.Challenge client)
 fits_challenge false client server = tt
 fits_challenge true client server = (refl, refl)
 
@@ -180,12 +180,12 @@ fits_return : (returned : Option Authenticator) (status level : ℕ) (info : Opt
 fits_return None status level info p = tt
 fits_return (Some returned) status level info p = fits_awaited (is_awaited p.awaited returned.credential) status level info p
 
-fits_logon : (denied : Bool) (returned : Option Authenticator) (status level : ℕ) (info : Option SamInfo) (p : SecureChannelState) →
+pub fits_logon : (denied : Bool) (returned : Option Authenticator) (status level : ℕ) (info : Option SamInfo) (p : SecureChannelState) →
     Fits (judge_logon denied (standing.Open p) returned status level info) (standing.Open p) question.Logon
 fits_logon true returned status level info p = tt
 fits_logon false returned status level info p = fits_return returned status level info p
 
-fits : (q : Question) (r : Reply) (how : Standing) (secret : List ℕ) → MatchesQuestion how q → Fits (judge q r how secret) how q
+pub fits : (q : Question) (r : Reply) (how : Standing) (secret : List ℕ) → MatchesQuestion how q → Fits (judge q r how secret) how q
 fits (question.Challenge client) (reply.Challenge r) standing.Nothing secret m = fits_challenge (r.status == 0) client r.challenge
 fits (question.Challenge client) (reply.Challenge r) (standing.Half c s) secret m = absurd m
 fits (question.Challenge client) (reply.Challenge r) (standing.Open o) secret m = absurd m
@@ -215,7 +215,7 @@ abbrev pub Settles : ℕ → Judgement → Requester → Standing → ℕ → Qu
 Settles controller j s how number q =
     Changes (effect_judged controller j s.caller.computer number) (view_at controller s.caller.computer how (Some (step.Reply q)) number s.next_call) (view_of controller (settle j s).state)
 
-settling : (controller : ℕ) (j : Judgement) (s : Requester) (how : Standing) (number : ℕ) (q : Question) → Fits j how q → Settles controller j s how number q
+pub settling : (controller : ℕ) (j : Judgement) (s : Requester) (how : Standing) (number : ℕ) (q : Question) → Fits j how q → Settles controller j s how number q
 settling controller (judgement.Half client server) s how number q h =
     sym (ap (λ x. view_at controller s.caller.computer x (Some (step.Reply q)) number s.next_call) h.0
     ∙ ap (λ x. view_at controller s.caller.computer standing.Nothing (Some (step.Reply x)) number s.next_call) h.1)
@@ -231,7 +231,7 @@ settling controller (judgement.Answer o v) s how number q h = (
 )
 settling controller (judgement.Drop cause) s how number q h = refl
 
-settled_coherent : (j : Judgement) (s : Requester) → IsCoherent s → IsCoherent (settle j s).state
+pub settled_coherent : (j : Judgement) (s : Requester) → IsCoherent s → IsCoherent (settle j s).state
 settled_coherent (judgement.Half client server) s c = record { matches = tt; first = tt; places = c.places; few = c.few }
 settled_coherent (judgement.Opened o) s c = record { matches = tt; first = tt; places = c.places; few = c.few }
 settled_coherent (judgement.Answer o v) s c =
@@ -287,7 +287,7 @@ HeardFits (hearing.Drop cause) turn = Unit {0}
 HeardFits (hearing.Set (set_hearing.Next frames)) turn = (c : SetCall) × (turn ≡ Some (step.Set (set_step.Bind c)))
 HeardFits (hearing.Set (set_hearing.Reply r)) turn = turn ≡ Some (step.Set set_step.Reply)
 
-ack_fits : (accepting : Bool) (st : Step) (receive next : ℕ) → HeardFits (hear_ack accepting st receive next) (Some st)
+pub ack_fits : (accepting : Bool) (st : Step) (receive next : ℕ) → HeardFits (hear_ack accepting st receive next) (Some st)
 ack_fits false st receive next = tt
 ack_fits true (step.Bind c) receive next = (c, refl, refl)
 ack_fits true (step.Reply q) receive next = tt
@@ -302,13 +302,13 @@ set_reply_fits : (read : Result SetReply SetRefused) → HeardFits (hear_set_rep
 set_reply_fits (Err why) = tt
 set_reply_fits (Ok r) = refl
 
-stub_fits : (st : Step) (stub : List ℕ) → HeardFits (hear_stub st stub) (Some st)
+pub stub_fits : (st : Step) (stub : List ℕ) → HeardFits (hear_stub st stub) (Some st)
 stub_fits (step.Bind c) stub = tt
 stub_fits (step.Reply q) stub = reply_fits q (reply_of (opnum_asked q) stub)
 stub_fits (step.Set (set_step.Bind c)) stub = tt
 stub_fits (step.Set set_step.Reply) stub = set_reply_fits (set_reply_of stub)
 
-body_fits : (body : Body) (st : Step) (next : ℕ) → HeardFits (hear_body body st next) (Some st)
+pub body_fits : (body : Body) (st : Step) (next : ℕ) → HeardFits (hear_body body st next) (Some st)
 body_fits (BindNak reason) st next = tt
 body_fits (BindAck send receive group results) st next = ack_fits (is_accepting results) st receive next
 body_fits (Fault hint context status) st next = tt
@@ -416,7 +416,7 @@ going_set_coherent s c out m is = record {
   few = is.few;
 }
 
-acting : (controller : ℕ) (heard : Hearing) (s : Requester) → HeardFits heard (step_in s.turn) → IsCoherent s →
+pub acting : (controller : ℕ) (heard : Hearing) (s : Requester) → HeardFits heard (step_in s.turn) → IsCoherent s →
     HasEffect controller (effect_heard controller heard s) s (act heard s).state
 acting controller hearing.Skip s h c = (refl, c)
 acting controller (hearing.Next q frames) s h c =

@@ -76,7 +76,7 @@ stub_writes (step.Reply q) stub bytes =
 stub_writes (step.Set (set_step.Bind c)) stub bytes = tt
 stub_writes (step.Set set_step.Reply) stub bytes = set_reply_writes (set_reply_of stub)
 
-body_writes : (body : Body) (st : Step) (next : ℕ) → HasBytes body → CanWriteHeard (hear_body body st next)
+pub body_writes : (body : Body) (st : Step) (next : ℕ) → HasBytes body → CanWriteHeard (hear_body body st next)
 body_writes (BindNak reason) st next bytes = tt
 body_writes (BindAck send receive group results) st next bytes = ack_writes (is_accepting results) st receive next
 body_writes (Fault hint context status) st next bytes = tt
@@ -89,17 +89,17 @@ numbered_writes : (numbered : Bool) (p : Pending) (unit : RpcUnit) (next : ℕ) 
 numbered_writes false p unit next bytes = tt
 numbered_writes true p unit next bytes = body_writes unit.body p.step next bytes
 
-heard_writes : (turn : Option Pending) (unit : RpcUnit) (next : ℕ) → HasBytes unit.body → CanWriteHeard (hear turn unit next)
+pub heard_writes : (turn : Option Pending) (unit : RpcUnit) (next : ℕ) → HasBytes unit.body → CanWriteHeard (hear turn unit next)
 heard_writes None unit next bytes = tt
 heard_writes (Some p) unit next bytes = numbered_writes (unit.call == p.number) p unit next bytes
 
 -- ---- how a reply is judged
 
 -- what is granted can be written, and has its ranges
-abbrev Fits : SamInfo → Type 0
+abbrev pub Fits : SamInfo → Type 0
 Fits info = CanWriteSamInfo info × InRangeSamInfo info
 
-abbrev IfJudged : Judgement → Type 0
+abbrev pub IfJudged : Judgement → Type 0
 IfJudged (judgement.Half client server) = Unit {0}
 IfJudged (judgement.Opened o) = Unit {0}
 IfJudged (judgement.Answer o v) = IfGranted v Fits
@@ -148,7 +148,7 @@ keyed info key block fits = (
 )
 
 -- an arm that can be written and has its ranges
-abbrev ArmFits : ℕ → Option SamInfo → Type 0
+abbrev pub ArmFits : ℕ → Option SamInfo → Type 0
 ArmFits level info = CanWriteArm level info × IfThere InRangeSamInfo info
 
 level_writes : (asked : Bool) (level : ℕ) (info : Option SamInfo) (o : SecureChannelState) → ArmFits level info → IfJudged (judge_level asked info o)
@@ -196,10 +196,10 @@ auth_writes true (standing.Half client server) secret credential flags =
 auth_writes true (standing.Open o) secret credential flags = tt
 
 -- a reply that can be written and has its ranges
-abbrev ReplyFits : Reply → Type 0
+abbrev pub ReplyFits : Reply → Type 0
 ReplyFits r = CanWriteReply r × InRangeReply r
 
-judged_writes : (q : Question) (r : Reply) (how : Standing) (secret : List ℕ) → ReplyFits r → IfJudged (judge q r how secret)
+pub judged_writes : (q : Question) (r : Reply) (how : Standing) (secret : List ℕ) → ReplyFits r → IfJudged (judge q r how secret)
 judged_writes (question.Challenge client) (reply.Challenge r) how secret fits = challenge_writes (r.status == 0) client r.challenge
 judged_writes (question.Challenge client) (reply.Authenticate r) how secret fits = tt
 judged_writes (question.Challenge client) (reply.Logon r) how secret fits = tt
@@ -219,7 +219,7 @@ granted_both : (v : Verdict) → IfGranted v Fits → IfGranted v CanWriteSamInf
 granted_both (Granted info) fits = fits
 granted_both (Status status) fits = (tt, tt)
 
-settled_writes : (j : Judgement) (s : Requester) → IfJudged j → IfTaken (settle j s).taken CanWriteSamInfo × IfTaken (settle j s).taken InRangeSamInfo
+pub settled_writes : (j : Judgement) (s : Requester) → IfJudged j → IfTaken (settle j s).taken CanWriteSamInfo × IfTaken (settle j s).taken InRangeSamInfo
 settled_writes (judgement.Half client server) s fits = (tt, tt)
 settled_writes (judgement.Opened o) s fits = (tt, tt)
 settled_writes (judgement.Answer o v) s fits = granted_both v fits
@@ -240,7 +240,7 @@ set_writable what s given is = rw is (set_acted_writes what s).0
 pub set_range : (what : SetHearing) (s : Requester) (given : Taken) → given ≡ (act_set what s).taken → IfTaken given InRangeSamInfo
 set_range what s given is = rw is (set_acted_writes what s).1
 
-acted_writes : (heard : Hearing) (s : Requester) → CanWriteHeard heard → IfTaken (act heard s).taken CanWriteSamInfo × IfTaken (act heard s).taken InRangeSamInfo
+pub acted_writes : (heard : Hearing) (s : Requester) → CanWriteHeard heard → IfTaken (act heard s).taken CanWriteSamInfo × IfTaken (act heard s).taken InRangeSamInfo
 acted_writes hearing.Skip s fits = (tt, tt)
 acted_writes (hearing.Next q frames) s fits = (tt, tt)
 acted_writes (hearing.Reply q r) s fits = settled_writes (judge q r s.standing s.caller.secret) s (judged_writes q r s.standing s.caller.secret fits)

@@ -1,7 +1,15 @@
 pub mod CauseLaws
+pub mod ChannelEffectLaws
+pub mod ChannelNoNextLaws
+pub mod ChannelTurnLaws
+pub mod ChannelWholeLaws
 pub mod EffectLaws
 pub mod GrantLaws
 pub mod NoNextLaws
+pub mod SealedCarryLaws
+pub mod SealedCauseLaws
+pub mod SealedGrantLaws
 pub mod StubLaws
 pub mod TurnLaws
+pub mod UnsealedLaws
 pub mod WholeLaws

@@ -37,6 +37,11 @@ begins_plainly next how caller info timestamp challenge none =
     subst (λ (n : Option (List ℕ)). begin_with how n caller info timestamp challenge ≡ plain_beginning how caller info timestamp challenge)
     (sym none) (plainly how caller info timestamp challenge)
 
+pub begun_none : (how : Standing) (next : Option (List ℕ)) (caller : Caller) (info : NetworkInfo) (timestamp : ℕ) (challenge : List ℕ) → next ≡ None →
+    sets_in (begin_with how next caller info timestamp challenge).step ≡ false
+begun_none how next caller info timestamp challenge none =
+    ap (λ (b : Beginning). sets_in b.step) (begins_plainly next how caller info timestamp challenge none)
+
 -- ---- what is heard
 
 ack_sets : (accepting : Bool) (st : Step) (receive next : ℕ) → sets_in st ≡ false → hears_set (hear_ack accepting st receive next) ≡ false
@@ -54,7 +59,7 @@ stub_sets (step.Bind c) stub none = refl
 stub_sets (step.Reply q) stub none = reply_sets q (reply_of (opnum_asked q) stub)
 stub_sets (step.Set st) stub none = absurd cc
 
-body_sets : (body : Body) (st : Step) (next : ℕ) → sets_in st ≡ false → hears_set (hear_body body st next) ≡ false
+pub body_sets : (body : Body) (st : Step) (next : ℕ) → sets_in st ≡ false → hears_set (hear_body body st next) ≡ false
 body_sets (BindNak reason) st next none = refl
 body_sets (BindAck send receive group results) st next none = ack_sets (is_accepting results) st receive next none
 body_sets (Fault hint context status) st next none = refl
@@ -67,7 +72,7 @@ numbered_sets : (numbered : Bool) (p : Pending) (unit : RpcUnit) (next : ℕ) �
 numbered_sets false p unit next none = refl
 numbered_sets true p unit next none = body_sets unit.body p.step next none
 
-heard_sets : (turn : Option Pending) (unit : RpcUnit) (next : ℕ) → sets_in_turn turn ≡ false → hears_set (hear turn unit next) ≡ false
+pub heard_sets : (turn : Option Pending) (unit : RpcUnit) (next : ℕ) → sets_in_turn turn ≡ false → hears_set (hear turn unit next) ≡ false
 heard_sets None unit next none = refl
 heard_sets (Some p) unit next none = numbered_sets (unit.call == p.number) p unit next none
 
@@ -79,7 +84,7 @@ settled_gives (judgement.Opened o) s = refl
 settled_gives (judgement.Answer o v) s = refl
 settled_gives (judgement.Drop cause) s = refl
 
-acted_gives : (heard : Hearing) (s : Requester) → hears_set heard ≡ false → gives_set (act heard s).taken ≡ false
+pub acted_gives : (heard : Hearing) (s : Requester) → hears_set heard ≡ false → gives_set (act heard s).taken ≡ false
 acted_gives hearing.Skip s none = refl
 acted_gives (hearing.Next q frames) s none = refl
 acted_gives (hearing.Reply q r) s none = settled_gives (judge q r s.standing s.caller.secret) s
@@ -98,16 +103,16 @@ started_none (Some p) logons s timestamp challenge none = none
 started_none None [] s timestamp challenge none = none
 started_none None (logon ∷ logons) s timestamp challenge none = record {
   next = none.next;
-  turn = ap (λ (b : Beginning). sets_in b.step) (begins_plainly s.next s.standing s.caller logon.info timestamp challenge none.next);
+  turn = begun_none s.standing s.next s.caller logon.info timestamp challenge none.next;
 }
 
-settled_none : (j : Judgement) (s : Requester) → HasNoNext s → HasNoNext (settle j s).state
+pub settled_none : (j : Judgement) (s : Requester) → HasNoNext s → HasNoNext (settle j s).state
 settled_none (judgement.Half client server) s none = record { next = none.next; turn = refl }
 settled_none (judgement.Opened o) s none = record { next = none.next; turn = refl }
 settled_none (judgement.Answer o v) s none = record { next = none.next; turn = refl }
 settled_none (judgement.Drop cause) s none = record { next = none.next; turn = refl }
 
-acted_none : (heard : Hearing) (s : Requester) → hears_set heard ≡ false → HasNoNext s → HasNoNext (act heard s).state
+pub acted_none : (heard : Hearing) (s : Requester) → hears_set heard ≡ false → HasNoNext s → HasNoNext (act heard s).state
 acted_none hearing.Skip s unset none = none
 acted_none (hearing.Next q frames) s unset none = record { next = none.next; turn = refl }
 acted_none (hearing.Reply q r) s unset none = settled_none (judge q r s.standing s.caller.secret) s none

@@ -37,7 +37,7 @@ same_after_start (Some p) logons s timestamp challenge can = refl
 same_after_start None [] s timestamp challenge can = refl
 same_after_start None (logon ∷ logons) s timestamp challenge can = absurd cc
 
-right_settled : (j : Judgement) (s : Requester) → gives_right (settle j s).taken ≡ is_out (settle j s).state
+pub right_settled : (j : Judgement) (s : Requester) → gives_right (settle j s).taken ≡ is_out (settle j s).state
 right_settled (judgement.Half client server) s = refl
 right_settled (judgement.Opened o) s = refl
 right_settled (judgement.Answer o v) s = refl
@@ -47,7 +47,7 @@ right_set : (judged : SetOutcome) (s : Requester) → gives_right (settle_set ju
 right_set (Ok o) s = refl
 right_set (Err cause) s = refl
 
-right_back : (heard : Hearing) (s : Requester) → is_out s ≡ true → gives_right (act heard s).taken ≡ is_out (act heard s).state
+pub right_back : (heard : Hearing) (s : Requester) → is_out s ≡ true → gives_right (act heard s).taken ≡ is_out (act heard s).state
 right_back hearing.Skip s out = sym out
 right_back (hearing.Next q frames) s out = refl
 right_back (hearing.Reply q r) s out = right_settled (judge q r s.standing s.caller.secret) s

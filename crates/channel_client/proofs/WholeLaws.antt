@@ -49,7 +49,7 @@ use Rattle.channel_client.specs.declared.state.Waiting.{Waiting}
 
 -- ---- numbers
 
-after_below : (n : ℕ) → after n < 2 ^ 32
+pub after_below : (n : ℕ) → after n < 2 ^ 32
 after_below n = mod-lt (n + 1) (omega arith)
 
 -- ---- the logons that wait
@@ -98,7 +98,7 @@ asked false s info range is = record {
 
 -- ---- the calls
 
-logon_room : (caller : Caller) (o : SecureChannelState) (timestamp : ℕ) (info : NetworkInfo) → InRangeCaller caller → timestamp < 2 ^ 32 → InRangeLogon info →
+pub logon_room : (caller : Caller) (o : SecureChannelState) (timestamp : ℕ) (info : NetworkInfo) → InRangeCaller caller → timestamp < 2 ^ 32 → InRangeLogon info →
     HasRoom (logon_call caller o timestamp info)
 logon_room caller o timestamp info has below is = record {
   writes = record { server = tt; computer = omega (arith, has.computer); info = is.writes };
@@ -129,14 +129,14 @@ auth_room caller client server has = record {
   few = omega (arith, has.computer, has.account);
 }
 
-challenge_room : (caller : Caller) (client : List ℕ) → InRangeCaller caller → IsBlock 8 client → HasRoom (challenge_call caller client)
+pub challenge_room : (caller : Caller) (client : List ℕ) → InRangeCaller caller → IsBlock 8 client → HasRoom (challenge_call caller client)
 challenge_room caller client has eight = record {
   writes = (tt, omega (arith, has.computer));
   range = record { primary = tt; computer = has.computer_units; challenge = eight };
   few = omega (arith, has.computer);
 }
 
-change_room : (caller : Caller) (o : SecureChannelState) (timestamp : ℕ) (next : List ℕ) → InRangeCaller caller → timestamp < 2 ^ 32 →
+pub change_room : (caller : Caller) (o : SecureChannelState) (timestamp : ℕ) (next : List ℕ) → InRangeCaller caller → timestamp < 2 ^ 32 →
     HasSetRoom (change_call caller o timestamp next)
 change_room caller o timestamp next has below = record {
   sends = record {
@@ -154,7 +154,7 @@ change_room caller o timestamp next has below = record {
   few = omega (arith, has.account, has.computer);
 }
 
-begun_room : (how : Standing) (next : Option (List ℕ)) (caller : Caller) (info : NetworkInfo) (timestamp : ℕ) (challenge : List ℕ) → InRangeCaller caller → InRangeLogon info → timestamp < 2 ^ 32 →
+pub begun_room : (how : Standing) (next : Option (List ℕ)) (caller : Caller) (info : NetworkInfo) (timestamp : ℕ) (challenge : List ℕ) → InRangeCaller caller → InRangeLogon info → timestamp < 2 ^ 32 →
     IsBlock 8 challenge → InRangeStep (begin_with how next caller info timestamp challenge).step
 begun_room standing.Nothing next caller info timestamp challenge has is below eight = challenge_room caller challenge has eight
 begun_room (standing.Half client server) next caller info timestamp challenge has is below eight = auth_room caller client server has
@@ -163,11 +163,11 @@ begun_room (standing.Open o) (Some next) caller info timestamp challenge has is 
 
 -- ---- a turn that starts
 
-bind_goes : (number : ℕ) → number < 2 ^ 32 → IsWholeSend (joined_frames (written (bind_of netlogon_syntax number) ∷ []))
+pub bind_goes : (number : ℕ) → number < 2 ^ 32 → IsWholeSend (joined_frames (written (bind_of netlogon_syntax number) ∷ []))
 bind_goes number below =
     subst IsWholeSend (sym (append-nil (written (bind_of netlogon_syntax number)))) (bind_whole netlogon_syntax number refl (syntax_of_bytes netlogon_syntax refl) (omega arith) below)
 
-turned : (s : Requester) (place : ℕ) (b : Beginning) → InRangeRequester s → InRangeStep b.step → InRangeRequester (with_turn s place b).state
+pub turned : (s : Requester) (place : ℕ) (b : Beginning) → InRangeRequester s → InRangeStep b.step → InRangeRequester (with_turn s place b).state
 turned s place b range room = record {
   caller = range.caller;
   waiting = range.waiting;
@@ -188,7 +188,7 @@ started None (logon ∷ logons) s timestamp challenge range all below eight = (
 
 -- ---- what is heard
 
-abbrev HeardWhole : Hearing → Type 0
+abbrev pub HeardWhole : Hearing → Type 0
 HeardWhole hearing.Skip = Unit {0}
 HeardWhole (hearing.Next q frames) = IsWholeSend (joined_frames frames)
 HeardWhole (hearing.Reply q r) = Unit {0}
@@ -196,13 +196,13 @@ HeardWhole (hearing.Drop cause) = Unit {0}
 HeardWhole (hearing.Set (set_hearing.Next frames)) = IsWholeSend (joined_frames frames)
 HeardWhole (hearing.Set (set_hearing.Reply r)) = Unit {0}
 
-opnum_small : (c : Call) → opnum_of_call c < 2 ^ 16
+pub opnum_small : (c : Call) → opnum_of_call c < 2 ^ 16
 opnum_small (call.Logon value) = omega arith
 opnum_small (call.Logoff value) = omega arith
 opnum_small (call.Challenge value) = omega arith
 opnum_small (call.Authenticate value) = omega arith
 
-set_few : (c : SetCall) → HasSetRoom c → length (written_set_call c) ≤ 58209
+pub set_few : (c : SetCall) → HasSetRoom c → length (written_set_call c) ≤ 58209
 set_few c room =
     let few : length (written_set_call c) ≤ 80 + size_if_there text_size c.primary + 2 * length c.account + 2 * length c.computer = (call_stub c room.sends.writes room.sends.range).short in
     let none : size_if_there text_size c.primary ≡ 0 = ap (λ (p : Option (List ℕ)). size_if_there text_size p) room.primary in
@@ -246,13 +246,13 @@ numbered_heard : (numbered : Bool) (p : Pending) (unit : RpcUnit) (next : ℕ) �
 numbered_heard false p unit next below range = tt
 numbered_heard true p unit next below range = body_heard unit.body p.step next below range
 
-heard_whole : (turn : Option Pending) (unit : RpcUnit) (next : ℕ) → next < 2 ^ 32 → InRangeTurn turn → HeardWhole (hear turn unit next)
+pub heard_whole : (turn : Option Pending) (unit : RpcUnit) (next : ℕ) → next < 2 ^ 32 → InRangeTurn turn → HeardWhole (hear turn unit next)
 heard_whole None unit next below range = tt
 heard_whole (Some p) unit next below range = numbered_heard (unit.call == p.number) p unit next below range
 
 -- ---- a unit that is taken
 
-ended : (how : Standing) (s : Requester) → InRangeRequester s → InRangeRequester (record s { standing = how; turn = None })
+pub ended : (how : Standing) (s : Requester) → InRangeRequester s → InRangeRequester (record s { standing = how; turn = None })
 ended how s range = record {
   caller = range.caller;
   waiting = range.waiting;
@@ -261,7 +261,7 @@ ended how s range = record {
   turn = tt;
 }
 
-removed : (how : Standing) (s : Requester) → InRangeRequester s → InRangeRequester (remove_first how s)
+pub removed : (how : Standing) (s : Requester) → InRangeRequester s → InRangeRequester (remove_first how s)
 removed how s range = record {
   caller = range.caller;
   waiting = waits_later s.waiting range.waiting;
@@ -270,20 +270,20 @@ removed how s range = record {
   turn = tt;
 }
 
-settled : (j : Judgement) (s : Requester) → InRangeRequester s → InRangeRequester (settle j s).state × IsWholeNext (settle j s).taken
+pub settled : (j : Judgement) (s : Requester) → InRangeRequester s → InRangeRequester (settle j s).state × IsWholeNext (settle j s).taken
 settled (judgement.Half client server) s range = (ended (standing.Half client server) s range, tt)
 settled (judgement.Opened o) s range = (ended (standing.Open o) s range, tt)
 settled (judgement.Answer o v) s range = (removed (standing.Open o) s range, tt)
 settled (judgement.Drop cause) s range = (removed standing.Nothing s range, tt)
 
-settled_set : (judged : SetOutcome) (s : Requester) → InRangeRequester s → InRangeRequester (settle_set judged s).state × IsWholeNext (settle_set judged s).taken
+pub settled_set : (judged : SetOutcome) (s : Requester) → InRangeRequester s → InRangeRequester (settle_set judged s).state × IsWholeNext (settle_set judged s).taken
 settled_set (Ok o) s range = (
   record { caller = range.caller; waiting = range.waiting; next_place = range.next_place; next_call = range.next_call; turn = tt },
   tt,
 )
 settled_set (Err cause) s range = settled (judgement.Drop cause) s range
 
-goes_on : (s : Requester) (place : ℕ) (st : Step) → InRangeRequester s → InRangeStep st → InRangeRequester (wait_for s place st)
+pub goes_on : (s : Requester) (place : ℕ) (st : Step) → InRangeRequester s → InRangeStep st → InRangeRequester (wait_for s place st)
 goes_on s place st range room = record {
   caller = range.caller;
   waiting = range.waiting;
@@ -292,7 +292,7 @@ goes_on s place st range room = record {
   turn = room;
 }
 
-acted : (h : Hearing) (s : Requester) → InRangeRequester s → HeardWhole h → InRangeRequester (act h s).state × IsWholeNext (act h s).taken
+pub acted : (h : Hearing) (s : Requester) → InRangeRequester s → HeardWhole h → InRangeRequester (act h s).state × IsWholeNext (act h s).taken
 acted hearing.Skip s range whole = (range, tt)
 acted (hearing.Next q frames) s range whole = (goes_on s _ (step.Reply q) range tt, whole)
 acted (hearing.Reply q r) s range whole = settled (judge q r s.standing s.caller.secret) s range

@@ -1,13 +1,24 @@
+pub mod AnyChannel
 pub mod Causes
 pub mod Effects
 pub mod Grants
 pub mod Machine
 pub mod NoNext
+pub mod Sealed
+pub mod SealedCarrying
+pub mod SealedCauses
+pub mod Sealing
 pub mod State
 pub mod Turns
+pub mod Unsealed
 pub mod Whole
 pub use Rattle.authenticators.specs.Channels
 pub use Rattle.authenticators.specs.SecureChannels
 pub use Rattle.authenticators.specs.Sequences
 pub use Rattle.channel_keys.specs.Credentials
 pub use Rattle.channel_keys.specs.SessionKeys
+pub use Rattle.netlogon_seal.specs.Channels as SealEnds
+pub use Rattle.channel_sealing.specs.Frames
+pub use Rattle.channel_sealing.specs.Trailers
+pub use Rattle.channel_sealing.specs.Exchanges
+pub use Rattle.netlogon_seal.specs.Runs

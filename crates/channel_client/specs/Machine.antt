@@ -79,6 +79,7 @@ level_asked = 3
 
 -- ---- at first
 
+-- of a channel that seals nothing
 abbrev pub fresh_requester : Caller → Requester
 fresh_requester caller = record {
   caller = caller;
@@ -88,6 +89,7 @@ fresh_requester caller = record {
   next_call = 1;
   turn = None;
   next = None;
+  sealing = None;
 }
 
 -- ---- the secrets

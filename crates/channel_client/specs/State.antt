@@ -4,6 +4,7 @@ use Rattle.channel_client.specs.declared.caller.Caller.{Caller}
 use Rattle.channel_client.specs.declared.state.Standing.{Standing}
 use Rattle.channel_client.specs.declared.state.Waiting.{Waiting}
 use Rattle.channel_client.specs.declared.state.Pending.{Pending}
+use Rattle.channel_client.specs.declared.state.Sealing.{Sealing}
 
 pub record Requester : Type 0 where
   pub caller : Caller
@@ -17,3 +18,5 @@ pub record Requester : Type 0 where
   pub turn : Option Pending
   -- the secret that the account is to have, 16 bytes, or none
   pub next : Option (List ℕ)
+  -- what seals the units of the channel, where it is one that seals
+  pub sealing : Option Sealing

@@ -1,23 +1,27 @@
 //! What a unit comes to for the turn that is out.
 
-ghost use Rattle.std.specs.Prelude.{◌≡◌, ◌≤◌, IfOk, Ok, length};
+ghost use Rattle.std.specs.Prelude.{◌≡◌, ◌≤◌, IfOk, None, Ok, length};
 ghost use Rattle.logon_stubs.specs.Calls.{call_of, opnum_of_call};
 ghost use Rattle.logon_stubs.specs.Writing.{CanWriteCall, written_call};
 ghost use Rattle.end_links.specs.Binding.{limit_of};
 ghost use Rattle.end_links.specs.Sending.{frames_of, request_of};
 ghost use Rattle.channel_client.specs.Grants.{CanWriteHeard};
 ghost use Rattle.channel_client.specs.Machine.{CanWriteStep, question_of, opnum_asked, is_accepting, hear_ack, hear_stub, hear_body, CanSendSet, hear_set_reply, stub_limit};
+ghost use Rattle.rpc_units.specs.Joining.{IsWholeCall, stub_of};
+ghost use Rattle.channel_client.specs.Sealed.{hear_room_ack, hear_room_body, next_if, room_frames_of, seal_heard, set_next_if};
 ghost use Rattle.secret_change.specs.Calls.{set_opnum, set_reply_of, written_set_call};
 
+use crate::sealing::seal_short;
 use crate::short_frames::ShortFrames;
-use crate::state::{Question, SetStep, Step};
+use crate::state::{Question, Sealing, SetStep, Step};
+use channel_sealing::{OWN_CONTEXT, room_frames};
 use end_links::{call_frames, fragment_limit, request};
 use logon_stubs::{
     AUTHENTICATE_OPNUM, CHALLENGE_OPNUM, Call, LOGON_OPNUM, Reply, StubRefused, read_reply,
     write_call,
 };
 use outside::DropCause;
-use rpc_units::{Body, Results};
+use rpc_units::{Body, Results, Unit};
 use secret_change::{SetCall, SetReply, read_set_reply, write_set};
 use std::alloc::Global;
 use wire_base::{Blob, NoMemory};
@@ -76,6 +80,32 @@ pub(crate) fn hear_body(
     }
 }
 
+/// The same of a turn on the open channel of one that seals: the frames of the request have room for signatures.
+pub(crate) fn hear_room_body(
+    alloc: Global,
+    body: &Body,
+    step: &Step,
+    next: u32,
+) -> Result<Hearing, NoMemory>
+    requires { CanWriteStep step.now }
+    ensures exact { IfOk result (λ heard. heard ≡ hear_room_body body.now step.now next) }
+    ensures writable { IfOk result CanWriteHeard }
+{
+    match body {
+        Body::BindAck {
+            receive,
+            results,
+            ..
+        } => hear_room_ack(alloc, is_accepting(results), step, *receive, next),
+        Body::BindNak(_)
+        | Body::Fault { .. }
+        | Body::Response { .. }
+        | Body::Bind { .. }
+        | Body::Request { .. }
+        | Body::Auth3 => hear_body(alloc, body, step, next),
+    }
+}
+
 /// Whether a bind_ack accepts the first context.
 fn is_accepting(results: &Results) -> bool
     ensures { result ≡ is_accepting results.now }
@@ -114,6 +144,61 @@ fn hear_ack(
         }
         Step::Reply(_) | Step::Set(SetStep::Reply) => Ok(Hearing::Drop(DropCause::BadReply)),
     }
+}
+
+/// The same, with room for signatures in the frames of the request.
+fn hear_room_ack(
+    alloc: Global,
+    accepting: bool,
+    step: &Step,
+    receive: u16,
+    next: u32,
+) -> Result<Hearing, NoMemory>
+    requires { CanWriteStep step.now }
+    ensures exact { IfOk result (λ heard. heard ≡ hear_room_ack accepting step.now receive next) }
+    ensures writable { IfOk result CanWriteHeard }
+{
+    if !accepting {
+        return Ok(Hearing::Drop(DropCause::Bind));
+    }
+    match step {
+        Step::Bind(call) => {
+            let stub = call_stub(alloc, call)?;
+            let frames = room_request(alloc, call.opnum(), stub, receive, next)?;
+            Ok(Hearing::Next(question_of(call), frames))
+        }
+        Step::Set(SetStep::Bind(call)) => {
+            let stub = set_stub(alloc, call)?;
+            let frames = room_request(alloc, SET_OPNUM, stub, receive, next)?;
+            Ok(Hearing::Set(SetHearing::Next(frames)))
+        }
+        Step::Reply(_) | Step::Set(SetStep::Reply) => Ok(Hearing::Drop(DropCause::BadReply)),
+    }
+}
+
+/// The frames, with room for signatures, of the request of this call number and operation, on context 0, for a peer
+/// that receives so many bytes.
+fn room_request(
+    alloc: Global,
+    opnum: u16,
+    stub: Blob,
+    receive: u16,
+    number: u32,
+) -> Result<ShortFrames, NoMemory>
+    requires { length stub ≤ stub_limit }
+    ensures { IfOk result (λ frames. frames
+        ≡ room_frames_of (request_of number 0 opnum stub) receive) }
+{
+    short_room(alloc, request(number, 0, opnum, stub), receive)
+}
+
+/// The frames, with room for signatures, of a request that is short enough for one send.
+fn short_room(alloc: Global, unit: Unit, receive: u16) -> Result<ShortFrames, NoMemory>
+    requires whole { IsWholeCall unit }
+    requires short { length (stub_of unit.body) ≤ stub_limit }
+    ensures { IfOk result (λ frames. frames ≡ room_frames_of unit receive) }
+{
+    Ok(ShortFrames::new(room_frames(alloc, unit, OWN_CONTEXT, receive)?))
 }
 
 /// The frames of the request of this call number and operation, on context 0, for a peer that receives so many bytes.
@@ -216,5 +301,43 @@ fn hear_set_reply(stub: &[u8]) -> Hearing
     match read_set_reply(stub) {
         Ok(reply) => Hearing::Set(SetHearing::Reply(reply)),
         Err(_) => Hearing::Drop(DropCause::BadReply),
+    }
+}
+
+/// Seals what goes out. Where it can't be, the turn ends. It takes no memory.
+pub(crate) fn seal_heard(alloc: Global, sealing: &mut Sealing, heard: Hearing) -> Hearing
+    ensures heard { result ≡ (seal_heard heard sealing.old).0 }
+    ensures sealing { sealing.new ≡ (seal_heard heard sealing.old).1 }
+    ensures bind_value { sealing.new.bind_value ≡ sealing.old.bind_value }
+{
+    match heard {
+        Hearing::Next(question, frames) => next_if(question, seal_short(alloc, sealing, frames)),
+        Hearing::Set(SetHearing::Next(frames)) => {
+            set_next_if(seal_short(alloc, sealing, frames))
+        }
+        Hearing::Skip => Hearing::Skip,
+        Hearing::Reply(question, reply) => Hearing::Reply(question, reply),
+        Hearing::Drop(cause) => Hearing::Drop(cause),
+        Hearing::Set(SetHearing::Reply(reply)) => Hearing::Set(SetHearing::Reply(reply)),
+    }
+}
+
+/// The request of that question goes out in these frames, if any.
+fn next_if(question: Question, frames: Option<ShortFrames>) -> Hearing
+    ensures { result ≡ next_if question frames }
+{
+    match frames {
+        Some(frames) => Hearing::Next(question, frames),
+        None => Hearing::Drop(DropCause::BadSeal),
+    }
+}
+
+/// The request that sets a secret goes out in these frames, if any.
+fn set_next_if(frames: Option<ShortFrames>) -> Hearing
+    ensures { result ≡ set_next_if frames }
+{
+    match frames {
+        Some(frames) => Hearing::Set(SetHearing::Next(frames)),
+        None => Hearing::Drop(DropCause::BadSeal),
     }
 }

@@ -3,7 +3,9 @@
 ghost use Rattle.std.specs.Prelude.{◌≡◌, ◌==◌};
 ghost use Rattle.logon_stubs.specs.Status.{access_denied};
 ghost use Rattle.channel_client.specs.Machine.{judge_challenge, judge_credential, judge_auth, judge_status, judge_return, judge_logon, judge, judge_set, judge_set_return};
+ghost use Rattle.channel_client.specs.Sealed.{judge_opening, judge_sealed, judge_secure_auth, judge_secure_credential};
 
+use crate::sealing::{NEEDED_SECURE_FLAGS, SECURE_FLAGS};
 use crate::state::{Question, Standing};
 use authenticators::SecureChannel;
 use channel_keys::{RC4, SUPPORTED_FLAGS, cred, crypt_key, session_key};
@@ -43,6 +45,71 @@ pub(crate) fn judge(
         (Question::Logon, Reply::Logon(reply)) => judge_logon(reply, standing),
         _ => Judgement::Drop(DropCause::BadReply),
     }
+}
+
+/// The same of a channel that seals: it needs secure RPC granted.
+pub(crate) fn judge_sealed(
+    question: Question,
+    reply: Reply,
+    standing: Standing,
+    secret: [u8; 16],
+) -> Judgement
+    ensures { result ≡ judge_sealed question reply standing secret }
+{
+    match question {
+        Question::Authenticate => judge_opening(reply, standing, secret),
+        Question::Challenge(client) => judge(Question::Challenge(client), reply, standing, secret),
+        Question::Logon => judge(Question::Logon, reply, standing, secret),
+    }
+}
+
+/// What the reply to NetrServerAuthenticate2 comes to, where it is one.
+fn judge_opening(reply: Reply, standing: Standing, secret: [u8; 16]) -> Judgement
+    ensures { result ≡ judge_opening reply standing secret }
+{
+    match reply {
+        Reply::Authenticate(reply) => judge_secure_auth(reply, standing, secret),
+        Reply::Challenge(_) | Reply::Logon(_) | Reply::Logoff(_) => {
+            Judgement::Drop(DropCause::BadReply)
+        }
+    }
+}
+
+/// What the reply to NetrServerAuthenticate2 comes to on a channel that seals.
+fn judge_secure_auth(reply: AuthReply, standing: Standing, secret: [u8; 16]) -> Judgement
+    ensures { result ≡ judge_secure_auth (reply.status == 0) standing secret
+        reply.credential reply.flags }
+{
+    if reply.status != 0 {
+        return Judgement::Drop(DropCause::Denied);
+    }
+    match standing {
+        Standing::Half { client, server } => {
+            let key = session_key(secret, client, server, SECURE_FLAGS);
+            let right = reply.credential == cred(key, server);
+            judge_secure_credential(right, secret, client, server, reply.flags)
+        }
+        Standing::Nothing | Standing::Open(_) => Judgement::Drop(DropCause::NotNext),
+    }
+}
+
+/// What a right or wrong credential of the server comes to on a channel that seals, with the flags that it grants.
+fn judge_secure_credential(
+    right: bool,
+    secret: [u8; 16],
+    client: [u8; 8],
+    server: [u8; 8],
+    flags: u32,
+) -> Judgement
+    ensures { result ≡ judge_secure_credential right secret client server flags }
+{
+    if !right {
+        return Judgement::Drop(DropCause::NotNext);
+    }
+    if has_flag(SECURE_FLAGS, flags) && has_flag(flags, NEEDED_SECURE_FLAGS) {
+        return Judgement::Opened(SecureChannel::new(secret, client, server, SECURE_FLAGS));
+    }
+    Judgement::Drop(DropCause::BadReply)
 }
 
 /// What the reply to NetrServerReqChallenge comes to.

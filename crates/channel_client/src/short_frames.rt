@@ -1,10 +1,13 @@
 //! Frames that go out in one send.
 
-ghost use Rattle.std.specs.Prelude.{◌≡◌, ◌≤◌, length, IfOk};
+ghost use Rattle.std.specs.Prelude.{◌≡◌, ◌≤◌, length, IfOk, MatchOption, None, Some};
+ghost use Rattle.channel_sealing.specs.Frames.{seal_all};
 ghost use Rattle.end_links.specs.Bounds.{send_limit};
 ghost use Rattle.end_links.specs.Sending.{joined_frames};
 
+use channel_sealing::seal_frames;
 use end_links::join_frames;
+use netlogon_seal::NlSeal;
 use std::alloc::Global;
 use std::marker::Model;
 use wire_base::{Blob, Frames, NoMemory};
@@ -34,6 +37,25 @@ impl ShortFrames {
         ensures { result ≡ frames }
     {
         ShortFrames { frames }
+    }
+
+    /// The frames, sealed one after the other with one confounder. None exactly where they can't be; the end's numbers
+    /// are then of no use. It takes no memory.
+    pub(crate) fn seal(
+        self,
+        alloc: Global,
+        seal: &mut NlSeal,
+        confounder: [u8; 8],
+    ) -> Option<ShortFrames>
+        ensures { MatchOption result (seal_all seal.old confounder self ≡ None)
+            (λ sealed. seal_all seal.old confounder self
+            ≡ Some (record { frames = sealed; seal = seal.new })) }
+    {
+        let ShortFrames { frames } = self;
+        match seal_frames(alloc, seal, confounder, frames) {
+            Some(sealed) => Some(ShortFrames { frames: sealed }),
+            None => None,
+        }
     }
 
     /// The frames, each for itself.

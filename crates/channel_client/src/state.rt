@@ -2,7 +2,9 @@
 
 use authenticators::SecureChannel;
 use logon_stubs::{Call, NetworkInfo};
+use netlogon_seal::NlSeal;
 use secret_change::SetCall;
+use wire_base::Blob;
 
 /// How far the channel is (MS-NRPC 3.1.4.1).
 #[derive(Drop)]
@@ -61,4 +63,13 @@ pub struct Pending {
 pub struct Waiting {
     pub place: u32,
     pub info: NetworkInfo,
+}
+
+/// What seals the units of a channel that is one that seals (MS-NRPC 3.3): what its binds tell, the confounder of the
+/// call that is out, and the end of the channel that was opened last. Before that, the end is one that seals nothing.
+#[derive(Drop)]
+pub struct Sealing {
+    pub bind_value: Blob,
+    pub confounder: [u8; 8],
+    pub seal: NlSeal,
 }

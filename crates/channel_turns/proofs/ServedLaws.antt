@@ -54,7 +54,7 @@ rest_few rest all is = omega (arith, length-append is.front rest, ap length is.i
 
 -- ---- a call that serves the units of a link
 
-link_is : (said : Option (LinkState TurnTalk)) (rest : List ℕ) → HasRest said rest → said ≡ keep_turn (talk_in said) rest
+pub link_is : (said : Option (LinkState TurnTalk)) (rest : List ℕ) → HasRest said rest → said ≡ keep_turn (talk_in said) rest
 link_is None rest has = refl
 link_is (Some link) rest has = ap (λ (r : List ℕ). Some (record { rest = r; talk = link.talk })) has
 

@@ -5,6 +5,7 @@ use Rattle.end_links.specs.Bounds.{ServerDrawsFew, extra_on}
 use Rattle.end_links.specs.Serving.{ServerLeavesRest}
 use Rattle.end_links.proofs.BoundLaws.{nothing_drawn, none_fewer}
 use Rattle.channel_turns.specs.declared.state.TurnTalk.{TurnTalk}
+use Rattle.channel_turns.specs.SealedTurns.{sealed_turn_server, sealed_unit}
 use Rattle.channel_turns.specs.Turns.{turn_server, turn_unit}
 
 -- all that were left are left
@@ -21,5 +22,18 @@ none_drawn (Some talk) left = nothing_drawn (length left) 0
 pub turn_few : ServerDrawsFew turn_server (λ talk. 0)
 turn_few = record {
   unit = λ bytes at talk left. none_drawn (turn_unit (unit_of bytes) talk.joiner at).1 left;
+  refusal = λ why at talk left. none_fewer (length left);
+}
+
+-- the same of a channel that seals
+pub sealed_turn_leaves : ServerLeavesRest sealed_turn_server
+sealed_turn_leaves = record {
+  unit = λ bytes at talk left. record { front = []; is = refl };
+  refusal = λ why at talk left. record { front = []; is = refl };
+}
+
+pub sealed_turn_few : ServerDrawsFew sealed_turn_server (λ talk. 0)
+sealed_turn_few = record {
+  unit = λ bytes at talk left. none_drawn (sealed_unit bytes talk.joiner at).1 left;
   refusal = λ why at talk left. none_fewer (length left);
 }

@@ -8,7 +8,7 @@ ghost use Rattle.channel_turns.specs.Dials.{begun, bind_turn, lose_turn, next_tu
 
 use crate::state::{TurnEnd, TurnEnded, TurnTalk};
 use authenticators::timestamp_at;
-use channel_client::{Channel, ShortFrames, Turn};
+use channel_client::{PlainChannel, ShortFrames, Turn};
 use end_links::{Link, ShortActions};
 use outside::{Action, Chances, DropCause, Spent, StepRefused};
 use rpc_units::Joiner;
@@ -17,7 +17,7 @@ use wire_base::NoMemory;
 
 /// The turn of the channel is lost for this cause, which is outside of the channel: it has no link that is open. It
 /// takes no memory.
-pub fn lose_turn(channel: Channel, turn: Turn, cause: DropCause) -> (Channel, TurnEnded)
+pub fn lose_turn(channel: PlainChannel, turn: Turn, cause: DropCause) -> (PlainChannel, TurnEnded)
     ensures { result ≡ lose_turn cause channel }
 {
     let mut channel = channel;
@@ -64,8 +64,8 @@ fn start(
     alloc: Global,
     timestamp: u32,
     challenge: [u8; 8],
-    channel: Channel,
-) -> Result<(Channel, Option<(Turn, ShortFrames)>), NoMemory>
+    channel: PlainChannel,
+) -> Result<(PlainChannel, Option<(Turn, ShortFrames)>), NoMemory>
     ensures { IfOk result (λ next. next ≡ begun (start_of channel timestamp challenge)) }
 {
     let mut channel = channel;
@@ -85,9 +85,9 @@ fn start(
 pub fn next_turn<Q: Chances>(
     alloc: Global,
     now: u64,
-    channel: Channel,
+    channel: PlainChannel,
     chances: &mut Q,
-) -> Result<(Channel, Option<(Turn, ShortFrames)>), StepRefused>
+) -> Result<(PlainChannel, Option<(Turn, ShortFrames)>), StepRefused>
     ensures draws { DrawsSome (Q.drawing chances.old) (Q.drawing chances.new) }
     ensures answer { AnswersBy result (next_turn now channel (Q.drawing chances.old).left)
         (Q.drawing chances.new).left }

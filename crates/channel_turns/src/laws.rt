@@ -1,6 +1,7 @@
 //! Laws of turns, over their definitions. Each function does nothing, and its clause is the law.
 
 ghost use Rattle.channel_turns.specs.Laws.{NextTurnsKnown, TurnsEndOnce, TurnsSendWhole, TurnsStepTheChannel};
+ghost use Rattle.channel_turns.specs.SealedTurns.{SealedRepliesAreOpened};
 
 /// What a piece on the link of a turn comes to is that of the words for any end's units, and no challenge is drawn.
 /// Where the turn hadn't ended before, it ends once, or its link stays open. One that was out is out exactly while the
@@ -30,4 +31,12 @@ pub fn what_is_sent_in_turns_is_whole()
 #[tactic(auto, using(crate::proofs::NextLaws::next_turns))]
 pub fn next_turns_are_known()
     ensures { NextTurnsKnown }
+{}
+
+/// On a sealed link a response that has no signature, or that the channel's end refuses, loses the turn with `BadSeal`,
+/// and the link is to be closed with `BadAuthentication`. One that is opened is heard as what is found in it, and what
+/// else comes as it is.
+#[tactic(auto, using(crate::proofs::SealedLaws::replies_are_opened))]
+pub fn sealed_replies_are_opened()
+    ensures { SealedRepliesAreOpened }
 {}

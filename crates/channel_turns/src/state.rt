@@ -1,7 +1,7 @@
 //! A turn that is out, and how it ends.
 
 use crate::taken_verdict::TakenVerdict;
-use channel_client::{Channel, ShortFrames, Turn};
+use channel_client::{PlainChannel, ShortFrames, Turn};
 use end_links::{Link, ShortActions};
 use outside::{CloseCause, DropCause};
 use rpc_units::Joiner;
@@ -41,7 +41,7 @@ pub struct TurnEnded {
 #[derive(Drop)]
 pub struct TurnWork {
     pub link: u32,
-    pub channel: Channel,
+    pub channel: PlainChannel,
     pub actions: ShortActions,
     pub ended: Option<TurnEnded>,
 }
@@ -61,7 +61,7 @@ pub enum Dialling {
 /// has a turn out at a time, keeps one link for all of them beside the number of the channel.
 #[derive(Drop)]
 pub struct Turning {
-    pub channel: Channel,
+    pub channel: PlainChannel,
     pub dialling: Dialling,
     pub actions: ShortActions,
 }

@@ -3,13 +3,14 @@
 ghost use Rattle.std.specs.Prelude.{◌≡◌, ◌≤◌, ◌+◌, length, IfOk};
 ghost use Rattle.outside.specs.Drawing.{DrawsSome};
 ghost use Rattle.outside.specs.Machine.{AnswersBy};
+ghost use Rattle.end_links.specs.Links.{open_limit, rest_limit};
 ghost use Rattle.channel_turns.specs.declared.state.Dialling.TheVariants as dialling;
 ghost use Rattle.channel_turns.specs.Turning.{after_piece, bytes_of, dial_for, drop_turn, hear_on, is_on, is_waiting, link_answers, link_closes, link_hears, next_dial, no_dial, send_dial, want_of};
 
 use crate::dials::{bind_turn, lose_turn, next_turn};
 use crate::state::{Dialling, TurnEnded, TurnTalk, TurnWork, Turning};
 use crate::turns::serve_turn;
-use channel_client::{Channel, ShortFrames, Turn};
+use channel_client::{PlainChannel, ShortFrames, Turn};
 use end_links::{Link, ShortActions};
 use outside::{Action, Chances, DropCause, StepRefused};
 use std::alloc::Global;
@@ -46,11 +47,10 @@ impl Dialling {
         }
     }
 
-    /// The bytes that the link holds: the rest of its stream, and the stub bytes of an open reply. They are at most
-    /// 5,839 and 65,536.
+    /// The bytes that the link holds: the rest of its stream, and the stub bytes of an open reply.
     pub fn held(&self) -> u64
         ensures count { result ≡ bytes_of self.now }
-        ensures most { result ≤ 5839 + 65536 }
+        ensures most { result ≤ rest_limit + open_limit }
     {
         match self {
             Dialling::On(_, said) => (said.rest_len() + said.talk().joiner.len()) as u64,
@@ -89,7 +89,7 @@ fn answer_dial(
     turn: Turn,
     frames: &ShortFrames,
     link: u32,
-    channel: Channel,
+    channel: PlainChannel,
     actions: ShortActions,
 ) -> Result<Turning, NoMemory>
     ensures { IfOk result (λ answered. answered ≡ link_answers link (record {
@@ -165,7 +165,7 @@ fn turn_on(link: Link<TurnTalk>) -> Turn {
 fn drop_turn(
     cause: DropCause,
     turn: Turn,
-    channel: Channel,
+    channel: PlainChannel,
     actions: ShortActions,
 ) -> (Turning, Option<TurnEnded>)
     ensures { result ≡ drop_turn cause channel actions }
@@ -219,7 +219,7 @@ fn serve_on<Q: Chances>(
     number: u32,
     said: Link<TurnTalk>,
     piece: &[u8],
-    channel: Channel,
+    channel: PlainChannel,
     actions: ShortActions,
     chances: &mut Q,
 ) -> Result<(Turning, Option<TurnEnded>), NoMemory>
@@ -240,7 +240,7 @@ fn serve_on<Q: Chances>(
 }
 
 /// The link of the turn, where the turn is still out, and how it ended, where it did.
-fn after_piece(
+pub(crate) fn after_piece(
     number: u32,
     at: TurnWork,
     still: Option<Link<TurnTalk>>,
@@ -312,7 +312,7 @@ pub fn next_dial<Q: Chances>(
 }
 
 /// The peer is dialled where a turn starts.
-fn dial_for(
+pub(crate) fn dial_for(
     alloc: Global,
     started: Option<(Turn, ShortFrames)>,
     peer: &Blob,

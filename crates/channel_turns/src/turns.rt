@@ -25,7 +25,7 @@ use wire_base::NoMemory;
 // ---- how a turn ends
 
 /// The turn ended so, and its link is to be closed for this cause. It takes no memory.
-fn end_by(cause: CloseCause, how: TurnEnd, at: TurnWork) -> (TurnWork, Option<TurnTalk>)
+pub(crate) fn end_by(cause: CloseCause, how: TurnEnd, at: TurnWork) -> (TurnWork, Option<TurnTalk>)
     ensures { result ≡ end_by cause how at }
 {
     let TurnWork {
@@ -47,7 +47,11 @@ fn end_by(cause: CloseCause, how: TurnEnd, at: TurnWork) -> (TurnWork, Option<Tu
 }
 
 /// A unit that is refused loses the turn. It takes no memory.
-fn break_turn(cause: CloseCause, turn: Turn, at: TurnWork) -> (TurnWork, Option<TurnTalk>)
+pub(crate) fn break_turn(
+    cause: CloseCause,
+    turn: Turn,
+    at: TurnWork,
+) -> (TurnWork, Option<TurnTalk>)
     ensures { result ≡ break_turn cause at }
 {
     let TurnWork {
@@ -67,7 +71,11 @@ fn break_turn(cause: CloseCause, turn: Turn, at: TurnWork) -> (TurnWork, Option<
 }
 
 /// The same, and the fragments of an open reply are let go.
-fn break_call(cause: CloseCause, talk: TurnTalk, at: TurnWork) -> (TurnWork, Option<TurnTalk>)
+pub(crate) fn break_call(
+    cause: CloseCause,
+    talk: TurnTalk,
+    at: TurnWork,
+) -> (TurnWork, Option<TurnTalk>)
     ensures { result ≡ break_turn cause at }
 {
     let TurnTalk { joiner, turn } = talk;
@@ -78,7 +86,7 @@ fn break_call(cause: CloseCause, talk: TurnTalk, at: TurnWork) -> (TurnWork, Opt
 // ---- what the channel makes of a unit
 
 /// The request of the turn goes out in these frames.
-fn send_request(
+pub(crate) fn send_request(
     alloc: Global,
     turn: Turn,
     frames: &ShortFrames,
@@ -145,7 +153,7 @@ fn do_taken(
 }
 
 /// The turn is done, and the fragments of an open reply are let go.
-fn end_call(how: TurnEnd, joiner: Joiner, at: TurnWork) -> (TurnWork, Option<TurnTalk>)
+pub(crate) fn end_call(how: TurnEnd, joiner: Joiner, at: TurnWork) -> (TurnWork, Option<TurnTalk>)
     ensures { result ≡ end_by close.CallDone how at }
 {
     drop(joiner);

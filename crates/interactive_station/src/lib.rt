@@ -2,8 +2,20 @@
 //! how its logon ends, and its machine.
 #![tactic(auto)]
 
+mod calls;
+mod end;
+mod hearing;
 mod laws;
+mod lines;
+mod outcome;
+mod plan;
+mod serving;
+mod settling;
+mod state;
 mod station;
+mod working;
 
-pub use laws::{a_station_draws_once, an_outcome_stays};
-pub use station::{NoStation, StationOutcome, StationPlan};
+pub use laws::{a_station_draws_once, a_station_moves_in_order, an_outcome_stays};
+pub use outcome::{NoStation, StationOutcome};
+pub use plan::StationPlan;
+pub use station::Station;

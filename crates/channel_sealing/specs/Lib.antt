@@ -1,0 +1,11 @@
+pub mod Exchanges
+pub mod Names
+pub mod Parts
+pub mod Trailers
+pub mod Frames
+pub use Rattle.netlogon_seal.specs.Channels
+pub use Rattle.netlogon_seal.specs.Runs
+pub use Rattle.netlogon_seal.specs.Signatures
+pub use Rattle.rpc_units.specs.Joining
+pub use Rattle.rpc_units.specs.Sealing
+pub use Rattle.rpc_units.specs.Writing
