@@ -1,3 +1,4 @@
+pub mod BindLaws
 pub mod ChangeLaws
 pub mod ChannelKindLaws
 pub mod DoneLaws
@@ -10,4 +11,8 @@ pub mod OutcomeLaws
 pub mod PassLaws
 pub mod RefusalLaws
 pub mod ReplyLaws
+pub mod SealLaws
+pub mod SealingLaws
+pub mod StandingLaws
 pub mod StubLaws
+pub mod UnsentLaws

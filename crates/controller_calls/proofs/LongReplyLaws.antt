@@ -29,7 +29,9 @@ use Rattle.logon_stubs.specs.Structures.{has_extra}
 use Rattle.logon_stubs.specs.Writing.{CanWriteArm, CanWriteReply, CanWriteSamInfo, put_authenticator, put_entries_head, put_extra_array, put_extra_entry, put_extra_head, put_extra_sid, put_group, put_group_array, put_logon_reply, put_sam_info, put_sam_numbers, put_text_heads, put_texts, put_times, texts_of, times_of, written_reply}
 use Rattle.logon_stubs.proofs.GivenLaws.{reply_of-InRange}
 use Rattle.logon_stubs.proofs.WrittenLaws.{written_reply-joins}
+use Rattle.end_links.specs.Bounds.{send_limit}
 use Rattle.end_links.specs.Sending.{response_of}
+use Rattle.controller_calls.specs.Limits.{extra_most, granted_most, groups_most, long_most, stub_limit, text_most}
 
 -- ---- the stub
 
@@ -78,8 +80,8 @@ returned (Some value) old is = then (points true old) (authenticator value _ is)
 
 -- ---- what is granted
 
-text : (value : List ℕ) (old : Written) → IsFitText value → Grows 65549 old (put_units value old)
-text value old is = within 65549 (omega (arith, is.0)) (grown (units_law value old is.0 is.1))
+text : (value : List ℕ) (old : Written) → IsFitText value → Grows text_most old (put_units value old)
+text value old is = within text_most (omega (arith, is.0)) (grown (units_law value old is.0 is.1))
 
 text_head : (value : List ℕ) (old : Written) → FitsText value → Grows 17 old (put_head (2 * length value) old)
 text_head value old fits = grown (units_head_law value old fits)
@@ -95,9 +97,9 @@ text_heads : (info : SamInfo) (old : Written) → CanWriteSamInfo info → Grows
 unfolding put_text_heads
 text_heads info old can = each 17 (λ value. put_head (2 * length value)) FitsText text_head (texts_of info) old (fit_texts info can)
 
-texts : (info : SamInfo) (old : Written) → CanWriteSamInfo info → InRangeSamInfo info → Grows 393294 old (put_texts info old)
+texts : (info : SamInfo) (old : Written) → CanWriteSamInfo info → InRangeSamInfo info → Grows (6 * text_most) old (put_texts info old)
 unfolding put_texts
-texts info old can is = each 65549 put_units IsFitText text (texts_of info) old (both_of_all FitsText AreUnits (texts_of info) (fit_texts info can) is.texts)
+texts info old can is = each text_most put_units IsFitText text (texts_of info) old (both_of_all FitsText AreUnits (texts_of info) (fit_texts info can) is.texts)
 
 numbers : (info : SamInfo) (old : Written) → InRangeSamInfo info → Grows 24 old (put_sam_numbers info old)
 unfolding put_sam_numbers
@@ -111,10 +113,10 @@ entries count old few = then (number count old (omega (arith, few))) (points (no
 group : (value : ℕ × ℕ) (old : Written) → InRangeGroup value → Grows 14 old (put_group value old)
 group value old is = then (number value.0 old is.0) (number value.1 _ is.1)
 
-groups : (list : List (ℕ × ℕ)) (old : Written) → length list ≤ 256 → AllByRecursion InRangeGroup list → Grows 3591 old (put_group_array list old)
-groups [] old few is = within 3591 (omega arith) (stays old)
+groups : (list : List (ℕ × ℕ)) (old : Written) → length list ≤ 256 → AllByRecursion InRangeGroup list → Grows groups_most old (put_group_array list old)
+groups [] old few is = within groups_most (omega arith) (stays old)
 groups (first ∷ more) old few is =
-    within 3591 (omega (arith, few)) (then (number (length (first ∷ more)) old (omega (arith, few))) (each 14 put_group InRangeGroup group (first ∷ more) _ is))
+    within groups_most (omega (arith, few)) (then (number (length (first ∷ more)) old (omega (arith, few))) (each 14 put_group InRangeGroup group (first ∷ more) _ is))
 
 extra_head : (has : Bool) (count : ℕ) (old : Written) → count ≤ 256 → Grows 14 old (put_extra_head has count old)
 extra_head false count old few = within 14 (omega arith) (stays old)
@@ -126,17 +128,17 @@ extra_entry value old is = then (points true old) (number value.1 _ is.1)
 identifier : (value : SidParts × ℕ) (old : Written) → InRangeExtra value → Grows 75 old (put_extra_sid value old)
 identifier value old is = grown (it {E = NdrRefused} sid value.0 old is.0 tt)
 
-extra : (list : List (SidParts × ℕ)) (old : Written) → length list ≤ 256 → AllByRecursion InRangeExtra list → Grows 22791 old (put_extra_array list old)
-extra [] old few is = within 22791 (omega arith) (stays old)
+extra : (list : List (SidParts × ℕ)) (old : Written) → length list ≤ 256 → AllByRecursion InRangeExtra list → Grows extra_most old (put_extra_array list old)
+extra [] old few is = within extra_most (omega arith) (stays old)
 extra (first ∷ more) old few is =
-    within 22791 (omega (arith, few)) (
+    within extra_most (omega (arith, few)) (
     then (then (number (length (first ∷ more)) old (omega (arith, few))) (each 14 put_extra_entry InRangeExtra extra_entry (first ∷ more) _ is))
     (each 75 put_extra_sid InRangeExtra identifier (first ∷ more) _ is))
 
-granted : (has : Bool) (info : SamInfo) (old : Written) → CanWriteSamInfo info → InRangeSamInfo info → Grows 551221 old (put_sam_info has info old)
+granted : (has : Bool) (info : SamInfo) (old : Written) → CanWriteSamInfo info → InRangeSamInfo info → Grows granted_most old (put_sam_info has info old)
 unfolding put_sam_info
 granted has info old can is =
-    within 551221 (omega arith) (
+    within granted_most (omega arith) (
     then (times info old is) (
     then (text_heads info _ can) (
     then (numbers info _ is) (
@@ -157,28 +159,28 @@ granted has info old can is =
 
 -- ---- the reply
 
-arm : (level : ℕ) (info : Option SamInfo) (old : Written) → CanWriteArm level info → IfThere InRangeSamInfo info → Grows 551228 old (put_unique (put_sam_info (has_extra level)) info old)
-arm level None old can is = within 551228 (omega arith) (points false old)
+arm : (level : ℕ) (info : Option SamInfo) (old : Written) → CanWriteArm level info → IfThere InRangeSamInfo info → Grows (long_most + granted_most) old (put_unique (put_sam_info (has_extra level)) info old)
+arm level None old can is = within (long_most + granted_most) (omega arith) (points false old)
 arm level (Some info) old can is = then (points true old) (granted (has_extra level) info _ can.1 is)
 
-logon : (value : LogonReply) (old : Written) → CanWriteReply (reply.Logon value) → InRangeReply (reply.Logon value) → Grows 551263 old (put_logon_reply value old)
+logon : (value : LogonReply) (old : Written) → CanWriteReply (reply.Logon value) → InRangeReply (reply.Logon value) → Grows stub_limit old (put_logon_reply value old)
 unfolding put_logon_reply
 logon value old can is =
-    within 551263 (omega arith) (
+    within stub_limit (omega arith) (
     then (returned value.returned old is.returned) (
     then (half value.level _ is.level) (
     then (arm value.level value.info _ can is.info) (
     then (grown (it {E = NdrRefused} byte value.authoritative _ is.authoritative tt)) (
     number value.status _ is.status)))))
 
-reply_long : (value : Reply) → CanWriteReply value → InRangeReply value → length (written_reply value) ≤ 551263
+reply_long : (value : Reply) → CanWriteReply value → InRangeReply value → length (written_reply value) ≤ stub_limit
 unfolding written_reply
 reply_long (reply.Logon value) can is = (logon value nothing can is).most
 reply_long (reply.Logoff value) can is = omega (arith, written_reply-joins (reply.Logoff value) can is tt)
 reply_long (reply.Challenge value) can is = omega (arith, written_reply-joins (reply.Challenge value) can is tt)
 reply_long (reply.Authenticate value) can is = omega (arith, written_reply-joins (reply.Authenticate value) can is tt)
 
-pub stub_long : (value : Reply) (stub : List ℕ) → AreBytes stub → CanWriteReply value → reply_of (opnum_of_reply value) stub ≡ Ok value → stub ≡ written_reply value → length stub ≤ 551263
+pub stub_long : (value : Reply) (stub : List ℕ) → AreBytes stub → CanWriteReply value → reply_of (opnum_of_reply value) stub ≡ Ok value → stub ≡ written_reply value → length stub ≤ stub_limit
 stub_long value stub bytes can again is = rw is (reply_long value can (reply_of-InRange (opnum_of_reply value) stub value bytes again))
 
 -- ---- its frames
@@ -215,7 +217,7 @@ frames_long (suc most) call context whole size first rest large =
     ]
 
 -- so a stub of that many bytes is sent at once
-pub bytes_long : (call context limit : ℕ) (stub : List ℕ) → 1432 ≤ limit → length stub ≤ 551263 → length (bytes_of_call (response_of call context stub) limit) ≤ 589824
+pub bytes_long : (call context limit : ℕ) (stub : List ℕ) → 1432 ≤ limit → length stub ≤ stub_limit → length (bytes_of_call (response_of call context stub) limit) ≤ send_limit
 unfolding cut_of
 bytes_long call context limit stub least few =
     omega (arith, frames_long (length stub) call context stub (stub_size limit) true stub (omega arith), few)

@@ -1,25 +1,27 @@
 //! Logons that are handed on to the controller of a domain that is trusted.
 
-ghost use Rattle.std.specs.Prelude.{◌≡◌, IfOk, IsSome};
+ghost use Rattle.std.specs.Prelude.{◌≡◌, ◌≤◌, IfOk, IsSome, length};
 ghost use Rattle.account_table.specs.Changes.{with_changes};
-ghost use Rattle.logon_stubs.specs.Writing.{CanWriteSamInfo};
+ghost use Rattle.logon_stubs.specs.Writing.{CanWriteSamInfo, written_reply};
 ghost use Rattle.sam_logon.specs.Verdict.{IfGranted};
 ghost use Rattle.controller_calls.specs.Desk.{IsLine};
 ghost use Rattle.controller_calls.specs.Logons.{IsServedLevel};
-ghost use Rattle.controller_calls.specs.Handing.{IsAskedLevel, answer_forwarded, answer_unasked, hand_on, hands_on, trust_asked, trust_for};
+ghost use Rattle.controller_calls.specs.Limits.{stub_limit};
+ghost use Rattle.controller_calls.specs.Unsent.{told_unasked, unasked_stub};
+ghost use Rattle.controller_calls.specs.Handing.{IsAskedLevel, answer_forwarded, answer_unasked, forwarded_reply, hand_on, hands_on, trust_asked, trust_for};
 
 use crate::calls::Asked;
 use crate::forwarded::ForwardedCall;
 use crate::line::Line;
-use crate::logon::{pass_logon, reply_to, serves_level, status_of};
-use crate::replying::{send_long_reply, tell};
+use crate::logon::{reply_to, serves_level, status_of};
+use crate::replying::{long_stub, reply_stub, send_long_stub, send_stub, tell};
 use crate::standing::route_with;
 use crate::state::Work;
 use account_table::{Route, Table, TableChanges};
 use logon_stubs::{NetworkInfo, STATUS_NO_LOGON_SERVERS, Verdict};
 use outside::{Action, Judged};
 use std::alloc::Global;
-use wire_base::NoMemory;
+use wire_base::{Blob, NoMemory};
 
 /// A logon that passed, to be asked of the controller of a trusted domain (MS-NRPC 3.3.5.1; what is kept for its answer
 /// is this project's own choice): the number of the trust in the table, the logon, and what its answer needs.
@@ -121,15 +123,29 @@ pub fn answer_unasked(
     requires { IsLine line }
     ensures { IfOk result (λ w. w ≡ answer_unasked call.now line work) }
 {
-    pass_logon(
-        alloc,
-        Verdict::Status(STATUS_NO_LOGON_SERVERS),
-        line,
-        call.validation,
-        call.key,
-        call.credential,
+    let work = told_unasked(work)?;
+    let stub = unasked_stub(alloc, call)?;
+    send_stub(alloc, work, line, stub)
+}
+
+/// It is told that a logon passed with NO_LOGON_SERVERS.
+pub fn told_unasked(work: Work) -> Result<Work, NoMemory>
+    ensures { IfOk result (λ w. w ≡ told_unasked work) }
+{
+    tell(
         work,
+        Action::Judged(Judged::Passed(STATUS_NO_LOGON_SERVERS)),
     )
+}
+
+/// The stub of the reply to a logon for which nobody can be asked, which is short.
+pub fn unasked_stub(alloc: Global, call: &ForwardedCall) -> Result<Blob, NoMemory>
+    ensures value { IfOk result (λ stub. stub ≡ unasked_stub call.now) }
+    ensures short { IfOk result (λ stub. length stub ≤ 65536) }
+{
+    let verdict = Verdict::Status(STATUS_NO_LOGON_SERVERS);
+    let answer = reply_to(alloc, verdict, call.validation, call.key, call.credential);
+    reply_stub(alloc, &answer)
 }
 
 /// The verdict on a logon that was asked of another controller is told, and sent where its line stands. What is granted
@@ -143,16 +159,26 @@ pub fn answer_forwarded(
     requires { IfGranted verdict CanWriteSamInfo }
     ensures { IfOk result (λ w. w ≡ answer_forwarded verdict call work) }
 {
-    let ForwardedCall {
-        line,
-        validation,
-        key,
-        credential,
-    } = call;
     let work = tell(work, Action::Judged(Judged::Answered(status_of(&verdict))))?;
-    let Some(line) = line else {
+    let Some(line) = call.line else {
         return Ok(work);
     };
-    let answer = reply_to(alloc, verdict, validation, key, credential);
-    send_long_reply(alloc, work, line, &answer)
+    let stub = forwarded_stub(alloc, verdict, &call)?;
+    send_long_stub(alloc, work, line, stub)
+}
+
+/// The stub of the reply to a logon that was asked of another controller, with its verdict. What is granted may have
+/// texts of any length that a stub can carry.
+pub fn forwarded_stub(
+    alloc: Global,
+    verdict: Verdict,
+    call: &ForwardedCall,
+) -> Result<Blob, NoMemory>
+    requires { IfGranted verdict CanWriteSamInfo }
+    ensures value { IfOk result (λ stub. stub
+        ≡ written_reply (forwarded_reply call.now verdict)) }
+    ensures short { IfOk result (λ stub. length stub ≤ stub_limit) }
+{
+    let answer = reply_to(alloc, verdict, call.validation, call.key, call.credential);
+    long_stub(alloc, &answer)
 }

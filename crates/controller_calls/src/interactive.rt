@@ -1,19 +1,24 @@
 //! NetrLogonSamLogon with an interactive logon, and NetrLogonSamLogoff.
 
-ghost use Rattle.std.specs.Prelude.{◌≡◌, ◌==◌, IfOk, length};
+ghost use Rattle.std.specs.Prelude.{◌≡◌, ◌≤◌, ◌==◌, IfOk, Some, length};
 ghost use Rattle.account_table.specs.Changes.{with_changes};
 ghost use Rattle.logon_stubs.specs.Ranges.{HasShortTexts};
-ghost use Rattle.logon_stubs.specs.Writing.{CanWriteSamInfo};
+ghost use Rattle.logon_stubs.specs.Writing.{CanWriteSamInfo, written_reply};
+ghost use Rattle.logon_stubs.specs.declared.calls.Reply.TheVariants as reply;
+ghost use Rattle.outside.specs.declared.action.Action.TheVariants as action;
+ghost use Rattle.outside.specs.declared.action.Judged.TheVariants as judged;
 ghost use Rattle.interactive_logon.specs.Sessions.{session_limit, taken_from};
 ghost use Rattle.rc4_stream.specs.Rc4.{applied};
 ghost use Rattle.sam_logon.specs.Verdict.{IfGranted};
-ghost use Rattle.controller_calls.specs.Desk.{IsLine, desk};
-ghost use Rattle.controller_calls.specs.Interactive.{admitted, end_session, is_open, judge_interactive, logoff_status, pass_interactive, pass_logoff, refuse_logoff, send_logoff_reply, session_opened, with_sessions};
+ghost use Rattle.controller_calls.specs.Desk.{desk, tell};
+ghost use Rattle.controller_calls.specs.Doing.{refused_logoff_stub, returned_with};
+ghost use Rattle.controller_calls.specs.Interactive.{admitted, is_open, judge_interactive, logoff_status, session_opened, with_sessions};
 ghost use Rattle.controller_calls.specs.Logons.{IsServedLevel};
+ghost use Rattle.controller_calls.specs.Stubs.{interactive_unsent};
+ghost use Rattle.controller_calls.specs.Unsent.{replies};
 
-use crate::line::Line;
 use crate::logon::{note_change, pass_logon, serves_level};
-use crate::replying::{send_reply, tell};
+use crate::replying::{reply_stub, tell};
 use crate::state::{Computers, Work};
 use account_table::{Table, TableChanges};
 use interactive_logon::{AddRefused, InteractiveInfo};
@@ -25,32 +30,32 @@ use outside::{Action, Judged};
 use rc4_stream::Rc4;
 use sam_logon::{Weighed, weigh_interactive};
 use std::alloc::Global;
-use wire_base::{Authenticator, Name, NoMemory};
+use wire_base::{Authenticator, Blob, Name, NoMemory};
 
 /// What comes of an interactive logon whose authenticator passes: it is judged at a moment, a session is opened where
-/// it is granted, and the verdict is sent (MS-NRPC 3.5.4.5.3).
+/// it is granted, the verdict is told, and stands in the stub of the reply (MS-NRPC 3.5.4.5.3).
 pub(crate) fn pass_interactive(
     alloc: Global,
     table: &Table,
     changes: &mut TableChanges,
     name: &Name,
     now: u64,
-    line: Line,
     info: &InteractiveInfo,
     validation: u16,
     computer: &[u16],
     key: [u8; 16],
     credential: [u8; 8],
     work: Work,
-) -> Result<Work, NoMemory>
-    requires { IsLine line }
-    ensures { IfOk result (λ w. desk (with_changes changes.new table.now) w ≡ pass_interactive
-        name.now now line info.now validation computer.now key credential
+) -> Result<(Work, Blob), NoMemory>
+    ensures value { IfOk result (λ done.
+        replies (desk (with_changes changes.new table.now) done.0) done.1 ≡ interactive_unsent
+        name.now now info.now validation computer.now key credential
         (desk (with_changes changes.old table.now) work)) }
+    ensures short { IfOk result (λ done. length done.1 ≤ 65536) }
 {
     let verdict = verdict_on(alloc, table, changes, name, now, info, validation, key)?;
     let (work, verdict) = admit(computer, info, verdict, validation, work)?;
-    pass_logon(alloc, verdict, line, validation, key, credential, work)
+    pass_logon(alloc, verdict, validation, key, credential, work)
 }
 
 /// The verdict, at a validation level, and behind the changes what it changes. What is granted can be written, has
@@ -148,34 +153,34 @@ fn admit(
     }
 }
 
-/// Without a channel and an authenticator that passes, nothing is returned.
-pub(crate) fn refuse_logoff(
-    alloc: Global,
-    how: Judged,
-    line: Line,
-    work: Work,
-) -> Result<Work, NoMemory>
-    requires { IsLine line }
-    ensures { IfOk result (λ w. w ≡ refuse_logoff how line work) }
+/// The stub of the reply without a channel and an authenticator that passes: nothing is returned.
+pub(crate) fn refused_logoff_stub(alloc: Global) -> Result<Blob, NoMemory>
+    ensures value { IfOk result (λ stub. stub ≡ refused_logoff_stub) }
+    ensures short { IfOk result (λ stub. length stub ≤ 65536) }
 {
-    let work = tell(work, Action::Judged(how))?;
-    send_logoff_reply(alloc, None, STATUS_ACCESS_DENIED, line, work)
+    logoff_stub(alloc, None, STATUS_ACCESS_DENIED)
 }
 
 /// The first session of that computer, user and logon is taken out (MS-NRPC 3.5.4.5.4).
 pub(crate) fn end_session(
     alloc: Global,
-    line: Line,
     info: &InteractiveInfo,
     computer: &[u16],
     credential: [u8; 8],
     work: Work,
-) -> Result<Work, NoMemory>
-    requires { IsLine line }
-    ensures { IfOk result (λ w. w ≡ end_session line info.now computer.now credential work) }
+) -> Result<(Work, Blob), NoMemory>
+    ensures work { IfOk result (λ done. done.0 ≡ tell (with_sessions
+        (taken_from work.computers.sessions computer.now info.now.user info.now.logon_id) work)
+        (action.Judged (judged.Passed (logoff_status
+        (is_open work.computers.sessions computer.now info.now))))) }
+    ensures stub { IfOk result (λ done. done.1 ≡ written_reply (reply.Logoff (record {
+      returned = Some (returned_with credential);
+      status = logoff_status (is_open work.computers.sessions computer.now info.now);
+    }))) }
+    ensures short { IfOk result (λ done. length done.1 ≤ 65536) }
 {
     let (work, found) = take_session(info, computer, work);
-    pass_logoff(alloc, logoff_status(found), line, credential, work)
+    pass_logoff(alloc, logoff_status(found), credential, work)
 }
 
 /// The session is taken out, if there is one. It takes no memory.
@@ -213,40 +218,38 @@ fn logoff_status(found: bool) -> u32
     }
 }
 
-/// The logoff passed, with that status.
+/// The logoff passed, with that status, which stands in the stub of the reply.
 pub(crate) fn pass_logoff(
     alloc: Global,
     status: u32,
-    line: Line,
     credential: [u8; 8],
     work: Work,
-) -> Result<Work, NoMemory>
-    requires { IsLine line }
-    ensures { IfOk result (λ w. w ≡ pass_logoff status line credential work) }
+) -> Result<(Work, Blob), NoMemory>
+    ensures work { IfOk result (λ done. done.0 ≡ tell work (action.Judged (judged.Passed status))) }
+    ensures stub { IfOk result (λ done. done.1 ≡ written_reply (reply.Logoff (record {
+      returned = Some (returned_with credential);
+      status = status;
+    }))) }
+    ensures short { IfOk result (λ done. length done.1 ≤ 65536) }
 {
     let work = tell(work, Action::Judged(Judged::Passed(status)))?;
     let returned = Authenticator {
         credential,
         timestamp: 0,
     };
-    send_logoff_reply(alloc, Some(returned), status, line, work)
+    let stub = logoff_stub(alloc, Some(returned), status)?;
+    Ok((work, stub))
 }
 
-/// The logoff is answered by the reply.
-fn send_logoff_reply(
+/// The stub of the reply to a logoff.
+fn logoff_stub(
     alloc: Global,
     returned: Option<Authenticator>,
     status: u32,
-    line: Line,
-    work: Work,
-) -> Result<Work, NoMemory>
-    requires { IsLine line }
-    ensures { IfOk result (λ w. w ≡ send_logoff_reply returned status line work) }
+) -> Result<Blob, NoMemory>
+    ensures value { IfOk result (λ stub. stub
+        ≡ written_reply (reply.Logoff (record { returned = returned; status = status }))) }
+    ensures short { IfOk result (λ stub. length stub ≤ 65536) }
 {
-    send_reply(
-        alloc,
-        work,
-        line,
-        &Reply::Logoff(LogoffReply { returned, status }),
-    )
+    reply_stub(alloc, &Reply::Logoff(LogoffReply { returned, status }))
 }

@@ -14,16 +14,27 @@ pub mod laws;
 mod line;
 mod logon;
 mod replying;
+mod sealing;
+mod seals;
 mod setting;
 mod standing;
 mod state;
+mod unsent;
 
-pub use authenticating::answer_authenticate;
+pub use authenticating::{answer_authenticate, answer_secure};
 pub use calls::{Asked, ControllerCall, JudgedCall};
 pub use challenging::answer_challenge;
 pub use forwarded::ForwardedCall;
-pub use handing::{HandOn, answer_forwarded, answer_unasked};
-pub use judging::judge_call;
+pub use handing::{
+    HandOn, answer_forwarded, answer_unasked, forwarded_stub, told_unasked, unasked_stub,
+};
+pub use judging::{judge_call, refuse_unowned};
 pub use line::Line;
 pub use replying::{fault_bytes, tell};
+pub use sealing::seal_reply;
+pub use seals::{
+    ChannelSeals, KeptSeal, LinkSeal, ReplySeal, belongs, is_on, link_bound, no_seals, open_unit,
+    stands,
+};
 pub use state::{ChallengePair, Computers, Work};
+pub use unsent::{call_unsent, owned_unsent};

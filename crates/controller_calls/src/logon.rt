@@ -1,16 +1,20 @@
 //! NetrLogonSamLogon.
 
-ghost use Rattle.std.specs.Prelude.{◌≡◌, ◌++◌, IfOk, OnErr, OnOk, Some};
+ghost use Rattle.std.specs.Prelude.{◌≡◌, ◌≤◌, ◌++◌, IfOk, OnErr, OnOk, Some, length};
 ghost use Rattle.std.specs.Option.{option_to_list};
 ghost use Rattle.account_table.specs.Changes.{with_changes};
 ghost use Rattle.logon_stubs.specs.Ranges.{HasShortTexts, IsShortReply};
-ghost use Rattle.logon_stubs.specs.Writing.{CanWriteArm, CanWriteReply, CanWriteSamInfo};
+ghost use Rattle.logon_stubs.specs.Writing.{CanWriteArm, CanWriteReply, CanWriteSamInfo, written_reply};
+ghost use Rattle.outside.specs.declared.action.Action.TheVariants as action;
+ghost use Rattle.outside.specs.declared.action.Judged.TheVariants as judged;
 ghost use Rattle.sam_logon.specs.Verdict.{IfGranted};
-ghost use Rattle.controller_calls.specs.Desk.{IsLine, desk};
-ghost use Rattle.controller_calls.specs.Logons.{IsServedLevel, refuse_logon, reply_info, reply_to, status_of, pass_logon, pass_network, serves_level, judge_info};
+ghost use Rattle.controller_calls.specs.Desk.{desk, tell};
+ghost use Rattle.controller_calls.specs.Doing.{refused_logon_stub};
+ghost use Rattle.controller_calls.specs.Logons.{IsServedLevel, reply_info, reply_to, status_of, serves_level, judge_info};
+ghost use Rattle.controller_calls.specs.Stubs.{network_unsent};
+ghost use Rattle.controller_calls.specs.Unsent.{replies};
 
-use crate::line::Line;
-use crate::replying::{send_reply, tell};
+use crate::replying::{reply_stub, tell};
 use crate::state::Work;
 use account_table::{Table, TableChange, TableChanges};
 use channel_keys::crypt_key;
@@ -21,20 +25,13 @@ use logon_stubs::{
 use outside::{Action, Judged};
 use sam_logon::{Weighed, at_level, weigh_logon};
 use std::alloc::Global;
-use wire_base::{Authenticator, Name, NoMemory};
+use wire_base::{Authenticator, Blob, Name, NoMemory};
 
-/// Without a channel and an authenticator that passes, nothing is returned.
-pub(crate) fn refuse_logon(
-    alloc: Global,
-    how: Judged,
-    line: Line,
-    validation: u16,
-    work: Work,
-) -> Result<Work, NoMemory>
-    requires { IsLine line }
-    ensures { IfOk result (λ w. w ≡ refuse_logon how line validation work) }
+/// The stub of the reply without a channel and an authenticator that passes: nothing is returned.
+pub(crate) fn refused_logon_stub(alloc: Global, validation: u16) -> Result<Blob, NoMemory>
+    ensures value { IfOk result (λ stub. stub ≡ refused_logon_stub validation) }
+    ensures short { IfOk result (λ stub. length stub ≤ 65536) }
 {
-    let work = tell(work, Action::Judged(how))?;
     let answer = Reply::Logon(LogonReply {
         returned: None,
         level: validation,
@@ -42,30 +39,31 @@ pub(crate) fn refuse_logon(
         authoritative: 1,
         status: STATUS_ACCESS_DENIED,
     });
-    send_reply(alloc, work, line, &answer)
+    reply_stub(alloc, &answer)
 }
 
-/// What comes of a network logon whose authenticator passes: it is judged at a moment, and the verdict is sent.
+/// What comes of a network logon whose authenticator passes: it is judged at a moment, the verdict is told, and stands
+/// in the stub of the reply.
 pub(crate) fn pass_network(
     alloc: Global,
     table: &Table,
     changes: &mut TableChanges,
     name: &Name,
     now: u64,
-    line: Line,
     info: &NetworkInfo,
     validation: u16,
     key: [u8; 16],
     credential: [u8; 8],
     work: Work,
-) -> Result<Work, NoMemory>
-    requires { IsLine line }
-    ensures value { IfOk result (λ w. desk (with_changes changes.new table.now) w ≡ pass_network
-        name.now now line info.now validation key credential
+) -> Result<(Work, Blob), NoMemory>
+    ensures value { IfOk result (λ done.
+        replies (desk (with_changes changes.new table.now) done.0) done.1 ≡ network_unsent
+        name.now now info.now validation key credential
         (desk (with_changes changes.old table.now) work)) }
+    ensures short { IfOk result (λ done. length done.1 ≤ 65536) }
 {
     let verdict = verdict_at(alloc, table, changes, name, now, info, validation)?;
-    pass_logon(alloc, verdict, line, validation, key, credential, work)
+    pass_logon(alloc, verdict, validation, key, credential, work)
 }
 
 /// The verdict, at a validation level, and behind the changes what it changes. What is granted can be written, has
@@ -116,25 +114,28 @@ pub(crate) fn note_change(
     }
 }
 
-/// The verdict is sent, with what is granted.
+/// The verdict is told, and stands in the stub of the reply, with what is granted.
 pub(crate) fn pass_logon(
     alloc: Global,
     verdict: Verdict,
-    line: Line,
     validation: u16,
     key: [u8; 16],
     credential: [u8; 8],
     work: Work,
-) -> Result<Work, NoMemory>
-    requires line { IsLine line }
+) -> Result<(Work, Blob), NoMemory>
     requires writable { IfGranted verdict CanWriteSamInfo }
     requires short { IfGranted verdict HasShortTexts }
     requires level { IfGranted verdict (λ info. IsServedLevel validation) }
-    ensures { IfOk result (λ w. w ≡ pass_logon verdict line validation key credential work) }
+    ensures work { IfOk result (λ done.
+        done.0 ≡ tell work (action.Judged (judged.Passed (status_of verdict)))) }
+    ensures stub { IfOk result (λ done.
+        done.1 ≡ written_reply (reply_to verdict validation key credential)) }
+    ensures short { IfOk result (λ done. length done.1 ≤ 65536) }
 {
     let work = tell(work, Action::Judged(Judged::Passed(status_of(&verdict))))?;
     let answer = reply_to(alloc, verdict, validation, key, credential);
-    send_reply(alloc, work, line, &answer)
+    let stub = reply_stub(alloc, &answer)?;
+    Ok((work, stub))
 }
 
 /// The status of a verdict; 0 of what is granted.

@@ -9,6 +9,7 @@ ghost use Rattle.rpc_units.specs.Writing.{written};
 ghost use Rattle.end_links.specs.Bounds.{IsShortSend, send_limit};
 ghost use Rattle.end_links.specs.Sending.{fault_of, response_of};
 ghost use Rattle.controller_calls.specs.Desk.{IsLine, tell, send_reply, send_stub};
+ghost use Rattle.controller_calls.specs.Limits.{stub_limit};
 
 use crate::line::Line;
 use crate::state::Work;
@@ -52,26 +53,24 @@ pub(crate) fn send_reply(
     send_stub(alloc, work, line, stub)
 }
 
-/// A reply of any length goes out on the line, in fragments of the line's limit and in one send of at most 589,824
-/// bytes.
-pub(crate) fn send_long_reply(
+/// A reply goes out on the line, in fragments of the line's limit and in one send of at most 589,824 bytes.
+pub(crate) fn send_long_stub(
     alloc: Global,
     work: Work,
     line: Line,
-    answer: &Reply,
+    stub: Blob,
 ) -> Result<Work, NoMemory>
-    requires writable { CanWriteReply answer.now }
+    requires few { length stub ≤ stub_limit }
     requires line { IsLine line }
-    ensures { IfOk result (λ w. w ≡ send_reply work line answer.now) }
+    ensures { IfOk result (λ w. w ≡ send_stub work line stub) }
 {
-    let stub = long_stub(alloc, answer)?;
     let bytes = long_bytes(alloc, line, stub)?;
     tell(work, Action::Send(line.link, bytes))
 }
 
 /// The frames of a reply with that stub.
 fn long_bytes(alloc: Global, line: Line, stub: Blob) -> Result<Blob, NoMemory>
-    requires few { length stub ≤ 551263 }
+    requires few { length stub ≤ stub_limit }
     requires line { IsLine line }
     ensures exact { IfOk result (λ bytes. bytes
         ≡ bytes_of_call (response_of line.call line.context stub) line.limit) }
@@ -82,24 +81,24 @@ fn long_bytes(alloc: Global, line: Line, stub: Blob) -> Result<Blob, NoMemory>
 }
 
 /// The stub of a reply of any length.
-fn long_stub(alloc: Global, answer: &Reply) -> Result<Blob, NoMemory>
+pub(crate) fn long_stub(alloc: Global, answer: &Reply) -> Result<Blob, NoMemory>
     requires { CanWriteReply answer.now }
     ensures exact { IfOk result (λ stub. stub ≡ written_reply answer.now) }
-    ensures most { IfOk result (λ stub. length stub ≤ 551263) }
+    ensures most { IfOk result (λ stub. length stub ≤ stub_limit) }
 {
     let stub = write_reply(alloc, answer)?;
     read_long_stub(answer, stub.bytes());
     Ok(stub)
 }
 
-/// The stub of a reply has at most 551,263 bytes, as one has with eight texts of 32,767 units, 256 groups and 256
-/// identifiers. It reads them, so that this is known.
+/// The stub of a reply has no more bytes than one with eight texts of 32,767 units, 256 groups and 256 identifiers. It
+/// reads them, so that this is known.
 #[tactic(auto, using(crate::proofs::LongReplyLaws::stub_long))]
 fn read_long_stub(answer: &Reply, stub: &[u8])
     requires writable { CanWriteReply answer.now }
     requires again { reply_of (opnum_of_reply answer.now) stub.now ≡ Ok answer.now }
     requires exact { stub.now ≡ written_reply answer.now }
-    ensures { length stub.now ≤ 551263 }
+    ensures { length stub.now ≤ stub_limit }
 {}
 
 /// The call is answered by the reply with that stub, all of its frames in one send of at most 131,123 bytes.
@@ -114,7 +113,7 @@ pub(crate) fn send_stub(alloc: Global, work: Work, line: Line, stub: Blob) -> Re
 }
 
 /// The stub of a reply, which is short.
-fn reply_stub(alloc: Global, answer: &Reply) -> Result<Blob, NoMemory>
+pub(crate) fn reply_stub(alloc: Global, answer: &Reply) -> Result<Blob, NoMemory>
     requires writable { CanWriteReply answer.now }
     requires short { IsShortReply answer.now }
     ensures exact { IfOk result (λ stub. stub ≡ written_reply answer.now) }

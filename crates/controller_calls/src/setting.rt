@@ -1,15 +1,20 @@
 //! NetrServerPasswordSet.
 
-ghost use Rattle.std.specs.Prelude.{◌≡◌, ◌≤◌, ◌<◌, ◌^◌, IfOk, OnOk, length};
+ghost use Rattle.std.specs.Prelude.{◌≡◌, ◌≤◌, ◌<◌, ◌^◌, IfOk, OnOk, length, replicate};
 ghost use Rattle.account_table.specs.Changes.{with_changes, with_hash};
 ghost use Rattle.secret_change.specs.Calls.{written_set_reply};
 ghost use Rattle.secret_change.specs.Ranges.{InRangeSetReply};
 ghost use Rattle.wire_base.specs.Numbers.{AreBytes};
-ghost use Rattle.controller_calls.specs.Desk.{IsLine, desk};
-ghost use Rattle.controller_calls.specs.Setting.{keep_secrets, pass_set, refuse_set, send_set_reply, set_hash};
+ghost use Rattle.logon_stubs.specs.Status.{access_denied};
+ghost use Rattle.outside.specs.declared.action.Action.TheVariants as action;
+ghost use Rattle.outside.specs.declared.action.Judged.TheVariants as judged;
+ghost use Rattle.controller_calls.specs.Desk.{desk, tell};
+ghost use Rattle.controller_calls.specs.Doing.{returned_with};
+ghost use Rattle.controller_calls.specs.Setting.{keep_secrets};
+ghost use Rattle.controller_calls.specs.Stubs.{set_hash_unsent};
+ghost use Rattle.controller_calls.specs.Unsent.{replies};
 
-use crate::line::Line;
-use crate::replying::{send_stub, tell};
+use crate::replying::tell;
 use crate::standing::machine_with;
 use crate::state::Work;
 use account_table::{Change, Table, TableChange, TableChanges};
@@ -19,18 +24,15 @@ use secret_change::{SetReply, show, write_set_reply};
 use std::alloc::Global;
 use wire_base::{Authenticator, Blob, NoMemory};
 
-/// Without a channel and an authenticator that passes, no secret is set.
-pub(crate) fn refuse_set(
-    alloc: Global,
-    how: Judged,
-    line: Line,
-    work: Work,
-) -> Result<Work, NoMemory>
-    requires { IsLine line }
-    ensures { IfOk result (λ w. w ≡ refuse_set how line work) }
+/// The stub of the reply without a channel and an authenticator that passes: no secret is set.
+pub(crate) fn refused_set_stub(alloc: Global) -> Result<Blob, NoMemory>
+    ensures value { IfOk result (λ stub. stub ≡ written_set_reply (record {
+      returned = returned_with (replicate 8 0);
+      status = access_denied;
+    })) }
+    ensures short { IfOk result (λ stub. length stub ≤ 65536) }
 {
-    let work = tell(work, Action::Judged(how))?;
-    send_set_reply(alloc, line, [0; 8], STATUS_ACCESS_DENIED, work)
+    set_stub(alloc, [0; 8], STATUS_ACCESS_DENIED)
 }
 
 /// The hash of the computer's account becomes the one that is hidden under the channel's key, and the text of all
@@ -42,23 +44,23 @@ pub(crate) fn set_hash(
     account: &[u16],
     kind: u16,
     hidden: [u8; 16],
-    line: Line,
     computer: &[u16],
     key: [u8; 16],
     credential: [u8; 8],
     work: Work,
-) -> Result<Work, NoMemory>
-    requires { IsLine line }
-    ensures { IfOk result (λ w. desk (with_changes changes.new table.now) w ≡ set_hash
-        account.now kind hidden line computer.now key credential
+) -> Result<(Work, Blob), NoMemory>
+    ensures value { IfOk result (λ done.
+        replies (desk (with_changes changes.new table.now) done.0) done.1 ≡ set_hash_unsent
+        account.now kind hidden computer.now key credential
         (desk (with_changes changes.old table.now) work)) }
+    ensures short { IfOk result (λ done. length done.1 ≤ 65536) }
 {
     let Some(place) = machine_with(table, changes, account, kind, computer) else {
-        return pass_set(alloc, STATUS_NO_TRUST_SAM_ACCOUNT, line, credential, work);
+        return pass_set(alloc, STATUS_NO_TRUST_SAM_ACCOUNT, credential, work);
     };
     add_hash(table, changes, place, show(key, hidden))?;
     let work = keep_secrets(alloc, table, changes, work)?;
-    pass_set(alloc, 0, line, credential, work)
+    pass_set(alloc, 0, credential, work)
 }
 
 /// The change of a hash is one more.
@@ -93,34 +95,23 @@ fn keep_secrets(
     tell(work, Action::Keep(text))
 }
 
-/// The call passed, with that status.
+/// The call passed, with that status, which stands in the stub of the reply.
 fn pass_set(
     alloc: Global,
     status: u32,
-    line: Line,
     credential: [u8; 8],
     work: Work,
-) -> Result<Work, NoMemory>
-    requires { IsLine line }
-    ensures { IfOk result (λ w. w ≡ pass_set status line credential work) }
+) -> Result<(Work, Blob), NoMemory>
+    ensures work { IfOk result (λ done. done.0 ≡ tell work (action.Judged (judged.Passed status))) }
+    ensures stub { IfOk result (λ done. done.1 ≡ written_set_reply (record {
+      returned = returned_with credential;
+      status = status;
+    })) }
+    ensures short { IfOk result (λ done. length done.1 ≤ 65536) }
 {
     let work = tell(work, Action::Judged(Judged::Passed(status)))?;
-    send_set_reply(alloc, line, credential, status, work)
-}
-
-/// The call is answered by the reply.
-fn send_set_reply(
-    alloc: Global,
-    line: Line,
-    credential: [u8; 8],
-    status: u32,
-    work: Work,
-) -> Result<Work, NoMemory>
-    requires { IsLine line }
-    ensures { IfOk result (λ w. w ≡ send_set_reply line credential status work) }
-{
     let stub = set_stub(alloc, credential, status)?;
-    send_stub(alloc, work, line, stub)
+    Ok((work, stub))
 }
 
 /// The stub of the reply, which is short.

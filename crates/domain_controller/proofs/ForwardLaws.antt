@@ -28,7 +28,7 @@ use Rattle.domain_controller.specs.declared.turning.Beside.{Beside}
 -- ---- a requester that is taken out for its turn
 
 -- what is taken out at a place and put back changed is changed in its place
-set_back : {T : Type 0} (items : List T) (at : ℕ) (item : T) → at < length items → insert (remove items at) at item ≡ slice_set items at item
+pub set_back : {T : Type 0} (items : List T) (at : ℕ) (item : T) → at < length items → insert (remove items at) at item ≡ slice_set items at item
 set_back [] at item lt = absurd (omega arith)
 set_back (first ∷ items) zero item lt = refl
 set_back (first ∷ items) (suc at) item lt = ap (λ rest. first ∷ rest) (set_back items at item (omega arith))

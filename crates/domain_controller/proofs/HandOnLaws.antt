@@ -438,4 +438,5 @@ forwards_by_trust = record {
   denied = λ c name now line d not.
       ap (λ (after : TrustDesk). after.work.work.actions) (here_so c name now line d (λ goes. not goes.next))
       ∙ does_what_passes.denied c name now line (base_desk d) not;
+  heard = λ c line talk link name now d left. refl;
 }

@@ -22,6 +22,8 @@ pub mod TrustActionLaws
 pub mod TrustAloneLaws
 pub mod TrustCountLaws
 pub mod TrustEventLaws
+pub mod TrustHereLaws
+pub mod TrustNoneLaws
 pub mod TrustOrderLaws
 pub mod TrustPlaceLaws
 pub mod TrustRangeLaws

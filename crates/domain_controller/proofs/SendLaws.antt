@@ -200,10 +200,10 @@ Does links (event.Closed number) actions = Unit {0}
 Does links (event.Dialled number) actions = Unit {0}
 Does links event.DialFailed actions = Unit {0}
 
-none_some : {T : Type 0} (value : T) (found : Option T) → found ≡ None → found ≡ Some value → ⊥
+pub none_some : {T : Type 0} (value : T) (found : Option T) → found ≡ None → found ≡ Some value → ⊥
 none_some value found none is = let never : None ≡ Some value = sym none ∙ is in cc
 
-one_some : {T : Type 0} (value other : T) (found : Option T) → found ≡ Some value → found ≡ Some other → value ≡ other
+pub one_some : {T : Type 0} (value other : T) (found : Option T) → found ≡ Some value → found ≡ Some other → value ≡ other
 one_some value other found one is = let both : Some value ≡ Some other = sym one ∙ is in cc
 
 event_does : (s : State) (running : Running) (now : ℕ) (left : List (List ℕ)) →

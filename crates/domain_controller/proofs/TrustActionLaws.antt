@@ -1,10 +1,10 @@
 -- The order of a step's actions at a controller that asks others. It serves `actions_stand_in_order`.
-use Rattle.std.proofs.Common.{◌≡◌, ◌==◌, ◌++◌, ℕ, Bool, true, false, List, [], ◌∷◌, Option, Some, None, Result, Ok, Err, slice_get, refl, sym, ap, subst, ◌∙◌, append_assoc, ◌<◌, zero, suc, length, arith}
+use Rattle.std.proofs.Common.{◌≡◌, ◌⊎◌, ◌==◌, ◌++◌, ℕ, Bool, true, false, inl, inr, nat_le, List, [], ◌∷◌, Option, Some, None, Result, Ok, Err, slice_get, refl, sym, ap, subst, ◌∙◌, append_assoc, ◌<◌, zero, suc, length, arith}
 use Rattle.std.proofs.lemmas.Bool.Decides.{Decides-eqb}
 use Rattle.std.proofs.lemmas.List.{append-nil}
 use Rattle.std.specs.List.{AllByRecursion}
 use Rattle.wire_base.specs.Maps.{lookup, same_number, take_out}
-use Rattle.outside.specs.Machine.{Part, step_by, then_part}
+use Rattle.outside.specs.Machine.{Part, Stepped, spent_step, step_by, then_part}
 use Rattle.outside.specs.declared.action.Action.{Action}
 use Rattle.outside.specs.declared.action.Action.TheVariants as action
 use Rattle.outside.specs.declared.action.CloseCause.{CloseCause}
@@ -47,9 +47,9 @@ use Rattle.controller_calls.specs.declared.state.Work.{Work}
 use Rattle.domain_controller.specs.Forwarding.{after_ended, answer_found, close_ended, end_turn, trust_desk, trust_server}
 use Rattle.domain_controller.specs.State.{State}
 use Rattle.domain_controller.specs.Step.{LinkMap}
-use Rattle.domain_controller.specs.TrustActions.{ActsInOrder, AreAnswer, AreOfTurn, AreOpening, IsAskedOf, IsSendOn, IsServedOn, ThenDials, answer_of, close_on, dial_of, reply_on}
+use Rattle.domain_controller.specs.TrustActions.{ActsInOrder, AreAnswer, AreOfTurn, AreOpening, IsAskedOf, IsSendOn, IsServedOn, ThenDials, answer_of, are_full, close_on, dial_of, others_open, reply_on}
 use Rattle.domain_controller.specs.TrustLaws.{OneIsOut}
-use Rattle.domain_controller.specs.TrustStep.{TrustPart, TrustParts, after_turned, after_units, answer_dial, by_trust_event, close_by, close_number, event_and_turn, fail_dial, first_waiting, is_idle, link_with, next_if, next_part, next_turn, open_by, parts_of, put_open, serve_bytes, serve_on, start_at, start_on, trust_halted, trust_part, trust_state_after, trust_step_on, trusting_after, turn_at, turned_work, turning_of, without_link}
+use Rattle.domain_controller.specs.TrustStep.{TrustPart, TrustParts, after_turned, after_units, answer_dial, by_trust_event, close_by, close_number, event_and_turn, fail_dial, first_waiting, is_idle, link_with, next_if, next_part, next_turn, open_by, open_number, parts_of, put_open, serve_bytes, serve_on, start_at, start_on, trust_halted, trust_part, trust_state_after, trust_step_on, trusting_after, turn_at, turned_work, turning_of, without_link}
 use Rattle.domain_controller.specs.Trusting.{ForwardedCalls, same_place}
 use Rattle.domain_controller.specs.declared.state.Running.{Running}
 use Rattle.domain_controller.specs.declared.state.Talk.{Talk}
@@ -271,10 +271,28 @@ failed_acts : (waits : Bool) (parts : Parts) → IsBare parts → AreAnswer (tru
 failed_acts false parts bare = nothing_told (trusting_after parts) parts.work.work.actions bare
 failed_acts true parts bare = lost_at _ (λ turning. no_dial turning) parts bare (λ turning. fails_lose turning.dialling turning)
 
-opened_acts : (full : Bool) (t : Trusting) (number : ℕ) (parts : Parts) → AreAnswer t parts.work.work.actions → AreOpening t number (open_by full number parts).work.work.actions
-opened_acts false t number parts acts = record { answer = acts.answer; of = acts.of; is_full = false; is = acts.is ∙ sym (append-nil (answer_of acts.answer)) }
+opened_acts : (full : Bool) (t : Trusting) (number : ℕ) (parts : Parts) → AreAnswer t parts.work.work.actions → AreOpening t full number (open_by full number parts).work.work.actions
+opened_acts false t number parts acts = record { answer = acts.answer; of = acts.of; is = acts.is ∙ sym (append-nil (answer_of acts.answer)) }
 opened_acts true t number parts acts =
-    record { answer = acts.answer; of = acts.of; is_full = true; is = ap (λ (front : List Action). front ++ action.Close number close.TooManyLinks ∷ []) acts.is }
+    record { answer = acts.answer; of = acts.of; is = ap (λ (front : List Action). front ++ action.Close number close.TooManyLinks ∷ []) acts.is }
+
+-- the link of the turn is no accepted one
+turn_leaves : (found : Option Requester) (happens : Turning → Turned) (parts : Parts) → (turn_at found happens parts).links ≡ parts.links
+turn_leaves None happens parts = refl
+turn_leaves (Some channel) happens parts = refl
+
+others_are : (b : Bool) (number : ℕ) (parts : Parts) → (close_by b number parts).links ≡ others_open b number parts.links
+others_are false number parts = refl
+others_are true number parts = turn_leaves (slice_get parts.work.queues.requesters parts.turn_of) (λ turning. link_closes number turning) parts
+
+opening_acts : (s : State) (r : Running) (number : ℕ) →
+    AreOpening s.trusting (are_full s.trusting number r.links) number (open_number number (close_number number (parts_of r s.trusting))).work.work.actions
+opening_acts s r number =
+    let parts : Parts = parts_of r s.trusting in
+    let on : Bool = is_on number parts.dialling in
+    subst (λ (links : LinkMap). AreOpening s.trusting (nat_le 256 (length links)) number (open_number number (close_number number parts)).work.work.actions)
+    (others_are on number parts)
+    (opened_acts (nat_le 256 (length (close_number number parts).links)) s.trusting number (close_number number parts) (closed_acts on number parts refl))
 
 abbrev Sends : ℕ → List Action → Type 0
 Sends link actions = AllByRecursion (IsSendOn link) actions
@@ -348,7 +366,7 @@ next_dials : (idle : Bool) (trusts : List Trust) (now : ℕ) (parts : Parts) (le
 next_dials false trusts now parts left = no_dial_more parts.work.work.actions
 next_dials true trusts now parts left = at_dials (first_waiting parts.work.queues.requesters) trusts now parts left
 
-module _ (Are : List Action → Type 0) (nothing : Are []) where
+module _ (Are : List Action → Type 0) where
   with_table : (part : Result (Part Parts) StepRefused) (table : AccountTable) (before : List Action) → Are before → NextDials before part →
       PartAre (ThenDials Are) (then_part part (λ later last. trust_part table later last))
   with_table (Err why) table before are dials = tt
@@ -361,6 +379,22 @@ module _ (Are : List Action → Type 0) (nothing : Are []) where
       with_table (next_turn trusts now part.value.parts part.left) part.value.table part.value.parts.work.work.actions are
       (next_dials (is_idle part.value.parts.dialling) trusts now part.value.parts part.left)
 
+  -- the step is taken, or the challenges aren't enough for it
+  abbrev TakenOrSpent : State → List (List ℕ) → Stepped State → Type 0
+  TakenOrSpent s left stepped = (stepped ≡ spent_step left (trust_halted s)) ⊎ ThenDials Are (actions_of stepped)
+
+  taken_or_spent : (part : TrustPart) (s : State) (left : List (List ℕ)) → PartAre (ThenDials Are) part →
+      TakenOrSpent s left (step_by (λ (after : TrustParts). after.parts.work.work.actions) (λ after. trust_state_after s after) (trust_halted s) left part)
+  taken_or_spent (Err why) s left are = inl refl
+  taken_or_spent (Ok part) s left are = inr are
+
+  step_or_spent : (r : Running) (s : State) (what : Event) (now : ℕ) (left : List (List ℕ)) → PartAre Are (by_trust_event what s.name now s.table (parts_of r s.trusting) left) →
+      TakenOrSpent s left (trust_step_on (Some r) s what now left)
+  step_or_spent r s what now left are =
+      taken_or_spent (event_and_turn s.table.trusts what s.name now s.table (parts_of r s.trusting) left) s left
+      (turn_behind (by_trust_event what s.name now s.table (parts_of r s.trusting) left) s.table.trusts now are)
+
+module _ (Are : List Action → Type 0) (nothing : Are []) where
   none_done : ThenDials Are []
   none_done = record { front = []; are = nothing; dial = None; is = refl }
 
@@ -375,7 +409,7 @@ module _ (Are : List Action → Type 0) (nothing : Are []) where
   step_acts None s what now left are = none_done
   step_acts (Some r) s what now left are =
       taken_acts (event_and_turn s.table.trusts what s.name now s.table (parts_of r s.trusting) left) s left
-      (turn_behind (by_trust_event what s.name now s.table (parts_of r s.trusting) left) s.table.trusts now (are r refl))
+      (turn_behind Are (by_trust_event what s.name now s.table (parts_of r s.trusting) left) s.table.trusts now (are r refl))
 
 -- ---- the law
 
@@ -384,9 +418,6 @@ answer_none t = record { answer = None; of = tt; is = refl }
 
 turn_none : (t : Trusting) (link : ℕ) → AreOfTurn t link []
 turn_none t link = record { requests = []; are = tt; closes = None; answer = None; of = tt; is = refl }
-
-opening_none : (t : Trusting) (link : ℕ) → AreOpening t link []
-opening_none t link = record { answer = None; of = tt; is_full = false; is = refl }
 
 -- bytes, by whether they come on the link of the turn
 module _ (Are : List Action → Type 0) (number : ℕ) (piece name : List ℕ) (now : ℕ) (table : AccountTable) (parts : Parts) (left : List (List ℕ)) where
@@ -450,10 +481,10 @@ acts_in_order = record {
       subst (λ (b : Bool). BytesAre (λ actions. actions ≡ []) number piece s.name now s.table parts left b) (sym off)
       (found_bytes (λ actions. actions ≡ []) number piece s.name now s.table parts left None
       (ap (λ (other : Running). lookup same_number number other.links) (sym one) ∙ none) refl));
-  opened = λ s number now left.
-      step_acts (AreOpening s.trusting number) (opening_none s.trusting number) s.running s (event.Opened number) now left (λ r is.
-      let parts : Parts = parts_of r s.trusting in
-      opened_acts _ s.trusting number (close_number number parts) (closed_acts (is_on number parts.dialling) number parts refl));
+  opened = λ s running number now left is.
+      let Are = AreOpening s.trusting (are_full s.trusting number running.links) number in
+      subst (λ (r : Option Running). TakenOrSpent Are s left (trust_step_on r s (event.Opened number) now left)) (sym is)
+      (step_or_spent Are running s (event.Opened number) now left (opening_acts s running number));
   closed = λ s number now left.
       step_acts (AreAnswer s.trusting) (answer_none s.trusting) s.running s (event.Closed number) now left (λ r is.
       let parts : Parts = parts_of r s.trusting in
@@ -470,4 +501,5 @@ acts_in_order = record {
       let parts : Parts = parts_of r s.trusting in
       failed_acts (is_waiting parts.dialling) parts refl);
   stop = λ s now left. step_acts (λ actions. actions ≡ []) refl s.running s event.Stop now left (λ r is. refl);
+  stopped = λ s what now left none. ap (λ (r : Option Running). actions_of (trust_step_on r s what now left)) none;
 }

@@ -72,7 +72,7 @@ set_none [] at = refl
 set_none (first ∷ items) zero = refl
 set_none (first ∷ items) (suc at) = ap (λ rest. false ∷ rest) (set_none items at)
 
-got_map : {A B : Type 0} (f : A → B) (items : List A) (at : ℕ) (item : A) → slice_get items at ≡ Some item → slice_get (map f items) at ≡ Some (f item)
+pub got_map : {A B : Type 0} (f : A → B) (items : List A) (at : ℕ) (item : A) → slice_get items at ≡ Some item → slice_get (map f items) at ≡ Some (f item)
 got_map f [] at item is = absurd (let x = is in cc)
 got_map f (first ∷ items) zero item is = let same : first ≡ item = (let x = is in cc) in ap (λ it. Some (f it)) same
 got_map f (first ∷ items) (suc at) item is = got_map f items at item is

@@ -63,15 +63,20 @@ told what w = record w { work = tell w.work what }
 
 -- ---- a logon that is handed on
 
--- A logon's texts and responses have at most so many bytes, so that the call that asks for it, in its frames, is heard
--- whole: it has at most 65,536. (None that a member makes has more: each of the five is a field of a message of at most
--- 5,840 bytes, and as fields may lie over one another, they have 29,200 in all.)
+-- the bytes of a logon's texts and responses
 abbrev pub logon_bytes : NetworkInfo → ℕ
 logon_bytes info =
     2 * length info.domain + (2 * length info.user + (2 * length info.workstation + (length info.nt + length info.lm)))
 
+-- The most bytes of them in a logon that is handed on. The call that asks for it has 1,209 bytes besides at most, and
+-- its frames 1,008 (24 of each 1,432), so that it is heard whole: it has fewer than 65,536. (None that a member makes
+-- has more: each of the five is a field of a message of at most 5,840 bytes, and as fields may lie over one another,
+-- they have 29,200 in all.)
+abbrev pub logon_limit : ℕ
+logon_limit = 57000
+
 abbrev pub fits_on : NetworkInfo → Bool
-fits_on info = nat_le (logon_bytes info) 57000
+fits_on info = nat_le (logon_bytes info) logon_limit
 
 -- nobody is asked for it
 abbrev pub leave_unasked : ForwardedState → Line → TrustWork → TrustWork

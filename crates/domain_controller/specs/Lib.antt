@@ -1,5 +1,6 @@
 pub mod Forwarding
 pub mod Hearing
+pub mod Holding
 pub mod Keeping
 pub mod Laws
 pub mod Lines
@@ -9,6 +10,7 @@ pub mod Sessions
 pub mod State
 pub mod Step
 pub mod TrustActions
+pub mod TrustHere
 pub mod TrustLaws
 pub mod TrustOrder
 pub mod TrustStep

@@ -1,14 +1,16 @@
 -- The order in which the actions of a step stand at a controller that asks others (this project's own choice): the
 -- close of the link of the turn, how a logon that was asked is told to be answered, its reply, and last the dial for
 -- the next turn.
-use Rattle.std.specs.Prelude.{ℕ, ◌≡◌, Bool, true, false, List, [], ◌∷◌, ◌++◌, Option, Some, None}
+use Rattle.std.specs.Prelude.{ℕ, ◌≡◌, ◌⊎◌, Bool, true, false, nat_le, List, [], ◌∷◌, ◌++◌, length, Option, Some, None}
 use Rattle.std.specs.List.{AllByRecursion}
-use Rattle.wire_base.specs.Maps.{lookup, same_number}
+use Rattle.wire_base.specs.Maps.{lookup, same_number, take_out}
+use Rattle.outside.specs.Machine.{spent_step}
 use Rattle.outside.specs.declared.action.Action.{Action}
 use Rattle.outside.specs.declared.action.Action.TheVariants as action
 use Rattle.outside.specs.declared.action.CloseCause.{CloseCause}
 use Rattle.outside.specs.declared.action.CloseCause.TheVariants as close
 use Rattle.outside.specs.declared.action.Judged.TheVariants as judged
+use Rattle.outside.specs.declared.event.Event.{Event}
 use Rattle.outside.specs.declared.event.Event.TheVariants as event
 use Rattle.rpc_units.specs.Calls.{bytes_of_call}
 use Rattle.rpc_units.specs.Stream.{cut_stream}
@@ -27,8 +29,9 @@ use Rattle.controller_calls.specs.Passing.{judges_call}
 use Rattle.controller_calls.specs.declared.line.Line.{Line}
 use Rattle.domain_controller.specs.Laws.{AnswersOne}
 use Rattle.domain_controller.specs.State.{State}
+use Rattle.domain_controller.specs.Step.{LinkMap}
 use Rattle.domain_controller.specs.TrustLaws.{OneIsOut}
-use Rattle.domain_controller.specs.TrustStep.{trust_step_of}
+use Rattle.domain_controller.specs.TrustStep.{trust_halted, trust_step_of}
 use Rattle.domain_controller.specs.Trusting.{ForwardedCalls, same_place}
 use Rattle.domain_controller.specs.declared.state.Running.{Running}
 use Rattle.domain_controller.specs.declared.state.Talk.{Talk}
@@ -80,11 +83,19 @@ abbrev pub close_full : (is_full : Bool) (link : ℕ) → List Action
 close_full false link = []
 close_full true link = action.Close link close.TooManyLinks ∷ []
 
-pub record AreOpening (t : Trusting) (link : ℕ) (actions : List Action) : Type 0 where
+pub record AreOpening (t : Trusting) (is_full : Bool) (link : ℕ) (actions : List Action) : Type 0 where
   pub answer : Option (Verdict × ForwardedState)
   pub of : IsAskedOf t.turn_of t.queues.forwarded answer
-  pub is_full : Bool
   pub is : actions ≡ answer_of answer ++ close_full is_full link
+
+-- the accepted links that are open beside one that opens: one of its number is closed, unless that is the turn's link
+abbrev pub others_open : (is_turn_link : Bool) → ℕ → LinkMap → LinkMap
+others_open true link links = links
+others_open false link links = take_out same_number link links
+
+-- whether 256 others are open where a link of that number opens
+abbrev pub are_full : Trusting → ℕ → LinkMap → Bool
+are_full t link links = nat_le 256 (length (others_open (is_on link t.dialling) link links))
 
 -- a send on that link
 abbrev pub IsSendOn : ℕ → Action → Type 0
@@ -130,8 +141,11 @@ pub record ActsInOrder : Type 0 where
   pub other : (s : State) (running : Running) (number : ℕ) (piece : List ℕ) (now : ℕ) (left : List (List ℕ)) →
       is_on number s.trusting.dialling ≡ false → s.running ≡ Some running → lookup same_number number running.links ≡ None →
       ThenDials (λ actions. actions ≡ []) (actions_of (trust_step_of s (event.Bytes number piece) now left))
-  pub opened : (s : State) (number now : ℕ) (left : List (List ℕ)) →
-      ThenDials (AreOpening s.trusting number) (actions_of (trust_step_of s (event.Opened number) now left))
+  -- a link that opens is closed exactly where 256 others are open, unless the challenges aren't enough for the step
+  pub opened : (s : State) (running : Running) (number now : ℕ) (left : List (List ℕ)) → s.running ≡ Some running →
+      (trust_step_of s (event.Opened number) now left ≡ spent_step left (trust_halted s))
+      ⊎ ThenDials (AreOpening s.trusting (are_full s.trusting number running.links) number)
+      (actions_of (trust_step_of s (event.Opened number) now left))
   pub closed : (s : State) (number now : ℕ) (left : List (List ℕ)) →
       ThenDials (AreAnswer s.trusting) (actions_of (trust_step_of s (event.Closed number) now left))
   -- the bind goes out on the link that a dial gave
@@ -145,3 +159,6 @@ pub record ActsInOrder : Type 0 where
       ThenDials (AreAnswer s.trusting) (actions_of (trust_step_of s event.DialFailed now left))
   pub stop : (s : State) (now : ℕ) (left : List (List ℕ)) →
       ThenDials (λ actions. actions ≡ []) (actions_of (trust_step_of s event.Stop now left))
+  -- nothing is done by one that has stopped
+  pub stopped : (s : State) (what : Event) (now : ℕ) (left : List (List ℕ)) → s.running ≡ None →
+      actions_of (trust_step_of s what now left) ≡ []

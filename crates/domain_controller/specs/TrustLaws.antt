@@ -35,14 +35,17 @@ use Rattle.controller_calls.specs.Handing.{hands_on}
 use Rattle.controller_calls.specs.Logons.{reply_to, serves_level}
 use Rattle.controller_calls.specs.Passing.{IsKeep, IsNext, is_passed, judges_call}
 use Rattle.controller_calls.specs.declared.calls.Asked.TheVariants as asked
+use Rattle.controller_calls.specs.declared.calls.ControllerCall.TheVariants as call
 use Rattle.controller_calls.specs.declared.calls.JudgedCall.{JudgedCall}
 use Rattle.controller_calls.specs.declared.line.Line.{Line}
 use Rattle.controller_calls.specs.declared.state.Computers.{Computers}
-use Rattle.domain_controller.specs.Forwarding.{TrustDesk, answer_trust_call, base_desk, fits_on, with_queues}
+use Rattle.domain_controller.specs.Forwarding.{TrustDesk, answer_trust_call, base_desk, by_trust_heard, fits_on, with_queues}
 use Rattle.domain_controller.specs.State.{State}
 use Rattle.domain_controller.specs.Step.{LinkMap, first_state, halted, step_of}
 use Rattle.domain_controller.specs.TrustStep.{TrustPart, first_trust_state, is_idle, trust_halted, trust_step_of, trust_step_part, trusting_after, trusting_weight}
 use Rattle.domain_controller.specs.Trusting.{ForwardedCalls, no_trusting}
+use Rattle.domain_controller.specs.declared.hearing.Heard.TheVariants as heard
+use Rattle.domain_controller.specs.declared.state.Talk.{Talk}
 use Rattle.domain_controller.specs.declared.trusting.Trusting.{Trusting}
 use Rattle.domain_controller.specs.declared.state.Running.{Running}
 
@@ -196,6 +199,10 @@ pub record ForwardsByTrust : Type 0 where
       ++ action.Judged (how_refused (computer_named c) (given_in c) d.work.work.computers)
       ∷ action.Send line.link (bytes_of_call (response_of line.call line.context (refused_stub (asked_of c))) line.limit)
       ∷ []
+  -- it is heard as one unit of an accepted link, which stays open
+  pub heard : (c : JudgedCall) (line : Line) (talk : Talk) (link : ℕ) (name : List ℕ) (now : ℕ) (d : TrustDesk) (left : List (List ℕ)) →
+      by_trust_heard (heard.Asked line (call.Judged c) talk) link name now d left
+      ≡ Ok (record { value = (answer_trust_call c name now line d, Some talk); left = left })
 
 -- ---- how many logons are answered
 

@@ -1,11 +1,12 @@
 //! The controller.
 
-ghost use Rattle.std.specs.Prelude.{◌≡◌, ◌≤◌, ◌+◌, ◌*◌, ◌↔◌, OnErr, ◌++◌, [], length, IfOk, OnOk, Err, IsTrue, false, true};
+ghost use Rattle.std.specs.Prelude.{◌≡◌, ◌≤◌, ◌+◌, ◌↔◌, OnErr, ◌++◌, [], length, IfOk, OnOk, Err, IsTrue, false, true};
 ghost use Rattle.account_table.specs.Changes.{DifferInStates, with_changes};
 ghost use Rattle.outside.specs.Drawing.{DrawsSome};
 ghost use Rattle.outside.specs.Machine.{AnswersBy, StepsBy};
 ghost use Rattle.end_links.specs.Bounds.{AreShortSends, units_at};
 ghost use Rattle.end_loop.specs.Acts.{is_made, most_made_by};
+ghost use Rattle.domain_controller.specs.Holding.{held_limit};
 ghost use Rattle.domain_controller.specs.Step.{first_state, halted, is_stopped, step_of};
 ghost use Rattle.domain_controller.specs.Trusting.{no_trusting};
 ghost use Rattle.domain_controller.specs.TrustStep.{first_trust_state, at_parts, event_and_turn, parts_of, trust_halted, trust_held_of, trust_pending_in, trusting_after, trust_step_of, trust_want_of};
@@ -217,7 +218,7 @@ impl Controller {
     /// They are at most what 256 accepted links hold, and the link of the turn. It takes no memory.
     pub fn held(&self) -> u64
         ensures count { result ≡ trust_held_of self.now }
-        ensures most { result ≤ 257 * (5839 + 65536) }
+        ensures most { result ≤ held_limit }
     {
         let turn = self.trusting.dialling.held();
         match &self.running {

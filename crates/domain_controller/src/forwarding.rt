@@ -9,7 +9,7 @@ ghost use Rattle.domain_controller.specs.Forwarding.{after_ended, answer_place, 
 ghost use Rattle.domain_controller.specs.Trusting.{same_place};
 
 use crate::trusting::{ForwardedCalls, Queues, TrustWork};
-use channel_client::{AskRefused, Channel};
+use channel_client::{AskRefused, PlainChannel};
 use channel_turns::{TurnEnd, TurnEnded};
 use controller_calls::{ForwardedCall, HandOn, Line, answer_forwarded, answer_unasked, tell};
 use logon_stubs::{NetworkInfo, STATUS_NO_LOGON_SERVERS, Verdict};
@@ -95,8 +95,8 @@ pub(crate) fn forward(
 fn ask_trust(
     info: NetworkInfo,
     trust: usize,
-    requesters: List<Channel>,
-) -> Result<(List<Channel>, Option<u32>), NoMemory>
+    requesters: List<PlainChannel>,
+) -> Result<(List<PlainChannel>, Option<u32>), NoMemory>
     requires { CanWriteNetworkInfo info }
     ensures { IfOk result (λ asked. asked ≡ ask_trust info trust requesters) }
 {

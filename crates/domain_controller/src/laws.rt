@@ -6,6 +6,7 @@ ghost use Rattle.domain_controller.specs.ReadBack.{RepliesAreReadBack};
 ghost use Rattle.domain_controller.specs.Sessions.{HashesStayUnset, SessionsFollowCalls};
 ghost use Rattle.domain_controller.specs.TrustLaws.{AnswersOnce, AnswersOpenLinks, ClosesNone, ForwardsByTrust, LinksAreApart, OneTurnIsOut, StepsAlone};
 ghost use Rattle.domain_controller.specs.TrustActions.{ActsInOrder};
+ghost use Rattle.domain_controller.specs.TrustHere.{AnswersHere, TellsOfNoTrust};
 ghost use Rattle.domain_controller.specs.TrustOrder.{EachIsAnswered, StaysInOrder};
 ghost use Rattle.domain_controller.specs.TrustWhole.{TrustsSendWhole, WhatFitsIsWhole};
 ghost use Rattle.domain_controller.specs.Whole.{SendsAreWhole};
@@ -102,6 +103,22 @@ pub fn what_asks_nobody_steps_alone()
     ensures { StepsAlone }
 {}
 
+/// While no logon waits for another controller's answer, a step of a controller that trusts other domains is that of
+/// one which trusts none, unless it tells of a call for a trusted domain, or draws more challenges than are left. It
+/// tells of one where a logon is handed on, and where it passes with STATUS_NO_LOGON_SERVERS, since nobody can be asked
+/// for it. At first no logon waits so, and a step that is the other's leaves what is kept of those that are asked.
+#[tactic(auto, using(crate::proofs::TrustHereLaws::answers_here))]
+pub fn what_is_not_handed_on_is_answered_here()
+    ensures { AnswersHere }
+{}
+
+/// A controller that trusts no domain tells of no call for a trusted one: it hands nothing on, and tells of none that
+/// it passed with STATUS_NO_LOGON_SERVERS.
+#[tactic(auto, using(crate::proofs::TrustNoneLaws::alone_tells_none))]
+pub fn who_asks_nobody_tells_of_no_trust()
+    ensures { TellsOfNoTrust }
+{}
+
 /// A step of a controller that asks others for a link that was closed, or for a dial's answer, closes nothing.
 #[tactic(auto, using(crate::proofs::TrustSettleLaws::closes_none))]
 pub fn what_is_closed_closes_none()
@@ -113,7 +130,8 @@ pub fn what_is_closed_closes_none()
 /// 6, and there is room at that trust and in one call: then nothing is sent, the accounts stay, and the logon waits
 /// there, with the line, the level, the key and the credential of its answer. Where there is no room it is told as
 /// passed, and answered, with STATUS_NO_LOGON_SERVERS. Any other call comes to what it comes to where nobody is asked;
-/// where its authenticator isn't the channel's next one, it is told whether its computer has a channel.
+/// where its authenticator isn't the channel's next one, it is told whether its computer has a channel. So is each such
+/// call answered that is heard on an accepted link, which stays open.
 #[tactic(auto, using(crate::proofs::HandOnLaws::forwards_by_trust))]
 pub fn a_logon_goes_by_its_domain()
     ensures { ForwardsByTrust }
@@ -165,7 +183,8 @@ pub fn each_logon_is_answered()
 /// The order of a step's actions: where bytes come on the link of a turn, requests there, the close of that link, how
 /// the logon of the turn is told to be answered, and its reply; where they come on an accepted link, what answers the
 /// units that were read there; last the dial for the next turn. A logon that is answered is one that was asked of the
-/// trust whose turn it was, and its reply is made of what was kept with it.
+/// trust whose turn it was, and its reply is made of what was kept with it. A link that opens is closed exactly where
+/// 256 others are open.
 #[tactic(auto, using(crate::proofs::TrustActionLaws::acts_in_order))]
 pub fn actions_stand_in_order()
     ensures { ActsInOrder }

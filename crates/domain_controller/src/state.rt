@@ -12,11 +12,12 @@ pub struct Talk {
 }
 
 impl SaysHeld for Talk {
+    ghost use Rattle.end_links.specs.Links.{open_limit};
     ghost use Rattle.rpc_units.specs.Joining.{open_len};
 
     ghost bytes_held = { λ talk. open_len talk.joiner };
 
-    ghost most_held = { 65536 };
+    ghost most_held = { open_limit };
 
     /// The stub bytes of the open call.
     fn held(&self) -> usize {

@@ -6,7 +6,7 @@ ghost use Rattle.channel_client.specs.Machine.{fresh_requester};
 
 use crate::state::Talk;
 use account_table::{Table, Trust};
-use channel_client::Channel;
+use channel_client::PlainChannel;
 use channel_turns::Dialling;
 use controller_calls::{ForwardedCall, Work};
 use end_links::Links;
@@ -23,7 +23,7 @@ pub type ForwardedCalls = List<((usize, u32), ForwardedCall)>;
 /// table's order; and which logons were asked (this project's own choice).
 #[derive(Drop)]
 pub struct Queues {
-    pub requesters: List<Channel>,
+    pub requesters: List<PlainChannel>,
     pub forwarded: ForwardedCalls,
 }
 
@@ -88,7 +88,11 @@ pub(crate) fn first_trusting(
 
 /// The ends that ask the controllers of the table's trusts at first: one for each, in the table's order, with no
 /// channel yet.
-fn fresh_requesters(alloc: Global, table: &Table, name: &Name) -> Result<List<Channel>, NoMemory>
+fn fresh_requesters(
+    alloc: Global,
+    table: &Table,
+    name: &Name,
+) -> Result<List<PlainChannel>, NoMemory>
     ensures { IfOk result (λ requesters. requesters ≡ fresh_requesters table.now name.now) }
 {
     let mut requesters = Vec::new(alloc);
@@ -104,12 +108,12 @@ fn fresh_requester(
     table: &Table,
     name: &Name,
     trust: &Trust,
-) -> Result<Channel, NoMemory>
+) -> Result<PlainChannel, NoMemory>
     ensures { IfOk result (λ requester. requester
         ≡ fresh_requester (trust_caller table.now name.now trust.now)) }
 {
     let account = account_there(alloc, table.domain())?;
-    Channel::new(
+    PlainChannel::new(
         alloc,
         trust.hash,
         name.copy(alloc)?,

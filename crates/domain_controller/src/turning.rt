@@ -11,7 +11,7 @@ use crate::forwarding::after_ended;
 use crate::state::Talk;
 use crate::trusting::{ForwardedCalls, Parts, Queues, TrustWork};
 use account_table::{Table, Trust};
-use channel_client::Channel;
+use channel_client::PlainChannel;
 use channel_turns::{
     Dialling, TurnEnded, Turning, link_answers, link_closes, link_hears, next_dial, no_dial,
 };
@@ -27,7 +27,7 @@ use wire_base::{List, NoMemory};
 #[derive(Drop)]
 pub struct Beside {
     pub computers: Computers,
-    pub requesters: List<Channel>,
+    pub requesters: List<PlainChannel>,
     pub forwarded: ForwardedCalls,
     pub links: Links<Talk>,
 }
@@ -199,7 +199,7 @@ fn is_idle(dialling: &Dialling) -> bool
 
 /// The first trust at whose requester a logon waits for a turn. It takes no memory.
 #[tactic(auto, using(wire_base::proofs::PlaceLaws::places))]
-fn first_waiting(requesters: &[Channel]) -> Option<usize>
+fn first_waiting(requesters: &[PlainChannel]) -> Option<usize>
     ensures first { result ≡ first_waiting requesters.now }
     ensures inside { IfSome result (λ trust. trust < length requesters.now) }
 {
