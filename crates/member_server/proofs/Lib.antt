@@ -17,6 +17,7 @@ pub mod OutcomeLaws
 pub mod OutcomeView
 pub mod PendingLaws
 pub mod QuietLaws
+pub mod SealLaws
 pub mod SecretLaws
 pub mod SharingLaws
 pub mod StepFrame

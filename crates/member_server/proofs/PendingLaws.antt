@@ -41,7 +41,7 @@ use Rattle.member_server.proofs.LinkView.{BoundView, Closes, Faults, bound_view}
 use Rattle.member_server.proofs.OutcomeView.{EndView, Unknown, Tells, Reaches, end_view}
 use Rattle.member_server.proofs.StepFrame.{KeepsEvent, KeepsNext, PartHolds, WorkFact, given_channel, part_keeps}
 
-made_told : (actions : List Action) (a : Action) → most_made_by (actions ++ a ∷ []) ≡ most_made_by actions + most_made a
+pub made_told : (actions : List Action) (a : Action) → most_made_by (actions ++ a ∷ []) ≡ most_made_by actions + most_made a
 made_told [] a = omega arith
 made_told (b ∷ actions) a = omega (arith, made_told actions a)
 
@@ -173,23 +173,23 @@ loses_within cause w =
 -- ---- an event, and then the next turn
 
 -- no more is to be made than so much
-abbrev MakesFew : ℕ → WorkFact
+abbrev pub MakesFew : ℕ → WorkFact
 MakesFew most how w left = total (w, how) ≤ most
 
 made_not : (what other : Event) → is_made what ≡ true → is_made other ≡ false → what ≡ other → ⊥
 made_not what other made not is = let x = sym made ∙ ap is_made is ∙ not in cc
 
-dialled_weight : (turn : Option Pending) (ws : List Waiting) (c : Requester) (t : ℕ) (challenge : List ℕ) → can_start turn ws ≡ true →
+pub dialled_weight : (turn : Option Pending) (ws : List Waiting) (c : Requester) (t : ℕ) (challenge : List ℕ) → can_start turn ws ≡ true →
     channel_weight (start_by turn ws c t challenge).state ≡ 2 * length c.waiting
 dialled_weight (Some p) ws c t challenge can = absurd (let z = can in cc)
 dialled_weight None [] c t challenge can = absurd (let z = can in cc)
 dialled_weight None (x ∷ ws) c t challenge can = omega arith
 
-can_weight : (c : Requester) (can : Bool) → can_start c.turn c.waiting ≡ can → channel_weight c ≡ 2 * length c.waiting + start_weight can
+pub can_weight : (c : Requester) (can : Bool) → can_start c.turn c.waiting ≡ can → channel_weight c ≡ 2 * length c.waiting + start_weight can
 can_weight c can is = ap (λ (b : Bool). 2 * length c.waiting + start_weight b) is
 
 module _ (most : ℕ) (what : Event) (made : is_made what ≡ true) where
-  event_few : KeepsEvent what (MakesFew most) (MakesFew most)
+  pub event_few : KeepsEvent what (MakesFew most) (MakesFew most)
   event_few = record {
     still = λ how w left few. few;
     closes = λ link how w left few. omega (arith, few, held_taken link w.links);

@@ -391,7 +391,7 @@ module _ (now : ℕ) (Before After : WorkFact) (keeps : KeepsNext now Before Aft
 -- ---- a step
 
 abbrev pub running_of : Dialling → Work → Running
-running_of how w = record { logons = w.logons; links = w.links; dialling = how }
+running_of how w = record { logons = w.logons; links = w.links; dialling = how; sealing = None }
 
 -- an event, and then the next turn
 pub part_keeps : (Before Middle After : WorkFact) (running : Running) (what : Event) (now : ℕ) (left : List (List ℕ)) → KeepsEvent what Before Middle → KeepsNext now Middle After →

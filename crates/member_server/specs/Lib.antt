@@ -13,6 +13,7 @@ pub mod Outcomes
 pub mod Pending
 pub mod Requests
 pub mod Rests
+pub mod SealStep
 pub mod Secrets
 pub mod Sharing
 pub mod State

@@ -1,5 +1,5 @@
--- One step of a member: an event, and then the next turn; and how a change of its secret begins (this project's own
--- choice).
+-- One step of a member whose channel seals nothing: an event, and then the next turn; and how a change of its secret
+-- begins (this project's own choice). `SealStep` has the step of any member.
 use Rattle.std.specs.Prelude.{ℕ, ◌≡◌, ◌==◌, Bool, true, false, nat_le, List, [], ◌∷◌, ◌++◌, length, Option, Some, None, is_none, Result, Ok, Err}
 use Rattle.outside.specs.declared.action.Action.{Action}
 use Rattle.outside.specs.declared.action.Action.TheVariants as action
@@ -8,7 +8,7 @@ use Rattle.outside.specs.declared.action.DropCause.TheVariants as drop_cause
 use Rattle.outside.specs.declared.action.StepRefused.{StepRefused}
 use Rattle.outside.specs.declared.event.Event.{Event}
 use Rattle.outside.specs.declared.event.Event.TheVariants as event
-use Rattle.outside.specs.Machine.{Machine, Part, Stepped, step_by, stopped_step, then_part}
+use Rattle.outside.specs.Machine.{Part, Stepped, step_by, stopped_step, then_part}
 use Rattle.wire_base.specs.Maps.{lookup, same_number}
 use Rattle.channel_client.specs.declared.caller.Caller.{Caller}
 use Rattle.channel_client.specs.Machine.{fresh_requester}
@@ -31,7 +31,6 @@ use Rattle.member_server.specs.declared.state.Phase.TheVariants as phase
 use Rattle.member_server.specs.declared.state.Running.{Running}
 use Rattle.member_server.specs.declared.state.Talk.{Talk}
 use Rattle.member_server.specs.declared.state.Work.{Work}
-use Rattle.member_server.specs.Lines.{line_of}
 use Rattle.member_server.specs.Outcomes.{tell_at, without_link, with_link, at_link, after_served}
 use Rattle.member_server.specs.Secrets.{SecretsState, next_of, tried_of, written_secrets}
 use Rattle.member_server.specs.State.{State}
@@ -55,6 +54,7 @@ fresh_member plan = record {
     logons = record { plan = plan; channel = fresh_requester (caller_of plan); asked = [] };
     links = [];
     dialling = dialling.Nothing;
+    sealing = None;
   });
 }
 
@@ -170,7 +170,9 @@ abbrev pub actions_in : DialWork → List Action
 actions_in dial_work = dial_work.0.actions
 
 abbrev pub state_in : DialWork → State
-state_in dial_work = record { running = Some (record { logons = dial_work.0.logons; links = dial_work.0.links; dialling = dial_work.1 }) }
+state_in dial_work = record {
+  running = Some (record { logons = dial_work.0.logons; links = dial_work.0.links; dialling = dial_work.1; sealing = None });
+}
 
 abbrev pub event_part : Running → Event → ℕ → List (List ℕ) → Result (Part DialWork) StepRefused
 event_part running what now left = then_part (by_event what running.dialling (work_of running) left) (next_turn now)
@@ -226,7 +228,7 @@ next_kept_by (Some running) = next_of running.logons.plan.secrets
 abbrev pub next_kept : State → Option (List ℕ)
 next_kept s = next_kept_by s.running
 
--- ---- the machine
+-- ---- what is waited for
 
 -- the link that is waited for: the one of the turn
 abbrev pub want_by : Option Running → Option ℕ
@@ -238,6 +240,3 @@ want_of s = want_by s.running
 
 abbrev pub is_stopped : State → Bool
 is_stopped s = is_none s.running
-
-abbrev pub member_machine : Machine State
-member_machine = record { step = step_of; want = want_of; is_over = λ s. false; line = line_of }

@@ -8,10 +8,11 @@ use std::alloc::Global;
 use wire_base::{Blob, NoMemory};
 
 impl End for Member {
-    ghost use Rattle.member_server.specs.Machine.{is_stopped, member_machine};
+    ghost use Rattle.member_server.specs.Machine.{is_stopped};
     ghost use Rattle.member_server.specs.Pending.{pending_in};
+    ghost use Rattle.member_server.specs.SealStep.{any_member_machine};
 
-    ghost machine = { member_machine };
+    ghost machine = { any_member_machine };
 
     ghost is_stopped = { is_stopped };
 

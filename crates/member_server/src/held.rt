@@ -20,13 +20,13 @@ pub struct Held {
 
 impl Model for Held {
     ghost use Rattle.std.specs.Prelude.{ℕ, ◌≡◌, ◌≤◌, List as list};
-    ghost use Rattle.member_server.specs.Held.{held_size};
+    ghost use Rattle.member_server.specs.Held.{held_limit, held_size};
 
     ghost Value = { list (list ℕ) };
 
     ghost view = { λ h. h.units };
 
-    ghost invariant = { λ h. (h.size ≡ held_size h.units) × (h.size ≤ 65536) };
+    ghost invariant = { λ h. (h.size ≡ held_size h.units) × (h.size ≤ held_limit) };
 }
 
 impl Held {
@@ -43,7 +43,7 @@ impl Held {
     /// The number of their bytes.
     pub(crate) fn len(&self) -> usize
         ensures count { result ≡ held_size self.now }
-        ensures most { result ≤ 65536 }
+        ensures most { result ≤ held_limit }
     {
         self.size
     }
@@ -66,7 +66,7 @@ impl Held {
     /// Those that wait, and behind them a copy of this unit, for which there is room.
     #[tactic(auto, using(std::proofs::lemmas::List::Sums::sum_by_push))]
     pub(crate) fn hold(self, alloc: Global, bytes: &[u8]) -> Result<Held, NoMemory>
-        requires { held_size self + length bytes.now ≤ 65536 }
+        requires { held_size self + length bytes.now ≤ held_limit }
         ensures { IfOk result (λ held. held ≡ self ++ bytes.now ∷ []) }
     {
         let Held { mut units, size } = self;

@@ -1,20 +1,21 @@
 //! The bytes that a member holds.
 
-ghost use Rattle.std.specs.Prelude.{◌≡◌, ◌≤◌, ◌+◌, ◌*◌};
+ghost use Rattle.std.specs.Prelude.{◌≡◌, ◌≤◌, ◌+◌};
 ghost use Rattle.channel_turns.specs.Turning as turning;
 ghost use Rattle.end_links.specs.Links.{held_by};
-ghost use Rattle.member_server.specs.Holding.{bytes_in, held_of, talk_bytes};
+ghost use Rattle.member_server.specs.Held.{held_limit};
+ghost use Rattle.member_server.specs.Holding.{bytes_in, held_of, holding_limit, talk_bytes};
 
 use crate::member::Member;
 use crate::state::{Phase, Running, Talk};
 use end_links::SaysHeld;
 
 impl SaysHeld for Talk {
-    ghost use Rattle.member_server.specs.Holding.{talk_bytes};
+    ghost use Rattle.member_server.specs.Holding.{talk_bytes, talk_limit};
 
     ghost bytes_held = { talk_bytes };
 
-    ghost most_held = { 131072 };
+    ghost most_held = { talk_limit };
 
     /// The stub bytes of the open call, and the bytes of requests that wait.
     fn held(&self) -> usize {
@@ -25,7 +26,7 @@ impl SaysHeld for Talk {
 /// The bytes of requests that wait on a link that is so far.
 fn bytes_in(phase: &Phase) -> usize
     ensures count { result ≡ bytes_in phase.now }
-    ensures most { result ≤ 65536 }
+    ensures most { result ≤ held_limit }
 {
     match phase {
         Phase::Asked { held, .. } => held.len(),
@@ -37,7 +38,7 @@ fn bytes_in(phase: &Phase) -> usize
 fn bytes_of(running: &Running) -> u64
     ensures count { result ≡
         held_by talk_bytes running.now.links + turning.bytes_of running.now.dialling }
-    ensures most { result ≤ 256 * (5839 + 131072) + (5839 + 65536) }
+    ensures most { result ≤ holding_limit }
 {
     running.links.held() + running.dialling.held()
 }
@@ -48,7 +49,7 @@ impl Member {
     /// It takes no memory.
     pub fn held(&self) -> u64
         ensures count { result ≡ held_of self.now }
-        ensures most { result ≤ 256 * (5839 + 131072) + (5839 + 65536) }
+        ensures most { result ≤ holding_limit }
     {
         match self.running() {
             Some(running) => bytes_of(running),

@@ -5,6 +5,7 @@ ghost use Rattle.member_server.specs.Keeping.{KeepsTextsOfSecrets, KeepsWhatIsHe
 ghost use Rattle.member_server.specs.Pending.{Settles};
 ghost use Rattle.member_server.specs.ChannelSteps.{ChannelStepsKnown};
 ghost use Rattle.member_server.specs.Dials.{TurnsAreDialled};
+ghost use Rattle.member_server.specs.SealStep.{PlainMembersStay, SealingMembersStay};
 ghost use Rattle.member_server.specs.Secrets.{TellsTextsApart};
 ghost use Rattle.member_server.specs.Sharing.{SharesTurns};
 ghost use Rattle.member_server.specs.Trying.{TriesItsSecrets};
@@ -121,4 +122,17 @@ pub fn texts_are_of_secrets()
 #[tactic(auto, using(crate::proofs::TryingLaws::tries_its_secrets))]
 pub fn what_is_tried_opens()
     ensures { TriesItsSecrets }
+{}
+
+/// A member whose channel seals nothing goes as if none could seal: its step is that of the machine without sealing,
+/// and it stays one, also where a change begins. One whose plan isn't sealed is made so.
+#[tactic(auto, using(crate::proofs::SealLaws::plain_members_stay))]
+pub fn plain_members_stay()
+    ensures { PlainMembersStay }
+{}
+
+/// A member of a plan that is sealed seals, and goes on to do so until it is stopped.
+#[tactic(auto, using(crate::proofs::SealLaws::sealing_members_stay))]
+pub fn sealing_members_stay()
+    ensures { SealingMembersStay }
 {}

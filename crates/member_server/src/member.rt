@@ -1,23 +1,26 @@
 //! The member.
 
-ghost use Rattle.std.specs.Prelude.{ℕ, List as list, ◌≡◌, ◌≤◌, ◌<◌, ◌+◌, ◌++◌, ◌↔◌, None, Some, Err, false, length, nat_le, option_copied, IfOk, OnOk, OnErr, IsTrue};
+ghost use Rattle.std.specs.Prelude.{ℕ, List as list, [], ◌≡◌, ◌≤◌, ◌<◌, ◌+◌, ◌++◌, ◌↔◌, None, Some, Err, false, length, nat_le, option_copied, IfOk, OnOk, OnErr, IsTrue};
 ghost use Rattle.end_loop.specs.Acts.{is_made, most_made_by};
 ghost use Rattle.wire_base.specs.Maps.{lookup, same_number};
 ghost use Rattle.end_links.specs.Bounds.{AreShortSends, units_at, units_in_piece};
 ghost use Rattle.outside.specs.Drawing.{DrawsSome};
 ghost use Rattle.outside.specs.Machine.{AnswersBy, StepsBy};
 ghost use Rattle.channel_client.specs.Machine.{fresh_requester};
+ghost use Rattle.channel_turns.specs.declared.state.Dialling.TheVariants as dialling;
 ghost use Rattle.member_server.specs.Machine.{account_of, caller_of, fresh_member, close_link, open_by, open_after_close, answer_dial, bytes_on_link, serve_alone, bytes_on, by_event, put_open, halted_state, is_stopped, event_part, step_of, want_of, ChangesBy, change_of, next_kept};
 ghost use Rattle.member_server.specs.Outcomes.{without_link};
 ghost use Rattle.member_server.specs.Pending.{pending_in};
+ghost use Rattle.member_server.specs.SealStep.{any_step_of, channel_of_plan, first_sealing, sealing_in, sealing_member};
 ghost use Rattle.rpc_units.specs.Stream.{cut_stream};
 
 use crate::change::{ChangeRefused, change_running};
 use crate::outcomes::tell_at;
 use crate::plan::MemberPlan;
-use crate::state::{AtLink, Logons, Phase, Running, Talk, Work};
+use crate::seal_step::{is_sealed_on, run_sealed};
+use crate::state::{AtLink, Logons, Phase, Running, Talk, TurnSealing, Work};
 use crate::turns::{close_turn, fail_dial, hear_turn, next_turn, send_bind};
-use channel_client::Channel;
+use channel_client::{Channel, PlainChannel};
 use channel_turns::Dialling;
 use end_links::{Link, Links, ShortActions, serve_piece};
 use outside::{Action, Actions, Chances, CloseCause, Event, StepRefused};
@@ -42,32 +45,115 @@ impl Model for Member {
 }
 
 impl Member {
-    /// A member by this plan, that keeps nothing yet. `NoMemory` where no memory was found.
+    /// A member by this plan whose channel seals nothing, that keeps nothing yet. `NoMemory` where no memory was found.
     pub fn new(alloc: Global, plan: MemberPlan) -> Result<Member, NoMemory>
         ensures { IfOk result (λ member. member ≡ fresh_member plan) }
     {
         let channel = fresh_channel(alloc, &plan)?;
+        Ok(Member::make(alloc, plan, channel, None))
+    }
+
+    /// A member by this plan that keeps nothing yet, whose channel seals exactly where the plan says so. `NoMemory`
+    /// where no memory was found.
+    pub fn with_sealing(alloc: Global, plan: MemberPlan) -> Result<Member, NoMemory>
+        ensures { IfOk result (λ member. member ≡ sealing_member plan) }
+    {
+        let channel = channel_of_plan(alloc, &plan)?;
+        let sealing = first_sealing(plan.sealed);
+        Ok(Member::make(alloc, plan, channel, sealing))
+    }
+
+    /// A member that keeps nothing yet but this channel, and what seals. It takes no memory.
+    fn make(
+        alloc: Global,
+        plan: MemberPlan,
+        channel: PlainChannel,
+        sealing: Option<TurnSealing>,
+    ) -> Member
+        ensures { result ≡ record {
+          running = Some (record {
+            logons = record {
+              plan = plan;
+              channel = channel;
+              asked = [];
+            };
+            links = [];
+            dialling = dialling.Nothing;
+            sealing = sealing;
+          });
+        } }
+    {
         let logons = Logons {
             plan,
             channel,
             asked: List::new(alloc),
         };
-        Ok(Member {
+        Member {
             running: Some(Running {
                 logons,
                 links: Links::new(alloc),
                 dialling: Dialling::Nothing,
+                sealing,
             }),
-        })
+        }
     }
 
     /// The step for an event at this moment, in units of 100 ns since 1601: its actions in order. A challenge is drawn
-    /// where a bind is answered with a CHALLENGE, and where a turn starts whose channel needs one.
+    /// where a bind is answered with a CHALLENGE, and where a turn starts whose channel needs one; on an open channel
+    /// that seals it is the confounder of the turn's call.
     ///
     /// `Spent` exactly where the step draws more challenges than are left, `Memory` where no memory was found; after
     /// either of them the member is stopped and keeps nothing. `Stopped` exactly where it was stopped before.
-    #[tactic(auto, using(crate::proofs::StepLaws::stepping))]
+    #[tactic(auto, using(crate::proofs::SealLaws::going_on))]
     pub fn step<Q: Chances>(
+        &mut self,
+        alloc: Global,
+        event: &Event,
+        now: u64,
+        chances: &mut Q,
+    ) -> Result<Actions, StepRefused>
+        // The actions, the state and the challenges drawn are the machine's.
+        ensures answer { StepsBy result
+            (any_step_of self.old event.now now (Q.drawing chances.old).left)
+            halted_state self.new (Q.drawing chances.old) (Q.drawing chances.new) }
+        // It answers `Stopped` exactly where it had stopped, and a step that isn't taken stops it.
+        ensures stopped { (result ≡ Err StepRefused.Stopped) ↔ IsTrue (is_stopped self.old) }
+        ensures stops { OnErr result (self.new ≡ halted_state) }
+        ensures goes_on { OnOk result (is_stopped self.new ≡ false) }
+        // One that seals nothing steps as one that can't seal, and seals nothing then.
+        ensures plain { sealing_in self.old ≡ None → StepsBy result
+            (step_of self.old event.now now (Q.drawing chances.old).left)
+            halted_state self.new (Q.drawing chances.old) (Q.drawing chances.new) }
+        ensures stays_plain { sealing_in self.old ≡ None → sealing_in self.new ≡ None }
+        // Events that a failed send or a dial makes come to an end.
+        ensures settles { IfOk result (λ actions. IsTrue (is_made event.now) →
+            most_made_by actions + pending_in self.new ≤ pending_in self.old) }
+        // At most one challenge is drawn for each unit that the event can end, and one more for the turn that starts,
+        // whatever the result.
+        ensures few { length (Q.drawing chances.old).left
+            ≤ length (Q.drawing chances.new).left + units_at event.now + 1 }
+        // No send has more than 589,824 bytes.
+        ensures short { IfOk result (λ actions. AreShortSends actions) }
+    {
+        match self.sealing() {
+            None => self.step_plain(alloc, event, now, chances),
+            Some(sealing) => self.step_sealed(alloc, sealing, event, now, chances),
+        }
+    }
+
+    /// What it keeps to seal.
+    fn sealing(&self) -> Option<TurnSealing>
+        ensures { result ≡ sealing_in self.now }
+    {
+        match &self.running {
+            Some(running) => running.sealing,
+            None => None,
+        }
+    }
+
+    /// The step of a member that seals nothing.
+    #[tactic(auto, using(crate::proofs::StepLaws::stepping))]
+    fn step_plain<Q: Chances>(
         &mut self,
         alloc: Global,
         event: &Event,
@@ -82,6 +168,7 @@ impl Member {
         ensures stopped { (result ≡ Err StepRefused.Stopped) ↔ IsTrue (is_stopped self.old) }
         ensures stops { OnErr result (self.new ≡ halted_state) }
         ensures goes_on { OnOk result (is_stopped self.new ≡ false) }
+        ensures plain { sealing_in self.new ≡ None }
         // Events that a failed send or a dial makes come to an end.
         ensures settles { IfOk result (λ actions. IsTrue (is_made event.now) →
             most_made_by actions + pending_in self.new ≤ pending_in self.old) }
@@ -108,6 +195,66 @@ impl Member {
             logons,
             links,
             dialling,
+            sealing: None,
+        });
+        Ok(actions.into_actions())
+    }
+
+    /// The step of a member whose channel seals.
+    #[tactic(auto, using(crate::proofs::SealLaws::stepping))]
+    fn step_sealed<Q: Chances>(
+        &mut self,
+        alloc: Global,
+        sealing: TurnSealing,
+        event: &Event,
+        now: u64,
+        chances: &mut Q,
+    ) -> Result<Actions, StepRefused>
+        requires { sealing_in self.old ≡ Some sealing }
+        // The actions, the state and the challenges drawn are the machine's.
+        ensures answer { StepsBy result
+            (any_step_of self.old event.now now (Q.drawing chances.old).left)
+            halted_state self.new (Q.drawing chances.old) (Q.drawing chances.new) }
+        // It answers `Stopped` exactly where it had stopped, and a step that isn't taken stops it.
+        ensures stopped { (result ≡ Err StepRefused.Stopped) ↔ IsTrue (is_stopped self.old) }
+        ensures stops { OnErr result (self.new ≡ halted_state) }
+        ensures goes_on { OnOk result (is_stopped self.new ≡ false) }
+        // Events that a failed send or a dial makes come to an end.
+        ensures settles { IfOk result (λ actions. IsTrue (is_made event.now) →
+            most_made_by actions + pending_in self.new ≤ pending_in self.old) }
+        // At most one challenge is drawn for each unit that the event can end, and one more for the turn that starts,
+        // whatever the result.
+        ensures few { length (Q.drawing chances.old).left
+            ≤ length (Q.drawing chances.new).left + units_at event.now + 1 }
+        // No send has more than 589,824 bytes.
+        ensures short { IfOk result (λ actions. AreShortSends actions) }
+    {
+        let Some(running) = self.running.take() else {
+            return Err(StepRefused::Stopped);
+        };
+        let is_link_sealed = sealing.is_link_sealed;
+        let ((work, dialling), sealed) = match run_sealed(
+            alloc,
+            running,
+            is_link_sealed,
+            event,
+            now,
+            chances,
+        ) {
+            Ok(work) => work,
+            Err(why) => return Err(why),
+        };
+        let is_link_sealed = is_sealed_on(&dialling, sealed);
+        let Work {
+            logons,
+            links,
+            actions,
+        } = work;
+        self.running = Some(Running {
+            logons,
+            links,
+            dialling,
+            sealing: Some(TurnSealing { is_link_sealed }),
         });
         Ok(actions.into_actions())
     }
@@ -153,17 +300,46 @@ impl Member {
 }
 
 /// The channel of a member by this plan.
-pub(crate) fn fresh_channel(alloc: Global, plan: &MemberPlan) -> Result<Channel, NoMemory>
+pub(crate) fn fresh_channel(alloc: Global, plan: &MemberPlan) -> Result<PlainChannel, NoMemory>
     ensures { IfOk result (λ channel. channel ≡ fresh_requester (caller_of plan.now)) }
 {
     let account = account_of(alloc, &plan.computer)?;
-    Channel::new(
+    PlainChannel::new(
         alloc,
         plan.secrets.tried(),
         plan.computer.copy(alloc)?,
         account,
         2,
     )
+}
+
+/// The channel of a member by this plan, which seals where the plan says so.
+fn channel_of_plan(alloc: Global, plan: &MemberPlan) -> Result<PlainChannel, NoMemory>
+    ensures { IfOk result (λ channel. channel ≡ channel_of_plan plan.now) }
+{
+    let account = account_of(alloc, &plan.computer)?;
+    let channel = Channel::new(
+        alloc,
+        plan.secrets.tried(),
+        plan.computer.copy(alloc)?,
+        account,
+        2,
+        plan.domain.copy(alloc)?,
+        plan.sealed,
+    )?;
+    Ok(channel.into_plain())
+}
+
+/// What is kept to seal while no turn is out.
+fn first_sealing(seals: bool) -> Option<TurnSealing>
+    ensures { result ≡ first_sealing seals }
+{
+    if !seals {
+        return None;
+    }
+    Some(TurnSealing {
+        is_link_sealed: false,
+    })
 }
 
 /// The name of the machine account.
@@ -364,7 +540,7 @@ fn bytes_on_link<Q: Chances>(
 
 /// Bytes came on a link.
 #[tactic(auto, using(crate::proofs::SharingLaws::serving))]
-fn bytes_on<Q: Chances>(
+pub(crate) fn bytes_on<Q: Chances>(
     alloc: Global,
     number: u32,
     piece: &[u8],
@@ -392,7 +568,7 @@ fn bytes_on<Q: Chances>(
 
 /// What the event itself comes to.
 #[tactic(auto, using(crate::proofs::StepLaws::serving))]
-fn on_event<Q: Chances>(
+pub(crate) fn on_event<Q: Chances>(
     alloc: Global,
     event: &Event,
     how: Dialling,
@@ -450,6 +626,7 @@ fn run_event<Q: Chances>(
         logons,
         links,
         dialling,
+        ..
     } = running;
     let work = Work {
         logons,

@@ -7,13 +7,15 @@ use std::alloc::Global;
 use wire_base::{Blob, Name, NoMemory};
 
 /// A member server of a domain: the name of its computer, its domain, the secrets of its machine account, of which one
-/// is that account's NT hash (MS-NRPC 3.1.1), and the address of the controller that judges its logons.
+/// is that account's NT hash (MS-NRPC 3.1.1), the address of the controller that judges its logons, and whether its
+/// channel with that controller is sealed (MS-NRPC 3.3).
 #[derive(Debug, Drop)]
 pub struct MemberPlan {
     pub computer: Name,
     pub domain: Name,
     pub secrets: Secrets,
     pub controller: Blob,
+    pub sealed: bool,
 }
 
 impl MemberPlan {
@@ -26,6 +28,7 @@ impl MemberPlan {
             domain: self.domain.copy(alloc)?,
             secrets: self.secrets.copy(),
             controller: Blob::copy(alloc, self.controller.bytes())?,
+            sealed: self.sealed,
         })
     }
 }

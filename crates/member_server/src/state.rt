@@ -4,7 +4,7 @@ ghost use Rattle.std.specs.Prelude.{◌≡◌};
 
 use crate::held::Held;
 use crate::plan::MemberPlan;
-use channel_client::Channel;
+use channel_client::PlainChannel;
 use channel_turns::Dialling;
 use end_links::{Binding, Links, ShortActions};
 use ntlm_messages::Authenticate;
@@ -77,7 +77,7 @@ pub struct Logon {
 /// What logons need: the plan, the one channel that they share, and the logons that are asked, by their places.
 pub struct Logons {
     pub plan: MemberPlan,
-    pub channel: Channel,
+    pub channel: PlainChannel,
     pub asked: List<(u32, Logon)>,
 }
 
@@ -95,7 +95,7 @@ impl Drop for Logons {
 
 impl Logons {
     /// The plan, the channel, and the logons that are asked. It takes no memory.
-    pub(crate) fn apart(self) -> (MemberPlan, Channel, List<(u32, Logon)>)
+    pub(crate) fn apart(self) -> (MemberPlan, PlainChannel, List<(u32, Logon)>)
         ensures { result ≡ (self.plan, self.channel, self.asked) }
     {
         let Logons {
@@ -107,12 +107,19 @@ impl Logons {
     }
 }
 
-/// What a member keeps while it isn't stopped.
+/// What a member whose channel seals keeps beside that channel: whether the link of the turn that is out is sealed.
+#[derive(Clone, Copy, Debug, PartialEq, Eq)]
+pub struct TurnSealing {
+    pub is_link_sealed: bool,
+}
+
+/// What a member keeps while it isn't stopped. One whose channel seals nothing keeps nothing of sealing.
 #[derive(Drop)]
 pub struct Running {
     pub logons: Logons,
     pub links: Links<Talk>,
     pub dialling: Dialling,
+    pub sealing: Option<TurnSealing>,
 }
 
 /// A member at work on an accepted link, which is out of its map then: its number, what logons need, and the actions so

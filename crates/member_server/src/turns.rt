@@ -3,20 +3,22 @@
 ghost use Rattle.std.specs.Prelude.{◌≡◌, ◌≤◌, ◌+◌, None, length, IfOk};
 ghost use Rattle.outside.specs.Drawing.{DrawsSome};
 ghost use Rattle.outside.specs.Machine.{AnswersBy};
+ghost use Rattle.end_links.specs.Bounds.{units_in_piece};
 ghost use Rattle.channel_client.specs.Machine.{can_start};
 ghost use Rattle.channel_turns.specs.Turning.{link_answers, link_closes, link_hears};
 ghost use Rattle.member_server.specs.Machine.{fail_dial};
 ghost use Rattle.member_server.specs.Outcomes.{end_logon};
+ghost use Rattle.member_server.specs.SealStep.{hear_sealed, next_sealed};
 ghost use Rattle.member_server.specs.Secrets.{changes_text, confirmed_of, give_secrets, is_denied, secrets_after};
 ghost use Rattle.member_server.specs.Turns.{after_ended, after_turned, close_ended, end_turn, ending_of, keep_ended, next_turn, turning_of};
 
 use crate::outcomes::{Ending, end_logon, tell_at};
 use crate::plan::MemberPlan;
 use crate::state::{Logon, Logons, Talk, Work};
-use channel_client::Channel;
+use channel_client::PlainChannel;
 use channel_turns::{
     Dialling, TurnEnd, TurnEnded, Turning, link_answers, link_closes, link_hears, next_dial,
-    no_dial,
+    next_sealed_dial, no_dial, sealed_link_hears,
 };
 use end_links::Links;
 use logon_stubs::Verdict;
@@ -295,7 +297,7 @@ pub(crate) fn hear_turn<Q: Chances>(
 /// Where a turn can start, the channel is given the next secret, or none, and while it is none the secret that is
 /// tried. It takes no memory.
 #[tactic(auto, using(crate::proofs::SecretLaws::giving))]
-fn give_secrets(secrets: &Secrets, channel: &mut Channel)
+fn give_secrets(secrets: &Secrets, channel: &mut PlainChannel)
     ensures { channel.new
         ≡ give_secrets (can_start channel.old.turn channel.old.waiting) secrets.now channel.old }
 {
@@ -347,6 +349,71 @@ pub(crate) fn next_turn<Q: Chances>(
     let turning = make_ready(&beside.plan.secrets, turning);
     match next_dial(alloc, now, &beside.plan.controller, turning, chances) {
         Ok(turning) => Ok(together(turning, beside)),
+        Err(why) => Err(why),
+    }
+}
+
+// ---- a channel that seals
+
+/// Bytes came on a link, whose units a turn of a channel that seals hears where it is the turn's; and whether that link
+/// is sealed afterwards, where it was so before. No challenge is drawn.
+#[tactic(auto, using(crate::proofs::SealLaws::hearing))]
+pub(crate) fn hear_sealed<Q: Chances>(
+    alloc: Global,
+    link: u32,
+    piece: &[u8],
+    how: Dialling,
+    work: Work,
+    is_link_sealed: bool,
+    chances: &mut Q,
+) -> Result<((Work, Dialling), bool), StepRefused>
+    ensures draws { DrawsSome (Q.drawing chances.old) (Q.drawing chances.new) }
+    ensures answer { AnswersBy result
+        (hear_sealed link piece.now how work is_link_sealed (Q.drawing chances.old).left)
+        (Q.drawing chances.new).left }
+    ensures few { length (Q.drawing chances.old).left
+        ≤ length (Q.drawing chances.new).left + units_in_piece (length piece.now) }
+{
+    let (turning, beside) = apart(work, how);
+    let ((turning, ended), sealed) = match sealed_link_hears(
+        alloc,
+        link,
+        piece,
+        is_link_sealed,
+        turning,
+        chances,
+    ) {
+        Ok(turned) => turned,
+        Err(why) => return Err(why),
+    };
+    let (work, how) = together(turning, beside);
+    match after_ended(alloc, ended, work) {
+        Ok(work) => Ok(((work, how), sealed)),
+        Err(NoMemory) => Err(StepRefused::Memory),
+    }
+}
+
+/// The next turn of a channel that seals starts, where one can: the channel is given the secrets, and the controller is
+/// dialled. A challenge is drawn where the channel needs one: one at most, whatever the result.
+#[tactic(auto, using(crate::proofs::SealLaws::dialling_next))]
+pub(crate) fn next_sealed<Q: Chances>(
+    alloc: Global,
+    now: u64,
+    work: Work,
+    how: Dialling,
+    is_link_sealed: bool,
+    chances: &mut Q,
+) -> Result<((Work, Dialling), bool), StepRefused>
+    ensures draws { DrawsSome (Q.drawing chances.old) (Q.drawing chances.new) }
+    ensures answer { AnswersBy result
+        (next_sealed now ((work, how), is_link_sealed) (Q.drawing chances.old).left)
+        (Q.drawing chances.new).left }
+    ensures few { length (Q.drawing chances.old).left ≤ length (Q.drawing chances.new).left + 1 }
+{
+    let (turning, beside) = apart(work, how);
+    let turning = make_ready(&beside.plan.secrets, turning);
+    match next_sealed_dial(alloc, now, &beside.plan.controller, turning, chances) {
+        Ok(turning) => Ok((together(turning, beside), is_link_sealed)),
         Err(why) => Err(why),
     }
 }

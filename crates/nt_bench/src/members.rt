@@ -182,6 +182,7 @@ fn plan(alloc: Global) -> anyhow::Result<MemberPlan> {
         domain,
         secrets: Secrets::alone(SECRET),
         controller,
+        sealed: false,
     })
 }
 

@@ -4,7 +4,8 @@ use Rattle.outside.specs.declared.action.Action.TheVariants.{Keep}
 use Rattle.secret_change.specs.Secrets.{SecretsState, alone, begin_of, line_of, untried_next, written_secrets}
 use Rattle.secret_change.specs.declared.secrets.Next.{Next}
 use Rattle.secret_change.specs.declared.refused.Busy.{Busy}
-use Rattle.member_server.specs.Machine.{change_begun, change_of, change_on, fresh_member, is_stopped}
+use Rattle.member_server.specs.Machine.{change_begun, change_of, change_on, is_stopped}
+use Rattle.member_server.specs.SealStep.{sealing_member}
 use Rattle.member_server.specs.State.{State}
 use Rattle.member_server.specs.declared.state.Running.{Running}
 use Rattle.nt_words.specs.Jobs.{MemberJob}
@@ -28,7 +29,7 @@ change_runs s new is = on_runs s.running s new is
 begins_with : (job : MemberJob) (seed current new : List ℕ) →
     member_begins job (record { secrets = alone current; seed = seed; change = Some new }) ≡ record {
       answer = Ok (Keep (line_of current ++ line_of new) ∷ []);
-      state = fresh_member (member_plan job (record { current = current; next = Some (untried_next new) }));
+      state = sealing_member (member_plan job (record { current = current; next = Some (untried_next new) }));
     }
 unfolding written_secrets
 begins_with job seed current new = refl
@@ -37,14 +38,14 @@ begins_with job seed current new = refl
 under_way : (job : MemberJob) (seed current : List ℕ) (next : Option Next) (change : Option (List ℕ)) → IsSome next →
     (first_of (member_begins job (record { secrets = record { current = current; next = next }; seed = seed; change = change })).answer ≡ [])
     × ((member_begins job (record { secrets = record { current = current; next = next }; seed = seed; change = change })).state
-    ≡ fresh_member (member_plan job (record { current = current; next = next })))
+    ≡ sealing_member (member_plan job (record { current = current; next = next })))
 under_way job seed current (Some next) (Some new) is = (refl, refl)
 under_way job seed current (Some next) None is = (refl, refl)
 under_way job seed current None change is = absurd cc
 
 none_asked : (job : MemberJob) (seed : List ℕ) (secrets : SecretsState) (change : Option (List ℕ)) → change ≡ None →
     (first_of (member_begins job (record { secrets = secrets; seed = seed; change = change })).answer ≡ [])
-    × ((member_begins job (record { secrets = secrets; seed = seed; change = change })).state ≡ fresh_member (member_plan job secrets))
+    × ((member_begins job (record { secrets = secrets; seed = seed; change = change })).state ≡ sealing_member (member_plan job secrets))
 none_asked job seed secrets None is = (refl, refl)
 none_asked job seed secrets (Some new) is = absurd cc
 

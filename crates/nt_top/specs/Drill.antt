@@ -55,7 +55,7 @@ drill_table = record {
 -- a member of CORP, whose controller is end 0
 abbrev pub drill_member : List ℕ → ℕ → MemberPlan
 drill_member computer byte =
-    record { computer = computer; domain = codes "CORP"; secrets = alone (replicate 16 byte); controller = 0 ∷ [] }
+    record { computer = computer; domain = codes "CORP"; secrets = alone (replicate 16 byte); controller = 0 ∷ []; sealed = false }
 
 -- a client of CORP at the workstation WS, which dials that end and echoes 16 bytes
 abbrev pub drill_client : ℕ → List ℕ → ℕ → ℕ → AuthKind → ClientPlan

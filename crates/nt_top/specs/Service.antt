@@ -6,7 +6,8 @@ use Rattle.outside.specs.declared.action.Action.TheVariants.{Keep}
 use Rattle.end_loop.specs.Seen.{Sight}
 use Rattle.end_loop.specs.Writing.{FilesTold}
 use Rattle.domain_controller.specs.TrustStep.{first_trust_state, trust_machine}
-use Rattle.member_server.specs.Machine.{Changing, change_of, fresh_member, member_machine}
+use Rattle.member_server.specs.Machine.{Changing, change_of}
+use Rattle.member_server.specs.SealStep.{any_member_machine, sealing_member}
 use Rattle.member_server.specs.State.{State}
 use Rattle.member_server.specs.declared.change.ChangeRefused.{ChangeRefused}
 use Rattle.member_server.specs.declared.plan.MemberPlan.{MemberPlan}
@@ -53,9 +54,10 @@ IsRefusal asked = (refused : WordsRefused) × (asked ≡ Err refused)
 -- ---- the ends
 
 -- a member server of the words' computer and domain, with these secrets, whose logons the controller at the
--- words' address judges
+-- words' address judges, on a channel that is sealed where the words say so
 abbrev pub member_plan : MemberJob → SecretsState → MemberPlan
-member_plan job secrets = record { computer = job.computer; domain = job.domain; secrets = secrets; controller = job.controller }
+member_plan job secrets =
+    record { computer = job.computer; domain = job.domain; secrets = secrets; controller = job.controller; sealed = job.seal }
 
 -- How a member changes its secret as it begins: to that of the file that the words name, where they name one.
 abbrev pub changing : Option (List ℕ) → State → Changing
@@ -64,7 +66,7 @@ changing (Some secret) member = change_of member secret
 
 -- the member of the words and the files, as it begins
 abbrev pub member_begins : MemberJob → MemberFiles → Changing
-member_begins job files = changing files.change (fresh_member (member_plan job files.secrets))
+member_begins job files = changing files.change (sealing_member (member_plan job files.secrets))
 
 -- what it does first: it keeps the text of its secrets, where a change begins; a change that is under way, of which the
 -- file has two secrets, goes on, and nothing is done
@@ -76,7 +78,7 @@ first_of (Err refused) = []
 -- were read from.
 abbrev pub MemberServes : MemberJob → MemberFiles → Sight → Sight → Exit → Type 0
 MemberServes job files before after exit =
-    MayServe member_machine (Some job.secret) (first_of (member_begins job files).answer) (member_begins job files).state
+    MayServe any_member_machine (Some job.secret) (first_of (member_begins job files).answer) (member_begins job files).state
     job.listen files.seed job.boot job.events before after exit
 
 -- A member of one secret that is to change it begins so: the next secret is the new one, and the text of both is kept.
@@ -85,12 +87,12 @@ pub record BeginsOneChange : Type 0 where
   pub begins : (job : MemberJob) (seed current new : List ℕ) →
       member_begins job (record { secrets = alone current; seed = seed; change = Some new }) ≡ record {
         answer = Ok (Keep (line_of current ++ line_of new) ∷ []);
-        state = fresh_member (member_plan job (record { current = current; next = Some (untried_next new) }));
+        state = sealing_member (member_plan job (record { current = current; next = Some (untried_next new) }));
       }
   pub passed_over : (job : MemberJob) (files : MemberFiles) → IsSome files.secrets.next →
-      (first_of (member_begins job files).answer ≡ []) × ((member_begins job files).state ≡ fresh_member (member_plan job files.secrets))
+      (first_of (member_begins job files).answer ≡ []) × ((member_begins job files).state ≡ sealing_member (member_plan job files.secrets))
   pub not_asked : (job : MemberJob) (files : MemberFiles) → files.change ≡ None →
-      (first_of (member_begins job files).answer ≡ []) × ((member_begins job files).state ≡ fresh_member (member_plan job files.secrets))
+      (first_of (member_begins job files).answer ≡ []) × ((member_begins job files).state ≡ sealing_member (member_plan job files.secrets))
 
 -- The end of the service is served: a controller of the words' name over the files' table, which asks the controllers
 -- of the domains that the table trusts and keeps changed secrets in the file that the words name for them, or a member

@@ -150,6 +150,7 @@ fn drill_member(alloc: Global, computer: &[u8], byte: u8) -> Result<MemberPlan, 
         domain: name(alloc, b"CORP")?,
         secrets: Secrets::alone([byte; 16]),
         controller: Blob::copy(alloc, &[0])?,
+        sealed: false,
     })
 }
 

@@ -4,7 +4,8 @@ ghost use Rattle.std.specs.Prelude.{◌≡◌, ◌≤◌, IfOk, OnOk, Some, fals
 ghost use Rattle.outside.specs.Causes.{Rose};
 ghost use Rattle.end_loop.specs.Seen.{Between};
 ghost use Rattle.end_loop.specs.Writing.{files_told};
-ghost use Rattle.member_server.specs.Machine.{fresh_member, is_stopped};
+ghost use Rattle.member_server.specs.Machine.{is_stopped};
+ghost use Rattle.member_server.specs.SealStep.{sealing_member};
 ghost use Rattle.nt_top.specs.Service.{MemberServes, changing, first_of, member_plan};
 ghost use Rattle.nt_top.specs.declared.exit.Exit.{Exit};
 
@@ -17,7 +18,8 @@ use secret_change::Secrets;
 use std::alloc::Global;
 use wire_base::{Blob, NoMemory};
 
-/// Starts the challenges, listens, and serves a member server of the words and the files. Where the words name a secret
+/// Starts the challenges, listens, and serves a member server of the words and the files. Its channel is sealed where
+/// the words say so. Where the words name a secret
 /// to change to, and the file of the secrets has one alone, it begins with that change: the text of both is written
 /// once the port listens, before an event is asked for. Texts are written into the file that the secrets were read
 /// from.
@@ -99,10 +101,10 @@ fn begin_change(
 
 /// The member server of the words and the secrets.
 fn member_of(alloc: Global, words: &MemberWords, secrets: Secrets) -> Result<Member, NoMemory>
-    ensures { IfOk result (λ member. member ≡ fresh_member (member_plan words.now secrets)) }
+    ensures { IfOk result (λ member. member ≡ sealing_member (member_plan words.now secrets)) }
 {
     match member_plan(alloc, words, secrets) {
-        Ok(plan) => Member::new(alloc, plan),
+        Ok(plan) => Member::with_sealing(alloc, plan),
         Err(NoMemory) => Err(NoMemory),
     }
 }
@@ -116,5 +118,6 @@ fn member_plan(alloc: Global, words: &MemberWords, secrets: Secrets) -> Result<M
         domain: name_of(alloc, words.domain())?,
         secrets,
         controller: Blob::copy(alloc, words.controller().as_bytes())?,
+        sealed: words.seals(),
     })
 }

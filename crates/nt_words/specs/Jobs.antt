@@ -8,7 +8,7 @@ use Rattle.logon_client.specs.declared.plan.AuthKind.{AuthKind}
 use Rattle.logon_client.specs.declared.plan.AuthKind.TheVariants.{V1, V1Ess, V2}
 use Rattle.nt_words.specs.Options.{Choice, choice, first_misfit, number_of}
 use Rattle.nt_words.specs.Words.{app_with}
-use Rattle.nt_words.specs.declared.options.Kind.TheVariants.{Address, Name, File, Number, Level, Auth}
+use Rattle.nt_words.specs.declared.options.Kind.TheVariants.{Address, Name, File, Number, Level, Auth, Switch}
 use Rattle.nt_words.specs.declared.options.WordsRefused.{WordsRefused}
 use Rattle.nt_words.specs.declared.options.WordsRefused.TheVariants.{BadWords}
 
@@ -124,8 +124,14 @@ member_form = record {
       choice (codes "seed") File true ∷
       choice (codes "boot") (Number 4294967295) true ∷
       choice (codes "events") (Number 4294967295) false ∷
-      choice (codes "change") File false ∷ [];
+      choice (codes "change") File false ∷
+      choice (codes "seal") Switch false ∷ [];
 }
+
+-- whether a word switches something on; it doesn't where there is none
+abbrev pub is_on : Option Text → Bool
+is_on None = false
+is_on (Some word) = bytes_eq word (codes "on")
 
 pub record MemberJob : Type 0 where
   pub listen : Text
@@ -138,6 +144,8 @@ pub record MemberJob : Type 0 where
   pub events : ℕ
   -- the file of the secret that the machine is to change to, where one is named
   pub change : Option Text
+  -- whether the machine's channel is sealed
+  pub seal : Bool
 
 -- the job of these rows
 abbrev pub member_of : List Row → MemberJob
@@ -151,6 +159,7 @@ member_of rows = record {
   boot = number_at rows (codes "boot") 0;
   events = number_at rows (codes "events") 4294967295;
   change = first_of (codes "change") rows;
+  seal = is_on (first_of (codes "seal") rows);
 }
 
 unfoldable pub member_job : List Text → Result MemberJob WordsRefused

@@ -10,7 +10,7 @@ use Rattle.clap.specs.Words.{Row, Text, first_of}
 use Rattle.wire_base.specs.Decimal.{number_of_bits}
 use Rattle.wire_base.specs.Names.{is_name}
 use Rattle.nt_words.specs.declared.options.Kind.{Kind}
-use Rattle.nt_words.specs.declared.options.Kind.TheVariants.{Address, Name, File, Number, Level, Auth}
+use Rattle.nt_words.specs.declared.options.Kind.TheVariants.{Address, Name, File, Number, Level, Auth, Switch}
 
 -- 1 to 10 decimal digits
 abbrev pub has_digits : Text → Bool
@@ -49,6 +49,7 @@ fits rows Level text = is_one_of (codes "connect" ∷ codes "integrity" ∷ code
 fits rows Auth text =
     if bytes_eq text (codes "v1") then is_text (codes "connect") (first_of (codes "level") rows)
     else is_one_of (codes "v1ess" ∷ codes "v2" ∷ []) text
+fits rows Switch text = is_one_of (codes "on" ∷ codes "off" ∷ []) text
 
 -- an option: its name after the two minus signs, the kind of its value, and whether it must be given
 pub record Choice : Type 0 where
@@ -106,6 +107,7 @@ is_file File = true
 is_file (Number most) = false
 is_file Level = false
 is_file Auth = false
+is_file Switch = false
 
 abbrev pub add_file : Bool → ℕ → Choice → List (ℕ × Choice) → List (ℕ × Choice)
 add_file true number choice later = (number, choice) ∷ later

@@ -5,7 +5,7 @@ ghost use Rattle.std.specs.String.{string_bytes};
 ghost use Rattle.wire_base.specs.Memory.{UpToMemory};
 ghost use Rattle.wire_base.specs.Names.{IsName};
 ghost use Rattle.nt_words.specs.Forms.{IsAddress};
-ghost use Rattle.nt_words.specs.Jobs.{is_led_by, member_form, member_job};
+ghost use Rattle.nt_words.specs.Jobs.{is_led_by, is_on, member_form, member_job};
 
 use crate::options::{Kind, OptionForm, WordsRefused, number, text, value};
 use crate::words::read_words;
@@ -24,6 +24,7 @@ pub struct MemberWords<'a> {
     boot: u32,
     events: u32,
     change: Option<&'a str>,
+    seal: bool,
 }
 
 impl<'a> Model for MemberWords<'a> {
@@ -43,6 +44,7 @@ impl<'a> Model for MemberWords<'a> {
       boot = j.boot;
       events = j.events;
       change = option_map (λ s. s.now) j.change;
+      seal = j.seal;
     } };
 
     ghost invariant = { λ j. IsMemberForm (record {
@@ -55,6 +57,7 @@ impl<'a> Model for MemberWords<'a> {
       boot = j.boot;
       events = j.events;
       change = option_map (λ s. s.now) j.change;
+      seal = j.seal;
     }) };
 }
 
@@ -112,6 +115,13 @@ impl<'a> MemberWords<'a> {
         self.change
     }
 
+    /// Whether the machine's channel is sealed.
+    pub fn seals(&self) -> bool
+        ensures { result ≡ self.now.seal }
+    {
+        self.seal
+    }
+
     /// The name of the file of the secrets.
     pub fn secret_file(&self) -> &'a str
         ensures { result.now ≡ self.now.secret }
@@ -149,11 +159,22 @@ pub(crate) fn member_words<'a>(
         boot: number(&matches, "boot", 0),
         events: number(&matches, "events", 4294967295),
         change: value(&matches, "change"),
+        seal: is_on(value(&matches, "seal")),
     })
 }
 
+/// Whether a word switches something on; it doesn't where there is none.
+fn is_on(word: Option<&str>) -> bool
+    ensures { result ≡ is_on (option_map (λ s. s.now) word.entry) }
+{
+    match word {
+        Some(word) => word == "on",
+        None => false,
+    }
+}
+
 /// The options of `nt_member serve`.
-fn member_options() -> [OptionForm<'static>; 9]
+fn member_options() -> [OptionForm<'static>; 10]
     ensures { result ≡ member_form.choices }
 {
     [
@@ -166,5 +187,6 @@ fn member_options() -> [OptionForm<'static>; 9]
         OptionForm::new("boot", Kind::Number(4294967295), true),
         OptionForm::new("events", Kind::Number(4294967295), false),
         OptionForm::new("change", Kind::File, false),
+        OptionForm::new("seal", Kind::Switch, false),
     ]
 }

@@ -51,6 +51,8 @@ pub enum Kind {
     Level,
     /// `v1`, `v1ess` or `v2`, and `v1` only where the option `level` is `connect`.
     Auth,
+    /// `on` or `off`.
+    Switch,
 }
 
 /// An option of a command.
@@ -164,6 +166,7 @@ fn fits(matches: &ArgMatches, kind: Kind, text: &str) -> bool
                 text == "v1ess" || text == "v2"
             }
         }
+        Kind::Switch => text == "on" || text == "off",
     }
 }
 

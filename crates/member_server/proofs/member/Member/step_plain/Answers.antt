@@ -2,7 +2,7 @@ use Rattle.std.proofs.Common.{◌≡◌, Some, refl, sym, ap, ◌∙◌}
 use Rattle.member_server.specs.Machine.{halted_state, state_in}
 use Rattle.member_server.specs.State.{State}
 use Rattle.member_server.proofs.StepLaws.{step_refused, step_settles, step_taken}
-use Rattle.member_server.proofs.member.Member.step.Goals as goal
+use Rattle.member_server.proofs.member.Member.step_plain.Goals as goal
 
 pub returns-in-Err-clause-answer : goal.returns-in-Err-clause-answer
 returns-in-Err-clause-answer g c =
