@@ -23,7 +23,7 @@ use Rattle.world_moves.specs.declared.state.State.{State}
 use Rattle.world_moves.specs.Ends.{EndStates}
 use Rattle.world_moves.specs.Forms.{HasMoveForm, IsAccount, IsBlock, IsByte, IsClientPlan, IsIdentifier, IsMemberPlan, IsSchedule, IsTable, IsTrust}
 use Rattle.world_moves.specs.Moving.{end_of_peer}
-use Rattle.channel_events.proofs.ListLaws.{some_is}
+use Rattle.wire_base.proofs.ListLaws.{some_is}
 use Rattle.logon_runs.specs.Rests.{HasItsSecret}
 use Rattle.world_moves.specs.World.{IsMove, first_ends, first_world, happens}
 use Rattle.domain_world.specs.Claims.Completeness.{CanSucceed, ComesOneAtATime, HasComputer, MayLogOnIn, OwnKeysArrive, Succeeds, info_planned, members_of}
@@ -275,13 +275,13 @@ of_success = record {
 -- ---- a client whose server's address names no end
 
 -- a name of these bytes
-a_name : (text : List ℕ) → length text ≤ 64 → AllByRecursion IsNameByte text → IsName text
+pub a_name : (text : List ℕ) → length text ≤ 64 → AllByRecursion IsNameByte text → IsName text
 a_name text few each = (few, All-from_recursion IsNameByte text each)
 
 small_hash_form : IsBlock 16 small_hash
 small_hash_form = (refl, All-replicate IsByte 16 7 (omega arith))
 
-account_form : IsAccount small_account
+pub account_form : IsAccount small_account
 account_form = record {
   name = a_name (codes "ann") (omega arith) ((omega arith, omega arith), ((omega arith, omega arith), ((omega arith, omega arith), tt)));
   rid = omega arith;
@@ -302,7 +302,7 @@ account_form = record {
   controllers = All-nil IsName;
 }
 
-table_form : IsTable small_table
+pub table_form : IsTable small_table
 table_form = record {
   domain = a_name (codes "CORP") (omega arith) ((omega arith, omega arith), ((omega arith, omega arith), ((omega arith, omega arith), ((omega arith, omega arith), tt))));
   sid = record { authority = omega arith; one = omega arith; at_most = omega arith };

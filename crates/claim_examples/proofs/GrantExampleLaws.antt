@@ -52,7 +52,7 @@ use Rattle.domain_world.specs.Claims.Grants.{IsToBeGranted, users_of}
 use Rattle.domain_world.specs.Claims.Tables.{left_by}
 use Rattle.claim_examples.specs.ClaimExamples.{judged_as, message, next_call, next_logon, small_account, small_channel, small_hash, small_table}
 use Rattle.claim_examples.specs.GrantExamples.{GrantsTellApart, OfCounts, OfGrants, OfSending, at_level, counted_table, disabled_table, empty_table, hashed_table, locked_call, machine_table, reply_with_key, small_call, small_desk, small_line, wrong_call}
-use Rattle.channel_events.proofs.ListLaws.{got_nothing}
+use Rattle.wire_base.proofs.ListLaws.{got_nothing, some_is}
 use Rattle.step_notes.proofs.Controllers.GrantSendLaws.{grants_carry_their_key}
 use Rattle.step_notes.proofs.Controllers.GrantVerdictLaws.{not_zero}
 use Rattle.step_notes.proofs.Controllers.JudgedStepLaws.{same_status}
@@ -126,9 +126,6 @@ abbrev first_byte : List (Option (List ℕ)) → ℕ
 first_byte [] = 0
 first_byte (hash ∷ hashes) = first_in hash
 
-same_item : {T : Type 0} (one other : T) → Some one ≡ Some other → one ≡ other
-same_item one other is = cc
-
 verifies_counted : (count : ℕ) → ResponseVerifies (counted_table count) (info_asked message)
 unfolding place_in same_name names.upper_of units_of
 verifies_counted count = granted_small.verifies
@@ -182,7 +179,7 @@ of_grants = record {
   ];
   fails_next = λ claim. let met = claim.0.granted.0 refl in no_channel met.next.channel met.next.stands;
   fails_table = λ claim.
-      let of : empty_table ≡ claim.0.table.planned = same_item empty_table claim.0.table.planned claim.0.table.is in
+      let of : empty_table ≡ claim.0.table.planned = some_is empty_table claim.0.table.planned claim.0.table.is in
       absurd (let accounts = claim.0.table.states.accounts ∙ ap (λ (t : AccountTable). map without_state t.accounts) (sym of) in cc);
   set = (
     record {
@@ -198,10 +195,10 @@ of_grants = record {
     tt,
   );
   fails_set = λ claim.
-      let of : hashed_table (replicate 16 8) ≡ claim.0.table.planned = same_item (hashed_table (replicate 16 8)) claim.0.table.planned claim.0.table.is in
+      let of : hashed_table (replicate 16 8) ≡ claim.0.table.planned = some_is (hashed_table (replicate 16 8)) claim.0.table.planned claim.0.table.is in
       absurd (let never : 7 ≡ 8 = ap first_byte (claim.0.table.users ∙ ap (λ (t : AccountTable). users_of t.accounts) (sym of)) in omega (arith, never));
   fails_name = λ claim.
-      absurd (let never : 80 ≡ 66 = ap (λ (name : List ℕ). get_or name 0 0) (same_item (codes "PDC") (codes "BDC") claim.0.name) in omega arith);
+      absurd (let never : 80 ≡ 66 = ap (λ (name : List ℕ). get_or name 0 0) (some_is (codes "PDC") (codes "BDC") claim.0.name) in omega arith);
   fails_controller = λ claim. absurd (let none : None ≡ Some claim.0.table.planned = claim.0.table.is in cc);
 }
 
@@ -317,9 +314,9 @@ account_small = refl
 right_sent : (new : List Action) → IsSentAsGranted next_call small_call small_line new →
     new ≡ actions_granting small_line (reply_granted next_call small_call small_account (small_channel []) (authenticator_of (key_of_channel (small_channel [])) [] 0))
 right_sent new sent =
-    let channel : small_channel [] ≡ sent.next.channel = same_item _ _ sent.next.stands in
-    let given : authenticator_of (key_of_channel (small_channel [])) [] 0 ≡ sent.next.given = same_item _ _ sent.next.there in
-    let account : small_account ≡ sent.account = same_item _ _ (sym account_small ∙ sent.stored) in
+    let channel : small_channel [] ≡ sent.next.channel = some_is _ _ sent.next.stands in
+    let given : authenticator_of (key_of_channel (small_channel [])) [] 0 ≡ sent.next.given = some_is _ _ sent.next.there in
+    let account : small_account ≡ sent.account = some_is _ _ (sym account_small ∙ sent.stored) in
     sent.actions
     ∙ ap (λ (a : Account). actions_granting small_line (reply_granted next_call small_call a sent.next.channel sent.next.given)) (sym account)
     ∙ ap (λ (c : SecureChannelState). actions_granting small_line (reply_granted next_call small_call small_account c sent.next.given)) (sym channel)
@@ -373,8 +370,8 @@ locked_at : (place : ℕ) (before after : Account) → slice_get locked_call.tab
     before.bad_count < after.bad_count → ⊥
 unfolding judgement_of table_after route_in place_in same_name names.upper_of units_of
 locked_at zero before after was is grew =
-    let one : 0 ≡ before.bad_count = ap Account.bad_count (same_item _ before was) in
-    let other : 0 ≡ after.bad_count = ap Account.bad_count (same_item _ after is) in
+    let one : 0 ≡ before.bad_count = ap Account.bad_count (some_is _ before was) in
+    let other : 0 ≡ after.bad_count = ap Account.bad_count (some_is _ after is) in
     absurd (omega (arith, one, other, grew))
 locked_at (suc place) before after was is grew = absurd (got_nothing place before was)
 

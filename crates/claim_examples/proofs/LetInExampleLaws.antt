@@ -11,8 +11,8 @@ use Rattle.outside.specs.declared.action.Outcome.{Outcome}
 use Rattle.outside.specs.declared.action.Outcome.TheVariants as outcome
 use Rattle.account_table.specs.LookUps.{account_in, place_in}
 use Rattle.account_table.specs.declared.account.Account.{Account}
-use Rattle.channel_events.specs.Marks.{OneOf}
-use Rattle.channel_events.proofs.ListLaws.{some_is}
+use Rattle.wire_base.specs.Lists.{OneOf}
+use Rattle.wire_base.proofs.ListLaws.{some_is}
 use Rattle.step_notes.specs.Records.{OutcomeTold}
 use Rattle.logon_stubs.specs.declared.info.SamInfo.{SamInfo}
 use Rattle.member_server.specs.Outcomes.{exchange_in, key_in}

@@ -4,6 +4,7 @@ pub mod GrantExampleLaws
 pub mod LetInExampleLaws
 pub mod LogonLaws
 pub mod NearMissLaws
+pub mod NeverApartExampleLaws
 pub mod OpeningExampleLaws
 pub mod OwnChallengeExampleLaws
 pub mod ReplyExampleLaws

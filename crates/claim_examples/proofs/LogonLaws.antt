@@ -11,7 +11,7 @@ use Rattle.ntlm_responses.specs.Responses.{challenge_for_of, hashed_challenge_of
 use Rattle.ntlm_responses.proofs.ResponseLaws.{challenge_for_of-ess, length-base_key_of, length-response_ess_of, length-response_v1_of, response_v1_of-one_to_one}
 use Rattle.account_table.specs.LookUps.{place_in}
 use Rattle.outside.specs.declared.action.Outcome.TheVariants as outcome
-use Rattle.channel_events.specs.Marks.{OneOf}
+use Rattle.wire_base.specs.Lists.{OneOf}
 use Rattle.step_notes.specs.Judged.{stored_hash}
 use Rattle.step_notes.specs.Records.{ChallengeSent, Judging, MessageTaken, OutcomeTold}
 use Rattle.world_moves.specs.Counting.{is_in}

@@ -45,8 +45,9 @@ use Rattle.step_notes.specs.MemberNotes.{turn_note}
 use Rattle.step_notes.specs.Served.{work_after}
 use Rattle.step_notes.proofs.Members.CallLogonLaws.{calls_carry}
 use Rattle.domain_world.specs.Claims.AskedFor.{AsksForItsMessage, IsForItsMessage, IsOfMessage, MembersAskForKept, AsksBy}
-use Rattle.channel_events.specs.Marks.{OneOf, Calling, Mark, Opened, Opening, Plain, ReplyTo}
-use Rattle.channel_events.proofs.ListLaws.{got_nothing, no_some, some_is}
+use Rattle.wire_base.specs.Lists.{OneOf}
+use Rattle.channel_events.specs.Marks.{Calling, Mark, Opened, Opening, Plain, ReplyTo}
+use Rattle.wire_base.proofs.ListLaws.{got_nothing, no_some, some_is}
 use Rattle.step_notes.specs.Records.{InUnit, Judging, MessageMade, MessageTaken, Outside, Sent, blank}
 use Rattle.world_moves.specs.declared.bag.BagUnit.{BagUnit}
 use Rattle.world_moves.specs.declared.links.Route.TheVariants.{ToController, ToMember}
@@ -55,7 +56,7 @@ use Rattle.world_moves.specs.World.{IsMove}
 use Rattle.domain_world.specs.Accepting.Answered.{IsItsWay, MarksHaveTheirWay, PassesAreUnclashed}
 use Rattle.domain_world.specs.Accepting.Carried.{IsPlain, IsWholeAsMarked, IsWholeUnit, MarkedUnitsAreWhole}
 use Rattle.domain_world.proofs.Accepting.CarriedLaws.{one_unit}
-use Rattle.domain_world.proofs.Frames.PlainFormLaws.{plain_is}
+use Rattle.domain_world.proofs.Moves.PlainFormLaws.{plain_is}
 use Rattle.domain_world.specs.Claims.MarkedUnits.{CallsAreMarked, IsMarkedAsCall, IsMarkedAsReply, RepliesAreMarked}
 use Rattle.domain_world.specs.Claims.{IsAccepted, IsClear, IsGrantedBy, IsItsControllersAnswer, IsPlainlyAccepted, passed_on, judged_timestamp}
 use Rattle.domain_world.specs.Claims.Counts.{RaisesCount}
@@ -476,6 +477,7 @@ fresh_running = record {
   logons = record { plan = small_member; channel = fresh_requester (caller_of small_member); asked = [] };
   links = [];
   dialling = dialling.Nothing;
+  sealing = None;
 }
 
 abbrev ten_running : ℕ → MemberRunning

@@ -15,7 +15,7 @@ use Rattle.channel_events.specs.Marks.{Mark, Opened, Opening, Plain}
 use Rattle.step_notes.specs.Records.{ChannelAccepted, InUnit, Outside, Sent}
 use Rattle.domain_world.specs.Claims.OpeningReplies.{IsMarkedAsOpened, IsReplyOfOpening, OpeningsAreMarked}
 use Rattle.domain_world.specs.Claims.Openings.{IsLastAccepted, KeepsAt, WaitsAt, last_accepted, newer_if}
-use Rattle.channel_events.proofs.ListLaws.{got_nothing, no_some, not_both, some_is}
+use Rattle.wire_base.proofs.ListLaws.{got_nothing, no_some, not_both, some_is}
 use Rattle.channel_events.proofs.SameLaws.{itself}
 use Rattle.claim_examples.specs.ClaimExamples.{keeping_controller, keeping_running, small_channel, small_name, small_seed}
 use Rattle.domain_world.specs.Past.{sent_at}

@@ -19,8 +19,8 @@ use Rattle.world_moves.specs.declared.bag.BagUnit.{BagUnit}
 use Rattle.domain_world.specs.Claims.Replies.{IsReplyOfOne, RepliesCarryTheirJudgement}
 use Rattle.domain_world.specs.Past.{plain_form, sent_at}
 use Rattle.claim_examples.specs.ClaimExamples.{judged_as, next_call, next_logon, small_channel, small_name, small_table}
-use Rattle.claim_examples.specs.ReplyExamples.{OfReplies, replied, replied_call, reply_mark, small_reply}
-use Rattle.channel_events.proofs.ListLaws.{got_nothing, some_is}
+use Rattle.claim_examples.specs.ReplyExamples.{OfReplies, reply_run, replied_call, reply_mark, small_reply}
+use Rattle.wire_base.proofs.ListLaws.{got_nothing, some_is}
 use Rattle.step_notes.proofs.Controllers.GrantVerdictLaws.{granted_status}
 use Rattle.claim_examples.proofs.GrantExampleLaws.{may_small}
 use Rattle.claim_examples.proofs.LogonLaws.{granted_small}
@@ -46,7 +46,7 @@ call_sent call limit is = fragments_sent (length (stub_of call.body)) call (stub
 -- ---- one unit, and one call
 
 -- what is claimed of a bag of one unit is claimed of it
-of_one : (bytes : List ℕ) (mark : Mark) (j : Judging) → IsReplyOfOne (j ∷ []) 0 bytes mark → RepliesCarryTheirJudgement (replied bytes mark j)
+of_one : (bytes : List ℕ) (mark : Mark) (j : Judging) → IsReplyOfOne (j ∷ []) 0 bytes mark → RepliesCarryTheirJudgement (reply_run bytes mark j)
 unfolding plain_form
 of_one bytes mark j is zero unit sent there marked =
     let same : bytes ≡ unit.bytes = ap BagUnit.bytes (some_is _ unit there) in
@@ -54,7 +54,7 @@ of_one bytes mark j is zero unit sent there marked =
     subst (λ (b : List ℕ). IsReplyOfOne (j ∷ []) 0 b sent.mark) same (subst (λ (m : Mark). IsReplyOfOne (j ∷ []) 0 bytes m) also is)
 of_one bytes mark j is (suc number) unit sent there marked = absurd (got_nothing number unit there)
 
-the_reply : (bytes : List ℕ) (channel : ChannelIdentity) (call request : ℕ) (j : Judging) → RepliesCarryTheirJudgement (replied bytes (ReplyTo channel call request) j) →
+the_reply : (bytes : List ℕ) (channel : ChannelIdentity) (call request : ℕ) (j : Judging) → RepliesCarryTheirJudgement (reply_run bytes (ReplyTo channel call request) j) →
     (j.reply ≡ Some 0) × IsReplyOfCall channel call request j bytes
 unfolding plain_form
 the_reply bytes channel call request j claim = elim (claim 0 _ (sent_at 6 (ReplyTo channel call request)) refl refl) [ inl here ↦ here | inr never ↦ absurd never ]

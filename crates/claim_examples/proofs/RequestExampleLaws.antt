@@ -4,7 +4,7 @@ use Rattle.std.proofs.Common.{◌≡◌, ℕ, zero, suc, Some, None, inl, inr, r
 use Rattle.authenticators.specs.Channels.{ChannelIdentity}
 use Rattle.channel_events.specs.Marks.{Calling, Mark, Opened, Opening, Plain}
 use Rattle.channel_events.specs.Requests.{IsRequest}
-use Rattle.channel_events.proofs.ListLaws.{got_nothing, some_is}
+use Rattle.wire_base.proofs.ListLaws.{got_nothing, some_is}
 use Rattle.step_notes.specs.Records.{ChannelAccepted, Sent}
 use Rattle.domain_world.specs.Claims.OpeningReplies.{AnswersOpening, RepliesAreToOpenings}
 use Rattle.domain_world.specs.Claims.RequestNumbers.{RequestsHaveNumbers}

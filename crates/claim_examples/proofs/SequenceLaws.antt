@@ -17,7 +17,7 @@ use Rattle.step_notes.specs.Records.{Book, InUnit, OfMember, Outside, blank, Req
 use Rattle.domain_world.specs.Claims.SharedSequences.{IsBeforeTurn, Keeps, SequencesAreShared, Stands, any_foreign, timestamps_on}
 use Rattle.domain_world.specs.Past.{controller_asked, requester_at}
 use Rattle.claim_examples.specs.ClaimExamples.{OfSequences, keeping_controller, keeping_running, one_turn, small_channel, open_running, passed_from, run_open, seed_after_one, seed_after_two, small_computers, small_name, small_seed, small_turn, turn_out, two_turns, world_open}
-use Rattle.channel_events.proofs.ListLaws.{moved_none}
+use Rattle.channel_events.proofs.TimestampLaws.{moved_none}
 use Rattle.channel_events.proofs.SameLaws.{same_self}
 use Rattle.wire_base.specs.Names as names
 use Rattle.channel_client.specs.declared.state.Standing.TheVariants as standing

@@ -14,8 +14,9 @@ use Rattle.domain_controller.specs.State.{State as ControllerState}
 use Rattle.domain_controller.specs.declared.state.Running.{Running as ControllerRunning}
 use Rattle.member_server.specs.State.{State as MemberState}
 use Rattle.member_server.specs.declared.state.Running.{Running as MemberRunning}
-use Rattle.channel_events.specs.Marks.{Calling, OneOf, Plain, ReplyTo}
-use Rattle.channel_events.proofs.ListLaws.{got_nothing, one_weaker, some_is}
+use Rattle.wire_base.specs.Lists.{OneOf}
+use Rattle.channel_events.specs.Marks.{Calling, Plain, ReplyTo}
+use Rattle.wire_base.proofs.ListLaws.{got_nothing, one_weaker, some_is}
 use Rattle.step_notes.specs.ControllerNotes.{has_passed}
 use Rattle.step_notes.specs.Records.{Book, ChannelTurn, InUnit, Judging, OfMember, Sent, blank, RequesterId}
 use Rattle.world_moves.specs.declared.links.EndId.TheVariants.{Member, Client}
@@ -25,7 +26,7 @@ use Rattle.channel_events.specs.Seeds.{channel_seed}
 use Rattle.domain_world.specs.Claims.SharedSequences.{HasOneTurnOut, IsBeforeTurn, Keeps, SequencesAreOwn, SequencesAreShared, Stands, any_foreign, dials_of, timestamps_on}
 use Rattle.domain_world.specs.Past.{sent_at, controller_asked, requester_at}
 use Rattle.claim_examples.specs.ClaimExamples.{elsewhere, judged_as, on_channel, one_turn, small_channel, open_running, seed_after_one, small_name, small_seed, small_turn, turn_out}
-use Rattle.claim_examples.specs.SequenceMisses.{OfCalls, OfOneTurn, OfReplyCalls, OfSequenceMisses, SequencesTellApart, called_once, controller_on, empty_unit, in_unit, judged_outside, kept_whole, member_on, mixed_turns, moved_seed, passed_then, replied, replied_for, run_by, run_dials, run_small, sent_as, whole_name}
+use Rattle.claim_examples.specs.SequenceMisses.{OfCalls, OfOneTurn, OfReplyCalls, OfSequenceMisses, SequencesTellApart, called_once, controller_on, empty_unit, in_unit, judged_outside, kept_whole, member_on, mixed_turns, moved_seed, passed_then, reply_past, replied_for, run_by, run_dials, run_small, sent_as, whole_name}
 use Rattle.claim_examples.proofs.SequenceLaws.{no_turn, not_one_byte, one_stamp, same_small, shared_small}
 use Rattle.wire_base.specs.Names as names
 use Rattle.outside.specs.declared.action.Judged.TheVariants as judged
@@ -392,7 +393,7 @@ of_calls = record {
 
 -- ---- replies to calls
 
-the_reply : (n : ℕ) (one : Sent) (channel : ChannelIdentity) (number request : ℕ) → slice_get (replied 3 (passed_then ∷ [])).book.sent n ≡ Some one → one.mark ≡ ReplyTo channel number request →
+the_reply : (n : ℕ) (one : Sent) (channel : ChannelIdentity) (number request : ℕ) → slice_get (reply_past 3 (passed_then ∷ [])).book.sent n ≡ Some one → one.mark ≡ ReplyTo channel number request →
     (1 ≡ n) × (small_name ≡ channel) × (3 ≡ number) × (0 ≡ request)
 the_reply zero one channel number request there mark =
     let is : Some (sent_at 0 (Calling small_name 3 0)) ≡ Some one = there in
@@ -402,7 +403,7 @@ the_reply (suc zero) one channel number request there mark =
     (refl, cc, cc, cc)
 the_reply (suc (suc n)) one channel number request there mark = absurd (got_nothing n one there)
 
-answers_small : AnswersCall (replied 3 (passed_then ∷ [])) small_name 3 0 1
+answers_small : AnswersCall (reply_past 3 (passed_then ∷ [])) small_name 3 0 1
 answers_small = record { sent = sent_at 0 (Calling small_name 3 0); there = refl; named = small_name; timestamp = 0; mark = refl; same = same_small; passed = inl ((refl, refl), refl) }
 
 numbers_alike : (one other : ChannelIdentity) (number more timestamp later : ℕ) → Calling one number timestamp ≡ Calling other more later → number ≡ more
@@ -418,11 +419,11 @@ of_reply_calls : OfReplyCalls
 of_reply_calls = record {
   meets = λ n unit one channel number request bag there mark.
       let it = the_reply n one channel number request there mark in
-      subst (λ (r : ℕ). AnswersCall (replied 3 (passed_then ∷ [])) channel number r n) it.3
-      (subst (λ (k : ℕ). AnswersCall (replied 3 (passed_then ∷ [])) channel k 0 n) it.2
-      (subst (λ (c : ChannelIdentity). AnswersCall (replied 3 (passed_then ∷ [])) c 3 0 n) it.1 (subst (λ (m : ℕ). AnswersCall (replied 3 (passed_then ∷ [])) small_name 3 0 m) it.0 answers_small)));
+      subst (λ (r : ℕ). AnswersCall (reply_past 3 (passed_then ∷ [])) channel number r n) it.3
+      (subst (λ (k : ℕ). AnswersCall (reply_past 3 (passed_then ∷ [])) channel k 0 n) it.2
+      (subst (λ (c : ChannelIdentity). AnswersCall (reply_past 3 (passed_then ∷ [])) c 3 0 n) it.1 (subst (λ (m : ℕ). AnswersCall (reply_past 3 (passed_then ∷ [])) small_name 3 0 m) it.0 answers_small)));
   fails_number = λ claim.
-      let it : AnswersCall (replied 4 (passed_then ∷ [])) small_name 4 0 1 = claim 1 empty_unit (sent_at 0 (ReplyTo small_name 4 0)) small_name 4 0 refl refl refl in
+      let it : AnswersCall (reply_past 4 (passed_then ∷ [])) small_name 4 0 1 = claim 1 empty_unit (sent_at 0 (ReplyTo small_name 4 0)) small_name 4 0 refl refl refl in
       let is : Calling small_name 3 0 ≡ Calling it.named 4 it.timestamp = ap Sent.mark (some_is (sent_at 0 (Calling small_name 3 0)) it.sent it.there) ∙ it.mark in
       not_three (numbers_alike small_name it.named 3 4 0 it.timestamp is);
   fails_barred = λ claim. elim (claim 1 empty_unit (sent_at 0 (ReplyTo small_name 3 0)) small_name 3 0 refl refl refl).passed [

@@ -34,7 +34,7 @@ use Rattle.domain_world.specs.Claims.{info_asked}
 use Rattle.domain_world.specs.Claims.Grants.{IsToBeLetOn}
 use Rattle.domain_world.specs.Claims.Statuses.{TellsItsStatus}
 use Rattle.domain_world.specs.Claims.Sessions.{AreBySince, ControllerRenewed, HasSessions, SessionsFollow, last_start, sessions_behind, sessions_since}
-use Rattle.channel_events.proofs.ListLaws.{got_nothing, some_is}
+use Rattle.wire_base.proofs.ListLaws.{got_nothing, some_is}
 use Rattle.claim_examples.specs.ClaimExamples.{judged_as, message, small_channel, small_hash, small_table}
 use Rattle.claim_examples.specs.CompletenessExamples.{able_table, ann_accounts}
 use Rattle.claim_examples.specs.SessionExamples.{OfHashGrants, OfSessions, OfStatuses, ann_call, ann_session, barred_by, controller_with, hash_call, hash_info, hash_logon, logoff_call, other_hash, renewed_by, run_with, running_with, set_call, too_many}

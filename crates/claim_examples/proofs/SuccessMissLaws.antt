@@ -14,7 +14,7 @@ use Rattle.logon_client.specs.declared.plan.ClientPlan.{ClientPlan}
 use Rattle.logon_client.specs.declared.plan.AuthKind.{AuthKind}
 use Rattle.logon_client.specs.declared.plan.AuthKind.TheVariants.{V2}
 use Rattle.member_server.specs.declared.plan.MemberPlan.{MemberPlan}
-use Rattle.channel_events.proofs.ListLaws.{all_weaker, one_found}
+use Rattle.wire_base.proofs.ListLaws.{all_weaker, one_found}
 use Rattle.logon_stubs.specs.declared.calls.LogonCall.{LogonCall}
 use Rattle.step_notes.specs.Records.{IfNetwork, Judging}
 use Rattle.controller_calls.specs.declared.calls.JudgedCall.{JudgedCall}
@@ -22,10 +22,10 @@ use Rattle.step_notes.proofs.Controllers.JudgedCallLaws.{network_so, of_network}
 use Rattle.world_moves.specs.declared.moves.Move.TheVariants as move
 use Rattle.world_moves.specs.Forms.{HasMoveForm, IsClientPlan, IsSchedule}
 use Rattle.world_moves.specs.World.{IsMove, World}
-use Rattle.logon_runs.specs.First.ExampleLogon as example
-use Rattle.logon_runs.specs.Seen.WaitingUnits.{waiting}
-use Rattle.logon_runs.proofs.First.ExampleLogonLaws.{an_example_logs_on}
-use Rattle.logon_runs.proofs.Seen.WaitingLaws.{waiting_comes}
+use Rattle.logon_runs.specs.FirstLogon.ExampleLogon as example
+use Rattle.logon_runs.specs.Scenes.WaitingUnits.{waiting}
+use Rattle.logon_runs.proofs.FirstLogon.ExampleLogonLaws.{an_example_logs_on}
+use Rattle.logon_runs.proofs.Scenes.WaitingLaws.{waiting_comes}
 use Rattle.domain_world.specs.Claims.{TravelsAsZeros}
 use Rattle.domain_world.specs.Claims.Completeness.{CanSucceed, ComesOneAtATime, IsMadeForClient, KeyArrives, OwnKeysArrive, Succeeds, info_planned}
 use Rattle.domain_world.specs.Past.{past}

@@ -1,10 +1,10 @@
 -- All that is proved of runs is so of the example's, a message of it is accepted, and client and member hold its key
 -- (this project's own choice).
 use Rattle.std.specs.Prelude.{◌≡◌, true, Some}
-use Rattle.channel_events.specs.Marks.{OneOf}
+use Rattle.wire_base.specs.Lists.{OneOf}
 use Rattle.step_notes.specs.Records.{ChallengeSent, Judging, MessageMade, MessageTaken, OutcomeTold}
 use Rattle.world_moves.specs.Counting.{is_in}
-use Rattle.logon_runs.specs.First.ExampleLogon.{ann_moves, ann_plan}
+use Rattle.logon_runs.specs.FirstLogon.ExampleLogon.{ann_moves, ann_plan}
 use Rattle.domain_world.specs.Claims.{AcceptsAllGranted, AcceptsOnlyGranted, HasKey, IsAccepted, IsMadeFor, KeysAgree, TravelsAsZeros, info_asked, taken_answer}
 use Rattle.domain_world.specs.Headline.{Proved}
 use Rattle.domain_world.specs.Past.{Past, past}

@@ -95,7 +95,7 @@ small_table = record {
 }
 
 abbrev pub small_member : MemberPlan
-small_member = record { computer = codes "FILE1"; domain = codes "CORP"; secrets = alone []; controller = 0 ∷ [] }
+small_member = record { computer = codes "FILE1"; domain = codes "CORP"; secrets = alone []; controller = 0 ∷ []; sealed = false }
 
 abbrev pub small_plan : Plan
 small_plan = record {
@@ -394,6 +394,7 @@ open_running turn seed = record {
   };
   links = [];
   dialling = dialling.Nothing;
+  sealing = None;
 }
 
 abbrev pub open_member : Option Pending → List ℕ → MemberState

@@ -4,20 +4,21 @@ use Rattle.std.specs.Prelude.{ℕ, ◌≡◌, ◌≢◌, ◌==◌, true, length,
 use Rattle.std.specs.List.{AllByRecursion}
 use Rattle.authenticators.specs.Channels.{ChannelIdentity, SameChannel}
 use Rattle.authenticators.specs.SecureChannels.{SecureChannelState, channel_of}
-use Rattle.channel_events.specs.Marks.{OneOf}
+use Rattle.wire_base.specs.Lists.{OneOf}
 use Rattle.step_notes.specs.Records.{OutcomeTold, RequesterId}
 use Rattle.world_moves.specs.declared.plan.Plan.{Plan}
 use Rattle.world_moves.specs.Choosing.{chosen_place}
 use Rattle.world_moves.specs.Counting.{is_in}
 use Rattle.world_moves.specs.Forms.{HasForms, IsSchedule}
 use Rattle.world_moves.specs.World.{IsPlan, first_world}
-use Rattle.logon_runs.specs.First.ExampleLogon.{ann_moves, ann_plan}
-use Rattle.logon_runs.specs.First.FirstWorlds.{CanComeIn, FirstKeyArrives, logon_moves}
+use Rattle.logon_runs.specs.FirstLogon.ExampleLogon.{ann_moves, ann_plan}
+use Rattle.logon_runs.specs.FirstLogon.FirstWorlds.{CanComeIn, FirstKeyArrives, logon_moves}
 use Rattle.domain_world.specs.Accepting.Sequences.{RepliesAnswerCalls, TurnsAreCalled}
 use Rattle.domain_world.specs.Claims.{AcceptsAllGranted, AcceptsOnlyGranted, IsAccepted, IsClear, KeysAgree}
 use Rattle.domain_world.specs.Claims.Completeness.{IsPlainMove, OneAtATime, started_in}
 use Rattle.domain_world.specs.Claims.Counts.{EachCallRaisesOnce}
 use Rattle.domain_world.specs.Claims.LetIn.{IsLetInBy}
+use Rattle.domain_world.specs.Claims.NeverApart.{BeginsAlike, MembersAreNeverApart}
 use Rattle.domain_world.specs.Claims.SharedSequences.{Keeps, SequencesAreShared, Stands}
 use Rattle.domain_world.specs.Headline.{Proved}
 use Rattle.domain_world.specs.Past.{Past, past}
@@ -55,6 +56,7 @@ pub record MeetsClearClaims (run : Past) : Type 0 where
   pub sequences : SequencesAreShared run
   pub called : TurnsAreCalled run
   pub answered : RepliesAnswerCalls run
+  pub never_apart : MembersAreNeverApart run
 
 -- It is so of the first logon in a world, of whatever plan, where it comes in; and of the example, which is a schedule
 -- whose one client is started where nothing is under way, and at whose end nothing is. A channel stands at both ends
@@ -68,6 +70,8 @@ pub record FirstLogonsAreClear : Type 0 where
   pub ann : LetsInClearly (past ann_plan ann_moves)
   pub ann_stands : HasSharedChannel (past ann_plan ann_moves)
   pub claimed : Proved ann_plan ann_moves → MeetsClearClaims (past ann_plan ann_moves)
+  -- its member begins with the hash of its account
+  pub begins : BeginsAlike ann_plan 0
   pub plain : AllByRecursion IsPlainMove ann_moves
   pub once : AllPairs (λ (one other : ℕ). one ≢ other) (started_in ann_moves (length ann_plan.clients))
   pub quiet : OneAtATime ann_moves (first_world ann_plan)

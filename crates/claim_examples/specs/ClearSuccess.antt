@@ -1,7 +1,7 @@
 -- A whole logon meets completeness: the client of the example can succeed, her run meets all its premises, and she is
 -- in (this project's own choice). So no credential clashes in it, as its logons come one at a time.
 use Rattle.std.specs.Prelude.{true}
-use Rattle.logon_runs.specs.First.ExampleLogon.{ann_moves, ann_plan}
+use Rattle.logon_runs.specs.FirstLogon.ExampleLogon.{ann_moves, ann_plan}
 use Rattle.domain_world.specs.Claims.Completeness.{CanSucceed, ComesOneAtATime, OwnKeysArrive, Succeeds}
 use Rattle.domain_world.specs.Claims.OneByOne.{HaveOwnMembers, NoneClashes}
 use Rattle.domain_world.specs.Past.{Past, past}

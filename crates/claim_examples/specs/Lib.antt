@@ -6,6 +6,7 @@ pub mod CompletenessExamples
 pub mod GrantExamples
 pub mod LetInExamples
 pub mod NearMisses
+pub mod NeverApartExamples
 pub mod OpeningExamples
 pub mod OwnChallengeExamples
 pub mod ReplyExamples

@@ -25,8 +25,8 @@ small_reply =
     5840
 
 -- the bag has one unit, of these bytes and with this mark, and one call was judged
-abbrev pub replied : List ℕ → Mark → Judging → Past
-replied bytes mark j =
+abbrev pub reply_run : List ℕ → Mark → Judging → Past
+reply_run bytes mark j =
     run_in
     (record small_world {
       state = record small_world.state {
@@ -44,14 +44,14 @@ reply_mark = ReplyTo small_name 3 7
 
 -- Replies: of her call on its channel, and of a unit without such a mark.
 pub record OfReplies : Type 0 where
-  pub meets : RepliesCarryTheirJudgement (replied small_reply reply_mark replied_call)
-  pub plain : RepliesCarryTheirJudgement (replied [] Plain replied_call)
+  pub meets : RepliesCarryTheirJudgement (reply_run small_reply reply_mark replied_call)
+  pub plain : RepliesCarryTheirJudgement (reply_run [] Plain replied_call)
   -- not where nothing is in the unit, or the call was barred
-  pub fails_empty : RepliesCarryTheirJudgement (replied [] reply_mark replied_call) → ⊥
-  pub fails_barred : RepliesCarryTheirJudgement (replied small_reply reply_mark (judged_as judged.Barred replied_call)) → ⊥
+  pub fails_empty : RepliesCarryTheirJudgement (reply_run [] reply_mark replied_call) → ⊥
+  pub fails_barred : RepliesCarryTheirJudgement (reply_run small_reply reply_mark (judged_as judged.Barred replied_call)) → ⊥
   -- nor where the mark names another number, unit or channel, or the call has its reply in another unit
-  pub fails_number : RepliesCarryTheirJudgement (replied small_reply (ReplyTo small_name 4 7) replied_call) → ⊥
-  pub fails_unit : RepliesCarryTheirJudgement (replied small_reply (ReplyTo small_name 3 6) replied_call) → ⊥
+  pub fails_number : RepliesCarryTheirJudgement (reply_run small_reply (ReplyTo small_name 4 7) replied_call) → ⊥
+  pub fails_unit : RepliesCarryTheirJudgement (reply_run small_reply (ReplyTo small_name 3 6) replied_call) → ⊥
   pub fails_channel :
-      RepliesCarryTheirJudgement (replied small_reply (ReplyTo (channel_of 1 (codes "FILE1") (small_channel [])) 3 7) replied_call) → ⊥
-  pub fails_reply : RepliesCarryTheirJudgement (replied small_reply reply_mark next_call) → ⊥
+      RepliesCarryTheirJudgement (reply_run small_reply (ReplyTo (channel_of 1 (codes "FILE1") (small_channel [])) 3 7) replied_call) → ⊥
+  pub fails_reply : RepliesCarryTheirJudgement (reply_run small_reply reply_mark next_call) → ⊥

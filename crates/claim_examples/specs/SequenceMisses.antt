@@ -200,8 +200,8 @@ replied_for mark number judged =
     record run { world = record run.world { state = record run.world.state { bag = empty_unit ∷ empty_unit ∷ [] } } }
 
 -- as a call
-abbrev pub replied : ℕ → List Judging → Past
-replied number judged = replied_for (Calling small_name 3 0) number judged
+abbrev pub reply_past : ℕ → List Judging → Past
+reply_past number judged = replied_for (Calling small_name 3 0) number judged
 
 abbrev pub passed_then : Judging
 passed_then = record (on_channel 0) { source = InUnit 0; reply = Some 1 }
@@ -209,10 +209,10 @@ passed_then = record (on_channel 0) { source = InUnit 0; reply = Some 1 }
 -- Replies to calls: not where the number is another, the call was barred, or its reply is another unit; nor where unit
 -- 0 was made for no channel, or for another controller's.
 pub record OfReplyCalls : Type 0 where
-  pub meets : RepliesAnswerCalls (replied 3 (passed_then ∷ []))
-  pub fails_number : RepliesAnswerCalls (replied 4 (passed_then ∷ [])) → ⊥
-  pub fails_barred : RepliesAnswerCalls (replied 3 (judged_as judged.Barred passed_then ∷ [])) → ⊥
-  pub fails_elsewhere : RepliesAnswerCalls (replied 3 (record passed_then { reply = Some 2 } ∷ [])) → ⊥
+  pub meets : RepliesAnswerCalls (reply_past 3 (passed_then ∷ []))
+  pub fails_number : RepliesAnswerCalls (reply_past 4 (passed_then ∷ [])) → ⊥
+  pub fails_barred : RepliesAnswerCalls (reply_past 3 (judged_as judged.Barred passed_then ∷ [])) → ⊥
+  pub fails_elsewhere : RepliesAnswerCalls (reply_past 3 (record passed_then { reply = Some 2 } ∷ [])) → ⊥
   pub fails_plain : RepliesAnswerCalls (replied_for Plain 3 (passed_then ∷ [])) → ⊥
   pub fails_channel : RepliesAnswerCalls (replied_for (Calling (record small_name { controller = 1 }) 3 0) 3 (passed_then ∷ [])) → ⊥
 

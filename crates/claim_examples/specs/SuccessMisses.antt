@@ -12,7 +12,7 @@ use Rattle.logon_client.specs.declared.outcome.RefusedCause.TheVariants as refus
 use Rattle.logon_client.specs.declared.plan.AuthKind.{AuthKind}
 use Rattle.logon_client.specs.declared.plan.AuthKind.TheVariants.{V2}
 use Rattle.logon_client.specs.declared.plan.ClientPlan.{ClientPlan}
-use Rattle.channel_events.specs.Marks.{OneOf}
+use Rattle.wire_base.specs.Lists.{OneOf}
 use Rattle.logon_stubs.specs.declared.calls.LogonCall.{LogonCall}
 use Rattle.step_notes.specs.Records.{IfNetwork, Judging, OutcomeTold}
 use Rattle.controller_calls.specs.declared.calls.JudgedCall.TheVariants.{Network}
@@ -21,7 +21,7 @@ use Rattle.world_moves.specs.declared.moves.Move.{Move}
 use Rattle.world_moves.specs.declared.moves.Move.TheVariants as move
 use Rattle.world_moves.specs.declared.plan.Plan.{Plan}
 use Rattle.world_moves.specs.World.{outcome_of}
-use Rattle.logon_runs.specs.First.ExampleLogon as example
+use Rattle.logon_runs.specs.FirstLogon.ExampleLogon as example
 use Rattle.domain_world.specs.Claims.{TravelsAsZeros}
 use Rattle.domain_world.specs.Claims.Completeness.{CanSucceed, ComesOneAtATime, EachSucceeds, IsMadeForClient, OwnKeysArrive, Succeeds, started_in}
 use Rattle.domain_world.specs.Past.{Past, past}

@@ -7,6 +7,7 @@ ghost use Rattle.claim_examples.specs.ClearSuccess.{AnnCanSucceed};
 ghost use Rattle.claim_examples.specs.GrantExamples.{GrantsTellApart};
 ghost use Rattle.claim_examples.specs.LetInExamples.{OfLettingIn, OfNames};
 ghost use Rattle.claim_examples.specs.NearMisses.{NearMissesTellApart};
+ghost use Rattle.claim_examples.specs.NeverApartExamples.{OfBeginnings, OfNeverApart, OfProvedRun};
 ghost use Rattle.claim_examples.specs.OpeningExamples.{OfOpenedReplies, OfOpenings};
 ghost use Rattle.claim_examples.specs.OwnChallengeExamples.{OfOwnChallenges};
 ghost use Rattle.claim_examples.specs.ReplyExamples.{OfReplies};
@@ -74,6 +75,16 @@ pub fn own_challenges_tell_apart()
 #[tactic(auto, using(crate::proofs::NearMissLaws::near_misses))]
 pub fn near_misses_tell_apart()
     ensures { NearMissesTellApart }
+{}
+
+/// That a member and its controller are never apart is said of small states of a change of its secret, and not of
+/// others: each has another hash, or another secret that is held or kept. So it is of what the claim asks of the start,
+/// and of what a stranger did. What is proved of all runs says it of one in which the change begins.
+#[tactic(auto, using(crate::proofs::NeverApartExampleLaws::of_beginnings, crate::proofs::NeverApartExampleLaws::of_never_apart, crate::proofs::NeverApartExampleLaws::of_proved_run))]
+pub fn members_tell_apart()
+    ensures premise { OfBeginnings }
+    ensures claim { OfNeverApart }
+    ensures run { OfProvedRun }
 {}
 
 /// The claim on sequences is met by a run whose seeds are written by the standard's ciphers, and not by others, each of

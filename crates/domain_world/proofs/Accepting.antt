@@ -5,11 +5,8 @@ pub mod CarriedLaws
 pub mod Heard
 pub mod LetInLaws
 pub mod LetInStepLaws
-pub mod ListPlaceLaws
 pub mod MarkRunLaws
-pub mod Messages
 pub mod NameLaws
-pub mod Quiet
 pub mod RunBeginLaws
 pub mod ScheduleLaws
 pub mod ShortResponseLaws

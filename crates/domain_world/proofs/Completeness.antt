@@ -3,9 +3,9 @@ pub mod ApartLaws
 pub mod BookStayLaws
 pub mod HeardOnceLaws
 pub mod JudgedNoteLaws
+pub mod LogonWalkLaws
 pub mod MomentLaws
 pub mod OwnLogonLaws
-pub mod OwnWalkLaws
 pub mod PlainLaws
 pub mod RestingLaws
 pub mod SuccessLaws

@@ -1,34 +1,39 @@
 -- What is proved of every run, gathered.
 -- It serves `claims_hold_of_runs`, and so `drive`.
-use Rattle.std.proofs.Common.{List}
+use Rattle.std.proofs.Common.{List, inl, inr, refl}
 use Rattle.world_moves.specs.declared.moves.Move.{Move}
 use Rattle.world_moves.specs.declared.plan.Plan.{Plan}
+use Rattle.world_moves.specs.Alone.{HandsNothingOn}
+use Rattle.world_moves.specs.Unforwarded.{IsJudgedAlone, alone_plan}
+use Rattle.world_moves.proofs.AloneLaws.{plain_plan}
 use Rattle.domain_world.specs.Headline.{Proved}
 use Rattle.domain_world.specs.Past.{past}
+use Rattle.domain_world.proofs.Apart.NeverApartLaws.{never_apart}
+use Rattle.domain_world.specs.Unforwarded.{IsProvedAlone}
 use Rattle.domain_world.proofs.Accepting.AnsweredRunLaws.{short_responses}
 use Rattle.domain_world.proofs.Accepting.Heard.MarkWholeLaws.{marked_whole}
 use Rattle.domain_world.proofs.Accepting.LetInLaws.{lets_in_who_asked}
 use Rattle.domain_world.proofs.Accepting.MarkRunLaws.{answers_have_calls, calls_marked, openings_marked, replies_marked}
-use Rattle.domain_world.proofs.Accepting.Messages.ClientKeptLaws.{clients_written}
-use Rattle.domain_world.proofs.Accepting.Messages.ClientMadeLaws.{messages_of_clients}
-use Rattle.domain_world.proofs.Accepting.Messages.MessageMadeLaws.{messages_made}
-use Rattle.domain_world.proofs.Accepting.Messages.MessageTakenLaws.{messages_taken}
+use Rattle.domain_world.proofs.Messages.ClientKeptLaws.{clients_written}
+use Rattle.domain_world.proofs.Messages.ClientMadeLaws.{messages_of_clients}
+use Rattle.domain_world.proofs.Messages.MessageMadeLaws.{messages_made}
+use Rattle.domain_world.proofs.Messages.MessageTakenLaws.{messages_taken}
 use Rattle.domain_world.proofs.Accepting.ScheduleLaws.{schedules_number, units_heard}
 use Rattle.domain_world.proofs.Accepting.ShortResponseLaws.{short_let_in}
 use Rattle.domain_world.proofs.Accepting.UnitLaws.{runs_heard}
-use Rattle.domain_world.proofs.Challenges.MessageApartLaws.{messages_apart}
-use Rattle.domain_world.proofs.Challenges.MessageOnceLaws.{messages_once}
+use Rattle.domain_world.proofs.Messages.MessageApartLaws.{messages_apart}
+use Rattle.domain_world.proofs.Messages.MessageOnceLaws.{messages_once}
 use Rattle.domain_world.proofs.Challenges.OwnChallengeLaws.{messages_own}
 use Rattle.domain_world.proofs.Challenges.WrittenDownLaws.{members_written_down}
 use Rattle.domain_world.proofs.Clear.ClearWalkLaws.{none_clashes}
 use Rattle.domain_world.proofs.Completeness.SuccessLaws.{each_succeeds}
-use Rattle.domain_world.proofs.Frames.MarkedLaws.{each_marked}
-use Rattle.domain_world.proofs.Frames.DrawnRunLaws.{draws_are_blocks, draws_differ}
+use Rattle.domain_world.proofs.Moves.MarkedLaws.{each_marked}
+use Rattle.domain_world.proofs.Moves.DrawnRunLaws.{draws_are_blocks, draws_differ}
 use Rattle.domain_world.proofs.Judgements.AloneLaws.{tells_of_calls}
 use Rattle.domain_world.proofs.Judgements.GrantLaws.{each_status, grants_who_may}
-use Rattle.domain_world.proofs.Judgements.OpeningAnswerLaws.{replies_to_openings}
-use Rattle.domain_world.proofs.Judgements.OpeningReplyLaws.{replies_answer_openings}
-use Rattle.domain_world.proofs.Judgements.OpeningRunLaws.{openings_in_order}
+use Rattle.domain_world.proofs.Judgements.Openings.OpeningAnswerLaws.{replies_to_openings}
+use Rattle.domain_world.proofs.Judgements.Openings.OpeningReplyLaws.{replies_answer_openings}
+use Rattle.domain_world.proofs.Judgements.Openings.OpeningRunLaws.{openings_in_order}
 use Rattle.domain_world.proofs.Judgements.ReplayLaws.{replays_by_sum}
 use Rattle.domain_world.proofs.Judgements.ReplyLaws.{replies_carry}
 use Rattle.domain_world.proofs.Judgements.SessionLaws.{grants_by_hash, sessions_follow}
@@ -36,66 +41,110 @@ use Rattle.domain_world.proofs.Judgements.TableLaws.{tables_follow}
 use Rattle.domain_world.proofs.Judgements.ToldLaws.{passes_the_next}
 use Rattle.domain_world.proofs.Judgements.UnclashedLaws.{passes_unclashed}
 use Rattle.domain_world.proofs.Judgements.UserHashLaws.{users_stay}
-use Rattle.domain_world.proofs.Requests.CallMessageLaws.{members_ask_for_messages, sends_ask_for_messages}
-use Rattle.domain_world.proofs.Requests.KeptAskLaws.{members_ask}
-use Rattle.domain_world.proofs.Requests.MarkWayLaws.{marks_have_their_way}
+use Rattle.domain_world.proofs.Messages.CallMessageLaws.{members_ask_for_messages, sends_ask_for_messages}
+use Rattle.domain_world.proofs.Messages.KeptAskLaws.{members_ask}
+use Rattle.domain_world.proofs.Calls.MarkWayLaws.{marks_have_their_way}
 use Rattle.domain_world.proofs.Sequences.OneTurnLaws.{one_turn}
 use Rattle.domain_world.proofs.Sequences.Own.OwnEndLaws.{turns_are_called}
 use Rattle.domain_world.proofs.Sequences.Own.OwnRunLaws.{sequences_own}
 use Rattle.domain_world.proofs.Sequences.ReplyCallLaws.{replies_answer}
 use Rattle.domain_world.proofs.Sequences.SharedRunLaws.{sequences_shared}
+use Rattle.domain_world.proofs.Unforwarded.CarryLaws.{carries_over}
+
+-- of a plan that hands nothing on
+proved_alone : (plan : Plan) (moves : List Move) → HandsNothingOn plan → IsProvedAlone plan moves
+proved_alone plan moves nobody = record {
+  openings = openings_in_order plan moves nobody;
+  opened = replies_answer_openings plan moves nobody;
+  opened_by = λ schedule calm. replies_to_openings plan moves nobody schedule calm;
+  numbers = λ schedule. schedules_number plan moves nobody schedule;
+  credentials = passes_the_next plan moves nobody;
+  alone = tells_of_calls plan moves nobody;
+  replays = replays_by_sum plan moves nobody;
+  grants = grants_who_may plan moves nobody (users_stay plan moves nobody);
+  let_on = grants_by_hash plan moves nobody;
+  statuses = each_status plan moves nobody;
+  tables = tables_follow plan moves nobody;
+  sessions = sessions_follow plan moves nobody;
+  replies = replies_carry plan moves nobody;
+  answered = λ schedule calm. replies_answer plan moves nobody schedule calm;
+  names = λ schedule calm. runs_heard.names plan moves nobody (units_heard plan moves nobody schedule) (draws_differ plan moves) calm;
+  only = λ schedule clear. runs_heard.only plan moves nobody (units_heard plan moves nobody schedule) (draws_differ plan moves) clear;
+  all = λ schedule clear. runs_heard.all plan moves nobody (units_heard plan moves nobody schedule) (draws_differ plan moves) clear;
+  keys = λ schedule clear. runs_heard.keys plan moves nobody (units_heard plan moves nobody schedule) (draws_differ plan moves) clear;
+  counts = λ schedule clear. runs_heard.counts plan moves nobody (units_heard plan moves nobody schedule) (draws_differ plan moves) clear;
+  once = λ schedule clear.
+      short_let_in (past plan moves) (messages_apart plan moves)
+      (runs_heard.only plan moves nobody (units_heard plan moves nobody schedule) (draws_differ plan moves) clear)
+      (short_responses plan moves (draws_differ plan moves) (draws_are_blocks plan moves));
+  one_turn = one_turn plan moves nobody;
+  own = sequences_own plan moves nobody;
+  sequences = λ schedule clear. sequences_shared plan moves nobody schedule clear;
+  called = λ schedule clear. turns_are_called plan moves nobody schedule clear;
+  whole = marked_whole plan moves nobody;
+  have_calls = answers_have_calls plan moves nobody;
+  asks_for = λ schedule. (runs_heard.heard plan moves nobody (units_heard plan moves nobody schedule) (draws_differ plan moves)).asks;
+  call_marks = calls_marked plan moves nobody;
+  reply_marks = replies_marked plan moves nobody;
+  opened_marks = openings_marked plan moves nobody;
+  complete = each_succeeds plan moves nobody;
+  one_by_one = none_clashes plan moves nobody;
+}
+
+-- of each run in which calls are judged by the controllers that hear them
+judged_alone : (plan : Plan) (moves : List Move) → IsJudgedAlone plan moves → IsProvedAlone plan moves
+judged_alone plan moves (inl nobody) = proved_alone plan moves nobody
+judged_alone plan moves (inr is) = carries_over plan moves is (proved_alone (alone_plan plan) moves (plain_plan (alone_plan plan) refl))
 
 pub all_proved : (plan : Plan) (moves : List Move) → Proved plan moves
 all_proved plan moves = record {
   challenges = record { draws = draws_differ plan moves; messages = messages_once plan moves };
   messages = messages_own plan moves (draws_differ plan moves);
-  responses = λ nobody. short_responses plan moves (draws_differ plan moves) (draws_are_blocks plan moves);
+  responses = short_responses plan moves (draws_differ plan moves) (draws_are_blocks plan moves);
   apart = messages_apart plan moves;
-  openings = λ nobody. openings_in_order plan moves nobody;
-  opened = λ nobody. replies_answer_openings plan moves nobody;
-  opened_by = λ nobody schedule calm. replies_to_openings plan moves nobody schedule calm;
-  numbers = λ nobody schedule. schedules_number plan moves nobody schedule;
-  credentials = λ nobody. passes_the_next plan moves nobody;
-  alone = λ nobody. tells_of_calls plan moves nobody;
-  replays = λ nobody. replays_by_sum plan moves nobody;
-  unclashed = λ nobody. passes_unclashed plan moves;
-  grants = λ nobody. grants_who_may plan moves nobody (users_stay plan moves nobody);
-  let_on = λ nobody. grants_by_hash plan moves nobody;
-  statuses = λ nobody. each_status plan moves nobody;
-  tables = λ nobody. tables_follow plan moves nobody;
-  sessions = λ nobody. sessions_follow plan moves nobody;
-  replies = λ nobody. replies_carry plan moves nobody;
-  answered = λ nobody schedule calm. replies_answer plan moves nobody schedule calm;
+  openings = λ alone. (judged_alone plan moves alone).openings;
+  opened = λ alone. (judged_alone plan moves alone).opened;
+  opened_by = λ alone. (judged_alone plan moves alone).opened_by;
+  numbers = λ alone. (judged_alone plan moves alone).numbers;
+  credentials = λ alone. (judged_alone plan moves alone).credentials;
+  alone = λ alone. (judged_alone plan moves alone).alone;
+  replays = λ alone. (judged_alone plan moves alone).replays;
+  unclashed = passes_unclashed plan moves;
+  grants = λ alone. (judged_alone plan moves alone).grants;
+  let_on = λ alone. (judged_alone plan moves alone).let_on;
+  statuses = λ alone. (judged_alone plan moves alone).statuses;
+  tables = λ alone. (judged_alone plan moves alone).tables;
+  sessions = λ alone. (judged_alone plan moves alone).sessions;
+  replies = λ alone. (judged_alone plan moves alone).replies;
+  answered = λ alone. (judged_alone plan moves alone).answered;
   kept = members_ask plan moves;
   asked = members_ask_for_messages plan moves;
   sends = sends_ask_for_messages plan moves;
   let_in = lets_in_who_asked plan moves;
   written = members_written_down plan moves;
-  names = λ nobody schedule calm. runs_heard.names plan moves nobody (units_heard plan moves nobody schedule) (draws_differ plan moves) calm;
+  names = λ alone. (judged_alone plan moves alone).names;
   as_sent = messages_taken plan moves;
   made = messages_of_clients plan moves;
   clients = clients_written plan moves;
-  as_made = λ nobody. messages_made plan moves nobody;
-  only = λ nobody schedule clear. runs_heard.only plan moves nobody (units_heard plan moves nobody schedule) (draws_differ plan moves) clear;
-  all = λ nobody schedule clear. runs_heard.all plan moves nobody (units_heard plan moves nobody schedule) (draws_differ plan moves) clear;
-  keys = λ nobody schedule clear. runs_heard.keys plan moves nobody (units_heard plan moves nobody schedule) (draws_differ plan moves) clear;
-  counts = λ nobody schedule clear. runs_heard.counts plan moves nobody (units_heard plan moves nobody schedule) (draws_differ plan moves) clear;
-  once = λ nobody schedule clear.
-      short_let_in (past plan moves) (messages_apart plan moves)
-      (runs_heard.only plan moves nobody (units_heard plan moves nobody schedule) (draws_differ plan moves) clear)
-      (short_responses plan moves (draws_differ plan moves) (draws_are_blocks plan moves));
-  one_turn = λ nobody. one_turn plan moves nobody;
-  own = λ nobody. sequences_own plan moves nobody;
-  sequences = λ nobody schedule clear. sequences_shared plan moves nobody schedule clear;
-  called = λ nobody schedule clear. turns_are_called plan moves nobody schedule clear;
+  as_made = messages_made plan moves;
+  only = λ alone. (judged_alone plan moves alone).only;
+  all = λ alone. (judged_alone plan moves alone).all;
+  keys = λ alone. (judged_alone plan moves alone).keys;
+  counts = λ alone. (judged_alone plan moves alone).counts;
+  once = λ alone. (judged_alone plan moves alone).once;
+  one_turn = λ alone. (judged_alone plan moves alone).one_turn;
+  own = λ alone. (judged_alone plan moves alone).own;
+  sequences = λ alone. (judged_alone plan moves alone).sequences;
+  called = λ alone. (judged_alone plan moves alone).called;
   marked = each_marked plan moves;
-  ways = λ nobody. marks_have_their_way plan moves nobody;
-  whole = λ nobody. marked_whole plan moves nobody;
-  have_calls = λ nobody. answers_have_calls plan moves nobody;
-  asks_for = λ nobody schedule. (runs_heard.heard plan moves nobody (units_heard plan moves nobody schedule) (draws_differ plan moves)).asks;
-  call_marks = λ nobody. calls_marked plan moves nobody;
-  reply_marks = λ nobody. replies_marked plan moves nobody;
-  opened_marks = λ nobody. openings_marked plan moves nobody;
-  complete = λ nobody. each_succeeds plan moves nobody;
-  one_by_one = λ nobody. none_clashes plan moves nobody;
+  ways = marks_have_their_way plan moves;
+  whole = λ alone. (judged_alone plan moves alone).whole;
+  have_calls = λ alone. (judged_alone plan moves alone).have_calls;
+  asks_for = λ alone. (judged_alone plan moves alone).asks_for;
+  call_marks = λ alone. (judged_alone plan moves alone).call_marks;
+  reply_marks = λ alone. (judged_alone plan moves alone).reply_marks;
+  opened_marks = λ alone. (judged_alone plan moves alone).opened_marks;
+  complete = λ alone. (judged_alone plan moves alone).complete;
+  one_by_one = λ alone. (judged_alone plan moves alone).one_by_one;
+  never_apart = λ nobody schedule clear. never_apart plan moves nobody schedule clear;
 }

@@ -2,14 +2,10 @@
 pub mod AloneLaws
 pub mod ChainLaws
 pub mod GrantLaws
+pub mod HashLaws
 pub mod JudgedLaws
 pub mod MovedLaws
-pub mod OpeningAnswerLaws
-pub mod OpeningLaws
-pub mod OpeningMarkLaws
-pub mod OpeningReplyLaws
-pub mod OpeningRunLaws
-pub mod OpeningUnclashedLaws
+pub mod Openings
 pub mod ReplayLaws
 pub mod ReplyLaws
 pub mod ReplyMarkLaws

@@ -1,4 +1,10 @@
+-- `Frames` carry a fact through all moves, `Moves` are facts of every run that others rest on. `Challenges` and
+-- `Messages`, `Calls`, `Quiet`, `Judgements` and `Sequences` are of what members and controllers say to each other.
+-- `Accepting` joins them to the claims on answers, `Clear` and `Completeness` are of logons that come one at a time,
+-- and `HeadlineLaws` gathers all.
 pub mod Accepting
+pub mod Apart
+pub mod Calls
 pub mod Challenges
 pub mod Clear
 pub mod Completeness
@@ -6,5 +12,9 @@ pub mod DrivingLaws
 pub mod Frames
 pub mod HeadlineLaws
 pub mod Judgements
-pub mod Requests
+pub mod Lists
+pub mod Messages
+pub mod Moves
+pub mod Quiet
 pub mod Sequences
+pub mod Unforwarded

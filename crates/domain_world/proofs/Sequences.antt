@@ -1,8 +1,8 @@
 -- The sequences of both ends of a secure channel.
-pub mod CallStepLaws
 pub mod CallTakenLaws
 pub mod CallTurnLaws
 pub mod CalledLaws
+pub mod CalledStepLaws
 pub mod DialCountLaws
 pub mod DialWalkLaws
 pub mod OneTurnLaws

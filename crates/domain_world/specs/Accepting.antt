@@ -4,5 +4,6 @@ pub mod Carried
 pub mod KeysMade
 pub mod ReadBack
 pub mod Runs
+pub mod SeenSteps
 pub mod Sequences
 pub mod Units

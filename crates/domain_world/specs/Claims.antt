@@ -6,18 +6,22 @@
 -- the response is the written function of the account's stored hash and of that link's unused challenge; client and
 -- member then hold one session key; and the controller passes an authenticator exactly where it is the channel's next
 -- one.
+pub mod AcceptedOpenings
 pub mod AskedFor
 pub mod Completeness
 pub mod Counts
 pub mod Grants
+pub mod Hashes
 pub mod LeftOut
 pub mod LetIn
 pub mod MarkedUnits
 pub mod NamedLinks
 pub mod Names
+pub mod NeverApart
 pub mod OneByOne
 pub mod OpeningReplies
 pub mod Openings
+pub mod OrderedSteps
 pub mod OwnChallenges
 pub mod Replies
 pub mod RequestNumbers
@@ -39,7 +43,7 @@ use Rattle.sam_logon.specs.MayLogOn.{MayLogOn, ResponseVerifies}
 use Rattle.domain_controller.specs.Laws.{judges_call}
 use Rattle.member_server.specs.Messages.{info_of}
 use Rattle.member_server.specs.declared.plan.MemberPlan.{MemberPlan}
-use Rattle.channel_events.specs.Marks.{OneOf}
+use Rattle.wire_base.specs.Lists.{OneOf}
 use Rattle.step_notes.specs.ControllerNotes.{channel_in, has_passed}
 use Rattle.step_notes.specs.Judged.{IsJudgedRight, base_key_asked, passed_channel, stored_hash}
 use Rattle.step_notes.specs.Marking.{is_channel}

@@ -4,6 +4,7 @@ use Rattle.world_moves.specs.declared.moves.Move.{Move}
 use Rattle.world_moves.specs.declared.plan.Plan.{Plan}
 use Rattle.world_moves.specs.Alone.{HandsNothingOn}
 use Rattle.world_moves.specs.Forms.{IsSchedule}
+use Rattle.world_moves.specs.Unforwarded.{IsJudgedAlone}
 use Rattle.world_moves.specs.World.{World, first_world, run}
 use Rattle.domain_world.specs.Accepting.Carried.{MarkedUnitsAreWhole}
 use Rattle.domain_world.specs.Accepting.Answered.{CallsAskForMessages, MarksHaveTheirWay, MessagesAreApart, PassesAreUnclashed}
@@ -17,6 +18,7 @@ use Rattle.domain_world.specs.Claims.Grants.{GrantsWhoMayLogOn, GrantsWhoseHashI
 use Rattle.domain_world.specs.Claims.LetIn.{LetsInWhoAsked}
 use Rattle.domain_world.specs.Claims.MarkedUnits.{AnswersHaveCalls, CallsAreMarked, EachUnitIsMarked, RepliesAreMarked}
 use Rattle.domain_world.specs.Claims.Names.{LetsInByName}
+use Rattle.domain_world.specs.Claims.NeverApart.{MembersAreNeverApart}
 use Rattle.domain_world.specs.Claims.OneByOne.{NoneClashes}
 use Rattle.domain_world.specs.Claims.OpeningReplies.{OpeningsAreMarked, RepliesAnswerOpenings, RepliesAreToOpenings}
 use Rattle.domain_world.specs.Claims.Openings.{OpeningsAreInOrder}
@@ -31,86 +33,89 @@ use Rattle.domain_world.specs.Claims.WrittenDown.{ClientsAreWrittenDown, Members
 use Rattle.domain_world.specs.Past.{past}
 
 -- What holds of the run of every list of moves from any plan: `claims_hold_of_runs`, and the clause of `drive`. What
--- members accept, how often a count is raised, what the ends of a channel share, and which calls turns made, is of
--- schedules that are clear: in them no credential passed on a unit made for another channel or for none, and no seed
--- came round. Of the others `unclashed`, and a part of `opened`, ask that no credential clashed. `names`, `answered`
--- and `opened_by` ask for a schedule besides, and `as_made`, `numbers`, `whole`, `have_calls`, `asks_for`,
--- `call_marks`, `reply_marks` and `opened_marks` for a schedule alone. `complete` and `one_by_one` ask for logons one
--- at a time.
+-- members accept, how often a count is raised, what the ends of a channel share, which calls turns made, and that a
+-- member and its controller are never apart, is of schedules that are clear: in them no credential passed on a unit
+-- made for another channel or for none, and no seed came round. Of the others `unclashed`, and a part of `opened`, ask
+-- that no credential clashed. `names`, `answered` and `opened_by` ask for a schedule besides, and `as_made`, `numbers`,
+-- `whole`, `have_calls`, `asks_for`, `call_marks`, `reply_marks` and `opened_marks` for a schedule alone. `complete`
+-- and `one_by_one` ask for logons one at a time.
 --
--- A field with the premise `HandsNothingOn` is of plans whose controllers aren't to hand logons on, or whose tables
--- trust no domain. Of other plans it isn't claimed yet: what is written down of a controller (`ControllerNotes`) is
--- what one does that hands nothing on.
+-- A field with the premise `IsJudgedAlone` is of runs in which each call is judged by the controller that hears it: the
+-- plan's controllers aren't to hand logons on, or its tables trust no domain, or no call of the run comes for a trusted
+-- domain. Of other runs it isn't claimed yet: what is written down of a controller (`ControllerNotes`) is what one does
+-- that hands nothing on.
 pub record Proved (plan : Plan) (moves : List Move) : Type 0 where
   -- challenges, and the messages that are made for them
   pub challenges : ChallengesServeOnce (past plan moves)
   pub messages : MessagesHaveOwnChallenges (past plan moves)
-  pub responses : HandsNothingOn plan → ShortResponsesServeOnce (past plan moves)
+  pub responses : ShortResponsesServeOnce (past plan moves)
   pub apart : MessagesAreApart (past plan moves)
   -- which channels controllers accept and keep, and by which replies
-  pub openings : HandsNothingOn plan → OpeningsAreInOrder (past plan moves)
-  pub opened : HandsNothingOn plan → RepliesAnswerOpenings (past plan moves)
+  pub openings : IsJudgedAlone plan moves → OpeningsAreInOrder (past plan moves)
+  pub opened : IsJudgedAlone plan moves → RepliesAnswerOpenings (past plan moves)
   -- each reply that accepts an opening is to one of its channel, with its number, accepted at the step that sent it
-  pub opened_by : HandsNothingOn plan → IsSchedule plan moves → (past plan moves).book.clash ≡ false → RepliesAreToOpenings (past plan moves)
+  pub opened_by : IsJudgedAlone plan moves → IsSchedule plan moves → (past plan moves).book.clash ≡ false → RepliesAreToOpenings (past plan moves)
   -- openings and calls on a channel have different numbers
-  pub numbers : HandsNothingOn plan → IsSchedule plan moves → RequestsHaveNumbers (past plan moves)
+  pub numbers : IsJudgedAlone plan moves → IsSchedule plan moves → RequestsHaveNumbers (past plan moves)
   -- what controllers judge, grant and answer
-  pub credentials : HandsNothingOn plan → PassesTheNextCredential (past plan moves)
-  pub alone : HandsNothingOn plan → TellsOfCallsAlone (past plan moves)
-  pub replays : HandsNothingOn plan → ReplaysBySum (past plan moves)
-  pub unclashed : HandsNothingOn plan → PassesAreUnclashed (past plan moves)
-  pub grants : HandsNothingOn plan → GrantsWhoMayLogOn (past plan moves)
-  pub let_on : HandsNothingOn plan → GrantsWhoseHashIsStored (past plan moves)
-  pub statuses : HandsNothingOn plan → StatusesAreTold (past plan moves)
-  pub tables : HandsNothingOn plan → TablesFollowVerdicts (past plan moves)
-  pub sessions : HandsNothingOn plan → SessionsFollow (past plan moves) (renewals moves (first_world plan) [])
-  pub replies : HandsNothingOn plan → RepliesCarryTheirJudgement (past plan moves)
-  pub answered : HandsNothingOn plan → IsSchedule plan moves → (past plan moves).book.clash ≡ false → RepliesAnswerCalls (past plan moves)
+  pub credentials : IsJudgedAlone plan moves → PassesTheNextCredential (past plan moves)
+  pub alone : IsJudgedAlone plan moves → TellsOfCallsAlone (past plan moves)
+  pub replays : IsJudgedAlone plan moves → ReplaysBySum (past plan moves)
+  pub unclashed : PassesAreUnclashed (past plan moves)
+  pub grants : IsJudgedAlone plan moves → GrantsWhoMayLogOn (past plan moves)
+  pub let_on : IsJudgedAlone plan moves → GrantsWhoseHashIsStored (past plan moves)
+  pub statuses : IsJudgedAlone plan moves → StatusesAreTold (past plan moves)
+  pub tables : IsJudgedAlone plan moves → TablesFollowVerdicts (past plan moves)
+  pub sessions : IsJudgedAlone plan moves → SessionsFollow (past plan moves) (renewals moves (first_world plan) [])
+  pub replies : IsJudgedAlone plan moves → RepliesCarryTheirJudgement (past plan moves)
+  pub answered : IsJudgedAlone plan moves → IsSchedule plan moves → (past plan moves).book.clash ≡ false → RepliesAnswerCalls (past plan moves)
   -- what members ask, and whom they let in
   pub kept : MembersAskForKept (past plan moves)
   pub asked : MembersAskForMessages (past plan moves)
   pub sends : SendsAskForMessages (past plan moves)
   pub let_in : LetsInWhoAsked (past plan moves)
   pub written : MembersAreWrittenDown (past plan moves)
-  pub names : HandsNothingOn plan → IsSchedule plan moves → (past plan moves).book.clash ≡ false → LetsInByName (past plan moves)
+  pub names : IsJudgedAlone plan moves → IsSchedule plan moves → (past plan moves).book.clash ≡ false → LetsInByName (past plan moves)
   -- what a member keeps with a message is read of the bytes that are written down, of it and of its link's CHALLENGE
   pub as_sent : MessagesAreTakenAsSent (past plan moves)
   -- what clients make, and keep
   pub made : MessagesAreOfTheirClients (past plan moves)
   pub clients : ClientsAreWrittenDown (past plan moves)
   -- and each message that a client made is the answer of its plan to the CHALLENGE that is written down with it
-  pub as_made : HandsNothingOn plan → IsSchedule plan moves → MessagesAreMade (past plan moves)
+  pub as_made : IsSchedule plan moves → MessagesAreMade (past plan moves)
   -- a member accepts exactly what its controller granted, client and member hold one key, a call raises a count of bad
   -- passwords at most once, and a response of 24 bytes lets in once
-  pub only : HandsNothingOn plan → IsSchedule plan moves → IsClear (past plan moves).book → AcceptsOnlyGranted (past plan moves)
-  pub all : HandsNothingOn plan → IsSchedule plan moves → IsClear (past plan moves).book → AcceptsAllGranted (past plan moves)
-  pub keys : HandsNothingOn plan → IsSchedule plan moves → IsClear (past plan moves).book → KeysAgree (past plan moves)
-  pub counts : HandsNothingOn plan → IsSchedule plan moves → IsClear (past plan moves).book → EachCallRaisesOnce (past plan moves)
-  pub once : HandsNothingOn plan → IsSchedule plan moves → IsClear (past plan moves).book → ShortResponsesLetInOnce (past plan moves)
+  pub only : IsJudgedAlone plan moves → IsSchedule plan moves → IsClear (past plan moves).book → AcceptsOnlyGranted (past plan moves)
+  pub all : IsJudgedAlone plan moves → IsSchedule plan moves → IsClear (past plan moves).book → AcceptsAllGranted (past plan moves)
+  pub keys : IsJudgedAlone plan moves → IsSchedule plan moves → IsClear (past plan moves).book → KeysAgree (past plan moves)
+  pub counts : IsJudgedAlone plan moves → IsSchedule plan moves → IsClear (past plan moves).book → EachCallRaisesOnce (past plan moves)
+  pub once : IsJudgedAlone plan moves → IsSchedule plan moves → IsClear (past plan moves).book → ShortResponsesLetInOnce (past plan moves)
   -- at most one turn is out at a member, and its channel's seed is moved by its turns; the ends of a channel share its
   -- sequence, and the calls on it are those of its turns, of which each that ended passed
-  pub one_turn : HandsNothingOn plan → OneTurnIsOut (past plan moves)
-  pub own : HandsNothingOn plan → SequencesAreOwn (past plan moves)
-  pub sequences : HandsNothingOn plan → IsSchedule plan moves → IsClear (past plan moves).book → SequencesAreShared (past plan moves)
-  pub called : HandsNothingOn plan → IsSchedule plan moves → IsClear (past plan moves).book → TurnsAreCalled (past plan moves)
+  pub one_turn : IsJudgedAlone plan moves → OneTurnIsOut (past plan moves)
+  pub own : IsJudgedAlone plan moves → SequencesAreOwn (past plan moves)
+  pub sequences : IsJudgedAlone plan moves → IsSchedule plan moves → IsClear (past plan moves).book → SequencesAreShared (past plan moves)
+  pub called : IsJudgedAlone plan moves → IsSchedule plan moves → IsClear (past plan moves).book → TurnsAreCalled (past plan moves)
   -- the units of the bag, and which way they go
   pub marked : EachUnitIsMarked (past plan moves)
-  pub ways : HandsNothingOn plan → MarksHaveTheirWay (past plan moves)
+  pub ways : MarksHaveTheirWay (past plan moves)
   -- each that was made for a channel is one whole unit, and has the number of its mark
-  pub whole : HandsNothingOn plan → IsSchedule plan moves → MarkedUnitsAreWhole (past plan moves)
+  pub whole : IsJudgedAlone plan moves → IsSchedule plan moves → MarkedUnitsAreWhole (past plan moves)
   -- A message whose answer was taken has a call. What was judged in the unit of a message's call is a network logon
   -- that asks what the message asks.
-  pub have_calls : HandsNothingOn plan → IsSchedule plan moves → AnswersHaveCalls (past plan moves)
-  pub asks_for : HandsNothingOn plan → IsSchedule plan moves → CallsAskForMessages (past plan moves)
+  pub have_calls : IsJudgedAlone plan moves → IsSchedule plan moves → AnswersHaveCalls (past plan moves)
+  pub asks_for : IsJudgedAlone plan moves → IsSchedule plan moves → CallsAskForMessages (past plan moves)
   -- The call of each message is marked as one. The reply to a call that passed, or to an opening that was accepted, is
   -- marked as that.
-  pub call_marks : HandsNothingOn plan → IsSchedule plan moves → CallsAreMarked (past plan moves)
-  pub reply_marks : HandsNothingOn plan → IsSchedule plan moves → RepliesAreMarked (past plan moves)
-  pub opened_marks : HandsNothingOn plan → IsSchedule plan moves → OpeningsAreMarked (past plan moves)
+  pub call_marks : IsJudgedAlone plan moves → IsSchedule plan moves → CallsAreMarked (past plan moves)
+  pub reply_marks : IsJudgedAlone plan moves → IsSchedule plan moves → RepliesAreMarked (past plan moves)
+  pub opened_marks : IsJudgedAlone plan moves → IsSchedule plan moves → OpeningsAreMarked (past plan moves)
   -- Logons that come one at a time succeed where they can, at members that have their own computers. Whatever they come
   -- to, no credential clashes at members that have their accounts' secrets, if they have accounts, and their own names.
-  pub complete : HandsNothingOn plan → EachSucceeds (past plan moves) moves
-  pub one_by_one : HandsNothingOn plan → NoneClashes (past plan moves) moves
+  pub complete : IsJudgedAlone plan moves → EachSucceeds (past plan moves) moves
+  pub one_by_one : IsJudgedAlone plan moves → NoneClashes (past plan moves) moves
+  -- Where no call from outside set a secret, no loss and no restart leaves a member and its controller apart.
+  pub never_apart : HandsNothingOn plan → IsSchedule plan moves → IsClear (past plan moves).book → MembersAreNeverApart (past plan moves)
 
 -- What is claimed of each schedule: a plan of which a world can be made, with the forms of its types, and at most
 -- 100,000 moves that it can make.

@@ -4,5 +4,6 @@ pub mod Driving
 pub mod Headline
 pub mod Past
 pub mod Schedules
+pub mod Unforwarded
 pub use Rattle.world_moves.specs.Generator
 pub use Rattle.world_moves.specs.World

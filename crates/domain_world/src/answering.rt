@@ -6,6 +6,7 @@ ghost use Rattle.world_moves.specs.declared.plan.Plan.{Plan};
 ghost use Rattle.world_moves.specs.Alone.{HandsNothingOn};
 ghost use Rattle.world_moves.specs.Bag.{AreShortUnits, HaveBytes};
 ghost use Rattle.world_moves.specs.Draws.{DrawsAreBlocks, DrawsDiffer};
+ghost use Rattle.world_moves.specs.Forms.{IsSchedule};
 ghost use Rattle.world_moves.specs.World.{first_world, run};
 ghost use Rattle.domain_world.specs.Accepting.Answered.{AnswersAreHeard, IsProved};
 ghost use Rattle.domain_world.specs.Accepting.Carried.{CarriedCallsAreHeard, JudgedAsCarried, MarkedUnitsAreWhole, MessagesAreCalled};
@@ -59,7 +60,7 @@ pub fn runs_are_heard()
 {}
 
 /// The last of them follows from what a client makes for a CHALLENGE and what a member takes.
-#[tactic(auto, using(crate::proofs::Accepting::Messages::KeyLaws::keys_made))]
+#[tactic(auto, using(crate::proofs::Messages::KeyLaws::keys_made))]
 pub fn keys_are_found_as_made()
     ensures { KeysAreFoundAsMade }
 {}
@@ -73,20 +74,21 @@ pub fn runs_begin()
 
 /// In every schedule each AUTHENTICATE that a client made is the answer of its plan to the CHALLENGE that it read, and
 /// is read again as it was made.
-#[tactic(auto, using(crate::proofs::Accepting::Messages::MessageMadeLaws::messages_made))]
+#[tactic(auto, using(crate::proofs::Messages::MessageMadeLaws::messages_made))]
 pub fn messages_are_made()
-    ensures { OfSchedules (λ plan moves. MessagesAreMade (past plan moves)) }
+    ensures { (plan : Plan) (moves : List Move) → IsSchedule plan moves →
+        MessagesAreMade (past plan moves) }
 {}
 
 /// In every run a member keeps the AUTHENTICATE that it read, the challenge of the one CHALLENGE that it sent on the
 /// link, and the flags that both have.
-#[tactic(auto, using(crate::proofs::Accepting::Messages::MessageTakenLaws::messages_taken))]
+#[tactic(auto, using(crate::proofs::Messages::MessageTakenLaws::messages_taken))]
 pub fn messages_are_taken_as_sent()
     ensures { (plan : Plan) (moves : List Move) → MessagesAreTakenAsSent (past plan moves) }
 {}
 
 /// After every schedule each unit of the bag has bytes, and no more than an end sends at once.
-#[tactic(auto, using(crate::proofs::Accepting::Quiet::QuietRunLaws::units_short, crate::proofs::Accepting::Quiet::QuietRunLaws::units_bytes))]
+#[tactic(auto, using(crate::proofs::Quiet::QuietRunLaws::units_short, crate::proofs::Quiet::QuietRunLaws::units_bytes))]
 pub fn schedules_send_bytes()
     ensures short { OfSchedules (λ plan moves.
         AreShortUnits (run moves (first_world plan)).state.bag) }
@@ -95,7 +97,7 @@ pub fn schedules_send_bytes()
 
 /// After every schedule what is under way between members and controllers is whole, and nothing stays open on the links
 /// between them.
-#[tactic(auto, using(crate::proofs::Accepting::Quiet::QuietRunLaws::stands_quiet))]
+#[tactic(auto, using(crate::proofs::Quiet::QuietRunLaws::stands_quiet))]
 pub fn schedules_stand_quiet()
     ensures { OfSchedules (λ plan moves. IsQuiet (past plan moves).world.state) }
 {}
@@ -103,13 +105,13 @@ pub fn schedules_stand_quiet()
 /// After every schedule the unit of the bag that the call of a message names is one whole NetrLogonSamLogon (MS-NRPC
 /// 3.5.4.5.3, C706 12.6.2): it asks what the message does, at level 3, with the message's place as the identity of the
 /// logon, and its stub is read back as it was written.
-#[tactic(auto, using(crate::proofs::Requests::CalledRunLaws::schedules_call))]
+#[tactic(auto, using(crate::proofs::Calls::CalledRunLaws::schedules_call))]
 pub fn messages_are_called()
     ensures { OfSchedules (λ plan moves. MessagesAreCalled (past plan moves)) }
 {}
 
 /// In every run no two challenges that were drawn are alike, and each has 8 bytes.
-#[tactic(auto, using(crate::proofs::Frames::DrawnRunLaws::draws_differ, crate::proofs::Frames::DrawnRunLaws::draws_are_blocks))]
+#[tactic(auto, using(crate::proofs::Moves::DrawnRunLaws::draws_differ, crate::proofs::Moves::DrawnRunLaws::draws_are_blocks))]
 pub fn draws_of_runs_differ()
     ensures differ { (plan : Plan) (moves : List Move) → DrawsDiffer (past plan moves).world }
     ensures blocks { (plan : Plan) (moves : List Move) → DrawsAreBlocks (past plan moves).world }
@@ -118,7 +120,7 @@ pub fn draws_of_runs_differ()
 /// After every schedule whose draws differ what is under way is whole, no number of a bind or a request came round, the
 /// calls on secure channels have different numbers (MS-NRPC 3.1.4.1, C706 12.6.3.1), and a Logon call that is out is
 /// that of the message for which its turn is.
-#[tactic(auto, using(crate::proofs::Requests::CallFrameLaws::schedules_stand))]
+#[tactic(auto, using(crate::proofs::Calls::CallFrameLaws::schedules_stand))]
 pub fn runs_stand_so()
     ensures { OfSchedules (λ plan moves. DrawsDiffer (past plan moves).world →
         RunsStandSo plan moves) }

@@ -12,11 +12,11 @@ use Rattle.world_moves.specs.Links.{accepted, answered}
 use Rattle.logon_runs.specs.Failing.TurnedAway.{AwayPhase, Faulted, Refused, Unheard, away_scene}
 use Rattle.logon_runs.specs.Phases.{Acked, Answers, Binds, BindsBefore, BindsHeld, Calls, Challenged, Coming, Dials, DialsBefore, DialsHeld, Echoed, Echoes, Granted, Halved, IsReached, LogonPhase, Named, Proved, Sets, TurnAt, own, scene_of}
 use Rattle.logon_runs.specs.Rests.{three_in}
-use Rattle.logon_runs.specs.Seen.LinkScenes.{its_link}
-use Rattle.logon_runs.specs.Seen.Others.{AreAmong, IsDialAmong}
-use Rattle.logon_runs.specs.Seen.Staying.{HasSameEnds}
-use Rattle.logon_runs.proofs.Seen.OtherLaws.{more_so, put_so}
-use Rattle.logon_runs.proofs.Seen.StayingLaws.{reach_still}
+use Rattle.logon_runs.specs.Scenes.LinkScenes.{its_link}
+use Rattle.logon_runs.specs.Scenes.Others.{AreAmong, IsDialAmong}
+use Rattle.logon_runs.specs.Scenes.Staying.{HasSameEnds}
+use Rattle.logon_runs.proofs.Scenes.OtherLaws.{more_so, put_so}
+use Rattle.logon_runs.proofs.Scenes.StayingLaws.{reach_still}
 
 -- ---- of a phase
 

@@ -3,7 +3,7 @@
 use Rattle.std.proofs.Common.{◌≡◌, ℕ, ◌≤◌, Bool, true, false, refl, List, ◌∷◌, ◌++◌, length, sym, subst, arith, length-append, inl, inr}
 use Rattle.account_table.specs.AccountTable.{AccountTable}
 use Rattle.account_table.specs.declared.account.Account.{Account}
-use Rattle.logon_runs.specs.Seen.LinkScenes.{Meeting}
+use Rattle.logon_runs.specs.Scenes.LinkScenes.{Meeting}
 use Rattle.logon_runs.specs.Runs.{Asked, sam_for, message_for, hidden}
 use Rattle.std.proofs.Common.{ap, ◌∙◌}
 use Rattle.std.specs.Prelude.{◌&&◌}

@@ -28,11 +28,11 @@ use Rattle.logon_runs.specs.Grants.{CanBeTold}
 use Rattle.logon_runs.specs.Phases.{Coming, Fits, IsKnown, Third, TurnAt, WhoAsked, key_at, own, scene_of, terms_at, turn_before, turn_on}
 use Rattle.logon_runs.specs.Phases.{Granted}
 use Rattle.logon_runs.specs.Runs.{Asked, hidden, message_for, on_for, sam_for}
-use Rattle.logon_runs.specs.Scenes.{Scene, Shows}
-use Rattle.logon_runs.specs.Seen.TurnScenes.{Turn, unit_back, with_accounts}
+use Rattle.logon_runs.specs.Scenes.Scene.{Scene, Shows}
+use Rattle.logon_runs.specs.Scenes.TurnScenes.{Turn, unit_back, with_accounts}
 use Rattle.logon_runs.proofs.GrantLaws.{grants_are_told}
 use Rattle.logon_runs.proofs.RunLaws.{between_still}
-use Rattle.logon_runs.proofs.Seen.TwoLinkLaws.{turns_have_links}
+use Rattle.logon_runs.proofs.Scenes.TwoLinkLaws.{turns_have_links}
 use Rattle.outside.specs.declared.action.Action.{Action}
 use Rattle.outside.specs.declared.action.Action.TheVariants as action
 use Rattle.outside.specs.declared.action.CloseCause.TheVariants as close
@@ -46,7 +46,7 @@ use Rattle.member_server.specs.Machine.{step_of as member_step_of}
 use Rattle.member_server.specs.Outcomes.{key_in}
 use Rattle.member_server.specs.State.{State as MemberState}
 use Rattle.member_server.specs.declared.state.Logon.{Logon}
-use Rattle.logon_runs.specs.Scenes.{HasFirst}
+use Rattle.logon_runs.specs.Scenes.Scene.{HasFirst}
 use Rattle.world_moves.specs.declared.bag.BagUnit.{BagUnit}
 use Rattle.world_moves.specs.declared.links.EndId.TheVariants.{Member}
 use Rattle.world_moves.specs.Acting.{Heard, done, perform_all}
@@ -56,11 +56,11 @@ use Rattle.logon_steps.specs.Calling.{TravelsAsZeros}
 use Rattle.logon_steps.proofs.MemberAnswerLaws.{logons_end}
 use Rattle.logon_steps.proofs.TurningLaws.{response_comes}
 use Rattle.logon_runs.specs.GrantsTold.{GrantsTell, TellsIn}
-use Rattle.logon_runs.specs.Seen.WaitingUnits.{Comes}
+use Rattle.logon_runs.specs.Scenes.WaitingUnits.{Comes}
 use Rattle.logon_runs.proofs.Phases.PhaseEndLaws.{domain_same, granted_scene, reply_then, sent_same, told_then}
-use Rattle.logon_runs.proofs.Seen.SceneLaws.{first_comes}
-use Rattle.logon_runs.proofs.Seen.TurnSceneLaws.{heard_back}
-use Rattle.logon_runs.proofs.Seen.WaitingLaws.{waiting_comes}
+use Rattle.logon_runs.proofs.Scenes.SceneLaws.{first_comes}
+use Rattle.logon_runs.proofs.Scenes.TurnSceneLaws.{heard_back}
+use Rattle.logon_runs.proofs.Scenes.WaitingLaws.{waiting_comes}
 
 -- the domain and the account's name that are granted
 sam_domain : (table : AccountTable) (name : List ℕ) (account : Account) (key : List ℕ) (now : ℕ) → (sam_info_of table name account key now).domain ≡ table.domain

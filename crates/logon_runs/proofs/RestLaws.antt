@@ -16,6 +16,8 @@ use Rattle.sam_logon.specs.MayLogOn.{MayLogOn}
 use Rattle.channel_client.specs.declared.state.Standing.{Standing}
 use Rattle.channel_client.specs.declared.state.Standing.TheVariants as standing
 use Rattle.domain_controller.specs.State.{State as ControllerState}
+use Rattle.domain_controller.proofs.TrustPlaceLaws.{got_all}
+use Rattle.domain_controller.proofs.TurnOutLaws.{got_map}
 use Rattle.logon_steps.specs.Answering.{IsInStep}
 use Rattle.logon_steps.specs.Granting.{info_told}
 use Rattle.logon_client.specs.Machine.{fresh_client}
@@ -32,18 +34,19 @@ use Rattle.world_moves.specs.World.{IsPlan, first_world}
 use Rattle.world_moves.proofs.RangeLaws.{table_in_range}
 use Rattle.logon_steps.specs.Knowing.{StandsLater}
 use Rattle.logon_steps.proofs.KnowingLaws.{computers_are_known}
-use Rattle.logon_runs.specs.Seen.Others.{OthersStay}
+use Rattle.logon_runs.specs.Scenes.Others.{OthersStay}
 use Rattle.logon_runs.specs.Phases.{Coming}
 use Rattle.logon_runs.specs.Rests.{AtRest, CanBeGranted, CanCome, ClientRests, ControllerRests, HasBegun, HasCome, HasOwnComputer, HasOwnName, LogonsComeToRest, channel_account, coming_at, three_of}
 use Rattle.logon_runs.specs.Runs.{StandsInStep}
 use Rattle.logon_runs.specs.Failing.TurnedAway.{HasEnded, Settled, settled_in}
-use Rattle.logon_runs.specs.Any.AnyPhases.{IsAble, IsOwn, KeepsInStep, KnowsComputer, MayStand}
-use Rattle.logon_runs.specs.Any.AnyStarts.{AreThree, coming_from}
-use Rattle.logon_runs.proofs.First.FirstWorldLaws.{at_place, each_has, got_controller, got_mapped, item_has}
+use Rattle.logon_runs.specs.AnyAnswer.AnyPhases.{IsAble, IsOwn, KeepsInStep, KnowsComputer, MayStand}
+use Rattle.logon_runs.specs.AnyAnswer.AnyStarts.{AreThree, coming_from}
+use Rattle.logon_runs.proofs.FirstLogon.FirstWorldLaws.{at_place, got_controller, item_has}
 use Rattle.logon_runs.proofs.Phases.PhaseLaws.{kind_so, phases_go_on}
-use Rattle.logon_runs.proofs.Any.AnyBeginLaws.{IsStated, able_so, begins_seen, knows_computer, next_form, rests_seen, stands_stated}
+use Rattle.logon_runs.proofs.AnyAnswer.AnyBeginLaws.{IsStated, able_so, begins_seen, knows_computer, next_form, rests_seen, stands_stated}
 use Rattle.logon_runs.proofs.Failing.TurnedAwayLaws.{nothing_not_open}
-use Rattle.logon_runs.proofs.Any.RestAgainLaws.{HasItem, item_at, rests_again, some_same}
+use Rattle.logon_runs.proofs.AnyAnswer.RestAgainLaws.{HasItem, item_at, rests_again}
+use Rattle.wire_base.proofs.ListLaws.{some_is}
 
 -- ---- how a channel stands
 
@@ -78,7 +81,7 @@ first_so plan is forms none = record {
         ranged = table_in_range planned (item_has IsTable plan.tables at planned forms.tables is_table);
         computers = record { pending = []; channels = []; sessions = [] };
         rests = got_controller plan.hands_on plan.tables plan.controllers at planned named.item is_table named.is
-            (each_has (TrustsNobody plan.hands_on) plan.tables at planned none is_table);
+            (got_all (TrustsNobody plan.hands_on) plan.tables at planned none is_table);
       };
   members = λ at member is_plan. record {
     secrets = member.secrets;
@@ -86,7 +89,7 @@ first_so plan is forms none = record {
     how = standing.Nothing;
     place = 0;
     number = 1;
-    rests = got_mapped fresh_member plan.members at member is_plan;
+    rests = got_map fresh_member plan.members at member is_plan;
     next = next_form member.secrets.next (item_has IsMemberPlan plan.members at member forms.members is_plan).next;
     one = λ o stands. absurd (nothing_not_open o stands);
     place_below = omega arith;
@@ -99,13 +102,13 @@ first_so plan is forms none = record {
           name = named.item;
           computers = record { pending = []; channels = []; sessions = [] };
           rests = got_controller plan.hands_on plan.tables plan.controllers controller planned named.item is_table named.is
-              (each_has (TrustsNobody plan.hands_on) plan.tables controller planned none is_table);
+              (got_all (TrustsNobody plan.hands_on) plan.tables controller planned none is_table);
           fits = is_own.secret planned is_table;
         };
   };
   clients = λ at task is_task. record {
     client = fresh_client task;
-    rests = got_mapped fresh_client plan.clients at task is_task;
+    rests = got_map fresh_client plan.clients at task is_task;
     how = inl refl;
   };
 }
@@ -116,10 +119,10 @@ pub own_name : (plan : Plan) (at : ℕ) (member : MemberPlan) (controller : ℕ)
 own_name plan at member controller has = record {
   reaches = has.reaches;
   secret = λ table is_table account found.
-      let same : has.table ≡ table = some_same has.table table (sym has.is_table ∙ is_table) in
+      let same : has.table ≡ table = some_is has.table table (sym has.is_table ∙ is_table) in
       let there : channel_account table member.computer ≡ Some has.machine =
       computers_are_known.machine table member [] [] has.machine (subst (λ (one : AccountTable). account_in one.accounts (machine_name member.computer) ≡ Some has.machine) same has.machine_found) has.kind has.enabled in
-      ap Account.hash (some_same account has.machine (sym found ∙ there)) ∙ has.secret;
+      ap Account.hash (some_is account has.machine (sym found ∙ there)) ∙ has.secret;
   apart = has.apart;
 }
 
@@ -199,7 +202,7 @@ begins_so plan s rest client member controller can number is forms chosen =
           (kind_so (account_in cr.table.accounts can.come.task.user) cr.table.policy can.come.task.workstation (start number s).state.moment may_then.there.account) in
           let kept : StandsLater cr.table can.come.task.user can.account =
           cr.users can.come.task.user can.account can.found (sym (ap (λ (account : Account). account.kind) later.same) ∙ is_user) in
-          record { found = later.found; hash = ap Account.hash (some_same later.now (with_count kept.count can.account) (sym later.found ∙ kept.found)) ∙ can.hash };
+          record { found = later.found; hash = ap Account.hash (some_is later.now (with_count kept.count can.account) (sym later.found ∙ kept.found)) ∙ can.hash };
     }
 
 -- ---- a logon is over

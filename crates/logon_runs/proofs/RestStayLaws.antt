@@ -13,11 +13,11 @@ use Rattle.world_moves.specs.declared.state.WaitingDial.{WaitingDial}
 use Rattle.world_moves.specs.Acting.{Acted}
 use Rattle.world_moves.specs.Ends.{EndStates}
 use Rattle.world_moves.specs.Moving.{act, connect_first, tick, without_first}
-use Rattle.logon_runs.specs.Seen.Others.{IsStepOn}
+use Rattle.logon_runs.specs.Scenes.Others.{IsStepOn}
 use Rattle.logon_runs.specs.Rests.{AtRest, ClientRests, ControllerRests, FitsSecretAt, IsInStepAt, MemberRests, RestsStay, StandsWell}
-use Rattle.logon_runs.specs.Seen.WaitingUnits.{waiting}
-use Rattle.logon_runs.proofs.Seen.WaitingLaws.{waiting_comes}
-use Rattle.logon_runs.proofs.Seen.StepOnLaws.{by_step}
+use Rattle.logon_runs.specs.Scenes.WaitingUnits.{waiting}
+use Rattle.logon_runs.proofs.Scenes.WaitingLaws.{waiting_comes}
+use Rattle.logon_runs.proofs.Scenes.StepOnLaws.{by_step}
 
 well_still : (plan : Plan) (s after : State) (at : ℕ) (member : MemberPlan) (how : Standing) → ((k : ℕ) → slice_get after.ends.controllers k ≡ slice_get s.ends.controllers k) →
     StandsWell plan s at member how → StandsWell plan after at member how

@@ -46,16 +46,16 @@ use Rattle.logon_steps.proofs.AnsweringLaws.{calls_are_answered}
 use Rattle.logon_steps.proofs.CallingLaws.{calls_can_go}
 use Rattle.logon_steps.proofs.ControllerTurnLaws.{controllers_step}
 use Rattle.logon_steps.proofs.GrantingLaws.{logons_are_granted}
-use Rattle.logon_runs.specs.Seen.LinkScenes.{Meeting, its_link}
+use Rattle.logon_runs.specs.Scenes.LinkScenes.{Meeting, its_link}
 use Rattle.logon_runs.specs.Runs.{Asked, TurnsRun, connects, goes, hidden, info_asked, meets, message_for, sam_for, starts, with_moved}
-use Rattle.logon_runs.specs.Seen.AskScenes.{turn_of, with_talk}
-use Rattle.logon_runs.specs.Seen.TurnScenes.{IsBetween, Turn, next_turn, with_accounts}
-use Rattle.logon_runs.specs.Seen.Staying.{HasSameEnds}
-use Rattle.logon_runs.proofs.Seen.AskSceneLaws.{logons_are_seen}
-use Rattle.logon_runs.proofs.Seen.StayingLaws.{both_same, connects_same, goes_same, reach_still, starts_same}
-use Rattle.logon_runs.proofs.Seen.LinkSceneLaws.{found_here}
-use Rattle.logon_runs.proofs.Seen.TurnSceneLaws.{turns_are_seen}
-use Rattle.logon_runs.proofs.Seen.TwoLinkLaws.{turns_have_links}
+use Rattle.logon_runs.specs.Scenes.AskScenes.{turn_of, with_talk}
+use Rattle.logon_runs.specs.Scenes.TurnScenes.{IsBetween, Turn, next_turn, with_accounts}
+use Rattle.logon_runs.specs.Scenes.Staying.{HasSameEnds}
+use Rattle.logon_runs.proofs.Scenes.AskSceneLaws.{logons_are_seen}
+use Rattle.logon_runs.proofs.Scenes.StayingLaws.{both_same, connects_same, goes_same, reach_still, starts_same}
+use Rattle.logon_runs.proofs.Scenes.LinkSceneLaws.{found_here}
+use Rattle.logon_runs.proofs.Scenes.TurnSceneLaws.{turns_are_seen}
+use Rattle.logon_runs.proofs.Scenes.TwoLinkLaws.{turns_have_links}
 
 pub same_computer : (name : List ℕ) → same_name name name ≡ true
 same_computer name = (same_name-Decides name name).1 refl

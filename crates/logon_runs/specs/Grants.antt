@@ -18,7 +18,7 @@ use Rattle.logon_steps.specs.Granting.{base_key}
 use Rattle.logon_steps.specs.MemberAnswers.{granting, sam_shown}
 use Rattle.logon_steps.specs.MemoCalls.{AreSessions}
 use Rattle.logon_steps.specs.Turning.{IsTurnReply}
-use Rattle.logon_runs.specs.Seen.LinkScenes.{Meeting}
+use Rattle.logon_runs.specs.Scenes.LinkScenes.{Meeting}
 use Rattle.logon_runs.specs.Runs.{Asked, hidden, message_for, on_for, sam_for}
 
 -- the reply can be written, joined and read; the name that the member finds in it is the domain's, a backslash and the

@@ -13,7 +13,7 @@ use Rattle.logon_steps.specs.Calling.{TravelsAsZeros}
 use Rattle.logon_steps.specs.Granting.{base_key}
 use Rattle.logon_runs.specs.Phases.{Coming, Fits, Granted, IsKnown, TurnAt, WhoAsked, key_at, own, scene_of}
 use Rattle.logon_runs.specs.Runs.{Asked, message_for}
-use Rattle.logon_runs.specs.Scenes.{Shows}
+use Rattle.logon_runs.specs.Scenes.Scene.{Shows}
 
 -- the member closes the turn's link, tells of the client's own link that he is in, with the domain, the account's name
 -- and the client's key, and answers WhoAmI

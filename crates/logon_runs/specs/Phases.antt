@@ -67,15 +67,15 @@ use Rattle.logon_steps.specs.MemberLinks.{asked_talk}
 use Rattle.logon_steps.specs.MemoCalls.{ReplyGoes, RequestGoes, logged_on, with_session}
 use Rattle.logon_steps.specs.SetTurns.{set_reply_bytes, set_request, set_taken}
 use Rattle.logon_steps.specs.Turning.{turn_ack, turn_request}
-use Rattle.logon_runs.specs.Seen.AskScenes.{turn_within, with_controller}
+use Rattle.logon_runs.specs.Scenes.AskScenes.{turn_within, with_controller}
 use Rattle.logon_runs.specs.Grants.{KeyArrives}
 use Rattle.logon_runs.specs.Failing.Failings.{settled_with}
-use Rattle.logon_runs.specs.Seen.LinkScenes.{FitsGiven, given_after, its_link, joined, Meeting, meeting_scene, rest_scene, unit_down, unit_up}
-use Rattle.logon_runs.specs.Seen.Others.{IfSo, IsStepOn, is_onward}
+use Rattle.logon_runs.specs.Scenes.LinkScenes.{FitsGiven, given_after, its_link, joined, Meeting, meeting_scene, rest_scene, unit_down, unit_up}
+use Rattle.logon_runs.specs.Scenes.Others.{IfSo, IsStepOn, is_onward}
 use Rattle.logon_runs.specs.Runs.{Asked, StandsInStep, hidden, info_asked, message_for, sam_for}
-use Rattle.logon_runs.specs.Scenes.{Scene, Shows}
-use Rattle.logon_runs.specs.Seen.WaitingUnits.{waiting}
-use Rattle.logon_runs.specs.Seen.TurnScenes.{Turn, next_turn, waiting_scene, turn_scene, unit_back, unit_there, with_accounts}
+use Rattle.logon_runs.specs.Scenes.Scene.{Scene, Shows}
+use Rattle.logon_runs.specs.Scenes.WaitingUnits.{waiting}
+use Rattle.logon_runs.specs.Scenes.TurnScenes.{Turn, next_turn, waiting_scene, turn_scene, unit_back, unit_there, with_accounts}
 
 -- ---- what stays
 

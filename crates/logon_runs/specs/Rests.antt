@@ -43,11 +43,11 @@ use Rattle.logon_steps.specs.MemberLinks.{logons_resting}
 use Rattle.member_server.specs.Secrets.{tried_of}
 use Rattle.logon_steps.specs.Knowing.{StandsLater}
 use Rattle.logon_steps.specs.MemberTurns.{member_at, plan_with}
-use Rattle.logon_runs.specs.Seen.LinkScenes.{Given}
-use Rattle.logon_runs.specs.Seen.Others.{IsStepOn, OthersStay, Three}
+use Rattle.logon_runs.specs.Scenes.LinkScenes.{Given}
+use Rattle.logon_runs.specs.Scenes.Others.{IsStepOn, OthersStay, Three}
 use Rattle.logon_runs.specs.Phases.{Coming, HasUser, IsUnderWay, IsKnown, MayLogOnAt}
 use Rattle.logon_runs.specs.Failing.TurnedAway.{HasEnded}
-use Rattle.logon_runs.specs.Seen.WaitingUnits.{waiting}
+use Rattle.logon_runs.specs.Scenes.WaitingUnits.{waiting}
 
 -- ---- the plan
 

@@ -39,9 +39,9 @@ use Rattle.logon_steps.specs.Meeting.{HasShortNames, challenged_talk, flags_agre
 use Rattle.logon_steps.specs.MemberAnswers.{granting, let_in, sam_shown}
 use Rattle.logon_steps.specs.MemoCalls.{ReplyGoes, RequestGoes, logged_on}
 use Rattle.logon_steps.specs.Turning.{IsTurnReply}
-use Rattle.logon_runs.specs.Seen.AskScenes.{with_controller}
-use Rattle.logon_runs.specs.Seen.LinkScenes.{FitsGiven, given_after, IsJoined, Meeting, meeting_scene, unit_down, unit_up}
-use Rattle.logon_runs.specs.Scenes.{Shows}
+use Rattle.logon_runs.specs.Scenes.AskScenes.{with_controller}
+use Rattle.logon_runs.specs.Scenes.LinkScenes.{FitsGiven, given_after, IsJoined, Meeting, meeting_scene, unit_down, unit_up}
+use Rattle.logon_runs.specs.Scenes.Scene.{Shows}
 
 -- what a client answers to its member, where it is asked so
 pub record Asked : Type 0 where
@@ -119,8 +119,8 @@ with_moved g c timestamp computers = record computers {
 }
 
 -- the member's channel rests again
-abbrev pub rested : Meeting → SecureChannelState → ℕ → Meeting
-rested g o timestamp = record g {
+abbrev pub rest_channel : Meeting → SecureChannelState → ℕ → Meeting
+rest_channel g o timestamp = record g {
   given = given_after g;
   how = standing.Open (after_return true (after_call o timestamp));
   place = after g.place;
@@ -147,8 +147,8 @@ pub record TurnsRun : Type 0 where
       Shows s (meeting_scene (with_controller g table name computers) waits (challenged_talk g.task a.challenge)
       (unit_up g (written (auth3_for g.task (message_for g a))) ∷ unit_up g who.sent ∷ []) left moment) →
       Shows (goes (goes (goes (goes (connects (goes (goes s)))))))
-      (meeting_scene (with_controller (rested g o (timestamp_of moment)) (cleared table g.task.user) name (with_moved g c (timestamp_of moment) computers)) waits
+      (meeting_scene (with_controller (rest_channel g o (timestamp_of moment)) (cleared table g.task.user) name (with_moved g c (timestamp_of moment) computers)) waits
       (talk_in None (logged_on on back.later)) (unit_down g back.sent ∷ []) left moment)
   -- the channel is ready for the next logon
   pub stays : (g : Meeting) (o c : SecureChannelState) (computers : Computers) (timestamp : ℕ) → IsInStep o c →
-      StandsInStep (rested g o timestamp) (with_moved g c timestamp computers)
+      StandsInStep (rest_channel g o timestamp) (with_moved g c timestamp computers)

@@ -1,105 +1,105 @@
 //! Laws of the moves of a world, where little waits in it. Each function does nothing, and its
 //! clause is the law.
 
-ghost use Rattle.logon_runs.specs.Any.AnyPhases.{AnyPhasesGoOn};
-ghost use Rattle.logon_runs.specs.Any.AnyStarts.{AnyLogonsStart};
-ghost use Rattle.logon_runs.specs.Any.ControllerAnswers.{ControllersAnswer};
-ghost use Rattle.logon_runs.specs.Any.GrantRests.{GrantsRest};
-ghost use Rattle.logon_runs.specs.Any.SetAnswers.{ControllersAnswerSets};
-ghost use Rattle.logon_runs.specs.AnyLogons.{LogonsRest};
-ghost use Rattle.logon_runs.specs.Seen.AskScenes.{LogonsAreSeen};
-ghost use Rattle.logon_runs.specs.First.ExampleLogon.{AnnLogsOn};
+ghost use Rattle.logon_runs.specs.AnyAnswer.AnyPhases.{AnyPhasesGoOn};
+ghost use Rattle.logon_runs.specs.AnyAnswer.AnyStarts.{AnyLogonsStart};
+ghost use Rattle.logon_runs.specs.AnyAnswer.ControllerAnswers.{ControllersAnswer};
+ghost use Rattle.logon_runs.specs.OtherKeys.GrantRests.{GrantsRest};
+ghost use Rattle.logon_runs.specs.AnyAnswer.SetAnswers.{ControllersAnswerSets};
+ghost use Rattle.logon_runs.specs.AnyAnswer.AnyLogons.{LogonsRest};
+ghost use Rattle.logon_runs.specs.Scenes.AskScenes.{LogonsAreSeen};
+ghost use Rattle.logon_runs.specs.FirstLogon.ExampleLogon.{AnnLogsOn};
 ghost use Rattle.logon_runs.specs.Failing.FailingSteps.{FailingsStep};
 ghost use Rattle.logon_runs.specs.Failing.Failings.{FailingsAreSeen};
-ghost use Rattle.logon_runs.specs.First.FirstLogonRuns.{FirstLogonsRun};
-ghost use Rattle.logon_runs.specs.First.FirstRuns.{FirstTurnsRun};
-ghost use Rattle.logon_runs.specs.First.FirstTraces.{FirstLogonsAreSeen, FirstTurnsAreSeen};
-ghost use Rattle.logon_runs.specs.First.FirstWorlds.{FirstWorldsRun};
+ghost use Rattle.logon_runs.specs.FirstLogon.FirstLogonRuns.{FirstLogonsRun};
+ghost use Rattle.logon_runs.specs.FirstLogon.FirstRuns.{FirstTurnsRun};
+ghost use Rattle.logon_runs.specs.FirstLogon.FirstTraces.{FirstLogonsAreSeen, FirstTurnsAreSeen};
+ghost use Rattle.logon_runs.specs.FirstLogon.FirstWorlds.{FirstWorldsRun};
 ghost use Rattle.logon_runs.specs.Grants.{GrantsAreTold};
 ghost use Rattle.logon_runs.specs.GrantsTold.{GrantsTell};
-ghost use Rattle.logon_runs.specs.Keys.Differing.{KeysMayDiffer};
-ghost use Rattle.logon_runs.specs.Keys.LetIn.{GrantsGoOn};
-ghost use Rattle.logon_runs.specs.Seen.LinkScenes.{MeetingsAreSeen};
-ghost use Rattle.logon_runs.specs.Seen.Others.{OthersAreLeft};
+ghost use Rattle.logon_runs.specs.OtherKeys.Differing.{KeysMayDiffer};
+ghost use Rattle.logon_runs.specs.OtherKeys.LetIn.{GrantsGoOn};
+ghost use Rattle.logon_runs.specs.Scenes.LinkScenes.{MeetingsAreSeen};
+ghost use Rattle.logon_runs.specs.Scenes.Others.{OthersAreLeft};
 ghost use Rattle.logon_runs.specs.Phases.{PhasesGoOn};
 ghost use Rattle.logon_runs.specs.Rests.{LogonsComeToRest, RestsStay};
 ghost use Rattle.logon_runs.specs.Runs.{TurnsRun};
-ghost use Rattle.logon_runs.specs.Scenes.{ScenesGoOn};
+ghost use Rattle.logon_runs.specs.Scenes.Scene.{ScenesGoOn};
 ghost use Rattle.logon_runs.specs.SecretRests.{SetsLeaveOthers};
-ghost use Rattle.logon_runs.specs.Seen.SetScenes.{SetsAreSeen};
-ghost use Rattle.logon_runs.specs.Seen.Starts.{StartsAreSeen};
-ghost use Rattle.logon_runs.specs.Seen.Staying.{EndsStay};
-ghost use Rattle.logon_runs.specs.Seen.TurnScenes.{TurnsAreSeen};
+ghost use Rattle.logon_runs.specs.Scenes.SetScenes.{SetsAreSeen};
+ghost use Rattle.logon_runs.specs.Scenes.Starts.{StartsAreSeen};
+ghost use Rattle.logon_runs.specs.Scenes.Staying.{EndsStay};
+ghost use Rattle.logon_runs.specs.Scenes.TurnScenes.{TurnsAreSeen};
 ghost use Rattle.logon_runs.specs.Failing.TurnedAway.{LogonsAreTurnedAway};
-ghost use Rattle.logon_runs.specs.Seen.Turnings.{ScenesTurn};
-ghost use Rattle.logon_runs.specs.Seen.TwoLinks.{TurnsHaveLinks};
-ghost use Rattle.logon_runs.specs.Seen.WaitingUnits.{WaitingComes};
+ghost use Rattle.logon_runs.specs.Scenes.Turnings.{ScenesTurn};
+ghost use Rattle.logon_runs.specs.Scenes.TwoLinks.{TurnsHaveLinks};
+ghost use Rattle.logon_runs.specs.Scenes.WaitingUnits.{WaitingComes};
 
 /// The oldest unit that waits comes at the end that hears it on its own link, and those behind it
 /// wait on. What an end makes of what it hears changes that end alone, until its actions are done.
-#[tactic(auto, using(crate::proofs::Seen::WaitingLaws::waiting_comes))]
+#[tactic(auto, using(crate::proofs::Scenes::WaitingLaws::waiting_comes))]
 pub fn what_waits_comes()
     ensures { WaitingComes }
 {}
 
 /// There are as many ends after each move as before it, with the same plans but for members' secrets, so an address is
 /// the same end's in each state of a run.
-#[tactic(auto, using(crate::proofs::Seen::StayingLaws::ends_stay))]
+#[tactic(auto, using(crate::proofs::Scenes::StayingLaws::ends_stay))]
 pub fn ends_stay()
     ensures { EndsStay }
 {}
 
 /// What comes of the oldest unit is seen of the ends, the links and what waits alone, where the end
 /// that hears it closes nothing.
-#[tactic(auto, using(crate::proofs::Seen::SceneLaws::scenes_go_on))]
+#[tactic(auto, using(crate::proofs::Scenes::SceneLaws::scenes_go_on))]
 pub fn scenes_go_on()
     ensures { ScenesGoOn }
 {}
 
 /// The same where a link is closed, where a dial is answered, and where time passes.
-#[tactic(auto, using(crate::proofs::Seen::TurningSceneLaws::scenes_turn))]
+#[tactic(auto, using(crate::proofs::Scenes::TurningSceneLaws::scenes_turn))]
 pub fn scenes_turn()
     ensures { ScenesTurn }
 {}
 
 /// A client that starts where no link is open dials its member. A move that finds no dial or no
 /// unit changes nothing that is seen.
-#[tactic(auto, using(crate::proofs::Seen::StartLaws::starts_are_seen))]
+#[tactic(auto, using(crate::proofs::Scenes::StartLaws::starts_are_seen))]
 pub fn starts_are_seen()
     ensures { StartsAreSeen }
 {}
 
 /// A turn of a member with its controller, unit by unit, whichever call it makes: its dial, its
 /// bind and the answer, its call and the reply, and the next turn of a channel that opens.
-#[tactic(auto, using(crate::proofs::Seen::TurnSceneLaws::turns_are_seen))]
+#[tactic(auto, using(crate::proofs::Scenes::TurnSceneLaws::turns_are_seen))]
 pub fn turns_are_seen()
     ensures { TurnsAreSeen }
 {}
 
 /// A turn that sets a member's next secret, unit by unit: from the reply that opens the channel under the current one,
 /// to the dial of the logon's own turn. Where the channel opens under the next one, no such turn is needed.
-#[tactic(auto, using(crate::proofs::Seen::SetSceneLaws::sets_are_seen))]
+#[tactic(auto, using(crate::proofs::Scenes::SetSceneLaws::sets_are_seen))]
 pub fn sets_are_seen()
     ensures { SetsAreSeen }
 {}
 
 /// A client and its member on their link: from the dial to the AUTHENTICATE with WhoAmI behind it,
 /// and from the answer of WhoAmI to the link's end.
-#[tactic(auto, using(crate::proofs::Seen::LinkSceneLaws::meetings_are_seen))]
+#[tactic(auto, using(crate::proofs::Scenes::LinkSceneLaws::meetings_are_seen))]
 pub fn meetings_are_seen()
     ensures { MeetingsAreSeen }
 {}
 
 /// A logon goes over into the member's turns, while WhoAmI is held, and out of them where it is
 /// granted.
-#[tactic(auto, using(crate::proofs::Seen::AskSceneLaws::logons_are_seen))]
+#[tactic(auto, using(crate::proofs::Scenes::AskSceneLaws::logons_are_seen))]
 pub fn logons_are_seen()
     ensures { LogonsAreSeen }
 {}
 
 /// The link of a turn is the next one, beside its client's: open at both sides once its dial is
 /// answered. The client's is as before, also once the turn's is closed.
-#[tactic(auto, using(crate::proofs::Seen::TwoLinkLaws::turns_have_links))]
+#[tactic(auto, using(crate::proofs::Scenes::TwoLinkLaws::turns_have_links))]
 pub fn turns_have_links()
     ensures { TurnsHaveLinks }
 {}
@@ -119,41 +119,41 @@ pub fn grants_are_told()
 {}
 
 /// What is seen at each move of the three turns of a member that has no channel yet.
-#[tactic(auto, using(crate::proofs::First::FirstTraceLaws::first_turns_are_seen))]
+#[tactic(auto, using(crate::proofs::FirstLogon::FirstTraceLaws::first_turns_are_seen))]
 pub fn first_turns_are_seen()
     ensures { FirstTurnsAreSeen }
 {}
 
 /// The three turns of a member that has no channel yet, from the AUTHENTICATE of its client to the
 /// answer of WhoAmI. The channel stands afterwards, and the account's count of bad passwords is 0.
-#[tactic(auto, using(crate::proofs::First::FirstRunLaws::first_turns_run))]
+#[tactic(auto, using(crate::proofs::FirstLogon::FirstRunLaws::first_turns_run))]
 pub fn first_turns_run()
     ensures { FirstTurnsRun }
 {}
 
 /// What is seen at each move of a first logon, from the client's start to the answer of WhoAmI.
-#[tactic(auto, using(crate::proofs::First::FirstLogonTraceLaws::first_logons_are_seen))]
+#[tactic(auto, using(crate::proofs::FirstLogon::FirstLogonTraceLaws::first_logons_are_seen))]
 pub fn first_logons_are_seen()
     ensures { FirstLogonsAreSeen }
 {}
 
 /// A whole first logon, by a channel that is opened for it, from the client's start to its end: the
 /// client is in, with its own key and the name that the member found.
-#[tactic(auto, using(crate::proofs::First::FirstLogonRunLaws::first_logons_run))]
+#[tactic(auto, using(crate::proofs::FirstLogon::FirstLogonRunLaws::first_logons_run))]
 pub fn first_logons_run()
     ensures { FirstLogonsRun }
 {}
 
 /// The first logon in a world is granted by the values of its plan: after these moves the client is
 /// in, no link is open, and the account's count of bad passwords is 0.
-#[tactic(auto, using(crate::proofs::First::FirstWorldLaws::first_worlds_run))]
+#[tactic(auto, using(crate::proofs::FirstLogon::FirstWorldLaws::first_worlds_run))]
 pub fn first_worlds_run()
     ensures { FirstWorldsRun }
 {}
 
 /// There is such a world: in one of a controller, a member and a client, the client's logon is
 /// granted, and it is in after 24 moves.
-#[tactic(auto, using(crate::proofs::First::ExampleLogonLaws::an_example_logs_on))]
+#[tactic(auto, using(crate::proofs::FirstLogon::ExampleLogonLaws::an_example_logs_on))]
 pub fn an_example_logs_on()
     ensures { AnnLogsOn }
 {}
@@ -168,7 +168,7 @@ pub fn phases_go_on()
 
 /// The moves of one logon change its client, its member and its controller alone: all other ends
 /// are as they were, and no other link opens.
-#[tactic(auto, using(crate::proofs::Seen::OtherLaws::others_are_left))]
+#[tactic(auto, using(crate::proofs::Scenes::OtherLaws::others_are_left))]
 pub fn others_are_left()
     ensures { OthersAreLeft }
 {}
@@ -218,56 +218,56 @@ pub fn rests_stay()
 
 /// A request at a member and a reply at its client, whatever sessions both have: the member answers or closes the
 /// link, and the client has an outcome or asks for its echo.
-#[tactic(auto, using(crate::proofs::Keys::DifferingLaws::keys_may_differ))]
+#[tactic(auto, using(crate::proofs::OtherKeys::DifferingLaws::keys_may_differ))]
 pub fn keys_may_differ()
     ensures { KeysMayDiffer }
 {}
 
 /// A logon that a member takes as granted, with whatever key, goes on at each move to its end: the client has its
 /// outcome, and no link is open. No challenge is drawn.
-#[tactic(auto, using(crate::proofs::Keys::LetInLaws::grants_go_on))]
+#[tactic(auto, using(crate::proofs::OtherKeys::LetInLaws::grants_go_on))]
 pub fn grants_go_on()
     ensures { GrantsGoOn }
 {}
 
 /// A controller answers each call of a member's turn by one reply, whatever it keeps of that
 /// computer, and keeps the channels of the others.
-#[tactic(auto, using(crate::proofs::Any::ControllerAnswerLaws::controllers_answer))]
+#[tactic(auto, using(crate::proofs::AnyAnswer::ControllerAnswerLaws::controllers_answer))]
 pub fn controllers_answer()
     ensures { ControllersAnswer }
 {}
 
 /// A controller answers a call that sets a secret by one reply, whatever it keeps of that computer. It sets the hash of
 /// the channel's own account or none, and keeps the channels of the others.
-#[tactic(auto, using(crate::proofs::Any::SetAnswerLaws::controllers_answer_sets))]
+#[tactic(auto, using(crate::proofs::AnyAnswer::SetAnswerLaws::controllers_answer_sets))]
 pub fn controllers_answer_sets()
     ensures { ControllersAnswerSets }
 {}
 
 /// A logon that a member takes as granted, with whatever key, comes to rest: once nothing waits its client has an
 /// outcome, all other ends are as they were, and no challenge was drawn.
-#[tactic(auto, using(crate::proofs::Keys::GrantRestLaws::grants_rest))]
+#[tactic(auto, using(crate::proofs::OtherKeys::GrantRestLaws::grants_rest))]
 pub fn grants_rest()
     ensures { GrantsRest }
 {}
 
 /// A logon at any member goes on at each move, whatever its controller answers, to its end or to
 /// where the member lets the client in. At its end the client has its outcome, and no link is open.
-#[tactic(auto, using(crate::proofs::Any::AnyPhaseLaws::any_phases_go_on))]
+#[tactic(auto, using(crate::proofs::AnyAnswer::AnyPhaseLaws::any_phases_go_on))]
 pub fn any_phases_go_on()
     ensures { AnyPhasesGoOn }
 {}
 
 /// A client that starts at rest is in a phase of its logon, at any member. Once the logon is over
 /// the world rests again.
-#[tactic(auto, using(crate::proofs::Any::AnyBeginLaws::any_logons_start))]
+#[tactic(auto, using(crate::proofs::AnyAnswer::AnyBeginLaws::any_logons_start))]
 pub fn any_logons_start()
     ensures { AnyLogonsStart }
 {}
 
 /// Whichever client starts at rest, in a plan with a member and a controller, and whatever these
 /// make of it: once nothing waits the world rests, and the client has an outcome.
-#[tactic(auto, using(crate::proofs::Any::AnyLogonLaws::logons_rest))]
+#[tactic(auto, using(crate::proofs::AnyAnswer::AnyLogonLaws::logons_rest))]
 pub fn logons_rest()
     ensures { LogonsRest }
 {}

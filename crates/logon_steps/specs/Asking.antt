@@ -28,7 +28,7 @@ use Rattle.channel_client.specs.declared.state.Step.TheVariants as step
 
 -- nobody waits; the next place, and the next number
 abbrev pub at_rest : Caller → Standing → ℕ → ℕ → Requester
-at_rest caller how place number = record { caller = caller; standing = how; waiting = []; next_place = place; next_call = number; turn = None; next = None }
+at_rest caller how place number = record { caller = caller; standing = how; waiting = []; next_place = place; next_call = number; turn = None; next = None; sealing = None }
 
 -- what is asked for a place
 abbrev pub info_at : ℕ → NetworkInfo → NetworkInfo
@@ -44,6 +44,7 @@ asking caller how info place number turn = record {
   next_call = number;
   turn = turn;
   next = None;
+  sealing = None;
 }
 
 -- the same of a channel that has that next secret, or none: while it has one, it is set first

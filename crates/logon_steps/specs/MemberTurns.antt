@@ -40,10 +40,11 @@ use Rattle.member_server.specs.Turns.{TurnServed, do_taken, next_turn, timestamp
 use Rattle.logon_steps.specs.Asking.{asking_keeping}
 use Rattle.logon_steps.specs.Turning.{IsTurnReply, turn_ack, turn_request, turn_response}
 
--- ---- a member
+-- ---- a member, which seals nothing
 
 abbrev pub member_at : Logons → List (ℕ × LinkState Talk) → Dialling → State
-member_at logons links how = record { running = Some (record { logons = logons; links = links; dialling = how }) }
+member_at logons links how =
+    record { running = Some (record { logons = logons; links = links; dialling = how; sealing = None }) }
 
 -- the plan of a member with one secret, which who asks has
 abbrev pub plan_of : MemberPlan → Caller → MemberPlan

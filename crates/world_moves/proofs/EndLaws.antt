@@ -19,6 +19,7 @@ use Rattle.logon_client.specs.State.{State as ClientState}
 use Rattle.logon_client.specs.Machine.{step_of as client_step_of}
 use Rattle.member_server.specs.State.{State as MemberState}
 use Rattle.member_server.specs.Machine.{is_stopped as member_is_stopped, step_of as member_step_of}
+use Rattle.member_server.specs.SealStep.{SealsNothing, sealing_in}
 use Rattle.world_moves.specs.Ends.{EndStates, client_done, client_step, controller_done, controller_step, drawn_on, end_done, fresh_controller, member_done, member_step, renew_controller}
 use Rattle.world_moves.specs.Running.{CanStep}
 use Rattle.world_moves.specs.declared.links.EndId.TheVariants.{Controller, Member, Client}
@@ -114,6 +115,7 @@ renewed_run hands_on gave_up controllers after members clients at lt renews can 
           each_controller = subst AllRun (sym is)
               (All-set (λ (c : ControllerState). controller_is_stopped c ≡ false) controllers at new (fresh_runs hands_on found.0.table found.0.name) (can.running goes_on).each_controller);
           each_member = (can.running goes_on).each_member;
+          each_plain = (can.running goes_on).each_plain;
           each_client = (can.running goes_on).each_client;
           few = omega (arith, can.few, size);
         };
@@ -129,6 +131,7 @@ none_run gave_up controllers none members clients is can = record {
   running = λ goes_on. record {
     each_controller = subst AllRun (sym is) (All-nil (λ (c : ControllerState). controller_is_stopped c ≡ false));
     each_member = (can.running goes_on).each_member;
+    each_plain = (can.running goes_on).each_plain;
     each_client = (can.running goes_on).each_client;
     few = omega (arith, can.few, ap length is);
   };
@@ -141,14 +144,15 @@ renewed_is hands_on ends after at lt renews = elim (slice_get_cases ends.control
   | inr none ↦ absurd (omega arith)
 ]
 
--- a member that runs is put in a place
+-- a member that runs and seals nothing is put in a place
 pub member_put : (gave_up : Bool) (controllers : List ControllerState) (members : List MemberState) (clients : List ClientState) (at : ℕ) (member put : MemberState) → put ≡ member →
-    member_is_stopped member ≡ false → CanStep gave_up controllers members clients → CanStep gave_up controllers (slice_set members at put) clients
-member_put gave_up controllers members clients at member put is runs can = record {
+    member_is_stopped member ≡ false → SealsNothing member → CanStep gave_up controllers members clients → CanStep gave_up controllers (slice_set members at put) clients
+member_put gave_up controllers members clients at member put is runs plain can = record {
   few = omega (arith, can.few, length-set members at put);
   running = λ goes_on. record {
     each_controller = (can.running goes_on).each_controller;
     each_member = All-set (λ (m : MemberState). member_is_stopped m ≡ false) members at put (ap (λ (m : MemberState). member_is_stopped m) is ∙ runs) (can.running goes_on).each_member;
+    each_plain = All-set SealsNothing members at put (ap sealing_in is ∙ plain) (can.running goes_on).each_plain;
     each_client = (can.running goes_on).each_client;
     few = omega (arith, can.few, length-set members at put);
   };

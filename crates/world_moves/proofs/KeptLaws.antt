@@ -1,6 +1,6 @@
 -- What an action leaves of the plans of members, and of all else but the bag and the dials.
 -- It serves `put_secrets` and the laws of all runs.
-use Rattle.std.proofs.Common.{◌≡◌, ◌≤◌, ℕ, zero, suc, List, [], ◌∷◌, map, length, Option, Some, None, slice_get, slice_set, refl, ap, ap₂, sym, ◌∙◌}
+use Rattle.std.proofs.Common.{◌≡◌, ◌≤◌, ℕ, zero, suc, List, [], ◌∷◌, map, length, Option, Some, None, slice_get, slice_set, refl, ap, sym}
 use Rattle.std.proofs.lemmas.Option.{slice_get_past}
 use Rattle.outside.specs.declared.action.Action.{Action}
 use Rattle.outside.specs.declared.action.Action.TheVariants as action

@@ -11,6 +11,7 @@ use Rattle.logon_client.specs.declared.plan.ClientPlan.{ClientPlan}
 use Rattle.member_server.specs.State.{State as MemberState}
 use Rattle.member_server.specs.Machine.{fresh_member, is_stopped as member_is_stopped}
 use Rattle.member_server.specs.declared.plan.MemberPlan.{MemberPlan}
+use Rattle.member_server.specs.SealStep.{SealsNothing}
 use Rattle.world_moves.specs.Ends.{fresh_controller}
 use Rattle.world_moves.specs.Running.{AreRunning}
 use Rattle.world_moves.specs.World.{first_controllers}
@@ -28,6 +29,9 @@ controllers_run hands_on (table ∷ tables) (name ∷ names) =
 members_run : (plans : List MemberPlan) → All (λ (m : MemberState). member_is_stopped m ≡ false) (map fresh_member plans)
 members_run plans = All-map (λ (m : MemberState). member_is_stopped m ≡ false) fresh_member plans (λ k d lt. refl)
 
+members_plain : (plans : List MemberPlan) → All SealsNothing (map fresh_member plans)
+members_plain plans = All-map SealsNothing fresh_member plans (λ k d lt. refl)
+
 clients_run : (plans : List ClientPlan) → All (λ (c : ClientState). IsSome c.running) (map fresh_client plans)
 clients_run plans = All-map (λ (c : ClientState). IsSome c.running) fresh_client plans (λ k d lt. search rules)
 
@@ -35,4 +39,4 @@ pub fresh_running : (hands_on : Bool) (tables : List AccountTable) (names : List
     length (first_controllers hands_on tables names) + length (map fresh_member members) + length (map fresh_client clients) < 2 ^ 64 →
     AreRunning (first_controllers hands_on tables names) (map fresh_member members) (map fresh_client clients)
 fresh_running hands_on tables names members clients few =
-    record { each_controller = controllers_run hands_on tables names; each_member = members_run members; each_client = clients_run clients; few = few }
+    record { each_controller = controllers_run hands_on tables names; each_member = members_run members; each_plain = members_plain members; each_client = clients_run clients; few = few }

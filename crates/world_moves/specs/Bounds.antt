@@ -3,8 +3,9 @@
 use Rattle.std.specs.Prelude.{ℕ, ◌≡◌, ◌≤◌, ◌+◌, ◌*◌, Bool, false, length}
 use Rattle.outside.specs.Counter.{most_draws}
 use Rattle.outside.specs.declared.event.Event.{Event}
-use Rattle.end_links.specs.Bounds.{units_at}
+use Rattle.end_links.specs.Bounds.{units_at, units_in_piece}
 use Rattle.world_moves.specs.declared.state.State.{State}
+use Rattle.world_moves.specs.Bag.{piece_limit}
 use Rattle.world_moves.specs.Telling.{IsWithin}
 use Rattle.world_moves.specs.World.{move_limit}
 
@@ -12,19 +13,18 @@ use Rattle.world_moves.specs.World.{move_limit}
 abbrev pub draws_at : Event → ℕ
 draws_at what = units_at what + 3
 
--- The most challenges that a piece draws: it has 65,536 bytes at most and up to 5,839 waited before it, a unit has 16
--- bytes or more, and the end may draw three besides.
+-- The most challenges that a piece draws: one for each unit that it can end, and three besides.
 abbrev pub piece_draws : ℕ
-piece_draws = 4463
+piece_draws = units_in_piece piece_limit + 3
 
 -- The most that a unit of the bag draws, which comes in nine pieces at most.
 abbrev pub unit_draws : ℕ
-unit_draws = 40167
+unit_draws = 9 * piece_draws
 
--- The most that a move draws, beside three for each link that it closes: 100,000 times as many are fewer than 2^32.
--- What a unit draws is less.
+-- The most that a move draws, beside three for each link that it closes: what a unit of the bag draws, and 2,782 more.
+-- In 100,000 moves that is fewer than 2^32.
 abbrev pub draw_limit : ℕ
-draw_limit = 42949
+draw_limit = unit_draws + 2782
 
 -- At most so many challenges were drawn from the one state to the other, and three more for each link that isn't open
 -- any more: where an end closes it, the end at its other side hears of it, and may draw so many.

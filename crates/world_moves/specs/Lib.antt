@@ -15,4 +15,5 @@ pub mod Moving
 pub mod Outcomes
 pub mod Running
 pub mod Telling
+pub mod Unforwarded
 pub mod World

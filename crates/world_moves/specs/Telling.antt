@@ -6,6 +6,7 @@ use Rattle.outside.specs.declared.action.Judged.{Judged as AnyJudged}
 use Rattle.outside.specs.declared.action.Judged.TheVariants as judged
 use Rattle.outside.specs.declared.event.Event.{Event}
 use Rattle.outside.specs.declared.event.Event.TheVariants.{Opened, Bytes}
+use Rattle.end_links.specs.Bounds.{send_limit}
 use Rattle.end_links.specs.Links.{LinkState}
 use Rattle.domain_controller.specs.State.{State as ControllerState}
 use Rattle.domain_controller.specs.Step.{LinkMap}
@@ -102,9 +103,9 @@ adds_at (Opened link) = 16
 adds_at (Bytes link piece) = length piece
 adds_at _ = 0
 
--- what a move adds to it at most: a unit of 589,824 bytes comes, or a link opens
+-- what a move adds to it at most: a unit comes, which has as many bytes as one send may have, or a link opens
 abbrev pub level_limit : ℕ
-level_limit = 589824
+level_limit = send_limit
 
 -- so many moves told no more than they may
 unfoldable pub IsWithin : State → ℕ → Type 0

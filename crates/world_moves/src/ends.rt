@@ -3,6 +3,7 @@
 ghost use Rattle.std.specs.Prelude.{◌≡◌, ◌≢◌, ◌<◌, ◌≤◌, ◌+◌, [], false, Err, Some, None, IsSome, length, map, IfOk, OnOk, slice_get, slice_set, option_copied};
 ghost use Rattle.domain_controller.specs.State.{State as ControllerState};
 ghost use Rattle.member_server.specs.Machine.{is_stopped as member_is_stopped};
+ghost use Rattle.member_server.specs.SealStep.{sealing_in};
 ghost use Rattle.end_links.specs.Bounds.{AreShortSends};
 ghost use Rattle.world_moves.specs.Bounds.{draws_at};
 ghost use Rattle.world_moves.specs.Ends.{HasChanged, end_at, acceptors_in, count_of, end_change, end_done, end_step, controller_step, member_step, client_step, fresh_controller, renew_controller, with_member, with_client};
@@ -318,7 +319,8 @@ impl Ends {
 
     /// This member is in the place of the one of that number, if there is one.
     pub(crate) fn put_member(&mut self, at: usize, member: Member)
-        requires { member_is_stopped member ≡ false }
+        requires running { member_is_stopped member ≡ false }
+        requires plain { sealing_in member ≡ None }
         ensures { self.new ≡ with_member at member self.old }
     {
         if at < self.members.len() {
@@ -340,12 +342,14 @@ impl Ends {
 }
 
 /// A member is told to change to the secret: its actions, of which there are none where it changes to another one
-/// already. It runs on, but for want of memory.
-#[tactic(auto, using(crate::proofs::ChangeLaws::changes_so, crate::proofs::ChangeLaws::change_runs, crate::proofs::ChangeLaws::change_short))]
+/// already. It runs on and seals nothing, but for want of memory.
+#[tactic(auto, using(crate::proofs::ChangeLaws::changes_so, crate::proofs::ChangeLaws::change_runs, crate::proofs::ChangeLaws::change_plain, crate::proofs::ChangeLaws::change_short))]
 fn change_member(alloc: Global, member: &mut Member, secret: [u8; 16]) -> Result<Actions, NoMemory>
-    requires { member_is_stopped member.old ≡ false }
+    requires running { member_is_stopped member.old ≡ false }
+    requires plain { sealing_in member.old ≡ None }
     ensures answer { IfOk result (λ actions. HasChanged actions member.old secret member.new) }
     ensures runs { OnOk result (member_is_stopped member.new ≡ false) }
+    ensures plain { OnOk result (sealing_in member.new ≡ None) }
     ensures short { IfOk result (λ actions. AreShortSends actions) }
 {
     match member.change(alloc, secret) {

@@ -1,9 +1,9 @@
 -- All that is proved of runs is so of the example's, which is a clear schedule. A message of it is accepted, and client
 -- and member hold its key.
 -- It serves `ann_is_accepted`.
-use Rattle.std.proofs.Common.{refl}
-use Rattle.logon_runs.specs.First.ExampleLogon.{ann_moves, ann_plan}
-use Rattle.world_moves.specs.Alone.{HandsNothingOn}
+use Rattle.std.proofs.Common.{inl, refl}
+use Rattle.logon_runs.specs.FirstLogon.ExampleLogon.{ann_moves, ann_plan}
+use Rattle.world_moves.specs.Unforwarded.{IsJudgedAlone}
 use Rattle.world_moves.proofs.AloneLaws.{plain_plan}
 use Rattle.domain_world.specs.Headline.{Proved}
 use Rattle.domain_world.proofs.HeadlineLaws.{all_proved}
@@ -14,14 +14,14 @@ use Rattle.claim_examples.proofs.Runs.ClearRunLaws.{first_logons_are_clear}
 pub ann_is_accepted : AnnIsAccepted
 ann_is_accepted =
     let clear = first_logons_are_clear in
-    let nobody : HandsNothingOn ann_plan = plain_plan ann_plan refl in
+    let alone : IsJudgedAlone ann_plan ann_moves = inl (plain_plan ann_plan refl) in
     let proved : Proved ann_plan ann_moves = all_proved ann_plan ann_moves in
-    let only = proved.only nobody clear.schedule clear.ann.clear in
+    let only = proved.only alone clear.schedule clear.ann.clear in
     record {
       proved = proved;
       only = only;
-      all = proved.all nobody clear.schedule clear.ann.clear;
-      keys = proved.keys nobody clear.schedule clear.ann.clear;
+      all = proved.all alone clear.schedule clear.ann.clear;
+      keys = proved.keys alone clear.schedule clear.ann.clear;
       accepted = clear.ann.accepted only;
       keyed = ann_keyed;
     }

@@ -49,14 +49,14 @@ use Rattle.account_table.specs.LookUps.{knows_in, machine_in, place_in, route_in
 use Rattle.sam_logon.specs.Granting.{at_level, sam_info_of}
 use Rattle.sam_logon.specs.Verdict.{judgement_of, table_after, verdict_of}
 use Rattle.world_moves.specs.Bag.{pieces_of}
-use Rattle.logon_runs.specs.First.ExampleLogon.{ann_moves, ann_plan}
-use Rattle.logon_runs.specs.First.FirstWorlds.{left_then}
-use Rattle.logon_runs.proofs.First.ExampleLogonLaws.{ann_can}
-use Rattle.logon_runs.proofs.First.FirstWorldLaws.{first_shows}
+use Rattle.logon_runs.specs.FirstLogon.ExampleLogon.{ann_moves, ann_plan}
+use Rattle.logon_runs.specs.FirstLogon.FirstWorlds.{left_then}
+use Rattle.logon_runs.proofs.FirstLogon.ExampleLogonLaws.{ann_can}
+use Rattle.logon_runs.proofs.FirstLogon.FirstWorldLaws.{first_shows}
 use Rattle.claim_examples.proofs.Runs.ExampleKeyLaws.{ann_draws, drawn_first}
 use Rattle.outside.specs.declared.action.Outcome.{Outcome}
 use Rattle.outside.specs.declared.action.Outcome.TheVariants as outcome
-use Rattle.channel_events.specs.Marks.{OneOf}
+use Rattle.wire_base.specs.Lists.{OneOf}
 use Rattle.step_notes.specs.Judged.{base_key_asked, passed_channel, stored_hash}
 use Rattle.step_notes.specs.Records.{Book, ChallengeSent, Judging, MessageMade, MessageTaken, OutcomeTold, blank}
 use Rattle.world_moves.specs.Counting.{is_in}

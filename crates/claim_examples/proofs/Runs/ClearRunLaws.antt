@@ -1,6 +1,6 @@
 -- The first logon in a world is clear, and somebody is let in.
 -- It serves `a_run_is_clear`.
-use Rattle.std.proofs.Common.{◌≡◌, ◌≢◌, ℕ, ◌+◌, ◌≤◌, arith, Bool, true, false, List, [], ◌∷◌, ◌++◌, length, Some, refl, sym, ap, subst, ◌∙◌, None}
+use Rattle.std.proofs.Common.{◌≡◌, ◌≢◌, ℕ, ◌+◌, ◌≤◌, arith, Bool, true, false, List, [], ◌∷◌, ◌++◌, length, Some, inl, refl, sym, ap, subst, ◌∙◌, None}
 use Rattle.std.specs.Prelude.{◌==◌, drop, AllPairs}
 use Rattle.std.specs.List.{AllByRecursion}
 use Rattle.std.proofs.lemmas.List.{length-append}
@@ -29,8 +29,8 @@ use Rattle.unit_security.specs.Levels.{is_signed}
 use Rattle.logon_client.specs.declared.plan.ClientPlan.{ClientPlan}
 use Rattle.logon_client.specs.declared.state.Phase.TheVariants as client_phase
 use Rattle.member_server.specs.Turns.{timestamp_of}
-use Rattle.channel_events.specs.Marks.{OneOf}
-use Rattle.channel_events.proofs.ListLaws.{all_weaker, one_found, one_weaker, one_with}
+use Rattle.wire_base.specs.Lists.{OneOf}
+use Rattle.wire_base.proofs.ListLaws.{all_weaker, one_found, one_weaker, one_with}
 use Rattle.step_notes.specs.Judged.{hash_in}
 use Rattle.logon_stubs.specs.declared.calls.LogonCall.{LogonCall}
 use Rattle.step_notes.specs.Records.{Book, IfNetwork, Judging, MessageTaken, OutcomeTold, blank}
@@ -42,7 +42,7 @@ use Rattle.world_moves.specs.declared.moves.Move.{Move}
 use Rattle.world_moves.specs.declared.moves.Move.TheVariants as move
 use Rattle.world_moves.specs.declared.plan.Plan.{Plan}
 use Rattle.world_moves.specs.declared.state.State.{State}
-use Rattle.world_moves.specs.Alone.{HandsNothingOn}
+use Rattle.world_moves.specs.Unforwarded.{IsJudgedAlone}
 use Rattle.world_moves.specs.Counting.{is_in}
 use Rattle.world_moves.specs.Choosing.{chosen_place}
 use Rattle.world_moves.specs.Forms.{HasForms}
@@ -68,36 +68,37 @@ use Rattle.logon_steps.proofs.MeetingLaws.{ack_sends, bind_sends}
 use Rattle.logon_steps.proofs.MemberAnswerLaws.{logons_end}
 use Rattle.logon_steps.proofs.MemoCallLaws.{memo_calls_go}
 use Rattle.logon_steps.proofs.TurningLaws.{response_comes, unit_comes}
-use Rattle.logon_runs.specs.Seen.AskScenes.{with_controller}
-use Rattle.logon_runs.specs.First.ExampleLogon.{ann_moves, ann_plan, ann_task}
-use Rattle.logon_runs.specs.First.FirstLogonRuns.{ComesInFirst, after_first, first_turns}
-use Rattle.logon_runs.specs.First.FirstRuns.{IsToBeOpened, channel_as, opened_at, opens_as, turned, with_pair}
-use Rattle.logon_runs.specs.First.FirstTraces.{FirstLogonSeen, asked_turn, turn_first, turn_second, turn_third, waits_for_name}
-use Rattle.logon_runs.specs.First.FirstWorlds.{CanComeIn, FirstKeyArrives, draw, echo_moves, first_asked, first_meeting, left_then, logon_moves, no_computers, turn_moves}
-use Rattle.logon_runs.specs.Seen.LinkScenes.{IsJoined, Meeting, its_link, joined, unit_down, unit_up}
+use Rattle.logon_runs.specs.Scenes.AskScenes.{with_controller}
+use Rattle.logon_runs.specs.FirstLogon.ExampleLogon.{ann_moves, ann_plan, ann_task}
+use Rattle.logon_runs.specs.FirstLogon.FirstLogonRuns.{ComesInFirst, after_first, first_turns}
+use Rattle.logon_runs.specs.FirstLogon.FirstRuns.{IsToBeOpened, channel_as, opened_at, opens_as, go_through_turn, with_pair}
+use Rattle.logon_runs.specs.FirstLogon.FirstTraces.{FirstLogonSeen, asked_turn, turn_first, turn_second, turn_third, waits_for_name}
+use Rattle.logon_runs.specs.FirstLogon.FirstWorlds.{CanComeIn, FirstKeyArrives, draw, echo_moves, first_asked, first_meeting, left_then, logon_moves, no_computers, turn_moves}
+use Rattle.logon_runs.specs.Scenes.LinkScenes.{IsJoined, Meeting, its_link, joined, unit_down, unit_up}
 use Rattle.logon_runs.specs.Runs.{Asked, connects, goes, hidden, info_asked, meets, message_for, sam_for, starts, with_moved}
-use Rattle.logon_runs.specs.Scenes.{HasFirst, Scene, Shows}
-use Rattle.logon_runs.specs.Seen.Staying.{HasSameEnds}
-use Rattle.logon_runs.specs.Seen.TurnScenes.{IsBetween, Turn, with_accounts}
-use Rattle.logon_runs.specs.Seen.TwoLinks.{HasMet}
-use Rattle.logon_runs.specs.Seen.Others.{IsStepOn}
-use Rattle.logon_runs.proofs.First.ExampleLogonLaws.{an_example_logs_on}
-use Rattle.logon_runs.proofs.First.FirstLogonRunLaws.{joined_still}
-use Rattle.logon_runs.proofs.First.FirstTraceLaws.{after_below}
-use Rattle.logon_runs.proofs.First.FirstWorldLaws.{comes_first, first_worlds_run}
-use Rattle.logon_runs.proofs.Seen.LinkSceneLaws.{found_here, heard_down, heard_up, meetings_are_seen}
+use Rattle.logon_runs.specs.Scenes.Scene.{HasFirst, Scene, Shows}
+use Rattle.logon_runs.specs.Scenes.Staying.{HasSameEnds}
+use Rattle.logon_runs.specs.Scenes.TurnScenes.{IsBetween, Turn, with_accounts}
+use Rattle.logon_runs.specs.Scenes.TwoLinks.{HasMet}
+use Rattle.logon_runs.specs.Scenes.Others.{IsStepOn}
+use Rattle.logon_runs.proofs.FirstLogon.ExampleLogonLaws.{an_example_logs_on}
+use Rattle.logon_runs.proofs.FirstLogon.FirstLogonRunLaws.{joined_still}
+use Rattle.logon_runs.proofs.FirstLogon.FirstTraceLaws.{after_below}
+use Rattle.logon_runs.proofs.FirstLogon.FirstWorldLaws.{comes_first, first_worlds_run}
+use Rattle.logon_runs.proofs.Scenes.LinkSceneLaws.{found_here, heard_down, heard_up, meetings_are_seen}
 use Rattle.logon_runs.proofs.RunLaws.{between_still, grants_so, meets_same, same_computer, timestamp_below, twice_same}
-use Rattle.logon_runs.proofs.Seen.StayingLaws.{both_same, connects_same}
-use Rattle.logon_runs.proofs.Seen.TurnSceneLaws.{heard_back}
-use Rattle.logon_runs.proofs.Seen.WaitingLaws.{waiting_comes}
-use Rattle.logon_runs.proofs.Seen.TwoLinkLaws.{turns_have_links}
-use Rattle.logon_runs.proofs.Seen.StepOnLaws.{by_step}
+use Rattle.logon_runs.proofs.Scenes.StayingLaws.{both_same, connects_same}
+use Rattle.logon_runs.proofs.Scenes.TurnSceneLaws.{heard_back}
+use Rattle.logon_runs.proofs.Scenes.WaitingLaws.{waiting_comes}
+use Rattle.logon_runs.proofs.Scenes.TwoLinkLaws.{turns_have_links}
+use Rattle.logon_runs.proofs.Scenes.StepOnLaws.{by_step}
+use Rattle.claim_examples.proofs.NeverApartExampleLaws.{ann_begins}
 use Rattle.claim_examples.specs.ClearRuns.{FirstLogonsAreClear, HasSharedChannel, IsLetIn, LetsInClearly}
 use Rattle.claim_examples.proofs.Runs.LogonTrailLaws.{FineSo, logon_trail}
 use Rattle.claim_examples.proofs.Runs.JudgedOnLaws.{HearsNoCall, OnlyTravels, travels_still}
 use Rattle.domain_world.proofs.Clear.NotedLaws.{Fine, Leads, Trail, then_on, world_at}
 use Rattle.domain_world.proofs.Completeness.UnitNotedLaws.{Came, comes_so}
-use Rattle.domain_world.proofs.Frames.MemberPlanLaws.{found_but_secret}
+use Rattle.domain_world.proofs.Moves.MemberPlanLaws.{found_but_secret}
 use Rattle.domain_world.proofs.Accepting.LetInLaws.{lets_in_who_asked}
 use Rattle.claim_examples.proofs.SequenceLaws.{one_apart}
 use Rattle.claim_examples.proofs.Runs.SharedChannelLaws.{shared_channel}
@@ -120,9 +121,9 @@ both_trails s between first later count Before Then After ran one more k b befor
 five_more : ℕ → ℕ
 five_more k = k + 1 + 1 + 1 + 1 + 1
 
-turn_then : (s : State) (later : List Move) (Before Then After : Book → Type 0) → Trail s turn_moves Before Then → Trail (turned s) later Then After → Trail s (turn_moves ++ later) Before After
+turn_then : (s : State) (later : List Move) (Before Then After : Book → Type 0) → Trail s turn_moves Before Then → Trail (go_through_turn s) later Then After → Trail s (turn_moves ++ later) Before After
 unfolding five_more
-turn_then s later Before Then After one more = both_trails s (turned s) turn_moves later five_more Before Then After (λ k. refl) one more
+turn_then s later Before Then After one more = both_trails s (go_through_turn s) turn_moves later five_more Before Then After (λ k. refl) one more
 
 -- ---- one call wraps round nothing
 
@@ -262,9 +263,9 @@ module _ (plan : Plan) (client member controller : ℕ) (can : CanComeIn plan cl
       Trail (goes (goes (meets number s0))) (turn_moves ++ turn_moves ++ turn_moves ++ later) (Fine (goes (goes (meets number s0))) 0) After
   turns_trail seen later After more =
       let s6 : State = goes (goes (meets number s0)) in
-      let s7 : State = turned s6 in
-      let s8 : State = turned s7 in
-      let s9 : State = turned s8 in
+      let s7 : State = go_through_turn s6 in
+      let s8 : State = go_through_turn s7 in
+      let s9 : State = go_through_turn s8 in
       let sent : List ℕ = seen.who.sent in
       let stamp : ℕ = timestamp_of plan.now in
       let n1 : ℕ = after j.number in
@@ -291,7 +292,7 @@ module _ (plan : Plan) (client member controller : ℕ) (can : CanComeIn plan cl
       let now_open : Computers = opened_at j can.machine one other no_computers in
       let accounts : AccountTable = cleared can.table j.task.user in
       let same6 : HasSameEnds s0 s6 = both_same s0 (meets number s0) s6 (meets_same number s0) (twice_same (meets number s0)) in
-      let same_turn : (s : State) → HasSameEnds s (turned s) = λ s. both_same s (connects s) (turned s) (connects_same s) (both_same (connects s) (goes (goes (connects s))) (turned s) (twice_same (connects s)) (twice_same (goes (goes (connects s))))) in
+      let same_turn : (s : State) → HasSameEnds s (go_through_turn s) = λ s. both_same s (connects s) (go_through_turn s) (connects_same s) (both_same (connects s) (goes (goes (connects s))) (go_through_turn s) (twice_same (connects s)) (twice_same (goes (goes (connects s))))) in
       let names6 : Names s6 t1 = names_stay s0 s6 t1 same6 (record { plan = found_but_secret plan.members member can.member_plan can.is_member_plan; reach = can.is_controller }) in
       let names7 : Names s7 t1 = names_stay s6 s7 t1 (same_turn s6) names6 in
       let names8 : Names s8 t1 = names_stay s7 s8 t1 (same_turn s7) names7 in
@@ -443,16 +444,18 @@ first_logons_are_clear = record {
   claimed = λ proved.
       let clear = ann_clear.clear in
       let schedule = an_example_logs_on.schedule in
-      let nobody : HandsNothingOn ann_plan = plain_plan ann_plan refl in
+      let alone : IsJudgedAlone ann_plan ann_moves = inl (plain_plan ann_plan refl) in
       record {
-        only = proved.only nobody schedule clear;
-        all = proved.all nobody schedule clear;
-        keys = proved.keys nobody schedule clear;
-        counts = proved.counts nobody schedule clear;
-        sequences = proved.sequences nobody schedule clear;
-        called = proved.called nobody schedule clear;
-        answered = proved.answered nobody schedule clear.apart;
+        only = proved.only alone schedule clear;
+        all = proved.all alone schedule clear;
+        keys = proved.keys alone schedule clear;
+        counts = proved.counts alone schedule clear;
+        sequences = proved.sequences alone schedule clear;
+        called = proved.called alone schedule clear;
+        answered = proved.answered alone schedule clear.apart;
+        never_apart = proved.never_apart (plain_plan ann_plan refl) schedule clear;
       };
+  begins = ann_begins;
   plain = ann_plain;
   once = ann_once;
   quiet = ann_quiet;

@@ -15,7 +15,7 @@ use Rattle.sam_logon.specs.MayLogOn.{MayLogOn}
 use Rattle.domain_controller.specs.State.{State as ControllerState}
 use Rattle.logon_client.specs.Machine as steps
 use Rattle.member_server.specs.declared.plan.MemberPlan.{MemberPlan}
-use Rattle.channel_events.proofs.ListLaws.{all_weaker}
+use Rattle.wire_base.proofs.ListLaws.{all_weaker}
 use Rattle.logon_stubs.specs.declared.calls.LogonCall.{LogonCall}
 use Rattle.step_notes.proofs.Controllers.JudgedCallLaws.{network_so}
 use Rattle.domain_world.specs.Claims.{TravelsAsZeros}
@@ -30,15 +30,15 @@ use Rattle.logon_steps.specs.Granting.{cleared}
 use Rattle.logon_steps.specs.MemoCalls.{ReplyGoes, RequestGoes}
 use Rattle.logon_steps.proofs.ClientStepLaws.{echo_are, echo_length}
 use Rattle.logon_steps.proofs.MemoCallLaws.{memo_calls_go}
-use Rattle.logon_runs.specs.First.ExampleLogon.{ann, ann_moves, ann_plan, ann_task, corp, file1, file1_plan}
-use Rattle.logon_runs.specs.First.FirstLogonRuns.{ComesInFirst, after_first, first_turns}
-use Rattle.logon_runs.specs.First.FirstWorlds.{CanComeIn, FirstKeyArrives, IsLoggedOn, draw, first_asked, first_meeting, left_then, logon_moves, no_computers}
-use Rattle.logon_runs.specs.Seen.LinkScenes.{IsJoined, Meeting}
-use Rattle.logon_runs.specs.Scenes.{Scene, Shows}
-use Rattle.logon_runs.proofs.First.ExampleLogonLaws.{an_example_logs_on, ann_can, ann_found, file1_found}
-use Rattle.logon_runs.proofs.First.FirstLogonRunLaws.{joined_still}
-use Rattle.logon_runs.proofs.First.FirstWorldLaws.{comes_first, first_shows, first_worlds_run}
-use Rattle.logon_runs.proofs.Seen.LinkSceneLaws.{meetings_are_seen}
+use Rattle.logon_runs.specs.FirstLogon.ExampleLogon.{ann, ann_moves, ann_plan, ann_task, corp, file1, file1_plan}
+use Rattle.logon_runs.specs.FirstLogon.FirstLogonRuns.{ComesInFirst, after_first, first_turns}
+use Rattle.logon_runs.specs.FirstLogon.FirstWorlds.{CanComeIn, FirstKeyArrives, IsLoggedOn, draw, first_asked, first_meeting, left_then, logon_moves, no_computers}
+use Rattle.logon_runs.specs.Scenes.LinkScenes.{IsJoined, Meeting}
+use Rattle.logon_runs.specs.Scenes.Scene.{Scene, Shows}
+use Rattle.logon_runs.proofs.FirstLogon.ExampleLogonLaws.{an_example_logs_on, ann_can, ann_found, file1_found}
+use Rattle.logon_runs.proofs.FirstLogon.FirstLogonRunLaws.{joined_still}
+use Rattle.logon_runs.proofs.FirstLogon.FirstWorldLaws.{comes_first, first_shows, first_worlds_run}
+use Rattle.logon_runs.proofs.Scenes.LinkSceneLaws.{meetings_are_seen}
 use Rattle.domain_world.specs.Claims.OneByOne.{HaveOwnMembers}
 use Rattle.world_moves.proofs.AloneLaws.{plain_plan}
 use Rattle.domain_world.proofs.Clear.ClearWalkLaws.{none_clashes}

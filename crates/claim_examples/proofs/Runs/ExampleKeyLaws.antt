@@ -30,11 +30,11 @@ use Rattle.member_server.specs.Secrets.{tried_of}
 use Rattle.logon_steps.specs.Calling.{TravelsAsZeros}
 use Rattle.logon_steps.specs.Granting.{base_key}
 use Rattle.logon_steps.specs.Meeting.{info_for}
-use Rattle.logon_runs.specs.First.ExampleLogon.{ann_plan, ann_task, file1_plan}
-use Rattle.logon_runs.specs.First.FirstWorlds.{draw, first_asked, first_channel, first_meeting}
-use Rattle.logon_runs.specs.Seen.LinkScenes.{joined}
+use Rattle.logon_runs.specs.FirstLogon.ExampleLogon.{ann_plan, ann_task, file1_plan}
+use Rattle.logon_runs.specs.FirstLogon.FirstWorlds.{draw, first_asked, first_channel, first_meeting}
+use Rattle.logon_runs.specs.Scenes.LinkScenes.{joined}
 use Rattle.logon_runs.specs.Runs.{message_for}
-use Rattle.logon_runs.proofs.First.ExampleLogonLaws.{ann_can}
+use Rattle.logon_runs.proofs.FirstLogon.ExampleLogonLaws.{ann_can}
 
 -- ---- what is drawn
 

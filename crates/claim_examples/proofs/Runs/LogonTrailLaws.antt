@@ -49,11 +49,11 @@ use Rattle.logon_steps.specs.Turning.{IsTurnCall, IsTurnReply, turn_agreed, turn
 use Rattle.logon_steps.proofs.AnsweringLaws.{calls_are_answered}
 use Rattle.logon_steps.proofs.AskingLaws.{logons_are_asked}
 use Rattle.logon_steps.proofs.TurningLaws.{turns_go_through}
-use Rattle.logon_runs.specs.First.FirstRuns.{turned}
-use Rattle.logon_runs.specs.First.FirstTraces.{TurnSeen}
-use Rattle.logon_runs.specs.First.FirstWorlds.{turn_moves}
+use Rattle.logon_runs.specs.FirstLogon.FirstRuns.{go_through_turn}
+use Rattle.logon_runs.specs.FirstLogon.FirstTraces.{TurnSeen}
+use Rattle.logon_runs.specs.FirstLogon.FirstWorlds.{turn_moves}
 use Rattle.logon_runs.specs.Runs.{connects, goes}
-use Rattle.logon_runs.specs.Seen.TurnScenes.{IsBetween, Turn, with_accounts}
+use Rattle.logon_runs.specs.Scenes.TurnScenes.{IsBetween, Turn, with_accounts}
 use Rattle.account_table.specs.AccountTable.{AccountTable}
 use Rattle.account_table.specs.LookUps.{account_in}
 use Rattle.ntlm_responses.specs.Verification.{base_key_of}
@@ -82,7 +82,7 @@ pub logon_trail : (s : State) (t : Turn) (accounts : AccountTable) (next number 
     controller_step_of (controller_at t.table t.name computers (turn_link t.link)) (event.Bytes t.link (bytes_of_call (turn_request next (logon_call t.caller o stamp info)) 5840)) moment left
     ≡ whole_step left left (action.Judged how_judged ∷ action.Send t.link (reply_bytes next (granting o stamp 0 1 sam)) ∷ []) after_step →
     ((k : ℕ) (b : Book) → OnlyTravels (key_of_channel o) (key_in_turn t info) b.judged → Holds (note (world_at k (goes (goes (goes (connects s))))) move.Onward b)) →
-    Trail s turn_moves (Fine s 0) (FineSo (turned s) 1 Holds)
+    Trail s turn_moves (Fine s 0) (FineSo (go_through_turn s) 1 Holds)
 logon_trail s t accounts next number stamp o state info sam how_judged computers kept left moment after_step Holds seen between below below_next names how is_call is_reply found in_step is_named steps holds =
     let c : Call = logon_call t.caller o stamp info in
     let r : Reply = granting o stamp 0 1 sam in
@@ -104,7 +104,7 @@ logon_trail s t accounts next number stamp o state info sam how_judged computers
     ∙ ap (λ (h : Standing). settle (judge q r h t.caller.secret) (asking_keeping t.caller h t.info t.place (after next) (Some (record { number = next; place = t.place; step = step.Reply q })) (next_of t.plan.secrets))) how
     ∙ logons_are_asked.granted t.caller o t.info sam t.place (after next) next stamp 0 1 (next_of t.plan.secrets) in
     turn_trail s t (with_accounts accounts t) next number c r computers kept left left moment 0 (Calling named asks.next_call stamp) (Some t.place)
-    (λ (b : Book). FineAnd s4 1 (Some named) b × OnlyTravels (key_of_channel o) base b.judged) (FineSo (turned s) 1 Holds) seen between below names
+    (λ (b : Book). FineAnd s4 1 (Some named) b × OnlyTravels (key_of_channel o) base b.judged) (FineSo (go_through_turn s) 1 Holds) seen between below names
     (ap (λ (h : Standing). asked_note (Some (step.Reply q)) h t.at_controller asks (wait_for asks t.place (step.Reply q))) how)
     (λ k b f.
     let j : ℕ → Judging = λ unit. judging_of (where_in_turn s3 t next c computers k unit) (turn_line t.link next) (Network _) d then_so in

@@ -23,17 +23,17 @@ use Rattle.world_moves.specs.Moving.{end_of_peer}
 use Rattle.world_moves.specs.World.{IsPlan, World, first_world, happens, run}
 use Rattle.domain_world.specs.Past.{controller_number, controller_of_plan, past, requester_in, running_in, controller_asked}
 use Rattle.logon_steps.specs.Answering.{moved}
-use Rattle.logon_runs.specs.First.FirstLogonRuns.{after_first}
-use Rattle.logon_runs.specs.First.FirstRuns.{channel_as, opened_at, opens_as}
-use Rattle.logon_runs.specs.First.FirstWorlds.{CanComeIn, FirstKeyArrives, draw, first_meeting, logon_moves, no_computers}
-use Rattle.logon_runs.specs.Seen.LinkScenes.{joined, Meeting, resting}
-use Rattle.logon_runs.specs.Seen.Staying.{HasSameEnds}
-use Rattle.logon_runs.proofs.First.FirstWorldLaws.{first_worlds_run}
+use Rattle.logon_runs.specs.FirstLogon.FirstLogonRuns.{after_first}
+use Rattle.logon_runs.specs.FirstLogon.FirstRuns.{channel_as, opened_at, opens_as}
+use Rattle.logon_runs.specs.FirstLogon.FirstWorlds.{CanComeIn, FirstKeyArrives, draw, first_meeting, logon_moves, no_computers}
+use Rattle.logon_runs.specs.Scenes.LinkScenes.{joined, Meeting, resting}
+use Rattle.logon_runs.specs.Scenes.Staying.{HasSameEnds}
+use Rattle.logon_runs.proofs.FirstLogon.FirstWorldLaws.{first_worlds_run}
 use Rattle.logon_runs.proofs.RunLaws.{same_computer}
-use Rattle.logon_runs.proofs.Seen.StayingLaws.{ends_stay}
+use Rattle.logon_runs.proofs.Scenes.StayingLaws.{ends_stay}
 use Rattle.claim_examples.specs.ClearRuns.{HasSharedChannel}
 use Rattle.step_notes.specs.Records.{OfMember}
-use Rattle.domain_world.proofs.Frames.MemberPlanLaws.{controllers_alike}
+use Rattle.domain_world.proofs.Moves.MemberPlanLaws.{controllers_alike}
 
 -- ---- a member's controller stays so
 

@@ -7,7 +7,7 @@ use Rattle.outside.specs.declared.action.CloseCause.{CloseCause}
 use Rattle.outside.specs.declared.action.Outcome.TheVariants as outcome
 use Rattle.outside.specs.declared.event.Event.TheVariants as event
 use Rattle.outside.specs.Machine.{whole_step}
-use Rattle.channel_events.specs.Marks.{OneOf}
+use Rattle.wire_base.specs.Lists.{OneOf}
 use Rattle.member_server.specs.Machine.{step_of as member_step_of}
 use Rattle.member_server.specs.State.{State as MemberState}
 use Rattle.step_notes.specs.Records.{Book, OutcomeTold}
@@ -20,10 +20,10 @@ use Rattle.world_moves.specs.Acting.{Given, Heard, done}
 use Rattle.world_moves.specs.Counting.{is_in}
 use Rattle.world_moves.specs.Moving.{onward, settle}
 use Rattle.domain_world.specs.Past.{note, note_coming, told_in}
-use Rattle.logon_runs.specs.Scenes.{HasFirst, Scene, Shows}
-use Rattle.logon_runs.specs.Seen.WaitingUnits.{Comes}
-use Rattle.logon_runs.proofs.Seen.SceneLaws.{first_comes}
-use Rattle.logon_runs.proofs.Seen.WaitingLaws.{waiting_comes}
+use Rattle.logon_runs.specs.Scenes.Scene.{HasFirst, Scene, Shows}
+use Rattle.logon_runs.specs.Scenes.WaitingUnits.{Comes}
+use Rattle.logon_runs.proofs.Scenes.SceneLaws.{first_comes}
+use Rattle.logon_runs.proofs.Scenes.WaitingLaws.{waiting_comes}
 use Rattle.domain_world.proofs.Clear.NotedLaws.{world_at}
 use Rattle.domain_world.proofs.Completeness.UnitNotedLaws.{Came, coming, state_then}
 use Rattle.domain_world.proofs.Frames.EndNoteLaws.{bytes_told}

@@ -42,13 +42,13 @@ use Rattle.logon_steps.proofs.AskingLaws.{logons_are_asked}
 use Rattle.logon_steps.proofs.CallingLaws.{calls_can_go}
 use Rattle.logon_steps.proofs.ControllerTurnLaws.{controllers_step}
 use Rattle.logon_steps.proofs.TurningLaws.{turns_go_through}
-use Rattle.logon_runs.specs.First.FirstRuns.{turned}
-use Rattle.logon_runs.specs.First.FirstTraces.{TurnSeen}
-use Rattle.logon_runs.specs.First.FirstWorlds.{turn_moves}
+use Rattle.logon_runs.specs.FirstLogon.FirstRuns.{go_through_turn}
+use Rattle.logon_runs.specs.FirstLogon.FirstTraces.{TurnSeen}
+use Rattle.logon_runs.specs.FirstLogon.FirstWorlds.{turn_moves}
 use Rattle.logon_runs.specs.Runs.{connects, goes}
-use Rattle.logon_runs.specs.Seen.Staying.{HasSameEnds}
-use Rattle.logon_runs.specs.Seen.TurnScenes.{IsBetween, Turn}
-use Rattle.logon_runs.proofs.Seen.StayingLaws.{both_same, connects_same, goes_same, reach_still}
+use Rattle.logon_runs.specs.Scenes.Staying.{HasSameEnds}
+use Rattle.logon_runs.specs.Scenes.TurnScenes.{IsBetween, Turn}
+use Rattle.logon_runs.proofs.Scenes.StayingLaws.{both_same, connects_same, goes_same, reach_still}
 use Rattle.domain_world.proofs.Completeness.HeardOnceLaws.{turn_line}
 use Rattle.domain_world.proofs.Clear.NotedLaws.{Fine, Leads, Trail, no_more_moves, then_on}
 use Rattle.domain_world.proofs.Clear.NotedOnLaws.{waits_marked}
@@ -97,7 +97,7 @@ replied_names s t names =
 pub challenge_trail : (s : State) (t : Turn) (next number : ℕ) (client server : List ℕ) (computers kept : Computers) (left : List (List ℕ)) (moment : ℕ) →
     TurnSeen s t t next number (challenge_call t.caller client) (reply.Challenge (record { challenge = server; status = 0 })) computers kept (server ∷ left) left moment → IsBetween t → number < 2 ^ 32 → next < 2 ^ 32 →
     Names s t → t.how ≡ standing.Nothing → HasShortCaller t.caller → IsBlock 8 client → IsBlock 8 server → knows_in t.table.accounts t.caller.computer ≡ true →
-    Trail s turn_moves (Fine s 0) (Fine (turned s) 0)
+    Trail s turn_moves (Fine s 0) (Fine (go_through_turn s) 0)
 challenge_trail s t next number client server computers kept left moment seen between below below_next names how caller client_block server_block knows =
     let c : Call = challenge_call t.caller client in
     let r : Reply = reply.Challenge (record { challenge = server; status = 0 }) in
@@ -113,7 +113,7 @@ challenge_trail s t next number client server computers kept left moment seen be
     turns_go_through.takes.reply channel next t.place q r is_reply
     ∙ ap (λ (h : Standing). settle (judge q r h t.caller.secret) (asking_keeping t.caller h t.info t.place (after next) (Some (record { number = next; place = t.place; step = step.Reply q })) (next_of t.plan.secrets))) how
     ∙ logons_are_asked.half t.caller t.info t.place (after next) next client server (next_of t.plan.secrets) in
-    turn_trail s t t next number c r computers kept (server ∷ left) left moment 0 Plain None (Fine s4 0) (Fine (turned s) 0) seen between below names
+    turn_trail s t t next number c r computers kept (server ∷ left) left moment 0 Plain None (Fine s4 0) (Fine (go_through_turn s) 0) seen between below names
     (ap (λ (h : Standing). asked_note (Some (step.Reply q)) h t.at_controller (channel_in_turn t next number (step.Bind c)) (wait_for (channel_in_turn t next number (step.Bind c)) t.place (step.Reply q))) how)
     (λ k b f. (call_comes s3 t (after next) next (step.Reply q) c computers (server ∷ left) left moment 0 0 _ _ between below_next is_call steps seen.call k b f.fine (λ unit first. refl) (λ unit numbers. omega arith)).has.fine)
     (λ k b fine. reply_leads s4 t (after next) next q r kept left moment 0 between below_next is_reply (replied_names s t names) seen.reply k b fine
@@ -126,7 +126,7 @@ pub opening_trail : (s : State) (t : Turn) (next number : ℕ) (client server : 
     (reply.Authenticate (record { credential = server_credential t.caller.secret client server; flags = offered_flags; status = 0 })) computers kept left left moment → IsBetween t → number < 2 ^ 32 → next < 2 ^ 32 →
     Names s t → t.how ≡ standing.Half client server → HasShortCaller t.caller → account_for t.table (auth_value t.caller client server) ≡ Some account → account.hash ≡ t.caller.secret →
     lookup same_name t.caller.computer computers.pending ≡ Some (pair_of client server) →
-    Trail s turn_moves (Fine s 0) (Fine (turned s) 0)
+    Trail s turn_moves (Fine s 0) (Fine (go_through_turn s) 0)
 opening_trail s t next number client server account computers kept left moment seen between below below_next names how caller found hash waits =
     let c : Call = auth_call t.caller client server in
     let r : Reply = reply.Authenticate (record { credential = server_credential t.caller.secret client server; flags = offered_flags; status = 0 }) in
@@ -143,7 +143,7 @@ opening_trail s t next number client server account computers kept left moment s
     turns_go_through.takes.reply channel next t.place q r is_reply
     ∙ ap (λ (h : Standing). settle (judge q r h t.caller.secret) (asking_keeping t.caller h t.info t.place (after next) (Some (record { number = next; place = t.place; step = step.Reply q })) (next_of t.plan.secrets))) how
     ∙ logons_are_asked.opened t.caller t.info t.place (after next) next offered_flags client server (next_of t.plan.secrets) refl in
-    turn_trail s t t next number c r computers kept left left moment 0 (Opening named asks.next_call) None (FineAnd s4 0 (Some named)) (Fine (turned s) 0) seen between below names
+    turn_trail s t t next number c r computers kept left left moment 0 (Opening named asks.next_call) None (FineAnd s4 0 (Some named)) (Fine (go_through_turn s) 0) seen between below names
     (ap (λ (h : Standing). asked_note (Some (step.Reply q)) h t.at_controller asks (wait_for asks t.place (step.Reply q))) how)
     (λ k b f.
     let d : Desk = desk_in_turn t computers in

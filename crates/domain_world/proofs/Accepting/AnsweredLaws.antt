@@ -27,10 +27,12 @@ use Rattle.account_table.specs.declared.account.Account.{Account}
 use Rattle.sam_logon.specs.Granting.{sam_info_of}
 use Rattle.sam_logon.specs.MayLogOn.{MayLogOn, ResponseVerifies}
 use Rattle.domain_controller.specs.Machine.{status_of}
+use Rattle.domain_controller.proofs.TrustPlaceLaws.{got_all}
 use Rattle.member_server.specs.Outcomes.{key_in, outcome_of}
 use Rattle.member_server.specs.Turns.{ending_of}
 use Rattle.member_server.specs.declared.state.Logon.{Logon}
-use Rattle.channel_events.specs.Marks.{OneOf, ReplyTo}
+use Rattle.wire_base.specs.Lists.{OneOf}
+use Rattle.channel_events.specs.Marks.{ReplyTo}
 use Rattle.step_notes.specs.ControllerNotes.{identity_by, channel_in, has_passed}
 use Rattle.step_notes.specs.Judged.{IsJudgedRight, IsNextOn, IsOfName, base_key_asked, channel_if, hash_in, passed_channel, stored_hash}
 use Rattle.step_notes.specs.Marking.{clashes, is_channel, sent_channel}
@@ -46,13 +48,13 @@ use Rattle.domain_world.specs.Claims.Grants.{IsToBeGranted}
 use Rattle.domain_world.specs.Claims.OwnChallenges.{HasOwnChallenge}
 use Rattle.domain_world.specs.Claims.Replies.{IsReplyOfOne}
 use Rattle.domain_world.specs.Past.{Past, plain_form}
-use Rattle.channel_events.proofs.ListLaws.{one_weaker, some_is}
+use Rattle.wire_base.proofs.ListLaws.{one_weaker, some_is}
 use Rattle.channel_events.proofs.SameLaws.{itself, one_channel, same_back, same_on}
 use Rattle.step_notes.proofs.Controllers.GrantVerdictLaws.{IsServedGrant, served_grant}
 use Rattle.step_notes.proofs.Controllers.JudgedCallLaws.{of_network, status_done}
 use Rattle.step_notes.proofs.Controllers.JudgedStepLaws.{same_status}
-use Rattle.domain_world.proofs.Accepting.ListPlaceLaws.{Cut, Placed, all_at, all_by_place, apart_same, cut_twice, first_found, found_is, one_at, ordered, placed}
-use Rattle.domain_world.proofs.Frames.MarkPlaceLaws.{got_beside}
+use Rattle.domain_world.proofs.Lists.ListPlaceLaws.{Cut, Placed, all_by_place, apart_same, cut_twice, first_found, found_is, one_at, ordered, placed}
+use Rattle.domain_world.proofs.Moves.MarkPlaceLaws.{got_beside}
 use Rattle.domain_world.proofs.Judgements.MovedLaws.{IsFound, passed_in}
 
 -- ---- tests
@@ -134,7 +136,7 @@ on_made : (made : Option ChannelIdentity) (channel : ChannelIdentity) → not (i
 on_made None channel is = absurd (let x = is in cc)
 on_made (Some named) channel is = record { named = named; is = refl; same = one_channel named channel (not_false (same_channel named channel) is) }
 
-made_for : (j : Judging) (channel : ChannelIdentity) (unit : ℕ) (sent : List Sent) → passed_channel j ≡ Some channel → j.source ≡ InUnit unit → clashes (passed_channel j) (unit_in j.source) sent ≡ false →
+pub made_for : (j : Judging) (channel : ChannelIdentity) (unit : ℕ) (sent : List Sent) → passed_channel j ≡ Some channel → j.source ≡ InUnit unit → clashes (passed_channel j) (unit_in j.source) sent ≡ false →
     IsMade (sent_channel (slice_get sent unit)) channel
 made_for j channel unit sent passed came none =
     on_made (sent_channel (slice_get sent unit)) channel (ap₂ (λ (c : Option ChannelIdentity) (from : Source). clashes c (unit_in from) sent) (sym passed) (sym came) ∙ none)
@@ -215,13 +217,13 @@ module _ (past : Past) (known : IsProved past) (heard : AnswersAreHeard past) (c
   all_judged = past.book.judged
 
   pub right_at : (k : ℕ) (j : Judging) → slice_get all_judged k ≡ Some j → IsJudgedRight j
-  right_at k j there = all_at IsJudgedRight all_judged k j (right_judged past.book.judgements all_judged known.credentials) there
+  right_at k j there = got_all IsJudgedRight all_judged k j (right_judged past.book.judgements all_judged known.credentials) there
 
   pub made_at : (k : ℕ) (j : Judging) (channel : ChannelIdentity) (unit : ℕ) → slice_get all_judged k ≡ Some j → passed_channel j ≡ Some channel → j.source ≡ InUnit unit →
       IsMade (sent_channel (slice_get past.book.sent unit)) channel
   made_at k j channel unit there passed came =
       made_for j channel unit past.book.sent passed came
-      (all_at (λ (one : Judging). clashes (passed_channel one) (unit_in one.source) past.book.sent ≡ false) all_judged k j (heard.passes clear.apart) there)
+      (got_all (λ (one : Judging). clashes (passed_channel one) (unit_in one.source) past.book.sent ≡ false) all_judged k j (heard.passes clear.apart) there)
 
   -- no call passes twice
   pub no_twice : (k l : ℕ) (second first : Judging) (unit : ℕ) → k < l → slice_get all_judged k ≡ Some second → slice_get all_judged l ≡ Some first → has_passed second.how ≡ true →
@@ -238,8 +240,8 @@ module _ (past : Past) (known : IsProved past) (heard : AnswersAreHeard past) (c
       (subst (λ (c : ChannelIdentity). SameChannel c early.channel) (sym one) made_early.same) in
       let is_same : same_channel late.channel early.channel ≡ true = (same_channel-Decides late.channel early.channel).1 same in
       let alike : second.asked ≡ first.asked =
-      all_at (λ (other : Judging). (u : ℕ) → second.source ≡ InUnit u → other.source ≡ InUnit u → second.asked ≡ other.asked) all_judged l first
-      (all_at (λ (j : Judging). AllByRecursion (λ (other : Judging). (u : ℕ) → j.source ≡ InUnit u → other.source ≡ InUnit u → j.asked ≡ other.asked) all_judged) all_judged k second heard.alike at_second)
+      got_all (λ (other : Judging). (u : ℕ) → second.source ≡ InUnit u → other.source ≡ InUnit u → second.asked ≡ other.asked) all_judged l first
+      (got_all (λ (j : Judging). AllByRecursion (λ (other : Judging). (u : ℕ) → j.source ≡ InUnit u → other.source ≡ InUnit u → j.asked ≡ other.asked) all_judged) all_judged k second heard.alike at_second)
       at_first unit came_second came_first in
       let first_on : passed_on early.channel first ≡ true = ap (λ (c : Option ChannelIdentity). is_channel c early.channel) early.passed ∙ itself early.channel in
       let law = known.replays early.channel cut.later cut.between cut.earlier second first cut.is first_on
@@ -291,7 +293,7 @@ module _ (past : Past) (known : IsProved past) (heard : AnswersAreHeard past) (c
   pub judged_as : (place : ℕ) (message : MessageTaken) (unit : ℕ) → slice_get past.book.messages place ≡ Some message → message.reply ≡ Some unit → IsJudgedAs past message unit
   judged_as place message unit there reply =
       let is : IsAnsweredIn past message unit =
-      all_at (λ (m : MessageTaken). (u : ℕ) → m.reply ≡ Some u → IsAnsweredIn past m u) past.book.messages place message (heard.answers clear.apart) there unit reply in
+      got_all (λ (m : MessageTaken). (u : ℕ) → m.reply ≡ Some u → IsAnsweredIn past m u) past.book.messages place message (heard.answers clear.apart) there unit reply in
       let carrier = got_beside past.book.sent past.world.state.bag unit is.sent known.marked is.there in
       let one : OneOf (λ (j : Judging). (j.reply ≡ Some unit) × IsReplyOfCall is.channel is.number is.request j (plain_form past.book.sent unit carrier.0)) all_judged =
       subst (λ (m : _). IsReplyOfOne all_judged unit (plain_form past.book.sent unit carrier.0) m) is.mark (known.replies unit carrier.0 is.sent carrier.1 is.there) in
@@ -326,15 +328,15 @@ module _ (past : Past) (known : IsProved past) (heard : AnswersAreHeard past) (c
 
   asks_at : (place : ℕ) (message : MessageTaken) (unit : ℕ) → slice_get past.book.messages place ≡ Some message → (judged_so : IsJudgedAs past message unit) → AsksForIt message judged_so.j
   asks_at place message unit there judged_so =
-      all_at (λ (j : Judging). (u : ℕ) → message.call ≡ Some u → j.source ≡ InUnit u → AsksForIt message j) all_judged judged_so.place judged_so.j
-      (all_at (λ (m : MessageTaken). AllByRecursion (λ (j : Judging). (u : ℕ) → m.call ≡ Some u → j.source ≡ InUnit u → AsksForIt m j) all_judged) past.book.messages place message heard.asks there)
+      got_all (λ (j : Judging). (u : ℕ) → message.call ≡ Some u → j.source ≡ InUnit u → AsksForIt message j) all_judged judged_so.place judged_so.j
+      (got_all (λ (m : MessageTaken). AllByRecursion (λ (j : Judging). (u : ℕ) → m.call ≡ Some u → j.source ≡ InUnit u → AsksForIt m j) all_judged) past.book.messages place message heard.asks there)
       judged_so.there judged_so.in_reply.request judged_so.in_reply.call judged_so.of.came
 
   -- what the member told of it
   told_as : (place : ℕ) (message : MessageTaken) (unit : ℕ) → slice_get past.book.messages place ≡ Some message → message.reply ≡ Some unit → (judged_so : IsJudgedAs past message unit) →
       OneOf (IsToldAsRead judged_so.in_reply.channel message judged_so.j) past.book.told
   told_as place message unit there reply judged_so =
-      all_at (λ (m : MessageTaken). (u : ℕ) → m.reply ≡ Some u → (carrier : BagUnit) (sent : Sent) (channel : ChannelIdentity) (number request k : ℕ) (j : Judging) →
+      got_all (λ (m : MessageTaken). (u : ℕ) → m.reply ≡ Some u → (carrier : BagUnit) (sent : Sent) (channel : ChannelIdentity) (number request k : ℕ) (j : Judging) →
       slice_get past.world.state.bag u ≡ Some carrier → slice_get past.book.sent u ≡ Some sent → slice_get past.book.judged k ≡ Some j → sent.mark ≡ ReplyTo channel number request →
       IsReplyOfCall channel number request j (plain_form past.book.sent u carrier) → OneOf (IsToldAsRead channel m j) past.book.told) past.book.messages place message (heard.told clear.apart) there unit reply
       judged_so.carrier judged_so.in_reply.sent judged_so.in_reply.channel judged_so.in_reply.number judged_so.in_reply.request judged_so.place judged_so.j judged_so.carried judged_so.in_reply.there judged_so.there judged_so.in_reply.mark judged_so.of
@@ -343,7 +345,7 @@ module _ (past : Past) (known : IsProved past) (heard : AnswersAreHeard past) (c
   read_at : (k : ℕ) (told : OutcomeTold) → slice_get past.book.told k ≡ Some told → is_in told.outcome ≡ true → Placed (IsLetInAsRead past told) past.book.messages
   read_at k told here is =
       placed (IsLetInAsRead past told) past.book.messages
-      (all_at (λ (t : OutcomeTold). is_in t.outcome ≡ true → OneOf (IsLetInAsRead past t) past.book.messages) past.book.told k told (heard.let_in clear.apart) here is)
+      (got_all (λ (t : OutcomeTold). is_in t.outcome ≡ true → OneOf (IsLetInAsRead past t) past.book.messages) past.book.told k told (heard.let_in clear.apart) here is)
 
   read_is : (message : MessageTaken) (told : OutcomeTold) (by : IsLetInAsRead past told message) (judged_so : IsJudgedAs past message by.unit) (asks : AsksForIt message judged_so.j) →
       told.outcome ≡ outcome_read judged_so.in_reply.channel judged_so.j message asks.call
@@ -353,7 +355,7 @@ module _ (past : Past) (known : IsProved past) (heard : AnswersAreHeard past) (c
 
   granted_at : (k : ℕ) (j : Judging) (c : LogonCall) → slice_get all_judged k ≡ Some j → j.asked ≡ Network c → (j.how ≡ Some (judged.Passed 0)) ↔ IsToBeGranted j c
   granted_at k j c there asks =
-      of_network (λ (call : LogonCall). (j.how ≡ Some (judged.Passed 0)) ↔ IsToBeGranted j call) j.asked c asks (all_at _ all_judged k j known.grants there).granted
+      of_network (λ (call : LogonCall). (j.how ≡ Some (judged.Passed 0)) ↔ IsToBeGranted j call) j.asked c asks (got_all _ all_judged k j known.grants there).granted
 
   granted_so : (message : MessageTaken) (k : ℕ) (j : Judging) → slice_get all_judged k ≡ Some j → AsksForIt message j → j.how ≡ Some (judged.Passed 0) → IsGrantedBy message j
   granted_so message k j there asks how =
@@ -396,7 +398,7 @@ module _ (past : Past) (known : IsProved past) (heard : AnswersAreHeard past) (c
       let message : MessageTaken = one.item in
       let by : IsLetInAsRead past told message = one.is in
       let judged_so : IsJudgedAs past message by.unit = judged_as one.place message by.unit one.there by.reply in
-      let own : HasOwnChallenge past message = all_at (HasOwnChallenge past) past.book.messages one.place message known.own.each one.there in
+      let own : HasOwnChallenge past message = got_all (HasOwnChallenge past) past.book.messages one.place message known.own.each one.there in
       let asks : AsksForIt message judged_so.j = asks_at one.place message by.unit one.there judged_so in
       let how : judged_so.j.how ≡ Some (judged.Passed 0) = passes_at message told by judged_so asks is in
       one_at (λ (m : MessageTaken). (m.link ≡ told.link) × (m.member ≡ told.member) × IsAccepted past m) past.book.messages one.place message one.there (
@@ -479,12 +481,12 @@ module _ (past : Past) (known : IsProved past) (heard : AnswersAreHeard past) (c
       crypt_twice (channel_key channel) (granted_key asks.call account) (λ zeros. lost (sym base ∙ zeros)) in
       let hash : made.plan.hash ≡ stored_hash judged_so.j (info_asked message) = subst (λ (x : Judging). made.plan.hash ≡ stored_hash x (info_asked message)) same_j is.hash in
       let granted : SamInfo = sam_info_of judged_so.j.table judged_so.j.name account (granted_key asks.call account) judged_so.j.moment in
-      let key = all_at (λ (m : MessageMade). sent.link ≡ message.link → m.challenge ≡ sent.bytes → m.bytes ≡ message.bytes → (info : SamInfo) →
+      let key = got_all (λ (m : MessageMade). sent.link ≡ message.link → m.challenge ≡ sent.bytes → m.bytes ≡ message.bytes → (info : SamInfo) →
       info.key ≡ base_key_of m.plan.hash (info_asked message).user (info_asked message).domain (info_asked message).nt → key_in info message.logon ≡ m.key) past.book.made d made
-      (all_at (λ (s : ChallengeSent). AllByRecursion (λ (m : MessageMade). s.link ≡ message.link → m.challenge ≡ s.bytes → m.bytes ≡ message.bytes → (info : SamInfo) →
+      (got_all (λ (s : ChallengeSent). AllByRecursion (λ (m : MessageMade). s.link ≡ message.link → m.challenge ≡ s.bytes → m.bytes ≡ message.bytes → (info : SamInfo) →
       info.key ≡ base_key_of m.plan.hash (info_asked message).user (info_asked message).domain (info_asked message).nt → key_in info message.logon ≡ m.key) past.book.made)
       past.book.challenges c sent
-      (all_at (λ (t : MessageTaken). AllByRecursion (λ (s : ChallengeSent). AllByRecursion (λ (m : MessageMade). s.link ≡ t.link → m.challenge ≡ s.bytes → m.bytes ≡ t.bytes →
+      (got_all (λ (t : MessageTaken). AllByRecursion (λ (s : ChallengeSent). AllByRecursion (λ (m : MessageMade). s.link ≡ t.link → m.challenge ≡ s.bytes → m.bytes ≡ t.bytes →
       (info : SamInfo) → info.key ≡ base_key_of m.plan.hash (info_asked t).user (info_asked t).domain (info_asked t).nt → key_in info t.logon ≡ m.key) past.book.made)
       past.book.challenges) past.book.messages place message heard.keys there) at_sent) at_made is.link is.challenge is.bytes
       (record granted { key = crypt_key (channel_key channel) (crypt_key (channel_key channel) granted.key) })

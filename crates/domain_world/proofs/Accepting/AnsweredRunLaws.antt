@@ -10,7 +10,7 @@ use Rattle.domain_world.specs.Claims.{ShortResponsesServeOnce}
 use Rattle.domain_world.specs.Past.{past}
 use Rattle.domain_world.proofs.Accepting.ShortResponseLaws.{short_once}
 use Rattle.domain_world.proofs.Challenges.OwnChallengeLaws.{messages_own}
-use Rattle.domain_world.proofs.Frames.MarkedLaws.{each_marked}
+use Rattle.domain_world.proofs.Moves.MarkedLaws.{each_marked}
 use Rattle.domain_world.proofs.Judgements.GrantLaws.{grants_who_may}
 use Rattle.domain_world.proofs.Judgements.UserHashLaws.{users_stay}
 use Rattle.domain_world.proofs.Judgements.ReplayLaws.{replays_by_sum}

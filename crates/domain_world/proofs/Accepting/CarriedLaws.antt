@@ -30,9 +30,10 @@ use Rattle.domain_world.specs.Accepting.Carried.{AnswersAreInTurn, AsksOf, Calls
 use Rattle.step_notes.specs.HeardWhole.{call_read}
 use Rattle.domain_world.specs.Claims.Replies.{IsReplyOfOne, RepliesCarryTheirJudgement}
 use Rattle.domain_world.specs.Past.{Past, plain_form}
-use Rattle.channel_events.proofs.ListLaws.{some_is}
+use Rattle.wire_base.proofs.ListLaws.{some_is}
 use Rattle.channel_events.proofs.SameLaws.{one_channel}
-use Rattle.domain_world.proofs.Accepting.ListPlaceLaws.{all_at, all_by_place, placed}
+use Rattle.domain_world.proofs.Lists.ListPlaceLaws.{all_by_place, placed}
+use Rattle.domain_controller.proofs.TrustPlaceLaws.{got_all}
 
 -- ---- bytes are those of one whole unit alone
 
@@ -94,7 +95,7 @@ module _ (past : Past) where
       asked_is one.asked other.asked (sym is.carried ∙ ap (λ (u : RpcUnit). call_carried u.body) units ∙ also.carried)
 
   judged_at : JudgedAsCarried past → (k : ℕ) (j : Judging) (n : ℕ) → slice_get past.book.judged k ≡ Some j → j.source ≡ InUnit n → IsJudgedAsCarried past j n
-  judged_at judged k j n there came = all_at (λ (one : Judging). (u : ℕ) → one.source ≡ InUnit u → IsJudgedAsCarried past one u) past.book.judged k j judged there n came
+  judged_at judged k j n there came = got_all (λ (one : Judging). (u : ℕ) → one.source ≡ InUnit u → IsJudgedAsCarried past one u) past.book.judged k j judged there n came
 
   heard_alike : JudgedAsCarried past → AllByRecursion (λ (one : Judging). AllByRecursion (λ (other : Judging). (unit : ℕ) → one.source ≡ InUnit unit → other.source ≡ InUnit unit →
       one.asked ≡ other.asked) past.book.judged) past.book.judged
@@ -122,7 +123,7 @@ module _ (past : Past) where
       past.book.messages
       (λ k message at. all_by_place (λ (j : Judging). (unit : ℕ) → message.call ≡ Some unit → j.source ≡ InUnit unit → AsksForIt message j) past.book.judged
       (λ l j also unit call came. asked_as message j unit
-      (all_at (λ (m : MessageTaken). (n : ℕ) → m.call ≡ Some n → IsCalledFor past m n) past.book.messages k message called at unit call) (judged_at judged l j unit also came)))
+      (got_all (λ (m : MessageTaken). (n : ℕ) → m.call ≡ Some n → IsCalledFor past m n) past.book.messages k message called at unit call) (judged_at judged l j unit also came)))
 
   -- ---- an answer is to the call of its message
 
@@ -167,15 +168,20 @@ module _ (past : Past) where
         requested_by one.mark one channel j request number is refl there (not_false (is_channel (mark_channel one.mark) channel) on)
         (λ isn't. whole request is.carrier one is.there there isn't) numbered
 
+    -- of a call that passed on the channel
+    pub called : (k : ℕ) (channel : ChannelIdentity) (j : Judging) (request number : ℕ) → slice_get past.book.judged k ≡ Some j → passed_channel j ≡ Some channel → j.source ≡ InUnit request →
+        j.number ≡ number → IsRequested channel number request
+    called k channel j request number at passed came numbered =
+        let free : clashes (passed_channel j) (unit_in j.source) past.book.sent ≡ false =
+        got_all (λ (one : Judging). clashes (passed_channel one) (unit_in one.source) past.book.sent ≡ false) past.book.judged k j (passes clear) at in
+        requested_in (slice_get past.book.sent request) k channel j request number at came refl
+        (sym (ap (λ (from : Source). clashes (passed_channel j) (unit_in from) past.book.sent) came
+        ∙ ap (λ (c : Option ChannelIdentity). clashes c (Some request) past.book.sent) passed) ∙ free)
+        numbered
+
     pub requested : (k : ℕ) (channel : ChannelIdentity) (j : Judging) (request number : ℕ) (bytes : List ℕ) → slice_get past.book.judged k ≡ Some j → IsReplyOfCall channel number request j bytes →
         IsRequested channel number request
-    requested k channel j request number bytes at reply =
-        let free : clashes (passed_channel j) (unit_in j.source) past.book.sent ≡ false =
-        all_at (λ (one : Judging). clashes (passed_channel one) (unit_in one.source) past.book.sent ≡ false) past.book.judged k j (passes clear) at in
-        requested_in (slice_get past.book.sent request) k channel j request number at reply.came refl
-        (sym (ap (λ (from : Source). clashes (passed_channel j) (unit_in from) past.book.sent) reply.came
-        ∙ ap (λ (c : Option ChannelIdentity). clashes c (Some request) past.book.sent) reply.passed) ∙ free)
-        reply.call
+    requested k channel j request number bytes at reply = called k channel j request number at reply.passed reply.came reply.call
 
     module _ (apart : OpeningsAreApart past) where
       -- the unit that was taken was made as the reply to the call, on a channel with the controller of which is asked
@@ -256,7 +262,7 @@ module _ (past : Past) where
       all_answered turns =
           all_by_place (λ (message : MessageTaken). (unit : ℕ) → message.reply ≡ Some unit → IsAnsweredIn past message unit) past.book.messages
           (λ k message at unit reply. answered message unit
-          (all_at (λ (m : MessageTaken). (u : ℕ) → m.reply ≡ Some u → IsAnsweredInTurn past m u) past.book.messages k message (turns clear) at unit reply))
+          (got_all (λ (m : MessageTaken). (u : ℕ) → m.reply ≡ Some u → IsAnsweredInTurn past m u) past.book.messages k message (turns clear) at unit reply))
 
 pub carried_heard : CarriedCallsAreHeard
 carried_heard = record {

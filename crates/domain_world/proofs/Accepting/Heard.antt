@@ -1,5 +1,6 @@
 -- Units as they are made, marked, heard, judged and read back.
 pub mod AnswerReadLaws
+pub mod BoundOpeningLaws
 pub mod HeardFrontLaws
 pub mod HeardUnitLaws
 pub mod JudgedRunLaws

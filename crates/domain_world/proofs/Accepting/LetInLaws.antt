@@ -25,7 +25,8 @@ use Rattle.member_server.specs.declared.state.Logon.{Logon}
 use Rattle.member_server.specs.declared.state.Running.{Running}
 use Rattle.channel_turns.specs.declared.state.TurnTalk.{TurnTalk}
 use Rattle.member_server.proofs.KeptLaws.{lets_in_the_granted}
-use Rattle.channel_events.specs.Marks.{OneOf}
+use Rattle.wire_base.specs.Lists.{OneOf}
+use Rattle.wire_base.proofs.ListLaws.{one_weaker}
 use Rattle.step_notes.specs.MemberNotes.{link_units, message_note, taken_link, turn_units, turn_units_by, turn_units_in, turn_units_on}
 use Rattle.step_notes.specs.Records.{Book, InUnit, MessageTaken, OutcomeTold, Outside, Source, blank, unit_in, OfMember}
 use Rattle.step_notes.specs.Served.{units_if_taken}
@@ -48,11 +49,11 @@ use Rattle.step_notes.proofs.Members.KeptLogonLaws.{HasFor, IfDialled, IsFor, Ke
 use Rattle.step_notes.proofs.Members.TurnAnswerLaws.{HasAnswer, link_answers, none_whole}
 use Rattle.step_notes.proofs.Members.UnservedLaws.{LinksIn, bytes_took, took_known}
 use Rattle.domain_world.proofs.Accepting.LetInStepLaws.{change_silent, changed_keeps, IfLetIn, IsAcceptedBy, IsDialledBy, Keeps, KeepsIn, Meets, NotLate, OfLetIn, calm_meets, end_silent, given_append, given_so, hear_keeps, last_accepted, link_made, member_put, messages_so, nobody_so, others_tell, renewed_keeps, side_meets, step_told}
-use Rattle.domain_world.proofs.Frames.ComingLaws.{CameFrom}
-use Rattle.domain_world.proofs.Accepting.Messages.MessageNoteLaws.{AreCarried, IsAnsweredFor, for_stable, let_in_stable, notes_grow, one_so, turns_answer}
+use Rattle.domain_world.proofs.Moves.ComingLaws.{CameFrom}
+use Rattle.domain_world.proofs.Messages.MessageNoteLaws.{AreCarried, IsAnsweredFor, for_stable, let_in_stable, notes_grow, turns_answer}
 use Rattle.domain_world.proofs.Frames.TurnFrameLaws.{turns_told}
 use Rattle.domain_world.proofs.Frames.EndFrameLaws.{Ends, KeepsEndsBy, every_ends_after, ends_in}
-use Rattle.domain_world.proofs.Frames.NoBytesLaws.{IsNoBytes}
+use Rattle.domain_world.proofs.Moves.NoBytesLaws.{IsNoBytes}
 use Rattle.domain_world.proofs.Frames.EveryStepLaws.{every_noted as noted_by}
 use Rattle.domain_world.proofs.Frames.MoveKeepLaws.{every}
 use Rattle.domain_world.proofs.Frames.EventLaws.{calm_no_bytes}
@@ -150,7 +151,8 @@ module _ (at member : ℕ) (links : List Route) (messages : List MessageTaken) (
       let units : List (ServedUnit AtTurn TurnTalk) = turn_units_on running.dialling link piece running left in
       let one : HasFor (IsLate link links member) at member messages granted.place granted.logon =
       each_found (HasFor (IsLate link links member) at member messages) granted.place running.logons.asked granted.logon granted.kept kept.0 in
-      one_so (IsAnsweredFor (IsLate link links member) at member granted.place granted.logon) (IsLetInBy (record { at = at; member = member; link = on; outcome = how }))
+      one_weaker (IsAnsweredFor (IsLate link links member) at member granted.place granted.logon) (IsLetInBy (record { at = at; member = member; link = on; outcome = how }))
+      (note_turns controller units (Some unit) numbers b).messages
       (λ message answered. record {
         link = answered.is_for.link ∙ sym granted.number;
         member = answered.is_for.same_member;
@@ -160,7 +162,6 @@ module _ (at member : ℕ) (links : List Route) (messages : List MessageTaken) (
         info = granted.info;
         outcome = granted.is ∙ ap (λ (logon : Logon). outcome_of (ending.Granted granted.info) logon) (sym answered.is_for.same_logon);
       })
-      (note_turns controller units (Some unit) numbers b).messages
       (turns_answer (IsLate link links member) at member granted.place granted.logon controller units unit numbers b (has_answer on how granted) (grown granted.place granted.logon one))
 
   told_known : (answer : Result (List Action) StepRefused) (unit : Option ℕ) → IsCarried unit links link → AllByRecursion (IsTold running (event.Bytes link piece)) (actions_by answer) →
@@ -237,7 +238,7 @@ later_keeps : (X Y : List Route → ℕ → Type 0) (at : ℕ) (messages : List 
     Keeps Y (at + 1) messages members links
 later_keeps X Y at messages members links kept =
     messages_so X Y at (at + 1) messages messages members links
-    (λ k place logon one. one_so (IsFor (X links k) at k place logon) (IsFor (Y links k) (at + 1) k place logon) (later_for (X links k) (Y links k) at k place logon) messages one) kept
+    (λ k place logon one. one_weaker (IsFor (X links k) at k place logon) (IsFor (Y links k) (at + 1) k place logon) messages (later_for (X links k) (Y links k) at k place logon) one) kept
 
 -- an end has heard what is no bytes
 calm_goes : (at : ℕ) (on : Option Coming) (end : EndId) (what : Event) (s : State) (given : Given) (b : Book) → IsNoBytes what → Meets end s.links what →

@@ -27,14 +27,14 @@ use Rattle.world_moves.specs.Links.{acceptor_of, dialler_of}
 use Rattle.world_moves.specs.Moving.{renewed, changed}
 use Rattle.world_moves.specs.Counting.{is_in}
 use Rattle.world_moves.proofs.EndKindLaws.{IfMember, is_member, members_by, renew_by, step_by}
-use Rattle.channel_events.proofs.ListLaws.{got_append, got_last}
+use Rattle.wire_base.proofs.ListLaws.{got_append, got_last}
 use Rattle.step_notes.proofs.Members.KeptLogonLaws.{Dials, HasFor, KeptIn, kept_so, step_keeps}
 use Rattle.step_notes.proofs.Members.TurnAnswerLaws.{none_whole}
 use Rattle.step_notes.proofs.Members.UnservedLaws.{LinksIn, Opens, in_so, step_known}
-use Rattle.domain_world.proofs.Challenges.MessageOnceLaws.{set_cases}
-use Rattle.domain_world.proofs.Frames.NoBytesLaws.{IsNoBytes}
+use Rattle.domain_world.proofs.Messages.MessageOnceLaws.{set_cases}
+use Rattle.domain_world.proofs.Moves.NoBytesLaws.{IsNoBytes}
 use Rattle.domain_world.proofs.Frames.EndFrameLaws.{IsCalm, by_calm}
-use Rattle.domain_world.proofs.Frames.OpenMadeLaws.{IsOnSide}
+use Rattle.domain_world.proofs.Moves.OpenMadeLaws.{IsOnSide}
 use Rattle.domain_world.proofs.Frames.EventLaws.{by_no_bytes}
 use Rattle.world_moves.proofs.ChangeLaws.{by_change, member_begun}
 

@@ -12,13 +12,14 @@ use Rattle.outside.proofs.CounterLaws.{challenges_from-none}
 use Rattle.logon_client.specs.declared.plan.ClientPlan.{ClientPlan}
 use Rattle.end_links.specs.Serving.{ServedUnit}
 use Rattle.domain_controller.specs.State.{State as ControllerState}
+use Rattle.domain_controller.proofs.TrustPlaceLaws.{got_all}
 use Rattle.member_server.specs.State.{State as MemberState}
 use Rattle.member_server.specs.Turns.{AtTurn}
 use Rattle.member_server.specs.declared.state.Logon.{Logon}
 use Rattle.member_server.specs.declared.state.Running.{Running}
 use Rattle.channel_turns.specs.declared.state.TurnTalk.{TurnTalk}
 use Rattle.channel_events.specs.Marks.{Mark, Opened, ReplyTo}
-use Rattle.channel_events.proofs.ListLaws.{all_weaker, got_append, one_found, some_is}
+use Rattle.wire_base.proofs.ListLaws.{all_weaker, got_append, one_found, some_is}
 use Rattle.step_notes.specs.CallLogons.{AsksUnlessStopped}
 use Rattle.step_notes.specs.ControllerNotes.{Answered, has_passed, units_of_controller}
 use Rattle.step_notes.specs.Judged.{IsJudgedRight}
@@ -49,38 +50,38 @@ use Rattle.domain_world.proofs.Accepting.AnsweredLaws.{StandsFor, channel_there}
 use Rattle.domain_world.proofs.Accepting.Heard.JudgedRunLaws.{judged_first, judged_keeps}
 use Rattle.domain_world.proofs.Accepting.Heard.JudgedUnitLaws.{AreOwn, JudgedFact}
 use Rattle.domain_world.proofs.Accepting.LetInStepLaws.{IsAcceptedBy, IsDialledBy}
-use Rattle.domain_world.proofs.Accepting.ListPlaceLaws.{Placed, all_at, all_by_place, apart_same, placed}
-use Rattle.domain_world.proofs.Accepting.Quiet.QuietRunLaws.{has_bytes, quiet_first}
-use Rattle.domain_world.proofs.Accepting.Quiet.QuietStepLaws.{QuietFact, QuietState}
+use Rattle.domain_world.proofs.Lists.ListPlaceLaws.{Placed, all_by_place, apart_same, placed}
+use Rattle.domain_world.proofs.Quiet.QuietRunLaws.{has_bytes, quiet_first}
+use Rattle.domain_world.proofs.Quiet.QuietStepLaws.{QuietFact, QuietState}
 use Rattle.domain_world.proofs.Accepting.Turns.TurnFactLaws.{SameEnds}
 use Rattle.domain_world.proofs.Accepting.Turns.TurnQuietLaws.{change_same, renew_same, same_ends, step_same}
 use Rattle.domain_world.proofs.Accepting.Turns.TurnRunLaws.{Known, KnownAction, drawn_differ, known_keep}
-use Rattle.domain_world.proofs.Challenges.MessageApartLaws.{messages_apart}
+use Rattle.domain_world.proofs.Messages.MessageApartLaws.{messages_apart}
 use Rattle.domain_world.proofs.Challenges.OwnChallengeLaws.{messages_own}
-use Rattle.domain_world.proofs.Frames.AllLaws.{all_join}
+use Rattle.domain_world.proofs.Lists.AllLaws.{all_join, all_zip}
 use Rattle.domain_world.proofs.Frames.BagFrameLaws.{IsServer}
-use Rattle.domain_world.proofs.Frames.ComingLaws.{CameFrom, IsPieceOf}
-use Rattle.domain_world.proofs.Frames.DrawnRunLaws.{draws_differ, given_all}
+use Rattle.domain_world.proofs.Moves.ComingLaws.{CameFrom, IsPieceOf}
+use Rattle.domain_world.proofs.Moves.DrawnRunLaws.{draws_differ, given_all}
 use Rattle.domain_world.proofs.Frames.EndNoteLaws.{accepted_so, acted_by, judged_so}
-use Rattle.domain_world.proofs.Frames.FrontLaws.{controller_front, controller_way}
-use Rattle.domain_world.proofs.Frames.MarkNumberLaws.{AtNumbers, IsGiven, IsMarkedAs, IsMarkedAt, given_at, given_marked, marks_numbered, numbers_enough, numbers_so}
-use Rattle.domain_world.proofs.Frames.OpenMadeLaws.{IsAtSide}
+use Rattle.domain_world.proofs.Moves.FrontLaws.{controller_front, controller_way}
+use Rattle.domain_world.proofs.Moves.MarkNumberLaws.{AtNumbers, IsGiven, IsMarkedAs, IsMarkedAt, given_at, given_marked, marks_numbered, numbers_enough, numbers_so}
+use Rattle.domain_world.proofs.Moves.OpenMadeLaws.{IsAtSide}
 use Rattle.domain_world.proofs.Frames.StepFrameLaws.{AnyAction, BothFacts, BothFine, HasHeard, HoldsAfterRun, Keeps, RunFact, WhileFew, all_any, join, run_keeps, while_few, with_side}
 use Rattle.domain_world.proofs.Frames.TurnFrameLaws.{turns_sent}
 use Rattle.domain_world.proofs.Judgements.JudgedLaws.{judged_rightly, onto_hold}
-use Rattle.domain_world.proofs.Judgements.OpeningMarkLaws.{HasAnswer, accepts_so, all_answered, answer_so, onto_all}
+use Rattle.domain_world.proofs.Judgements.Openings.OpeningMarkLaws.{HasAnswer, accepts_so, all_answered, answer_so, onto_all}
 use Rattle.domain_world.proofs.Judgements.ReplyMarkLaws.{HasReply, answers_replied, answers_so, reply_so}
-use Rattle.domain_world.proofs.Requests.AnsweredCallLaws.{IfAnswered, IsCalledOn}
-use Rattle.domain_world.proofs.Requests.CallFrameLaws.{first_calls, schedules_called}
-use Rattle.domain_world.proofs.Requests.CallHoldsLaws.{CallsHold}
-use Rattle.domain_world.proofs.Requests.CallMarkLaws.{IsCallMark, turns_marked}
-use Rattle.domain_world.proofs.Requests.CallStepLaws.{most_steps}
-use Rattle.domain_world.proofs.Requests.CallWholeLaws.{IsReadyUnit, ReadyIn, turns_ready}
-use Rattle.domain_world.proofs.Requests.CalledRunLaws.{all_zip, quiet_side}
-use Rattle.domain_world.proofs.Requests.CalledUnitLaws.{AllGood, IsGood, good_so, notes_good, ready_on, turns_good}
-use Rattle.domain_world.proofs.Requests.OutStepLaws.{HasOne, IsOf}
-use Rattle.domain_world.proofs.Requests.WholeOutLaws.{AreAccepted, one_acceptor}
-use Rattle.domain_world.proofs.Frames.RequesterLaws.{asked_stays}
+use Rattle.domain_world.proofs.Calls.AnsweredCallLaws.{IfAnswered, IsCalledOn}
+use Rattle.domain_world.proofs.Calls.CallFrameLaws.{first_calls, schedules_called}
+use Rattle.domain_world.proofs.Calls.CallHoldsLaws.{CallsHold}
+use Rattle.domain_world.proofs.Calls.CallMarkLaws.{IsCallMark, turns_marked}
+use Rattle.domain_world.proofs.Calls.CallStepLaws.{most_steps}
+use Rattle.domain_world.proofs.Calls.CallWholeLaws.{IsReadyUnit, ReadyIn, turns_ready}
+use Rattle.domain_world.proofs.Calls.CalledRunLaws.{quiet_side}
+use Rattle.domain_world.proofs.Calls.CalledUnitLaws.{AllGood, IsGood, good_so, notes_good, ready_on, turns_good}
+use Rattle.domain_world.proofs.Calls.OutStepLaws.{HasOne, IsOf}
+use Rattle.domain_world.proofs.Calls.WholeOutLaws.{AreAccepted, one_acceptor}
+use Rattle.domain_world.proofs.Moves.RequesterLaws.{asked_stays}
 use Rattle.world_moves.proofs.KeptLaws.{plans_alike}
 
 -- ---- what is to hold
@@ -389,7 +390,7 @@ answers_have_calls plan moves nobody schedule =
     let messages : List MessageTaken = (past plan moves).book.messages in
     all_by_place (λ (message : MessageTaken). (u : ℕ) → message.reply ≡ Some u → (n : ℕ) × (message.call ≡ Some n)) messages (λ k message there u reply.
     let found : Placed (IsCalledOn message.link) messages =
-    placed (IsCalledOn message.link) messages (all_at (IfAnswered messages) messages k message (schedules_called plan moves nobody schedule) there u reply) in
+    placed (IsCalledOn message.link) messages (got_all (IfAnswered messages) messages k message (schedules_called plan moves nobody schedule) there u reply) in
     let same : found.item ≡ message =
     apart_same (λ (one : MessageTaken). one.link) messages (messages_apart plan moves) found.place k found.item message found.there there found.is.0 in
     (found.is.1, ap (λ (one : MessageTaken). one.call) (sym same) ∙ found.is.2))

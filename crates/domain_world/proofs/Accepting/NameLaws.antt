@@ -12,10 +12,11 @@ use Rattle.logon_stubs.specs.declared.info.Verdict.TheVariants.{Granted, Status}
 use Rattle.account_table.specs.LookUps.{account_in}
 use Rattle.sam_logon.specs.Granting.{sam_info_of}
 use Rattle.domain_controller.specs.Machine.{status_of}
+use Rattle.domain_controller.proofs.TrustPlaceLaws.{got_all}
 use Rattle.member_server.specs.Outcomes.{outcome_of}
 use Rattle.member_server.specs.Turns.{ending_of}
 use Rattle.member_server.specs.declared.state.Logon.{Logon}
-use Rattle.channel_events.specs.Marks.{OneOf}
+use Rattle.wire_base.specs.Lists.{OneOf}
 use Rattle.step_notes.specs.ControllerNotes.{has_passed}
 use Rattle.logon_stubs.specs.declared.calls.LogonCall.{LogonCall}
 use Rattle.step_notes.specs.Records.{InUnit, Judging, MessageTaken, OutcomeTold}
@@ -28,8 +29,8 @@ use Rattle.domain_world.specs.Past.{Past, plain_form}
 use Rattle.step_notes.proofs.Controllers.GrantVerdictLaws.{IsServedGrant, served_grant}
 use Rattle.step_notes.proofs.Controllers.JudgedCallLaws.{of_network, status_done}
 use Rattle.domain_world.proofs.Accepting.AnsweredLaws.{are_answers, passed_of, status_zero}
-use Rattle.domain_world.proofs.Accepting.ListPlaceLaws.{Placed, all_at, all_by_place, one_at, placed}
-use Rattle.domain_world.proofs.Frames.MarkPlaceLaws.{got_beside}
+use Rattle.domain_world.proofs.Lists.ListPlaceLaws.{Placed, all_by_place, one_at, placed}
+use Rattle.domain_world.proofs.Moves.MarkPlaceLaws.{got_beside}
 
 -- the names of what was granted are told, whatever its key
 named_by : (key : List ℕ) (verdict : Verdict) (logon : Logon) (info : SamInfo) → verdict ≡ Granted info →
@@ -48,7 +49,7 @@ module _ (past : Past) (known : IsProved past) (heard : AnswersAreHeard past) (c
   unfolding sam_info_of
   named_so told place message there is by =
       let answered : IsAnsweredIn past message by.unit =
-      all_at (λ (m : MessageTaken). (u : ℕ) → m.reply ≡ Some u → IsAnsweredIn past m u) past.book.messages place message (heard.answers calm) there by.unit by.reply in
+      got_all (λ (m : MessageTaken). (u : ℕ) → m.reply ≡ Some u → IsAnsweredIn past m u) past.book.messages place message (heard.answers calm) there by.unit by.reply in
       let carrier = got_beside past.book.sent past.world.state.bag by.unit answered.sent known.marked answered.there in
       let one : OneOf (λ (j : Judging). (j.reply ≡ Some by.unit) × IsReplyOfCall answered.channel answered.number answered.request j (plain_form past.book.sent by.unit carrier.0)) past.book.judged =
       subst (λ (m : _). IsReplyOfOne past.book.judged by.unit (plain_form past.book.sent by.unit carrier.0) m) answered.mark (known.replies by.unit carrier.0 answered.sent carrier.1 answered.there) in
@@ -57,8 +58,8 @@ module _ (past : Past) (known : IsProved past) (heard : AnswersAreHeard past) (c
       let of : IsReplyOfCall answered.channel answered.number answered.request j (plain_form past.book.sent by.unit carrier.0) = at.is.1 in
       let passed : has_passed j.how ≡ true = passed_of (has_passed j.how) j answered.channel refl of.passed in
       let asks : AsksForIt message j =
-      all_at (λ (i : Judging). (u : ℕ) → message.call ≡ Some u → i.source ≡ InUnit u → AsksForIt message i) past.book.judged at.place j
-      (all_at (λ (m : MessageTaken). AllByRecursion (λ (i : Judging). (u : ℕ) → m.call ≡ Some u → i.source ≡ InUnit u → AsksForIt m i) past.book.judged) past.book.messages place message heard.asks there)
+      got_all (λ (i : Judging). (u : ℕ) → message.call ≡ Some u → i.source ≡ InUnit u → AsksForIt message i) past.book.judged at.place j
+      (got_all (λ (m : MessageTaken). AllByRecursion (λ (i : Judging). (u : ℕ) → m.call ≡ Some u → i.source ≡ InUnit u → AsksForIt m i) past.book.judged) past.book.messages place message heard.asks there)
       at.there answered.request answered.call of.came in
       let c : LogonCall = asks.call in
       let outcome : told.outcome ≡ outcome_read answered.channel j message c =
@@ -85,5 +86,5 @@ module _ (past : Past) (known : IsProved past) (heard : AnswersAreHeard past) (c
       (λ k told here is.
       let one : Placed (IsLetInAsRead past told) past.book.messages =
       placed (IsLetInAsRead past told) past.book.messages
-      (all_at (λ (t : OutcomeTold). is_in t.outcome ≡ true → OneOf (IsLetInAsRead past t) past.book.messages) past.book.told k told (heard.let_in calm) here is) in
+      (got_all (λ (t : OutcomeTold). is_in t.outcome ≡ true → OneOf (IsLetInAsRead past t) past.book.messages) past.book.told k told (heard.let_in calm) here is) in
       one_at (its_names told) past.book.messages one.place one.item one.there (named_so told one.place one.item one.there is one.is))

@@ -19,8 +19,8 @@ use Rattle.world_moves.specs.Ends.{fresh_controller}
 use Rattle.domain_world.specs.Accepting.Runs.{AskedIsOut, IsQuietLink, IsQuietTurn, NumbersSuffice, RunsBegin, RunsStandSo, seen_in, view_with}
 use Rattle.domain_world.specs.Past.{past, requester_in, running_in}
 use Rattle.domain_world.proofs.Frames.AloneStepLaws.{fresh_by}
-use Rattle.domain_world.proofs.Requests.ByRequesterLaws.{by_requester, by_requester_apart, seen_so}
-use Rattle.channel_events.proofs.ListLaws.{got_nothing, no_some, some_is}
+use Rattle.domain_world.proofs.Calls.ByRequesterLaws.{by_requester, by_requester_apart, seen_so}
+use Rattle.wire_base.proofs.ListLaws.{got_nothing, no_some, some_is}
 use Rattle.step_notes.specs.Records.{OfMember}
 
 -- ---- controllers
@@ -46,6 +46,7 @@ fresh_running plan = record {
   logons = record { plan = plan; channel = fresh_requester (caller_of plan); asked = [] };
   links = [];
   dialling = dialling.Nothing;
+  sealing = None;
 }
 
 record IsIdle (running : MemberRunning) : Type 0 where

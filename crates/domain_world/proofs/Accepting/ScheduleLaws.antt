@@ -12,22 +12,22 @@ use Rattle.domain_world.specs.Schedules.{OfSchedules}
 use Rattle.domain_world.proofs.Accepting.Heard.JudgedRunLaws.{judged_as_carried, replies_back}
 use Rattle.domain_world.proofs.Accepting.Heard.MarkSentLaws.{IsRequestSent}
 use Rattle.domain_world.proofs.Accepting.Heard.MarkWholeLaws.{FitsMark, OfMark, marked_whole, marks_fit}
-use Rattle.domain_world.proofs.Accepting.Messages.MessageMadeLaws.{messages_made}
-use Rattle.domain_world.proofs.Accepting.Messages.MessageTakenLaws.{messages_taken}
+use Rattle.domain_world.proofs.Messages.MessageMadeLaws.{messages_made}
+use Rattle.domain_world.proofs.Messages.MessageTakenLaws.{messages_taken}
 use Rattle.domain_world.proofs.Accepting.Turns.TurnRunLaws.{turns_run}
 use Rattle.domain_world.proofs.Accepting.UnitLaws.{requests_numbered, runs_heard}
 use Rattle.domain_world.proofs.Frames.BagFrameLaws.{IsOfUnit}
-use Rattle.domain_world.proofs.Frames.DrawnRunLaws.{draws_differ}
-use Rattle.domain_world.proofs.Judgements.OpeningAnswerLaws.{replies_to_openings}
-use Rattle.domain_world.proofs.Requests.CallFrameLaws.{schedules_stand}
-use Rattle.domain_world.proofs.Requests.CalledRunLaws.{schedules_call}
+use Rattle.domain_world.proofs.Moves.DrawnRunLaws.{draws_differ}
+use Rattle.domain_world.proofs.Judgements.Openings.OpeningAnswerLaws.{replies_to_openings}
+use Rattle.domain_world.proofs.Calls.CallFrameLaws.{schedules_stand}
+use Rattle.domain_world.proofs.Calls.CalledRunLaws.{schedules_call}
 
 -- what was made as an opening was sent as a request of that number
 openings_small : OfSchedules (λ plan moves. OpeningsAreSmall (past plan moves))
 openings_small plan moves nobody schedule n number channel one there mark =
     let had : IsOfUnit OfMark tt (past plan moves).world.state.bag n one.mark = marks_fit plan moves nobody schedule n one there in
     let fits : FitsMark had.unit (Opening channel number) = subst (λ (m : Mark). FitsMark had.unit m) mark had.holds in
-    let sent : IsRequestSent number 15 had.unit.bytes = (fits (λ plain. plain)).1 in sent.small
+    let sent : IsRequestSent number 15 had.unit.bytes = (fits (λ plain. plain)).1.sent in sent.small
 
 pub units_heard : OfSchedules (λ plan moves. UnitsAreHeard (past plan moves))
 units_heard plan moves nobody schedule =
@@ -47,7 +47,7 @@ units_heard plan moves nobody schedule =
       back = replies_back plan moves nobody schedule;
       told = turns.told;
       let_in = turns.let_in;
-      made = messages_made plan moves nobody schedule;
+      made = messages_made plan moves schedule;
       taken = messages_taken plan moves;
     }
 

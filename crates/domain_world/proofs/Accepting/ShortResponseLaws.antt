@@ -10,7 +10,7 @@ use Rattle.ntlm_responses.proofs.ResponseLaws.{response_v1_of-one_to_one}
 use Rattle.logon_stubs.specs.declared.info.NetworkInfo.{NetworkInfo}
 use Rattle.account_table.specs.LookUps.{account_in}
 use Rattle.account_table.specs.declared.account.Account.{Account}
-use Rattle.channel_events.specs.Marks.{OneOf}
+use Rattle.wire_base.specs.Lists.{OneOf}
 use Rattle.step_notes.specs.Judged.{hash_in, stored_hash}
 use Rattle.step_notes.specs.Records.{ChallengeSent, Judging, MessageTaken, OutcomeTold}
 use Rattle.world_moves.specs.Counting.{is_in}
@@ -19,8 +19,9 @@ use Rattle.domain_world.specs.Accepting.Answered.{MessagesAreApart}
 use Rattle.domain_world.specs.Claims.{AcceptsOnlyGranted, IsAccepted, IsLetInShortly, IsPlainlyAccepted, IsToldIn, IsUnusedChallenge, ShortResponsesLetInOnce, ShortResponsesServeOnce, info_asked}
 use Rattle.domain_world.specs.Claims.OwnChallenges.{MessagesHaveOwnChallenges}
 use Rattle.domain_world.specs.Past.{Past}
-use Rattle.channel_events.proofs.ListLaws.{some_is}
-use Rattle.domain_world.proofs.Accepting.ListPlaceLaws.{Placed, all_at, all_by_place, apart_same, one_at, placed}
+use Rattle.wire_base.proofs.ListLaws.{some_is}
+use Rattle.domain_world.proofs.Lists.ListPlaceLaws.{Placed, all_by_place, apart_same, one_at, placed}
+use Rattle.domain_controller.proofs.TrustPlaceLaws.{got_all}
 
 -- such a response that verifies is the one to the challenge
 verified : (found : Option Account) (info : NetworkInfo) (hash : List ℕ) → hash_in found ≡ hash → length info.nt ≡ 24 →
@@ -64,7 +65,7 @@ module _ (past : Past) (apart : MessagesAreApart past) (only : AcceptsOnlyGrante
   accepted_so k told place message here there is link =
       let at : Placed (λ (m : MessageTaken). (m.link ≡ told.link) × (m.member ≡ told.member) × IsAccepted past m) past.book.messages =
       placed (λ (m : MessageTaken). (m.link ≡ told.link) × (m.member ≡ told.member) × IsAccepted past m) past.book.messages
-      (all_at (λ (t : OutcomeTold). is_in t.outcome ≡ true → OneOf (λ (m : MessageTaken). (m.link ≡ t.link) × (m.member ≡ t.member) × IsAccepted past m) past.book.messages) past.book.told k told
+      (got_all (λ (t : OutcomeTold). is_in t.outcome ≡ true → OneOf (λ (m : MessageTaken). (m.link ≡ t.link) × (m.member ≡ t.member) × IsAccepted past m) past.book.messages) past.book.told k told
       only here is) in
       let same : at.item ≡ message =
       apart_same (λ (m : MessageTaken). m.link) past.book.messages apart at.place place at.item message at.there there (at.is.0 ∙ sym link) in
@@ -91,9 +92,9 @@ module _ (past : Past) (apart : MessagesAreApart past) (only : AcceptsOnlyGrante
       let at_one : Placed (IsLetInShortly past one nt hash) past.book.messages = placed (IsLetInShortly past one nt hash) past.book.messages first in
       let at_other : Placed (IsLetInShortly past other nt hash) past.book.messages = placed (IsLetInShortly past other nt hash) past.book.messages second in
       let links : at_one.item.link ≢ at_other.item.link = λ same. differ (sym at_one.is.link ∙ same ∙ at_other.is.link) in
-      all_at (λ (m : MessageTaken). at_one.item.link ≢ m.link → at_one.item.logon.message.nt ≡ m.logon.message.nt → IsPlainlyAccepted past at_one.item hash → IsPlainlyAccepted past m hash → ⊥)
+      got_all (λ (m : MessageTaken). at_one.item.link ≢ m.link → at_one.item.logon.message.nt ≡ m.logon.message.nt → IsPlainlyAccepted past at_one.item hash → IsPlainlyAccepted past m hash → ⊥)
       past.book.messages at_other.place at_other.item
-      (all_at (λ (n : MessageTaken). AllByRecursion (λ (m : MessageTaken). n.link ≢ m.link → n.logon.message.nt ≡ m.logon.message.nt → IsPlainlyAccepted past n hash → IsPlainlyAccepted past m hash → ⊥)
+      (got_all (λ (n : MessageTaken). AllByRecursion (λ (m : MessageTaken). n.link ≢ m.link → n.logon.message.nt ≡ m.logon.message.nt → IsPlainlyAccepted past n hash → IsPlainlyAccepted past m hash → ⊥)
       past.book.messages) past.book.messages at_one.place at_one.item (responses hash) at_one.there)
       at_other.there links (at_one.is.response ∙ sym at_other.is.response) (plainly k one nt hash at_one.place at_one.item here at_one.there at_one.is)
       (plainly l other nt hash at_other.place at_other.item also at_other.there at_other.is)))

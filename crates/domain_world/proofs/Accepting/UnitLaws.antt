@@ -1,6 +1,6 @@
 -- Where each unit is heard whole a run's claims on answers hold.
 -- It serves `runs_are_heard`.
-use Rattle.std.proofs.Common.{◌≡◌, ℕ, zero, suc, List, [], ◌∷◌, map, Some, slice_get, refl, sym, ap, subst, ◌∙◌}
+use Rattle.std.proofs.Common.{◌≡◌, ℕ, List, Some, slice_get, refl, sym, ap, subst, ◌∙◌}
 use Rattle.channel_events.specs.Marks.{Mark}
 use Rattle.channel_events.specs.Requests.{CallsAreApart, IsRequest, Requests}
 use Rattle.step_notes.specs.Records.{RequesterId, Sent}
@@ -13,28 +13,23 @@ use Rattle.domain_world.specs.Accepting.Carried.{CallsHaveNumbers}
 use Rattle.domain_world.specs.Accepting.Units.{HasMarksOf, RunsAreHeard, UnitsAreHeard}
 use Rattle.domain_world.specs.Claims.RequestNumbers.{RequestsHaveNumbers}
 use Rattle.domain_world.specs.Past.{Past, past}
-use Rattle.channel_events.proofs.ListLaws.{got_nothing, some_is}
 use Rattle.domain_world.proofs.Accepting.AnsweredLaws.{accepts_all, accepts_only, keys_agree, raises_once}
 use Rattle.domain_world.proofs.Accepting.AnsweredRunLaws.{is_proved}
 use Rattle.domain_world.proofs.Accepting.CarriedLaws.{carried_heard}
-use Rattle.domain_world.proofs.Accepting.Messages.KeyLaws.{keys_made}
+use Rattle.domain_world.proofs.Messages.KeyLaws.{keys_made}
 use Rattle.domain_world.proofs.Accepting.NameLaws.{lets_in_by_name}
 use Rattle.domain_world.proofs.Accepting.Heard.ReadBackLaws.{read_back}
-use Rattle.domain_world.proofs.Challenges.MessageApartLaws.{messages_apart}
+use Rattle.domain_world.proofs.Messages.MessageApartLaws.{messages_apart}
 use Rattle.domain_world.proofs.Judgements.ReplyLaws.{replies_carry}
 use Rattle.domain_world.proofs.Judgements.UnclashedLaws.{passes_unclashed}
-use Rattle.domain_world.proofs.Requests.MarkWayLaws.{marks_have_their_way}
-
-got_mapped : {S T : Type 0} (f : S → T) (items : List S) (k : ℕ) (item : S) → slice_get items k ≡ Some item → slice_get (map f items) k ≡ Some (f item)
-got_mapped f [] k item there = absurd (got_nothing k item there)
-got_mapped f (one ∷ items) zero item there = ap (λ (found : _). Some (f found)) (some_is one item there)
-got_mapped f (one ∷ items) (suc k) item there = got_mapped f items k item there
+use Rattle.domain_world.proofs.Calls.MarkWayLaws.{marks_have_their_way}
+use Rattle.domain_controller.proofs.TurnOutLaws.{got_map}
 
 -- no two requests on a channel have one number, where requesters keep them apart
 pub requests_numbered : (past : Past) (r : Requests RequesterId) → HasMarksOf past r → CallsAreApart r → RequestsHaveNumbers past
 requests_numbered past r marks apart n m number c d one other there also asks asks_too same =
     let marked : (k : ℕ) (sent : Sent) → slice_get past.book.sent k ≡ Some sent → slice_get r.marks k ≡ Some sent.mark =
-    λ k sent at. ap (λ (all : List Mark). slice_get all k) marks ∙ got_mapped (λ (s : Sent). s.mark) past.book.sent k sent at in
+    λ k sent at. ap (λ (all : List Mark). slice_get all k) marks ∙ got_map (λ (s : Sent). s.mark) past.book.sent k sent at in
     apart.distinct n m number c d (record { mark = one.mark; asks = asks; there = marked n one there }) (record { mark = other.mark; asks = asks_too; there = marked m other also }) same
 
 calls_numbered : (past : Past) (r : Requests RequesterId) → HasMarksOf past r → CallsAreApart r → CallsHaveNumbers past
@@ -48,7 +43,7 @@ heard_in plan moves nobody heard differ =
       passes = passes_unclashed plan moves;
       alike = carried_heard.alike its heard.judged;
       asks = carried_heard.asks its heard.judged heard.called;
-      answers = carried_heard.answers its heard.whole (marks_have_their_way plan moves nobody) heard.judged (passes_unclashed plan moves) (replies_carry plan moves nobody) heard.numbers heard.openings heard.turns;
+      answers = carried_heard.answers its heard.whole (marks_have_their_way plan moves) heard.judged (passes_unclashed plan moves) (replies_carry plan moves nobody) heard.numbers heard.openings heard.turns;
       told = read_back.told its heard.back heard.told;
       messages = messages_apart plan moves;
       let_in = read_back.let_in its heard.back heard.let_in;

@@ -22,14 +22,14 @@ use Rattle.member_server.specs.Outcomes.{at_link, without_link}
 use Rattle.member_server.specs.State.{State as MemberState}
 use Rattle.member_server.specs.Units.{is_fresh, link_server}
 use Rattle.member_server.proofs.StepFrame.{IsDrawnNext, TakesTurn, WorkFact, dialled_keeps, each_taken}
-use Rattle.channel_events.specs.Marks.{OneOf}
+use Rattle.wire_base.specs.Lists.{OneOf}
+use Rattle.wire_base.proofs.ListLaws.{one_behind}
 use Rattle.step_notes.specs.MemberNotes.{LinkAt, challenge_note, link_units}
 use Rattle.step_notes.specs.Records.{ChallengeSent}
 use Rattle.step_notes.proofs.Members.LinkBytesLaws.{bytes_hear, part_each, units_then}
 use Rattle.step_notes.proofs.ServedLaws.{served_noted, served_such}
 use Rattle.domain_world.specs.Claims.LeftOut.{AreDrawnFor, DrawsFor, IsDial, LeavesNothingOut, MembersLeaveNothingOut, challenges_in}
 use Rattle.domain_world.proofs.Challenges.LinkUnitLaws.{unit_draws, unit_sends, unit_takes}
-use Rattle.domain_world.proofs.Challenges.OwnLinkLaws.{one_behind}
 
 -- ---- the challenges that are left
 

@@ -21,7 +21,7 @@ use Rattle.member_server.specs.declared.state.Talk.{Talk}
 use Rattle.channel_turns.specs.declared.state.TurnTalk.{TurnTalk}
 use Rattle.member_server.specs.Machine.{fresh_member, step_of}
 use Rattle.member_server.specs.State.{State as MemberState}
-use Rattle.channel_events.specs.Marks.{OneOf}
+use Rattle.wire_base.specs.Lists.{OneOf}
 use Rattle.step_notes.specs.MemberNotes.{LinkAt, TurnNote, challenge_note, link_of_place, link_units, message_note, taken_link, turn_units}
 use Rattle.step_notes.specs.Records.{Book, ChallengeSent, MessageTaken, blank, OfMember}
 use Rattle.world_moves.specs.declared.links.EndId.TheVariants.{Member}
@@ -35,20 +35,16 @@ use Rattle.world_moves.specs.World.{first_world}
 use Rattle.domain_world.specs.Claims.{IsUnusedChallenge}
 use Rattle.domain_world.specs.Claims.OwnChallenges.{HasOwnChallenge, MessagesHaveOwnChallenges}
 use Rattle.domain_world.specs.Past.{Coming, Past, at_member, change_if, change_message, note_member, note_messages, note_turn, past, with_answer, with_call}
-use Rattle.channel_events.proofs.ListLaws.{got_append, got_behind}
+use Rattle.wire_base.proofs.ListLaws.{all_weaker, got_append, got_behind, one_before, one_behind}
 use Rattle.step_notes.proofs.Members.UnservedLaws.{LinksIn, Opens, in_so, step_known}
-use Rattle.domain_world.proofs.Challenges.MessageOnceLaws.{each_put, fresh_links, messages_once, quiet_opens}
-use Rattle.domain_world.proofs.Challenges.OwnLinkLaws.{AtMostOne, IsDrawn, IsLinkIn, IsOwn, IsSentAt, IsSentOn, IsTakenIn, all_sent, all_so, all_taken, bytes_drawn, bytes_one, bytes_own, link_more, one_behind, one_earlier, own_more, own_opened, sent_among}
-use Rattle.domain_world.proofs.Frames.AllLaws.{all_join}
+use Rattle.domain_world.proofs.Messages.MessageOnceLaws.{each_put, fresh_links, messages_once, quiet_opens}
+use Rattle.domain_world.proofs.Challenges.OwnLinkLaws.{AtMostOne, IsDrawn, IsLinkIn, IsOwn, IsSentAt, IsSentOn, IsTakenIn, all_sent, all_taken, bytes_drawn, bytes_one, bytes_own, link_more, own_more, own_opened, sent_among}
+use Rattle.domain_world.proofs.Lists.AllLaws.{all_join, all_zip}
 use Rattle.domain_world.proofs.Frames.MemberFrameLaws.{KeepsMembers, MembersFact, members_after}
 use Rattle.domain_world.proofs.Frames.TurnFrameLaws.{asked_leave}
 use Rattle.world_moves.proofs.ChangeLaws.{member_begun}
 
 -- ---- lists
-
-all_with : {T : Type 0} (P Q R : T → Type 0) → ((item : T) → P item → Q item → R item) → (items : List T) → AllByRecursion P items → AllByRecursion Q items → AllByRecursion R items
-all_with P Q R so [] all others = tt
-all_with P Q R so (item ∷ items) all others = (so item all.0 others.0, all_with P Q R so items all.1 others.1)
 
 one_with : {T : Type 0} (P Q R : T → Type 0) → ((item : T) → P item → Q item → R item) → (items : List T) → OneOf P items → AllByRecursion Q items → OneOf R items
 one_with P Q R so [] one all = absurd one
@@ -139,7 +135,7 @@ Owns notes members chances links = AreOwn notes members chances.drawn links
 
 drew_more : (sent : List ChallengeSent) (drawn more : List (List ℕ)) → AllByRecursion (IsDrawn drawn) sent → AllByRecursion (IsDrawn (drawn ++ more)) sent
 drew_more sent drawn more all =
-    all_so (IsDrawn drawn) (IsDrawn (drawn ++ more)) (λ one is. got_append drawn more one.draw one.challenge is) sent all
+    all_weaker (IsDrawn drawn) (IsDrawn (drawn ++ more)) sent (λ one is. got_append drawn more one.draw one.challenge is) all
 
 -- more is drawn
 own_drew : (notes : Notes) (members : List MemberState) (drawn more : List (List ℕ)) (links : List Route) → AreOwn notes members drawn links → AreOwn notes members (drawn ++ more) links
@@ -164,8 +160,8 @@ own_linked notes members drawn links route kept = record {
   each = λ k m there.
       in_so (IsOwn notes.challenges links k) (IsOwn notes.challenges (links ++ route ∷ []) k) (λ link p own. own_opened notes.challenges links route k link p own) m.running
       (kept.each k m there);
-  messages = all_so (IsItsOwn notes links) (IsItsOwn notes (links ++ route ∷ [])) (λ one its. (link_more links route one.link one.member its.0, its.1, its.2))
-      notes.messages kept.messages;
+  messages = all_weaker (IsItsOwn notes links) (IsItsOwn notes (links ++ route ∷ [])) notes.messages
+      (λ one its. (link_more links route one.link one.member its.0, its.1, its.2)) kept.messages;
 }
 
 -- ---- a member hears something
@@ -217,13 +213,13 @@ own_taken : (notes : Notes) (links : List Route) (w : LinkAt) (messages : List M
     AllByRecursion (λ (one : MessageTaken). IsLinkIn links w.link w.member × OneOf (IsSentOn w.member w.link one.logon.challenge) notes.challenges) messages →
     AllByRecursion (IsItsOwn notes links) messages
 own_taken notes links w messages taken own =
-    all_with (IsTakenIn w notes.taken) (λ (one : MessageTaken). IsLinkIn links w.link w.member × OneOf (IsSentOn w.member w.link one.logon.challenge) notes.challenges) (IsItsOwn notes links)
-    (λ one there its. (
+    all_zip (IsTakenIn w notes.taken) (λ (one : MessageTaken). IsLinkIn links w.link w.member × OneOf (IsSentOn w.member w.link one.logon.challenge) notes.challenges) (IsItsOwn notes links)
+    messages (λ one there its. (
       subst (λ n. IsLinkIn links n one.member) (sym there.0) (subst (λ k. IsLinkIn links w.link k) (sym there.1) its.0),
       subst (λ (m : ℕ). OneOf (IsSentOn m one.link one.logon.challenge) notes.challenges) (sym there.1)
           (subst (λ (n : ℕ). OneOf (IsSentOn w.member n one.logon.challenge) notes.challenges) (sym there.0) its.1),
       subst (λ n. OneOf (λ (link : ℕ). link ≡ n) notes.taken) (sym there.0) there.2,
-    )) messages taken own
+    )) taken own
 
 -- one more is sent, or none, of a new draw
 apart_more : (old sent : List ChallengeSent) (drawn : List (List ℕ)) → AtMostOne sent → AllPairs OfOtherDraw old → AllByRecursion (IsDrawn drawn) old →
@@ -252,25 +248,25 @@ messages_heard m at w piece s b is kept =
     let fresh : AllByRecursion (IsSentAt l) sent = all_sent l units in
     let own = bytes_own new.challenges s.links l piece s.moment s.chances.left m
     (in_so (IsOwn b.challenges s.links at) (IsOwn new.challenges s.links at) (λ link p its. own_more b.challenges sent s.links at link p its) m.running (kept.each at m is))
-    (sent_among at w.link b.challenges sent (all_so (IsSentAt l) (λ (one : ChallengeSent). (one.link ≡ w.link) × (one.member ≡ at)) (λ one its. (its.0, its.2)) sent fresh)) in
+    (sent_among at w.link b.challenges sent (all_weaker (IsSentAt l) (λ (one : ChallengeSent). (one.link ≡ w.link) × (one.member ≡ at)) sent (λ one its. (its.0, its.2)) fresh)) in
     record {
       drew = all_join (IsDrawn (s.chances.drawn ++ step.drawn)) b.challenges sent (drew_more b.challenges s.chances.drawn step.drawn kept.drew)
           (bytes_drawn s.chances.drawn s.chances.left l refl refl piece s.moment m);
       apart = apart_more b.challenges sent s.chances.drawn (bytes_one l piece s.moment s.chances.left m) kept.apart kept.drew
-          (all_so (IsSentAt l) (λ (one : ChallengeSent). length s.chances.drawn ≤ one.draw) (λ one its. its.1) sent fresh);
+          (all_weaker (IsSentAt l) (λ (one : ChallengeSent). length s.chances.drawn ≤ one.draw) sent (λ one its. its.1) fresh);
       each = each_put (λ (k : ℕ) (one : MemberState). LinksIn (IsOwn new.challenges s.links k) one.running) s.ends.members at step.state
           (λ k one differs there.
           in_so (IsOwn b.challenges s.links k) (IsOwn new.challenges s.links k) (λ link p its. own_more b.challenges sent s.links k link p its) one.running (kept.each k one there))
           own.1;
       messages = bare_own new s.links b.messages more
-          (all_so (IsItsOwn old s.links) (IsItsOwn new s.links)
-          (λ one its. (
+          (all_weaker (IsItsOwn old s.links) (IsItsOwn new s.links)
+          (map bare b.messages) (λ one its. (
             its.0,
-            one_earlier (IsSentOn one.member one.link one.logon.challenge) b.challenges sent its.1,
-            one_earlier (λ (link : ℕ). link ≡ one.link) b.taken taken its.2,
-          )) (map bare b.messages) kept.messages)
+            one_before (IsSentOn one.member one.link one.logon.challenge) b.challenges sent its.1,
+            one_before (λ (link : ℕ). link ≡ one.link) b.taken taken its.2,
+          )) kept.messages)
           (own_taken new s.links l more
-          (all_so (IsTakenIn l taken) (IsTakenIn l new.taken) (λ one its. (its.0, its.1, one_behind (λ (link : ℕ). link ≡ w.link) b.taken taken its.2)) more (all_taken l units))
+          (all_weaker (IsTakenIn l taken) (IsTakenIn l new.taken) more (λ one its. (its.0, its.1, one_behind (λ (link : ℕ). link ≡ w.link) b.taken taken its.2)) (all_taken l units))
           own.0);
     }
 

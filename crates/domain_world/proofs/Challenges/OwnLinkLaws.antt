@@ -1,6 +1,6 @@
 -- What a member writes down of the links that it accepts: which CHALLENGE was sent, by which draw, and for which an
 -- AUTHENTICATE is. It serves `members_leave_nothing_out`, `messages_are_taken_as_sent`, `Proved.messages` and 3 more.
-use Rattle.std.proofs.Common.{◌≡◌, ◌≤◌, ℕ, Bool, true, false, List, [], ◌∷◌, ◌++◌, length, Option, Some, None, Ok, Err, inl, inr, refl, sym, ap, subst, ◌∙◌, arith, slice_get, append_assoc, length-append}
+use Rattle.std.proofs.Common.{◌≡◌, ◌≤◌, ℕ, Bool, true, false, List, [], ◌∷◌, ◌++◌, length, Option, Some, None, Ok, Err, inl, refl, sym, ap, subst, ◌∙◌, arith, slice_get, append_assoc, length-append}
 use Rattle.std.proofs.lemmas.List.{flat_map_more}
 use Rattle.std.specs.Prelude.{flat_map}
 use Rattle.std.specs.List.{AllByRecursion}
@@ -28,7 +28,7 @@ use Rattle.member_server.specs.Rests.{link_leaves}
 use Rattle.member_server.specs.State.{State as MemberState}
 use Rattle.member_server.specs.Units.{bound_unit, is_fresh, link_server, unit_by}
 use Rattle.member_server.specs.Work.{Served}
-use Rattle.channel_events.specs.Marks.{OneOf}
+use Rattle.wire_base.specs.Lists.{OneOf}
 use Rattle.member_server.proofs.LinkView.{UnitView, Serves, Closes, Naks, Spends, Challenges, bound_view, unit_view}
 use Rattle.member_server.proofs.StepFrame.{WorkFact}
 use Rattle.step_notes.specs.MemberNotes.{LinkAt, challenge_after, challenge_by, challenge_in, challenge_note, is_challenged, link_if, link_units, message_after, message_at, message_by, message_kept, message_note, next_draw, taken_after, taken_by, taken_link}
@@ -37,31 +37,19 @@ use Rattle.step_notes.specs.Served.{talk_after, work_after}
 use Rattle.world_moves.specs.declared.links.EndId.TheVariants.{Member}
 use Rattle.world_moves.specs.declared.links.Route.{Route}
 use Rattle.world_moves.specs.Links.{acceptor_of}
-use Rattle.channel_events.proofs.ListLaws.{got_append, got_behind}
+use Rattle.wire_base.proofs.ListLaws.{all_weaker, got_append, got_behind, one_before, one_behind}
 use Rattle.step_notes.proofs.ServedLaws.{served_beside, served_noted}
 use Rattle.step_notes.proofs.Members.LinkBytesLaws.{bytes_hear, drawn_rest, part_each, part_so, units_then}
 use Rattle.step_notes.proofs.Members.UnservedLaws.{HasServed, IfUnserved, IfUnservedPart, LinksIn, Unserved, WorkLinks, bound_serves, dialled_known, fewer_known, found_known, kept_known, none_so}
 use Rattle.domain_world.specs.Claims.LeftOut.{Takes, TakesOn}
 use Rattle.domain_world.proofs.Challenges.LinkUnitLaws.{unit_at, view_takes}
-use Rattle.domain_world.proofs.Frames.AllLaws.{all_join, all_flat}
+use Rattle.domain_world.proofs.Lists.AllLaws.{all_join, all_flat}
 
 -- ---- lists
-
-pub all_so : {T : Type 0} (P Q : T → Type 0) → ((item : T) → P item → Q item) → (items : List T) → AllByRecursion P items → AllByRecursion Q items
-all_so P Q so [] all = tt
-all_so P Q so (item ∷ items) all = (so item all.0, all_so P Q so items all.1)
 
 all_parts : {T : Type 0} (P : T → Type 0) (items more : List T) → AllByRecursion P (items ++ more) → AllByRecursion P items × AllByRecursion P more
 all_parts P [] more all = (tt, all)
 all_parts P (item ∷ items) more all = let parts = all_parts P items more all.1 in ((all.0, parts.0), parts.1)
-
-pub one_earlier : {T : Type 0} (P : T → Type 0) (items more : List T) → OneOf P items → OneOf P (items ++ more)
-one_earlier P [] more one = absurd one
-one_earlier P (item ∷ items) more one = elim one [ inl here ↦ inl here | inr later ↦ inr (one_earlier P items more later) ]
-
-pub one_behind : {T : Type 0} (P : T → Type 0) (front items : List T) → OneOf P items → OneOf P (front ++ items)
-one_behind P [] items one = one
-one_behind P (item ∷ front) items one = inr (one_behind P front items one)
 
 -- ---- what is known of a link
 
@@ -99,7 +87,7 @@ pub own_more : (challenges more : List ChallengeSent) (links : List Route) (memb
 own_more challenges more links member link p own =
     known_so (IsLinkIn links link member) (IsLinkIn links link member) (λ (challenge : List ℕ). OneOf (IsSentOn member link challenge) challenges)
     (λ (challenge : List ℕ). OneOf (IsSentOn member link challenge) (challenges ++ more)) (λ its. its)
-    (λ challenge one. one_earlier (IsSentOn member link challenge) challenges more one) p own
+    (λ challenge one. one_before (IsSentOn member link challenge) challenges more one) p own
 
 pub link_more : (links : List Route) (route : Route) (link member : ℕ) → IsLinkIn links link member → IsLinkIn (links ++ route ∷ []) link member
 link_more links route link member its = record { route = its.route; at = got_append links (route ∷ []) link its.route its.at; acceptor = its.acceptor }
@@ -173,9 +161,9 @@ module _ (w : LinkAt) where
       let one : List ℕ = taken_link w unit in
       let rest : List ℕ = flat_map (taken_link w) units in
       all_join (IsTakenIn w (one ++ rest)) (message_note w unit) (flat_map (message_note w) units)
-      (all_so (IsTakenIn w one) (IsTakenIn w (one ++ rest)) (λ message its. (its.0, its.1, one_earlier (λ (link : ℕ). link ≡ w.link) one rest its.2)) (message_note w unit)
+      (all_weaker (IsTakenIn w one) (IsTakenIn w (one ++ rest)) (message_note w unit) (λ message its. (its.0, its.1, one_before (λ (link : ℕ). link ≡ w.link) one rest its.2))
       (taken_if (is_challenged unit.talk.phase) unit))
-      (all_so (IsTakenIn w rest) (IsTakenIn w (one ++ rest)) (λ message its. (its.0, its.1, one_behind (λ (link : ℕ). link ≡ w.link) one rest its.2)) (flat_map (message_note w) units)
+      (all_weaker (IsTakenIn w rest) (IsTakenIn w (one ++ rest)) (flat_map (message_note w) units) (λ message its. (its.0, its.1, one_behind (λ (link : ℕ). link ≡ w.link) one rest its.2))
       (all_taken units))
 
 -- those that are sent on a link are among those that are written down
@@ -238,8 +226,8 @@ module _ (w : LinkAt) (F : Type 0) (D : List ℕ → Type 0) where
   unit_for phase.Fresh bytes joiner at left known sent = (tt, fresh_sent at (unit_view bytes joiner at phase.Fresh left) known sent)
   unit_for (phase.Challenged bound challenge flags) bytes joiner at left known sent =
       let served : Served = bound_unit (phase.Challenged bound challenge flags) bytes joiner at in (
-        all_so (λ (one : MessageTaken). one.logon.challenge ≡ challenge) (λ (one : MessageTaken). F × D one.logon.challenge) (λ one is. (known.0, subst D (sym is) known.1))
-            (message_after served.1 (Some served.0) w bytes) (takes_ask served.1 w bytes challenge (message_after served.1 (Some served.0) w bytes) (taken_after served.1 w.link) at served.0
+        all_weaker (λ (one : MessageTaken). one.logon.challenge ≡ challenge) (λ (one : MessageTaken). F × D one.logon.challenge) (message_after served.1 (Some served.0) w bytes)
+            (λ one is. (known.0, subst D (sym is) known.1)) (takes_ask served.1 w bytes challenge (message_after served.1 (Some served.0) w bytes) (taken_after served.1 w.link) at served.0
             (view_takes w bytes at (bound_view bytes joiner at (phase.Challenged bound challenge flags)))),
         none_so (IsKnown F D) served.1 (bound_serves (phase.Challenged bound challenge flags) bytes joiner at),
       )

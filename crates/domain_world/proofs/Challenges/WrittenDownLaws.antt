@@ -9,7 +9,8 @@ use Rattle.member_server.specs.declared.state.Phase.{Phase}
 use Rattle.member_server.specs.declared.state.Phase.TheVariants as phase
 use Rattle.member_server.specs.declared.state.Running.{Running}
 use Rattle.member_server.specs.declared.state.Talk.{Talk}
-use Rattle.channel_events.specs.Marks.{OneOf}
+use Rattle.wire_base.specs.Lists.{OneOf}
+use Rattle.wire_base.proofs.ListLaws.{one_weaker}
 use Rattle.step_notes.specs.Records.{MessageTaken}
 use Rattle.world_moves.specs.declared.moves.Move.{Move}
 use Rattle.world_moves.specs.declared.plan.Plan.{Plan}
@@ -19,7 +20,6 @@ use Rattle.step_notes.proofs.Members.KeptLogonLaws.{HasFor, IsFor, KeptIn, each_
 use Rattle.step_notes.proofs.Members.UnservedLaws.{IfUnserved, LinksIn, found_known}
 use Rattle.domain_world.proofs.Accepting.LetInLaws.{HoldsOf, run_holds}
 use Rattle.domain_world.proofs.Accepting.LetInStepLaws.{IsDialledBy}
-use Rattle.domain_world.proofs.Accepting.Messages.MessageNoteLaws.{one_so}
 use Rattle.domain_world.proofs.Challenges.OwnChallengeLaws.{links_own}
 use Rattle.domain_world.proofs.Challenges.OwnLinkLaws.{IsOwn}
 
@@ -44,7 +44,7 @@ logon_is : (run : Past) (member : ℕ) (r : Option Running) (running : Running) 
 logon_is run member None running place logon Own runs kept there = absurd (let never : ◌≡◌ {A = Option Running} None (Some running) = runs in cc)
 logon_is run member (Some one) running place logon Own runs kept there =
     let same : one ≡ running = cc in
-    one_so (IsFor ⊥ run.world.moves member place logon) (IsMessageOf run member place logon) (message_is run member place logon) run.book.messages
+    one_weaker (IsFor ⊥ run.world.moves member place logon) (IsMessageOf run member place logon) run.book.messages (message_is run member place logon)
     (each_found (HasFor ⊥ run.world.moves member run.book.messages) place running.logons.asked logon there
     (subst (λ (x : Running). KeptIn (HasFor ⊥ run.world.moves member run.book.messages) Own (Some x)) same kept).0)
 

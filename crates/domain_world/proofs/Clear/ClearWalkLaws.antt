@@ -16,31 +16,31 @@ use Rattle.world_moves.specs.declared.state.State.{State}
 use Rattle.world_moves.specs.Forms.{HasForms}
 use Rattle.world_moves.specs.Moving.{act, end_of_peer, route_to, start}
 use Rattle.world_moves.specs.World.{IsPlan, World, first_ends, first_world, happens}
-use Rattle.logon_runs.specs.AnyLogons.{HasServers}
-use Rattle.logon_runs.specs.Any.AnyPhases.{GoesTo, IsAble, IsAnywhere, IsDone, IsHeard, IsLetIn, IsOwn, IsReadyBy, IsSoFar, IsThere, On, progress_by, progress_in}
-use Rattle.logon_runs.specs.Any.AnyStarts.{AreThree, IsReachedOrNot, coming_from}
-use Rattle.logon_runs.specs.Any.GrantRests.{judged_rest}
+use Rattle.logon_runs.specs.AnyAnswer.AnyLogons.{HasServers}
+use Rattle.logon_runs.specs.AnyAnswer.AnyPhases.{GoesTo, IsAble, IsAnywhere, IsDone, IsHeard, IsLetIn, IsOwn, IsReadyBy, IsSoFar, IsThere, On, progress_by, progress_in}
+use Rattle.logon_runs.specs.AnyAnswer.AnyStarts.{AreThree, IsReachedOrNot, coming_from}
+use Rattle.logon_runs.specs.OtherKeys.GrantRests.{judged_rest}
 use Rattle.logon_runs.specs.Failing.TurnedAway.{settled_in}
-use Rattle.logon_runs.specs.First.ExampleLogon.{ann}
-use Rattle.logon_runs.specs.Keys.LetIn.{Asks, Hears, LetInPhase, let_in_scene, GoesOn}
+use Rattle.logon_runs.specs.FirstLogon.ExampleLogon.{ann}
+use Rattle.logon_runs.specs.OtherKeys.LetIn.{Asks, Hears, LetInPhase, let_in_scene, GoesOn}
 use Rattle.logon_runs.specs.Phases.{Coming, Dials, DrawsFew, HasThree, Progress, scene_of}
 use Rattle.logon_runs.specs.Rests.{AtRest, HasEnough}
-use Rattle.logon_runs.specs.Scenes.{Shows}
-use Rattle.logon_runs.specs.Seen.LinkScenes.{Meeting}
-use Rattle.logon_runs.specs.Seen.Others.{IsStepOn}
-use Rattle.logon_runs.specs.Seen.Staying.{HasSameEnds}
-use Rattle.logon_runs.specs.Seen.WaitingUnits.{waiting}
+use Rattle.logon_runs.specs.Scenes.Scene.{Shows}
+use Rattle.logon_runs.specs.Scenes.LinkScenes.{Meeting}
+use Rattle.logon_runs.specs.Scenes.Others.{IsStepOn}
+use Rattle.logon_runs.specs.Scenes.Staying.{HasSameEnds}
+use Rattle.logon_runs.specs.Scenes.WaitingUnits.{waiting}
 use Rattle.logon_runs.proofs.EnoughLaws.{enough_after, none_drawn, three_from}
-use Rattle.logon_runs.proofs.Any.AnyBeginLaws.{able_so, begins_seen}
-use Rattle.logon_runs.proofs.Any.AnyLogonLaws.{by_reach}
-use Rattle.logon_runs.proofs.Any.AnyPhaseLaws.{any_phases_go_on}
-use Rattle.logon_runs.proofs.Any.AnyRunLaws.{heard_still, route_still}
-use Rattle.logon_runs.proofs.Any.UnreachedLaws.{shows_on, unanswered}
-use Rattle.logon_runs.proofs.Keys.GrantRestLaws.{let_in_goes}
-use Rattle.logon_runs.proofs.Keys.LetInLaws.{grants_go_on}
+use Rattle.logon_runs.proofs.AnyAnswer.AnyBeginLaws.{able_so, begins_seen}
+use Rattle.logon_runs.proofs.AnyAnswer.AnyLogonLaws.{by_reach}
+use Rattle.logon_runs.proofs.AnyAnswer.AnyPhaseLaws.{any_phases_go_on}
+use Rattle.logon_runs.proofs.AnyAnswer.AnyRunLaws.{heard_still, route_still}
+use Rattle.logon_runs.proofs.AnyAnswer.UnreachedLaws.{shows_on, unanswered}
+use Rattle.logon_runs.proofs.OtherKeys.GrantRestLaws.{let_in_goes}
+use Rattle.logon_runs.proofs.OtherKeys.LetInLaws.{grants_go_on}
 use Rattle.logon_runs.proofs.RestLaws.{logons_come_to_rest}
-use Rattle.logon_runs.proofs.Seen.StayingLaws.{ends_stay, reach_still}
-use Rattle.logon_runs.proofs.Seen.StepOnLaws.{by_step}
+use Rattle.logon_runs.proofs.Scenes.StayingLaws.{ends_stay, reach_still}
+use Rattle.logon_runs.proofs.Scenes.StepOnLaws.{by_step}
 use Rattle.domain_world.specs.Claims.Completeness.{ComesOneAtATime, IsQuiet, started_in}
 use Rattle.domain_world.specs.Claims.OneByOne.{HasOwnMember, NoneClashes}
 use Rattle.domain_world.specs.Past.{book, note, past}
@@ -51,7 +51,7 @@ use Rattle.domain_world.proofs.Completeness.RestingLaws.{Along, Resting, Started
 use Rattle.domain_world.proofs.Completeness.SuccessLaws.{first_enough}
 use Rattle.domain_world.proofs.Clear.NoServersLaws.{no_servers}
 use Rattle.domain_world.proofs.Clear.PhaseClearLaws.{IsClean, IsClearFor, IsPlanned, connect_clean, connect_clear, link_clean, onward_clear, rest_clean, start_clean, tick_clean, tick_clear}
-use Rattle.domain_world.proofs.Frames.MemberPlanLaws.{found_but_secret}
+use Rattle.domain_world.proofs.Moves.MemberPlanLaws.{found_but_secret}
 use Rattle.domain_world.proofs.Frames.AloneFrameLaws.{stands_first}
 use Rattle.world_moves.specs.Choosing.{chosen_place}
 use Rattle.world_moves.specs.declared.moves.Move.TheVariants as move

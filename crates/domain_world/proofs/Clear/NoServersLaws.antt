@@ -36,26 +36,26 @@ use Rattle.world_moves.specs.Links.{OpenMap, acceptor_of, forget_end}
 use Rattle.world_moves.specs.Moving.{act, answer_by, answered_link, begun, come_by, come_on_own, connect_by, connect_first, end_of_peer, onward_by, route_to, settle, start_at, start_by, with_link, without_first, changed}
 use Rattle.world_moves.specs.World.{World, first_world, happens, run}
 use Rattle.world_moves.proofs.StateFrameLaws.{HoldsActing, actions_so, closed_so, hears_so, pieces_so}
-use Rattle.logon_runs.specs.Seen.Others.{IsStepOn}
-use Rattle.logon_runs.specs.Seen.Staying.{HasSameEnds}
-use Rattle.logon_runs.specs.Seen.WaitingUnits.{waiting}
-use Rattle.logon_runs.proofs.Any.AnyLogonLaws.{controller_within, many_controllers, many_members, member_within}
-use Rattle.logon_runs.proofs.Seen.StepOnLaws.{by_step}
-use Rattle.channel_events.proofs.ListLaws.{got_nothing, some_is}
+use Rattle.logon_runs.specs.Scenes.Others.{IsStepOn}
+use Rattle.logon_runs.specs.Scenes.Staying.{HasSameEnds}
+use Rattle.logon_runs.specs.Scenes.WaitingUnits.{waiting}
+use Rattle.logon_runs.proofs.AnyAnswer.AnyLogonLaws.{controller_within, many_controllers, many_members, member_within}
+use Rattle.logon_runs.proofs.Scenes.StepOnLaws.{by_step}
+use Rattle.wire_base.proofs.ListLaws.{got_nothing, some_is}
 use Rattle.world_moves.specs.Choosing.{chosen_place}
 use Rattle.world_moves.specs.Alone.{HandsNothingOn, hear_alone}
 use Rattle.domain_world.specs.Past.{Coming, book, controller_asked, note, note_at, note_member, past}
 use Rattle.domain_world.proofs.Frames.AloneStepLaws.{act_alone}
 use Rattle.domain_world.proofs.Accepting.LetInStepLaws.{IsDialledBy}
-use Rattle.domain_world.proofs.Accepting.Quiet.QuietRunLaws.{has_bytes, quiet_first, quiet_keeps}
-use Rattle.domain_world.proofs.Accepting.Quiet.QuietStepLaws.{MemberIsQuiet, QuietAction, QuietFact, QuietState}
-use Rattle.domain_world.proofs.Accepting.Quiet.QuietTurnLaws.{IfOn}
+use Rattle.domain_world.proofs.Quiet.QuietRunLaws.{has_bytes, quiet_first, quiet_keeps}
+use Rattle.domain_world.proofs.Quiet.QuietStepLaws.{MemberIsQuiet, QuietAction, QuietFact, QuietState}
+use Rattle.domain_world.proofs.Quiet.QuietTurnLaws.{IfOn}
 use Rattle.domain_world.proofs.Completeness.HeardOnceLaws.{either_way}
 use Rattle.domain_world.proofs.Completeness.PlainLaws.{by_plain}
 use Rattle.domain_world.proofs.Completeness.RestingLaws.{Along, along_next}
 use Rattle.domain_world.proofs.Clear.NotedLaws.{AreOwn, client_fine, member_fine}
 use Rattle.domain_world.proofs.Clear.PhaseClearLaws.{IsClean, rest_clean, start_clean}
-use Rattle.domain_world.proofs.Frames.OpenMadeLaws.{IsAtSide, side_of}
+use Rattle.domain_world.proofs.Moves.OpenMadeLaws.{IsAtSide, side_of}
 use Rattle.domain_world.proofs.Frames.StepFrameLaws.{AnyAction, BothFacts, BothFine, HasHeard, HoldsAfterRun, Keeps, RunFact, all_any, join, run_keeps}
 
 -- ---- while each link leads from a client to a member

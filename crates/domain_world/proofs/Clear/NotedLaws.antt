@@ -23,8 +23,8 @@ use Rattle.world_moves.specs.Bag.{first_waiting}
 use Rattle.world_moves.specs.Moving.{act}
 use Rattle.world_moves.specs.World.{World}
 use Rattle.domain_world.specs.Past.{Coming, answers_of, any_clash, book, judged_of, marks_of, note, note_client, note_controller, note_given, note_member, note_messages, note_turn, note_turns, numbers_on, onto, sent_at, controller_asked}
-use Rattle.domain_world.proofs.Frames.ComingLaws.{act_still}
-use Rattle.domain_world.proofs.Frames.MarkPlaceLaws.{no_longer}
+use Rattle.domain_world.proofs.Moves.ComingLaws.{act_still}
+use Rattle.domain_world.proofs.Moves.MarkPlaceLaws.{no_longer}
 
 -- ---- moves one after the other
 

@@ -8,7 +8,7 @@ use Rattle.std.proofs.lemmas.Bool.{cases_Bool}
 use Rattle.std.proofs.lemmas.List.{drop_at, length-append, length-drop, length-map}
 use Rattle.authenticators.specs.Channels.{ChannelIdentity}
 use Rattle.channel_events.specs.Marks.{Mark}
-use Rattle.channel_events.proofs.ListLaws.{got_append}
+use Rattle.wire_base.proofs.ListLaws.{got_append}
 use Rattle.step_notes.specs.ChannelNames.{channel_marked}
 use Rattle.step_notes.specs.Marking.{mark_channel, sent_channel}
 use Rattle.step_notes.specs.Records.{Book, Sent}
@@ -18,10 +18,10 @@ use Rattle.world_moves.specs.declared.moves.Move.TheVariants as move
 use Rattle.world_moves.specs.declared.state.State.{State}
 use Rattle.world_moves.specs.Bag.{first_waiting, is_waiting}
 use Rattle.world_moves.specs.Moving.{onward, settle}
-use Rattle.logon_runs.specs.Seen.WaitingUnits.{waiting}
-use Rattle.logon_runs.proofs.Seen.WaitingLaws.{first_place, later_place, waits_first, waits_later}
+use Rattle.logon_runs.specs.Scenes.WaitingUnits.{waiting}
+use Rattle.logon_runs.proofs.Scenes.WaitingLaws.{first_place, later_place, waits_first, waits_later}
 use Rattle.domain_world.specs.Past.{is_sent_on, marks_by, marks_of, note, note_at, note_given, sent_at}
-use Rattle.domain_world.proofs.Frames.MarkPlaceLaws.{got_later, marks_length, settled_length}
+use Rattle.domain_world.proofs.Moves.MarkPlaceLaws.{got_later, marks_length, settled_length}
 use Rattle.domain_world.proofs.Clear.NotedLaws.{Fine, Waits, Written, given_fine, grows, world_at}
 use Rattle.domain_world.proofs.Completeness.UnitNotedLaws.{Came, coming, state_then}
 

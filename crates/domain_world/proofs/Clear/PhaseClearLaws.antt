@@ -32,7 +32,7 @@ use Rattle.channel_client.specs.declared.state.SetStep.TheVariants as set_step
 use Rattle.channel_client.specs.Machine.{after, judge_auth, offered_flags, wait_for, take_of}
 use Rattle.channel_client.specs.State.{Requester}
 use Rattle.channel_events.specs.Marks.{Calling, Opened, Opening, Plain, ReplyTo}
-use Rattle.channel_events.proofs.ListLaws.{got_append}
+use Rattle.wire_base.proofs.ListLaws.{got_append}
 use Rattle.domain_controller.specs.Hearing.{bound_talk, served_call}
 use Rattle.domain_controller.specs.Machine.{Desk, account_for, by_call, status_of}
 use Rattle.logon_client.specs.Answering.{bind_for}
@@ -74,37 +74,37 @@ use Rattle.logon_steps.proofs.ControllerTurnLaws.{controllers_step}
 use Rattle.logon_steps.proofs.SetTurnLaws.{controllers_set, set_asked, set_comes, set_reply_comes, set_reply_sends, set_units_go}
 use Rattle.logon_steps.proofs.MeetingLaws.{ack_sends, bind_sends}
 use Rattle.logon_steps.proofs.TurningLaws.{unit_comes}
-use Rattle.logon_runs.specs.Seen.LinkScenes.{its_link, unit_down, unit_up, Meeting}
-use Rattle.logon_runs.specs.Seen.TurnScenes.{IsBetween, Turn, with_accounts, turn_scene, unit_back}
-use Rattle.logon_runs.specs.Seen.Others.{IsStepOn}
-use Rattle.logon_runs.specs.Seen.WaitingUnits.{waiting}
+use Rattle.logon_runs.specs.Scenes.LinkScenes.{its_link, unit_down, unit_up, Meeting}
+use Rattle.logon_runs.specs.Scenes.TurnScenes.{IsBetween, Turn, with_accounts, turn_scene, unit_back}
+use Rattle.logon_runs.specs.Scenes.Others.{IsStepOn}
+use Rattle.logon_runs.specs.Scenes.WaitingUnits.{waiting}
 use Rattle.logon_runs.specs.Phases.{IsPlanned as IsPlannedTurn, Aim, Coming, First, Fourth, HasThree, IsAsking, IsOpening, IsSetting, LogonPhase, NotYet, Progress, progress_answered, progress_onward, Second, Third, TurnAt, WasJudged, WasOpened, WasSet, WasTold, WhoAsked, own, progress_called, progress_of, scene_of, standing_for, step_for, turn_before, turn_on, with_its_controller, Acked, Answers, Binds, BindsBefore, BindsHeld, Calls, Challenged, Dials, DialsBefore, DialsHeld, Echoed, Echoes, Granted, Halved, Named, Proved, Sets, IsAnswering}
 use Rattle.logon_runs.specs.Runs.{Asked, goes, info_asked, message_for}
-use Rattle.logon_runs.specs.Scenes.{Shows}
+use Rattle.logon_runs.specs.Scenes.Scene.{Shows}
 use Rattle.logon_runs.proofs.Phases.PhaseStartLaws.{left_so}
 use Rattle.logon_runs.proofs.Phases.PhaseTurnLaws.{HasPlace, of_table, place_found}
 use Rattle.logon_runs.proofs.RunLaws.{between_still}
-use Rattle.logon_runs.proofs.Seen.LinkSceneLaws.{found_here, heard_down}
-use Rattle.logon_runs.proofs.Seen.TwoLinkLaws.{turns_have_links}
-use Rattle.logon_runs.proofs.Seen.StepOnLaws.{by_step}
-use Rattle.logon_runs.proofs.Seen.WaitingLaws.{waiting_comes}
+use Rattle.logon_runs.proofs.Scenes.LinkSceneLaws.{found_here, heard_down}
+use Rattle.logon_runs.proofs.Scenes.TwoLinkLaws.{turns_have_links}
+use Rattle.logon_runs.proofs.Scenes.StepOnLaws.{by_step}
+use Rattle.logon_runs.proofs.Scenes.WaitingLaws.{waiting_comes}
 use Rattle.domain_world.specs.Past.{judged_of, note, note_given, note_onward}
 use Rattle.domain_world.proofs.Completeness.HeardOnceLaws.{either_way, set_hears, turn_line}
 use Rattle.domain_world.proofs.Completeness.UnitNotedLaws.{comes_so}
 use Rattle.domain_world.proofs.Clear.NotedLaws.{Fine, Waits, given_fine, grows, world_at}
 use Rattle.domain_world.proofs.Clear.NotedOnLaws.{waits_marked}
 use Rattle.domain_world.proofs.Clear.UnitComesLaws.{Called, CalledBy, FineAnd, Names, ack_leads, answer_in_turn, answer_to, bag_kept, bind_leads, call_comes, calls_come, channel_in_turn, client_comes, connect_fine, desk_in_turn, waiting_leads, judged_bag, meeting_leads, quiet_leads, replied_bag, reply_leads, reply_waits, reply_waits_by, responses_lead, set_ack_leads, where_by, where_in_turn, start_fine}
-use Rattle.logon_runs.specs.Any.AnyPhases.{progress_in, progress_next, AnyPhase, Away, IsAble, IsGranted, IsOwn, IsReadyBy, IsThere, IsTurningBy, Judged, KeepsInStep, MayAim, MayFit, MayFitAway, MayFitOn, On, Setting, Told, any_scene, proof_reply}
-use Rattle.logon_runs.specs.Keys.LetIn.{let_in_scene, Asks, FitsLetIn, Hears, IsOnLink, LetInPhase}
+use Rattle.logon_runs.specs.AnyAnswer.AnyPhases.{progress_in, progress_next, AnyPhase, Away, IsAble, IsGranted, IsOwn, IsReadyBy, IsThere, IsTurningBy, Judged, KeepsInStep, MayAim, MayFit, MayFitAway, MayFitOn, On, Setting, Told, any_scene, proof_reply}
+use Rattle.logon_runs.specs.OtherKeys.LetIn.{let_in_scene, Asks, FitsLetIn, Hears, IsOnLink, LetInPhase}
 use Rattle.logon_runs.specs.Failing.TurnedAway.{AwayPhase, Faulted, Refused, Unheard, away_scene, settled_in}
 use Rattle.domain_controller.specs.declared.state.Talk.{Talk as ControllerTalk}
 use Rattle.logon_stubs.specs.Ranges.{IsBlock}
 use Rattle.world_moves.specs.declared.moves.Move.{Move}
 use Rattle.world_moves.specs.declared.plan.Plan.{Plan}
 use Rattle.channel_client.specs.declared.state.Question.{Question}
-use Rattle.logon_runs.specs.Any.ControllerAnswers.{ToldChallenge, ToldProof}
+use Rattle.logon_runs.specs.AnyAnswer.ControllerAnswers.{ToldChallenge, ToldProof}
 use Rattle.logon_stubs.specs.declared.info.Verdict.{Verdict}
-use Rattle.logon_runs.proofs.Any.ControllerAnswerLaws.{controllers_answer}
+use Rattle.logon_runs.proofs.AnyAnswer.ControllerAnswerLaws.{controllers_answer}
 use Rattle.end_links.specs.Sending.{fault_of}
 use Rattle.logon_runs.proofs.Failing.FailingStepLaws.{fault_sends}
 use Rattle.authenticators.specs.Sequences.{return_of}
@@ -112,6 +112,7 @@ use Rattle.rpc_units.specs.Numbers.{rpc_s_server_unavailable}
 use Rattle.member_server.specs.Requests.{talk_in}
 use Rattle.sam_logon.specs.Verdict.{verdict_of}
 use Rattle.logon_runs.specs.Failing.FailingSteps.{out_talk, who_fault}
+use Rattle.logon_runs.proofs.AnyAnswer.RestAgainLaws.{some_not}
 use Rattle.logon_steps.proofs.AnsweringLaws.{calls_are_answered}
 use Rattle.outside.specs.declared.action.Judged.TheVariants as judged
 use Rattle.outside.specs.declared.event.Event.TheVariants as event
@@ -181,9 +182,6 @@ abbrev actions_in : Result (List Action) StepRefused → List Action
 actions_in (Ok actions) = actions
 actions_in (Err why) = []
 
-found_none : {T : Type 0} {one : T} → Some one ≡ None → ⊥
-found_none is = absurd cc
-
 -- the member's plan is that of the world, but for the secret, and names the controller where it reaches one
 pub record IsPlanned (plan : Plan) (p : Coming) (s : State) : Type 0 where
   pub is_plan : slice_get (map but_secret s.member_plans) p.meeting.at_member ≡ Some (but_secret p.meeting.plan)
@@ -201,7 +199,7 @@ other_quiet : (logons : Logons) (links : List (ℕ × LinkState Talk)) (link oth
 other_quiet logons links link other now piece left apart =
     let differs : (link == other) ≡ false = false_from_ne_true (link == other) (λ is. apart ((Decides-eqb link other).0 is)) in
     ap (λ (hit : Bool). units_if_taken (step_of (member_at logons links (on_turn link)) (event.Bytes other piece) now left).answer
-    (turn_units_by hit (record { rest = []; talk = turn_talk None }) other piece (record { logons = logons; links = links; dialling = on_turn link }) left)) differs
+    (turn_units_by hit (record { rest = []; talk = turn_talk None }) other piece (record { logons = logons; links = links; dialling = on_turn link; sealing = None }) left)) differs
     ∙ either_way (λ (units : List (ServedUnit AtTurn TurnTalk)). units ≡ []) (step_of (member_at logons links (on_turn link)) (event.Bytes other piece) now left).answer [] refl refl
 
 -- ---- a unit comes
@@ -552,7 +550,7 @@ module _ (plan : Plan) (p : Coming) (s : State) (k : ℕ) (b : Book) (able : IsA
                   replied_clean (Second client server) v.table question.Authenticate (proof_reply credential status) goes_so
                   (λ unit first. elim waits [
                     | inl made ↦ waits_marked s _ b unit made first
-                    | inr none ↦ absurd (found_none (sym has.found ∙ none))
+                    | inr none ↦ absurd (some_not (sym has.found ∙ none))
                   ]) shows
             ]
 

@@ -23,7 +23,7 @@ use Rattle.channel_client.specs.declared.answers.Taken.TheVariants as taken
 use Rattle.channel_client.specs.declared.caller.Caller.{Caller}
 use Rattle.channel_client.specs.declared.state.Standing.{Standing}
 use Rattle.channel_client.specs.declared.state.Step.{Step}
-use Rattle.channel_events.proofs.ListLaws.{all_weaker}
+use Rattle.wire_base.proofs.ListLaws.{all_weaker}
 use Rattle.member_server.specs.Machine.{at_turn, step_of}
 use Rattle.member_server.specs.Turns.{AtTurn, turn_server, turn_talk}
 use Rattle.member_server.specs.declared.plan.MemberPlan.{MemberPlan}
@@ -38,7 +38,7 @@ use Rattle.step_notes.specs.Records.{Sent}
 use Rattle.step_notes.specs.Served.{units_if_taken}
 use Rattle.step_notes.specs.TakenWhole.{TakesWhole}
 use Rattle.step_notes.proofs.Members.TurnHeardLaws.{members_take}
-use Rattle.domain_world.proofs.Frames.MarkPlaceLaws.{all_push}
+use Rattle.domain_world.proofs.Moves.MarkPlaceLaws.{all_push}
 use Rattle.logon_steps.specs.MemberTurns.{bind_waits, logons_keeping, member_at, on_turn}
 use Rattle.logon_steps.specs.Turning.{turn_ack}
 use Rattle.logon_steps.proofs.StreamLaws.{one_unit, read_again, same}
@@ -73,7 +73,7 @@ turn_here : (logons : Logons) (links : List (ℕ × LinkState Talk)) (link now :
     (served_units turn_server (cut_stream piece).units (at_turn link (record { logons = logons; links = links; actions = [] })) (turn_talk None) left)
 turn_here logons links link now piece left =
     ap (λ (own : Bool). units_if_taken (step_of (member_at logons links (on_turn link)) (event.Bytes link piece) now left).answer
-    (turn_units_by own (record { rest = []; talk = turn_talk None }) link piece (record { logons = logons; links = links; dialling = on_turn link }) left)) (same link)
+    (turn_units_by own (record { rest = []; talk = turn_talk None }) link piece (record { logons = logons; links = links; dialling = on_turn link; sealing = None }) left)) (same link)
 
 -- the answer to the bind lets the call out
 ack_whole : (number : ℕ) → answer_of None (turn_ack number) ≡ Ok (Some (turn_ack number))

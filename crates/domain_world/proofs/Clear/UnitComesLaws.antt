@@ -66,17 +66,17 @@ use Rattle.logon_steps.proofs.SetTurnLaws.{set_turns_step, set_units_go}
 use Rattle.logon_steps.proofs.StreamLaws.{same}
 use Rattle.logon_steps.proofs.TurningLaws.{ComesAtOnce, request_comes, response_comes, response_sends, turn_ack_sends, turn_bind_sends, turns_go_through, unit_comes}
 use Rattle.logon_runs.specs.Runs.{connects, goes}
-use Rattle.logon_runs.specs.Seen.LinkScenes.{Meeting, meeting_scene, resting, unit_up}
-use Rattle.logon_runs.specs.Scenes.{HasFirst, Scene, Shows}
-use Rattle.logon_runs.specs.Seen.TurnScenes.{IsBetween, Turn, dial_scene, turn_scene, unit_back, unit_there, waiting_scene}
-use Rattle.logon_runs.specs.Seen.WaitingUnits.{after_hearing, with_controller_at, with_member_at}
-use Rattle.logon_runs.proofs.Seen.LinkSceneLaws.{heard_up}
-use Rattle.logon_runs.proofs.Seen.TurnSceneLaws.{heard_back, heard_there}
-use Rattle.logon_runs.proofs.Seen.WaitingLaws.{waiting_comes}
+use Rattle.logon_runs.specs.Scenes.LinkScenes.{Meeting, meeting_scene, resting, unit_up}
+use Rattle.logon_runs.specs.Scenes.Scene.{HasFirst, Scene, Shows}
+use Rattle.logon_runs.specs.Scenes.TurnScenes.{IsBetween, Turn, dial_scene, turn_scene, unit_back, unit_there, waiting_scene}
+use Rattle.logon_runs.specs.Scenes.WaitingUnits.{after_hearing, with_controller_at, with_member_at}
+use Rattle.logon_runs.proofs.Scenes.LinkSceneLaws.{heard_up}
+use Rattle.logon_runs.proofs.Scenes.TurnSceneLaws.{heard_back, heard_there}
+use Rattle.logon_runs.proofs.Scenes.WaitingLaws.{waiting_comes}
 use Rattle.domain_world.proofs.Completeness.HeardOnceLaws.{ComeTo, IsHeardAs, answer_by, bind_answers, heard_answers, turn_hears}
 use Rattle.domain_world.proofs.Clear.NotedLaws.{AreOwn, Fine, Leads, Waits, Written, client_fine, controller_fine, given_fine, grows, member_fine, world_at}
 use Rattle.domain_world.proofs.Completeness.UnitNotedLaws.{Came, comes_so, coming, state_then}
-use Rattle.domain_world.proofs.Frames.MemberPlanLaws.{controller_but_secret}
+use Rattle.domain_world.proofs.Moves.MemberPlanLaws.{controller_but_secret}
 use Rattle.domain_world.proofs.Clear.NotedOnLaws.{came_fine, onward_waits, written_few}
 use Rattle.domain_world.proofs.Clear.TakenOnceLaws.{asks_notes, own_notes, response_own, rests_quiet, waits_quiet}
 

@@ -15,7 +15,7 @@ use Rattle.logon_client.specs.declared.plan.AuthKind.TheVariants.{V1, V1Ess, V2}
 use Rattle.logon_client.specs.declared.plan.ClientPlan.{ClientPlan}
 use Rattle.logon_stubs.specs.declared.info.NetworkInfo.{NetworkInfo}
 use Rattle.member_server.specs.declared.plan.MemberPlan.{MemberPlan}
-use Rattle.channel_events.proofs.ListLaws.{got_nothing, some_is}
+use Rattle.wire_base.proofs.ListLaws.{got_nothing, some_is}
 use Rattle.world_moves.specs.declared.links.EndId.{EndId}
 use Rattle.world_moves.specs.declared.links.EndId.TheVariants.{Controller, Member}
 use Rattle.world_moves.specs.declared.moves.Move.{Move}
@@ -25,7 +25,7 @@ use Rattle.world_moves.specs.Moving.{end_of_peer}
 use Rattle.world_moves.specs.World.{first_ends}
 use Rattle.logon_steps.specs.Granting.{info_told, response_told}
 use Rattle.logon_steps.proofs.KnowingLaws.{computers_are_known}
-use Rattle.logon_runs.specs.AnyLogons.{HasServers}
+use Rattle.logon_runs.specs.AnyAnswer.AnyLogons.{HasServers}
 use Rattle.logon_runs.specs.Rests.{CanBeGranted, HasItsSecret, HasOwnComputer, HasOwnName, channel_account}
 use Rattle.domain_world.specs.Claims.OneByOne.{AreApart, HasOwnMember}
 use Rattle.domain_world.specs.Claims.Completeness.{CanSucceed, HasComputer, info_planned, members_of, response_planned}

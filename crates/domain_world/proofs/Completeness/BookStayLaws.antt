@@ -1,26 +1,22 @@
 -- What was told and judged stays written down, and a link stays between its ends.
 -- It serves `Proved.complete`.
-use Rattle.std.proofs.Common.{◌≡◌, ℕ, refl, sym, subst, true, List, [], ◌∷◌, Some, inr, slice_get}
-use Rattle.channel_events.specs.Marks.{OneOf}
-use Rattle.channel_events.proofs.ListLaws.{got_append}
+use Rattle.std.proofs.Common.{◌≡◌, ℕ, refl, sym, subst, true, List, [], ◌∷◌, Some, slice_get}
+use Rattle.wire_base.specs.Lists.{OneOf}
+use Rattle.wire_base.proofs.ListLaws.{got_append, one_before}
 use Rattle.step_notes.specs.Records.{Book, Judging, OutcomeTold}
 use Rattle.world_moves.specs.declared.links.EndId.{EndId}
 use Rattle.world_moves.specs.declared.links.Route.{Route}
 use Rattle.world_moves.specs.declared.moves.Move.{Move}
 use Rattle.world_moves.specs.declared.state.State.{State}
 use Rattle.world_moves.specs.World.{World, run}
-use Rattle.domain_world.specs.Past.{Coming, answers_of, book, judged_of, note_at, numbers_on, onto, told_in}
+use Rattle.domain_world.specs.Past.{Coming, answers_of, book, judged_of, note_at, numbers_on, told_in}
 use Rattle.domain_world.proofs.Frames.AloneFrameLaws.{StandsAlone}
-use Rattle.domain_world.proofs.Challenges.OwnLinkLaws.{one_earlier}
 use Rattle.domain_world.proofs.Frames.BookFrameLaws.{book_stays}
 use Rattle.domain_world.proofs.Frames.FrameLaws.{Fact, StaysWritten, later_stays}
 use Rattle.domain_world.proofs.Frames.EndNoteLaws.{book_by, bytes_told, judged_so}
+use Rattle.domain_world.proofs.Judgements.ReplyLaws.{one_older}
 
 -- ---- one of several
-
-one_onto : {T : Type 0} (P : T → Type 0) (items older : List T) → OneOf P older → OneOf P (onto items older)
-one_onto P [] older one = one
-one_onto P (item ∷ items) older one = one_onto P items (item ∷ older) (inr one)
 
 -- ---- what was told
 
@@ -28,14 +24,14 @@ pub told_stays : (P : OutcomeTold → Type 0) (moves : List Move) (w : World) (b
 told_stays P moves w b stands one =
     book_stays (λ (now : Book). OneOf P now.told)
     (λ end w piece s after now is. subst (OneOf P) (sym (bytes_told end w piece s after now)) is)
-    (λ at given after now is. one_earlier P now.told (told_in given at) is) moves w b stands.placed one
+    (λ at given after now is. one_before P now.told (told_in given at) is) moves w b stands.placed one
 
 -- ---- what was judged
 
 bytes_judged : (P : Judging → Type 0) (end : EndId) (w : Coming) (piece : List ℕ) (s after : State) (b : Book) → OneOf P b.judged → OneOf P (note_at (Some end) w piece s after b).judged
 bytes_judged P end w piece s after b one =
     book_by (λ (which : EndId) (now : Book). OneOf P now.judged) w piece s after b (λ which. one)
-    (λ at c is. one_onto P (judged_of (answers_of at c w piece s) (numbers_on w.link true s.bag after.bag)) b.judged one)
+    (λ at c is. one_older P (judged_of (answers_of at c w piece s) (numbers_on w.link true s.bag after.bag)) b.judged one)
     (λ at m is. subst (OneOf P) (sym (judged_so.members m at w piece s after b)) one) (λ at c is. one) end
 
 pub judged_stays : (P : Judging → Type 0) (moves : List Move) (w : World) (b : Book) → StandsAlone w.state → OneOf P b.judged → OneOf P (book moves w b).judged

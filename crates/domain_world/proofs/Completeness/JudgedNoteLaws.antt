@@ -29,7 +29,7 @@ use Rattle.controller_calls.specs.declared.line.Line.{Line}
 use Rattle.domain_controller.specs.declared.state.Talk.{Talk}
 use Rattle.domain_controller.specs.State.{State as ControllerState}
 use Rattle.domain_controller.specs.Step.{first_desk}
-use Rattle.channel_events.specs.Marks.{OneOf}
+use Rattle.wire_base.specs.Lists.{OneOf}
 use Rattle.step_notes.specs.ControllerNotes.{Answered, Where, answer_on, identity_by, channel_in, has_passed, judged_in, judging_by, judging_of, new_actions, passing, units_of_controller}
 use Rattle.step_notes.specs.Judged.{channel_if, hash_in, passed_channel}
 use Rattle.step_notes.specs.Records.{Book, Judging, computer_named}
@@ -54,10 +54,10 @@ use Rattle.logon_steps.proofs.GrantingLaws.{logons_are_granted}
 use Rattle.logon_steps.proofs.TurningLaws.{request_comes}
 use Rattle.logon_runs.specs.Phases.{Calls, Coming as LogonComing, Fits, HasUserIn, IsAimed, IsKnown, IsTurning, MayLogOnAt, Third, TurnAt, WhoAsked, own, scene_of, standing_for, turn_before, turn_on}
 use Rattle.logon_runs.specs.Runs.{Asked, info_asked, message_for}
-use Rattle.logon_runs.specs.Scenes.{Shows}
-use Rattle.logon_runs.specs.Seen.TurnScenes.{IsBetween, Turn, unit_there}
-use Rattle.logon_runs.proofs.Seen.TurnSceneLaws.{heard_there}
-use Rattle.logon_runs.proofs.Seen.TwoLinkLaws.{turns_have_links}
+use Rattle.logon_runs.specs.Scenes.Scene.{Shows}
+use Rattle.logon_runs.specs.Scenes.TurnScenes.{IsBetween, Turn, unit_there}
+use Rattle.logon_runs.proofs.Scenes.TurnSceneLaws.{heard_there}
+use Rattle.logon_runs.proofs.Scenes.TwoLinkLaws.{turns_have_links}
 use Rattle.domain_world.specs.Claims.{TravelsAsZeros, key_bytes}
 use Rattle.domain_world.specs.Claims.Completeness.{IsMadeForClient}
 use Rattle.domain_world.specs.Past.{Coming, answers_of, at_controller, first_of, judged_of, note, note_controller, numbers_on, onto, with_reply}

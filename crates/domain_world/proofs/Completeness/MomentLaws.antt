@@ -12,7 +12,7 @@ use Rattle.world_moves.specs.Choosing.{chosen_place}
 use Rattle.world_moves.specs.Moving.{act, start, start_at, start_by}
 use Rattle.world_moves.proofs.StateFrameLaws.{HoldsMoving, StateFact, move_so}
 use Rattle.logon_steps.proofs.ClientStepLaws.{clients_step}
-use Rattle.logon_runs.proofs.Seen.StartLaws.{begun_so}
+use Rattle.logon_runs.proofs.Scenes.StartLaws.{begun_so}
 
 -- ---- it stays below 2^64
 

@@ -8,8 +8,8 @@ use Rattle.outside.specs.declared.action.Action.TheVariants as action
 use Rattle.outside.specs.declared.action.CloseCause.TheVariants as close
 use Rattle.outside.specs.declared.action.Outcome.TheVariants as outcome
 use Rattle.account_table.specs.AccountTable.{AccountTable}
-use Rattle.channel_events.specs.Marks.{OneOf}
-use Rattle.channel_events.proofs.ListLaws.{one_found}
+use Rattle.wire_base.specs.Lists.{OneOf}
+use Rattle.wire_base.proofs.ListLaws.{one_behind, one_found}
 use Rattle.logon_client.specs.declared.plan.ClientPlan.{ClientPlan}
 use Rattle.logon_stubs.specs.declared.calls.LogonCall.{LogonCall}
 use Rattle.step_notes.specs.Records.{Book, Judging, OutcomeTold}
@@ -26,14 +26,13 @@ use Rattle.logon_runs.specs.GrantsTold.{TellsIn}
 use Rattle.logon_runs.specs.Phases.{Aim, ArrivesAt, Coming, First, Fits, Fourth, HasUser, HasUserAt, IsAsking, IsKnown, IsOpening, IsSetting, LogonPhase, MayLogOnAt, NotYet, Progress, Second, Third, TurnAt, WasJudged, WasOpened, WasSet, WasTold, WhoAsked, key_at, own, progress_called, progress_of, progress_onward, scene_of}
 use Rattle.logon_runs.specs.Phases.{Acked, Answers, Binds, BindsBefore, BindsHeld, Calls, Challenged, Dials, DialsBefore, DialsHeld, Echoed, Echoes, Granted, Halved, Named, Proved, Sets}
 use Rattle.logon_runs.specs.Runs.{Asked, message_for}
-use Rattle.logon_runs.specs.Scenes.{Shows}
+use Rattle.logon_runs.specs.Scenes.Scene.{Shows}
 use Rattle.logon_runs.proofs.GrantsToldLaws.{grants_tell}
 use Rattle.logon_runs.proofs.Phases.PhaseLaws.{phases_go_on}
 use Rattle.domain_world.specs.Claims.{TravelsAsZeros}
 use Rattle.domain_world.specs.Claims.Completeness.{IsMadeForClient, KeyArrives}
 use Rattle.domain_world.specs.Past.{book, note, told_in}
 use Rattle.domain_world.proofs.Frames.AloneFrameLaws.{StandsAlone}
-use Rattle.domain_world.proofs.Accepting.Turns.TurnChangedLaws.{one_after}
 use Rattle.domain_world.proofs.Completeness.BookStayLaws.{judged_stays, told_stays}
 use Rattle.domain_world.proofs.Completeness.JudgedNoteLaws.{IsGrant, grant_noted}
 
@@ -92,7 +91,7 @@ told_so : (p : Coming) (a : Asked) (w : World) (b : Book) (turn : ℕ) (answer :
     ∷ (Member p.meeting.at_member, action.Send (own p).link answer)
     ∷ rest → OneOf (IsTold p a) (note w move.Onward b).told
 told_so p a w b turn answer rest is =
-    one_after (IsTold p a) _ (told_in (onward w.state).given w.moves)
+    one_behind (IsTold p a) _ (told_in (onward w.state).given w.moves)
     (subst (λ (given : Given). OneOf (IsTold p a) (told_in given w.moves)) (sym is) (inl (refl, refl, refl)))
 
 -- ---- a unit comes

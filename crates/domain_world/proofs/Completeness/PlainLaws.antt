@@ -3,8 +3,8 @@
 use Rattle.std.proofs.Common.{◌≡◌, ℕ, List, [], ◌++◌, refl, subst, sym}
 use Rattle.world_moves.specs.declared.moves.Move.{Move}
 use Rattle.world_moves.specs.declared.moves.Move.TheVariants as move
-use Rattle.logon_runs.specs.Seen.Others.{IsStepOn}
-use Rattle.logon_runs.proofs.Seen.StepOnLaws.{by_step}
+use Rattle.logon_runs.specs.Scenes.Others.{IsStepOn}
+use Rattle.logon_runs.proofs.Scenes.StepOnLaws.{by_step}
 use Rattle.domain_world.specs.Claims.Completeness.{IsPlainMove, started_by}
 
 pub by_plain {ℓ} : (P : Move → Type ℓ) → ((number : ℕ) → P (move.Start number)) → ((what : Move) → IsStepOn what → P what) → (what : Move) → IsPlainMove what → P what

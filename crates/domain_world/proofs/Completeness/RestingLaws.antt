@@ -23,17 +23,17 @@ use Rattle.world_moves.specs.Choosing.{chosen_place, place_by}
 use Rattle.world_moves.specs.Forms.{HasForms}
 use Rattle.world_moves.specs.Moving.{act, connect_first, start, start_at, without_first}
 use Rattle.world_moves.specs.World.{IsPlan, World, first_world, happens, run}
-use Rattle.logon_runs.specs.AnyLogons.{AreBelow, DrawsUpTo, HasServers, LogonRests}
-use Rattle.logon_runs.specs.Seen.Others.{IsStepOn}
+use Rattle.logon_runs.specs.AnyAnswer.AnyLogons.{AreBelow, DrawsUpTo, HasServers, LogonRests}
+use Rattle.logon_runs.specs.Scenes.Others.{IsStepOn}
 use Rattle.logon_runs.specs.Rests.{AtRest, HasEnough, moved_by}
-use Rattle.logon_runs.specs.Seen.Staying.{HasSameEnds}
-use Rattle.logon_runs.specs.Seen.WaitingUnits.{waiting}
-use Rattle.logon_runs.proofs.Any.AnyLogonLaws.{logons_rest}
+use Rattle.logon_runs.specs.Scenes.Staying.{HasSameEnds}
+use Rattle.logon_runs.specs.Scenes.WaitingUnits.{waiting}
+use Rattle.logon_runs.proofs.AnyAnswer.AnyLogonLaws.{logons_rest}
 use Rattle.logon_runs.proofs.EnoughLaws.{rest_of}
 use Rattle.logon_runs.proofs.RestStayLaws.{rests_stay}
-use Rattle.logon_runs.proofs.Seen.StayingLaws.{both_same, ends_stay}
-use Rattle.logon_runs.proofs.Seen.WaitingLaws.{waiting_comes}
-use Rattle.logon_runs.proofs.Seen.StepOnLaws.{by_step}
+use Rattle.logon_runs.proofs.Scenes.StayingLaws.{both_same, ends_stay}
+use Rattle.logon_runs.proofs.Scenes.WaitingLaws.{waiting_comes}
+use Rattle.logon_runs.proofs.Scenes.StepOnLaws.{by_step}
 use Rattle.step_notes.specs.Records.{blank}
 use Rattle.domain_world.specs.Claims.Completeness.{IsPlainMove, IsQuiet, OneAtATime, started_in}
 use Rattle.domain_world.proofs.Frames.AloneFrameLaws.{StandsAlone, stands_next}

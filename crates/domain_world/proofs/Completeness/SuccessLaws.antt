@@ -8,7 +8,7 @@ use Rattle.outside.specs.declared.action.Outcome.TheVariants as outcome
 use Rattle.outside.specs.Drawing.{Drawing}
 use Rattle.outside.specs.Counter.{most_draws}
 use Rattle.outside.proofs.CounterLaws.{length-challenges_from}
-use Rattle.channel_events.proofs.ListLaws.{got_nothing, one_weaker}
+use Rattle.wire_base.proofs.ListLaws.{got_nothing, one_weaker}
 use Rattle.step_notes.specs.Records.{Book, blank}
 use Rattle.logon_client.specs.declared.outcome.ClientOutcome.TheVariants as client_outcome
 use Rattle.logon_client.specs.declared.plan.ClientPlan.{ClientPlan}
@@ -22,23 +22,23 @@ use Rattle.world_moves.specs.Forms.{HasForms}
 use Rattle.world_moves.specs.Moving.{act, start}
 use Rattle.world_moves.specs.World.{IsPlan, World, first_world, happens, outcome_by, run}
 use Rattle.world_moves.specs.Alone.{HandsNothingOn}
-use Rattle.logon_runs.specs.AnyLogons.{HasServers}
-use Rattle.logon_runs.specs.Seen.Others.{IsStepOn}
+use Rattle.logon_runs.specs.AnyAnswer.AnyLogons.{HasServers}
+use Rattle.logon_runs.specs.Scenes.Others.{IsStepOn}
 use Rattle.logon_runs.specs.Rests.{CanBeGranted, HasBegun, HasEnough, coming_of}
 use Rattle.logon_runs.specs.Phases.{Coming, IsReached, IsUnderWay, LogonPhase, NotYet, key_at, progress_of, scene_of, told_of}
 use Rattle.logon_runs.specs.Phases.{Acked, Answers, Binds, BindsBefore, BindsHeld, Calls, Challenged, Dials, DialsBefore, DialsHeld, Echoed, Echoes, Granted, Halved, Named, Proved, Sets}
-use Rattle.logon_runs.specs.Scenes.{Shows}
-use Rattle.logon_runs.specs.Seen.WaitingUnits.{waiting}
+use Rattle.logon_runs.specs.Scenes.Scene.{Shows}
+use Rattle.logon_runs.specs.Scenes.WaitingUnits.{waiting}
 use Rattle.logon_runs.proofs.Phases.PhaseLaws.{one_waits}
 use Rattle.logon_runs.proofs.RestLaws.{logons_come_to_rest}
-use Rattle.logon_runs.proofs.Seen.StayingLaws.{ends_stay, reach_still}
+use Rattle.logon_runs.proofs.Scenes.StayingLaws.{ends_stay, reach_still}
 use Rattle.domain_world.specs.Claims.Completeness.{CanSucceed, EachSucceeds, IsQuiet, InEachState, MayLogOnIn, OwnKeysArrive, Succeeds, info_planned, name_of, started_in}
 use Rattle.domain_world.specs.Past.{Past, book, note, past}
-use Rattle.domain_world.proofs.Frames.LeftLaws.{first_left_blocks}
+use Rattle.domain_world.proofs.Moves.LeftLaws.{first_left_blocks}
 use Rattle.domain_world.proofs.Completeness.ApartLaws.{can_be_granted, has_servers}
 use Rattle.domain_world.proofs.Completeness.MomentLaws.{start_bag, start_chances}
 use Rattle.domain_world.proofs.Completeness.OwnLogonLaws.{AreSafeFor, IsTold}
-use Rattle.domain_world.proofs.Completeness.OwnWalkLaws.{IsSoFar, OwnEnds, may_at, own_goes}
+use Rattle.domain_world.proofs.Completeness.LogonWalkLaws.{IsSoFar, OwnEnds, may_at, own_goes}
 use Rattle.domain_world.proofs.Frames.AloneFrameLaws.{stands_first}
 use Rattle.domain_world.proofs.Completeness.RestingLaws.{Along, BeginsSo, along_next, Resting, Started, begins_so, fewer_moves, goes_further, rests_on, rests_then}
 use Rattle.domain_world.proofs.Completeness.PlainLaws.{by_plain, later_starts, with_starts}

@@ -13,9 +13,9 @@ use Rattle.world_moves.specs.Acting.{hear_and_act, hear_and_act_if}
 use Rattle.world_moves.specs.Bag.{first_waiting, settle_at, settled}
 use Rattle.world_moves.specs.Links.{hearer_of, hearer_on}
 use Rattle.world_moves.specs.Moving.{onward, settle}
-use Rattle.logon_runs.specs.Scenes.{HasFirst, Scene, Shows}
-use Rattle.logon_runs.specs.Seen.WaitingUnits.{IsOldest, waiting}
-use Rattle.logon_runs.proofs.Seen.WaitingLaws.{comes_by, one_piece, set_there, settled_by, waiting_comes}
+use Rattle.logon_runs.specs.Scenes.Scene.{HasFirst, Scene, Shows}
+use Rattle.logon_runs.specs.Scenes.WaitingUnits.{IsOldest, waiting}
+use Rattle.logon_runs.proofs.Scenes.WaitingLaws.{comes_by, one_piece, set_there, settled_by, waiting_comes}
 use Rattle.domain_world.specs.Past.{Coming, note_at, note_coming, note_onward, note_own, note_pieces, note_unit}
 
 abbrev pub coming : ℕ → ℕ → BagUnit → Coming

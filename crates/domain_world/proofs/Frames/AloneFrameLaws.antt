@@ -35,16 +35,16 @@ use Rattle.world_moves.specs.Ends.{EndStep, actions_by}
 use Rattle.world_moves.specs.Links.{acceptor_of, dialler_of}
 use Rattle.world_moves.specs.Moving.{begun, changed, with_link}
 use Rattle.world_moves.specs.World.{World, first_world, happens, run}
-use Rattle.domain_world.specs.Claims.Sessions.{restarted}
+use Rattle.domain_world.specs.Claims.Sessions.{restart_of}
 use Rattle.domain_world.specs.Past.{Coming, book, note, note_at}
-use Rattle.channel_events.proofs.ListLaws.{all_weaker, at_end, got_nothing}
+use Rattle.wire_base.proofs.ListLaws.{all_weaker, at_end, got_nothing}
 use Rattle.world_moves.proofs.AloneLaws.{first_alone, hears_so_alone, moves_alone}
 use Rattle.domain_world.proofs.Frames.AloneStepLaws.{alone_by, renews_alone}
 use Rattle.domain_world.proofs.Frames.MoveFrameLaws.{HoldsAfterMoves, later_keeps, move_keeps, moves_carry, moves_keep, placed_next}
 use Rattle.domain_world.proofs.Frames.MoveKeepLaws.{Both, IsHeard, KeepsCalmMoves, KeepsCalmMovesBy, KeepsMoves, KeepsMovesBy, MoveFact, NoSide, Progress, but_renewed, coming, every, join_calm, join_moves, started, waiting, with_rest}
-use Rattle.domain_world.proofs.Frames.NoBytesLaws.{IsBeside, IsNoBytes, does_nothing_else}
-use Rattle.domain_world.proofs.Frames.OpenMadeLaws.{IsApart, IsAtSide, IsOnSide}
-use Rattle.domain_world.proofs.Frames.PlacedLaws.{HandsBytes, HasBytes, IsBytesBag, IsPlaced, placed_first}
+use Rattle.domain_world.proofs.Moves.NoBytesLaws.{IsBeside, IsNoBytes, does_nothing_else}
+use Rattle.domain_world.proofs.Moves.OpenMadeLaws.{IsApart, IsAtSide, IsOnSide}
+use Rattle.domain_world.proofs.Moves.PlacedLaws.{HandsBytes, HasBytes, IsBytesBag, IsPlaced, placed_first}
 
 -- ---- a world whose controllers ask nobody, and in which none dials
 
@@ -260,7 +260,7 @@ alone_keeps Known = record {
     dial = tt;
     rest = tt;
   };
-  changes = λ n at member secret s b none goes. record {
+  changes = λ n at member secret s b formed none goes. record {
     state = record { asks = moves_alone.changes member secret s goes.state.asks; dials = goes.state.dials; links = goes.state.links };
     dial = tt;
     rest = both_behind (given_by (Member member) (changed member secret s).actions) [] (others_do (Member member) (changed member secret s).actions tt) tt;
@@ -306,7 +306,7 @@ module _ (Known : Type 0) (Holds : MoveFact) where
     forgets = λ n at end s b goes holds. keeps.forgets n at end s b tt holds;
     settles = λ n at on number s b goes holds. keeps.settles n at on number s b tt holds;
     dials = λ n at dial s b is goes holds. keeps.dials n at dial s b is tt holds;
-    changes = λ n at member secret s b goes holds. keeps.changes n at member secret s b tt holds;
+    changes = λ n at member secret s b formed goes holds. keeps.changes n at member secret s b formed tt holds;
     ticks = λ n at more s b goes holds. keeps.ticks n at more s b tt holds;
     over = λ n at on next s given b goes holds. keeps.over n at on next s given b tt holds;
   }
@@ -386,7 +386,7 @@ stands_next what w b stands = record {
 }
 
 -- through one move at which no end is made anew, where it isn't known to hold on where one is
-pub move_keeps_alone : (Holds : MoveFact) → KeepsCalmMoves ⊥ NoSide Holds → (what : Move) (w : World) (b : Book) → restarted what w.state ≡ None → StandsAlone w.state →
+pub move_keeps_alone : (Holds : MoveFact) → KeepsCalmMoves ⊥ NoSide Holds → (what : Move) (w : World) (b : Book) → restart_of what w.state ≡ None → StandsAlone w.state →
     ((on : Option Coming) → Holds 0 (started w.moves on) w.state [] b) →
     (n : ℕ) × ((next : Option Coming) → Holds n (started (happens w what).moves next) (happens w what).state [] (note w what b))
 move_keeps_alone Holds keeps what w b none stands holds =

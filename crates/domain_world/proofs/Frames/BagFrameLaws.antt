@@ -1,7 +1,7 @@
 -- What holds of each unit of the bag and its mark, through all moves of a run: whatever holds where an end makes a unit
 -- for a mark, and goes on holding as more is written down. It may rest on something of the ends, the maker of
 -- challenges and the links that holds through all moves (`FrameLaws`). It is an instance of `MoveFrameLaws`.
--- It serves `Proved.ways`, `Proved.replies`, `Proved.opened` and others.
+-- It serves `Proved.replies`, `Proved.opened` and others.
 use Rattle.std.proofs.Common.{◌≡◌, ℕ, ◌+◌, Bool, true, false, List, [], ◌∷◌, ◌++◌, drop, length, map, inl, inr, Option, Some, None, slice_get, refl, ap, sym, subst, ◌∙◌, arith, length-append}
 use Rattle.std.specs.Prelude.{◌-◌, ◌≤◌, replicate}
 use Rattle.std.specs.List.{AllByRecursion}
@@ -27,15 +27,15 @@ use Rattle.world_moves.specs.Ends.{EndStep, actions_by, client_step, member_step
 use Rattle.world_moves.specs.World.{first_world}
 use Rattle.world_moves.specs.Alone.{HandsNothingOn, alone_controller_step as controller_step}
 use Rattle.domain_world.specs.Past.{Coming, answers_of, at_controller, marks_of, note_at, note_client, note_controller, note_member, note_messages, numbers_on, past, sent_at, note_given}
-use Rattle.channel_events.proofs.ListLaws.{got_append, got_nothing}
+use Rattle.wire_base.proofs.ListLaws.{got_append, got_nothing}
 use Rattle.world_moves.proofs.LinkFrameLaws.{IsOnLink, StaysOnLinks, actions_stay, quiet_stays}
 use Rattle.world_moves.proofs.EndKindLaws.{is_client}
 use Rattle.domain_world.proofs.Frames.AloneStepLaws.{act_alone as hear_and_act}
 use Rattle.domain_world.proofs.Frames.FrameLaws.{Fact, HoldsIn, StaysWritten, OfSide, side_keeps}
-use Rattle.domain_world.proofs.Frames.FrontLaws.{controller_unit}
-use Rattle.domain_world.proofs.Frames.MarkPlaceLaws.{got_beside, got_later, got_map, got_replicate, got_settled, later_or, marks_length, no_longer, settled_length}
-use Rattle.domain_world.proofs.Frames.NewUnitLaws.{IsNewUnit}
-use Rattle.domain_world.proofs.Frames.OpenMadeLaws.{IsAtSide, IsMore, MoreOf, goes_on, no_more, same_side}
+use Rattle.domain_world.proofs.Moves.FrontLaws.{controller_unit}
+use Rattle.domain_world.proofs.Moves.MarkPlaceLaws.{got_beside, got_later, got_map, got_replicate, got_settled, later_or, marks_length, no_longer, settled_length}
+use Rattle.domain_world.proofs.Moves.NewUnitLaws.{IsNewUnit}
+use Rattle.domain_world.proofs.Moves.OpenMadeLaws.{IsAtSide, IsMore, MoreOf, goes_on, no_more, same_side}
 use Rattle.domain_world.proofs.Frames.TurnFrameLaws.{turns_sent, asked_book, asked_marks}
 use Rattle.domain_world.proofs.Frames.AloneFrameLaws.{moves_keep_alone}
 use Rattle.domain_world.proofs.Frames.MoveFrameLaws.{HoldsAfterMoves}
@@ -176,36 +176,75 @@ all_for : (on : Option Coming) (links : List Route) (bag : List BagUnit) (sent :
 all_for None links bag sent all = tt
 all_for (Some w) links bag sent all = λ end there server. all
 
+-- ---- units that an end adds, and those that have no mark yet
+
+-- the new units get these marks
+pub marked_more : {X : Type 0} (P : UnitFact X) (x now : X) (s : State) (after : List BagUnit) (sent : List Sent) (link : ℕ) (back : Bool) (marks : List Mark) (at : ℕ) (units : List BagUnit) → after ≡ s.bag ++ units →
+    ((number : ℕ) (unit : BagUnit) (one : Sent) → slice_get s.bag number ≡ Some unit → slice_get sent number ≡ Some one → P x number unit one.mark → P now number unit one.mark) →
+    ((place : ℕ) (unit : BagUnit) (mark : Mark) → slice_get units place ≡ Some unit → slice_get (marks_of link back units marks) place ≡ Some mark →
+    P now (length s.bag + place) unit mark) → IsMarked P x s.bag sent →
+    IsMarked P now after (sent ++ map (sent_at at) (marks_of link back (drop (length s.bag) after) marks))
+marked_more P x now s after sent link back marks at units is grows fresh before =
+    let new : drop (length s.bag) after ≡ units = ap (λ (bag : List BagUnit). drop (length s.bag) bag) is ∙ drop_at s.bag units (length s.bag) refl in
+    let all : List Sent = sent ++ map (sent_at at) (marks_of link back units marks) in
+    let each : OfEachUnit P now (s.bag ++ units) all =
+    goes_on_with P x now s.bag units sent (marks_of link back units marks) at before.all grows (marks_length link back units marks) fresh before.each in
+    let size : length all ≡ length (s.bag ++ units) =
+    omega (
+      arith,
+      before.all,
+      length-append sent (map (sent_at at) (marks_of link back units marks)),
+      length-map (marks_of link back units marks) (sent_at at),
+      marks_length link back units marks,
+      length-append s.bag units,
+    ) in
+    let both : IsMarked P now (s.bag ++ units) all = record { each = each; all = size } in
+    subst (λ (bag : List BagUnit). IsMarked P now bag (sent ++ map (sent_at at) (marks_of link back (drop (length s.bag) after) marks))) (sym is)
+    (subst (λ (more : List BagUnit). IsMarked P now (s.bag ++ units) (sent ++ map (sent_at at) (marks_of link back more marks))) (sym new) both)
+
+pub each_more : {X : Type 0} (P : UnitFact X) (x now : X) (bag units after : List BagUnit) (sent : List Sent) → after ≡ bag ++ units →
+    ((number : ℕ) (unit : BagUnit) (one : Sent) → slice_get bag number ≡ Some unit → slice_get sent number ≡ Some one → P x number unit one.mark → P now number unit one.mark) →
+    OfEachUnit P x bag sent → OfEachUnit P now after sent
+each_more P x now bag units after sent is grows each number one there =
+    let had : IsOfUnit P x bag number one.mark = each number one there in
+    record {
+      unit = had.unit;
+      there = ap (λ (all : List BagUnit). slice_get all number) is ∙ got_append bag units number had.unit had.there;
+      holds = grows number had.unit one had.there there had.holds;
+    }
+
+pub settled_each : {X : Type 0} (P : UnitFact X) (x : X) → ((k : ℕ) (unit : BagUnit) (mark : Mark) → P x k unit mark → P x k (settled unit) mark) → (number : ℕ) (bag : List BagUnit) (sent : List Sent) → OfEachUnit P x bag sent → OfEachUnit P x (settle_at number bag) sent
+settled_each P x settles number bag sent each k one there =
+    let had : IsOfUnit P x bag k one.mark = each k one there in
+    elim (got_settled bag number k had.unit had.there) [
+      | inl same ↦ record { unit = had.unit; there = same; holds = had.holds }
+      | inr now ↦ record { unit = settled had.unit; there = now; holds = settles k had.unit one.mark had.holds }
+    ]
+
+-- the units that have no mark yet are made for no channel
+pub others_marked : {X : Type 0} (P : UnitFact X) (x : X) → ((number : ℕ) (unit : BagUnit) → P x number unit Plain) → (bag : List BagUnit) (sent : List Sent) (at : ℕ) → OfEachUnit P x bag sent →
+    IsMarked P x bag (sent ++ replicate (length bag - length sent) (sent_at at Plain))
+others_marked P x plain bag sent at each =
+    let few : length sent ≤ length bag = no_longer sent bag (λ k one there. ((each k one there).unit, (each k one there).there)) in
+    let size : length (sent ++ replicate (length bag - length sent) (sent_at at Plain)) ≡ length bag =
+    omega (arith, few, length-append sent (replicate (length bag - length sent) (sent_at at Plain)), length-replicate (length bag - length sent) (sent_at at Plain)) in
+    record {
+      each = λ number one there. elim (later_or sent (replicate (length bag - length sent) (sent_at at Plain)) number one there) [
+        | inl old ↦ each number one old
+        | inr new ↦ let beside : (unit : BagUnit) × (slice_get bag number ≡ Some unit) =
+            got_beside (sent ++ replicate (length bag - length sent) (sent_at at Plain)) bag number one size there in
+            subst (λ (o : Sent). IsOfUnit P x bag number o.mark) (sym (got_replicate (length bag - length sent) (sent_at at Plain) new.place one new.there))
+            (record { unit = beside.0; there = beside.1; holds = plain number beside.0 })
+      ];
+      all = size;
+    }
+
 module _ {X : Type 0} (part : Book → X) (Side : X → Fact) (P : UnitFact X) (written : StaysWritten part Side) (stays : StepsMark part Side P) where
   -- it goes on holding where that is written down
   abbrev GrowsTo : List BagUnit → Book → Book → Type 0
   GrowsTo bag b now = (number : ℕ) (unit : BagUnit) (one : Sent) → slice_get bag number ≡ Some unit → slice_get b.sent number ≡ Some one → P (part b) number unit one.mark → P (part now) number unit one.mark
 
   -- ---- an end hears bytes
-
-  -- the new units get these marks
-  marked_more : (x now : X) (s : State) (after : List BagUnit) (sent : List Sent) (link : ℕ) (back : Bool) (marks : List Mark) (at : ℕ) (units : List BagUnit) → after ≡ s.bag ++ units →
-      ((number : ℕ) (unit : BagUnit) (one : Sent) → slice_get s.bag number ≡ Some unit → slice_get sent number ≡ Some one → P x number unit one.mark → P now number unit one.mark) →
-      ((place : ℕ) (unit : BagUnit) (mark : Mark) → slice_get units place ≡ Some unit → slice_get (marks_of link back units marks) place ≡ Some mark →
-      P now (length s.bag + place) unit mark) → IsMarked P x s.bag sent →
-      IsMarked P now after (sent ++ map (sent_at at) (marks_of link back (drop (length s.bag) after) marks))
-  marked_more x now s after sent link back marks at units is grows fresh before =
-      let new : drop (length s.bag) after ≡ units = ap (λ (bag : List BagUnit). drop (length s.bag) bag) is ∙ drop_at s.bag units (length s.bag) refl in
-      let all : List Sent = sent ++ map (sent_at at) (marks_of link back units marks) in
-      let each : OfEachUnit P now (s.bag ++ units) all =
-      goes_on_with P x now s.bag units sent (marks_of link back units marks) at before.all grows (marks_length link back units marks) fresh before.each in
-      let size : length all ≡ length (s.bag ++ units) =
-      omega (
-        arith,
-        before.all,
-        length-append sent (map (sent_at at) (marks_of link back units marks)),
-        length-map (marks_of link back units marks) (sent_at at),
-        marks_length link back units marks,
-        length-append s.bag units,
-      ) in
-      let both : IsMarked P now (s.bag ++ units) all = record { each = each; all = size } in
-      subst (λ (bag : List BagUnit). IsMarked P now bag (sent ++ map (sent_at at) (marks_of link back (drop (length s.bag) after) marks))) (sym is)
-      (subst (λ (more : List BagUnit). IsMarked P now (s.bag ++ units) (sent ++ map (sent_at at) (marks_of link back more marks))) (sym new) both)
 
   controller_hears : (c : ControllerState) (at : ℕ) (w : Coming) (piece : List ℕ) (s : State) (b : Book) → slice_get s.ends.controllers at ≡ Some c → HoldsIn (Side (part b)) s →
       IsAtSide s.links w.link w.back (Controller at) → IsMarked P (part b) s.bag b.sent →
@@ -216,7 +255,7 @@ module _ {X : Type 0} (part : Book → X) (Side : X → Fact) (P : UnitFact X) (
       let heard : Heard = heard_by (controller_step (Some c) at (event.Bytes w.link piece) s.moment s.ends s.chances) s in
       let after : State = (done (Controller at) heard).state in
       let more : IsMore s.links s.bag after.links after.bag = actions_stay (MoreOf s.links s.bag) (goes_on s.links s.bag) (Controller at) heard.actions heard.state (no_more s.links s.bag) in
-      marked_more (part b) (part (note_controller (Some c) at w piece s after b)) s after.bag b.sent w.link true (controller_marks at c w piece s) w.at more.units more.is grows
+      marked_more P (part b) (part (note_controller (Some c) at w piece s after b)) s after.bag b.sent w.link true (controller_marks at c w piece s) w.at more.units more.is grows
       (λ place unit mark there marked. stays.controllers c at w piece s b is side hears before.all more.units more.is more.on place unit mark there marked) before
 
   member_hears : (m : MemberState) (at : ℕ) (w : Coming) (piece : List ℕ) (s : State) (b : Book) → slice_get s.ends.members at ≡ Some m → HoldsIn (Side (part b)) s →
@@ -233,19 +272,8 @@ module _ {X : Type 0} (part : Book → X) (Side : X → Fact) (P : UnitFact X) (
       let same : old ≡ b.sent =
       turns_sent (OfMember at) w (turn_units m w.link piece s.moment s.chances.left) s after (note_messages at m w piece s b) in
       subst (λ (sent : List Sent). IsMarked P now after.bag (sent ++ map (sent_at w.at) (marks_of w.link false (drop (length s.bag) after.bag) (member_marks at m w piece s)))) (sym same)
-      (marked_more (part b) now s after.bag b.sent w.link false (member_marks at m w piece s) w.at more.units more.is grows
+      (marked_more P (part b) now s after.bag b.sent w.link false (member_marks at m w piece s) w.at more.units more.is grows
       (λ place unit mark there marked. stays.members m at w piece s b is side hears before.all more.units more.is more.on place unit mark there marked) before)
-
-  each_more : (x now : X) (bag units after : List BagUnit) (sent : List Sent) → after ≡ bag ++ units →
-      ((number : ℕ) (unit : BagUnit) (one : Sent) → slice_get bag number ≡ Some unit → slice_get sent number ≡ Some one → P x number unit one.mark → P now number unit one.mark) →
-      OfEachUnit P x bag sent → OfEachUnit P now after sent
-  each_more x now bag units after sent is grows each number one there =
-      let had : IsOfUnit P x bag number one.mark = each number one there in
-      record {
-        unit = had.unit;
-        there = ap (λ (all : List BagUnit). slice_get all number) is ∙ got_append bag units number had.unit had.there;
-        holds = grows number had.unit one had.there there had.holds;
-      }
 
   abbrev EndHeard : EndId → State → Book → Type 0
   EndHeard end after now = OfEachUnit P (part now) after.bag now.sent × (IsServer end → length now.sent ≡ length after.bag)
@@ -265,41 +293,15 @@ module _ {X : Type 0} (part : Book → X) (Side : X → Fact) (P : UnitFact X) (
       let heard : Heard = heard_by (client_step (Some c) at (event.Bytes w.link piece) s.moment s.ends s.chances) s in
       let after : State = (done (Client at) heard).state in
       let more : IsMore s.links s.bag after.links after.bag = actions_stay (MoreOf s.links s.bag) (goes_on s.links s.bag) (Client at) heard.actions heard.state (no_more s.links s.bag) in (
-        each_more (part b) (part (note_client (Some c) at w piece s b)) s.bag more.units after.bag b.sent more.is grows each,
+        each_more P (part b) (part (note_client (Some c) at w piece s b)) s.bag more.units after.bag b.sent more.is grows each,
         (λ server. absurd (let never : true ≡ false = server in cc)),
       )) end hears all (λ number unit one there sent holds. stays.grows end w piece s (hear_bytes end w piece s) b number unit one side there sent holds)
-
-  settled_each : (x : X) (number : ℕ) (bag : List BagUnit) (sent : List Sent) → OfEachUnit P x bag sent → OfEachUnit P x (settle_at number bag) sent
-  settled_each x number bag sent each k one there =
-      let had : IsOfUnit P x bag k one.mark = each k one there in
-      elim (got_settled bag number k had.unit had.there) [
-        | inl same ↦ record { unit = had.unit; there = same; holds = had.holds }
-        | inr now ↦ record { unit = settled had.unit; there = now; holds = stays.settles x k had.unit one.mark had.holds }
-      ]
-
-  -- the units that have no mark yet are made for no channel
-  others_marked : (x : X) (bag : List BagUnit) (sent : List Sent) (at : ℕ) → OfEachUnit P x bag sent →
-      IsMarked P x bag (sent ++ replicate (length bag - length sent) (sent_at at Plain))
-  others_marked x bag sent at each =
-      let few : length sent ≤ length bag = no_longer sent bag (λ k one there. ((each k one there).unit, (each k one there).there)) in
-      let size : length (sent ++ replicate (length bag - length sent) (sent_at at Plain)) ≡ length bag =
-      omega (arith, few, length-append sent (replicate (length bag - length sent) (sent_at at Plain)), length-replicate (length bag - length sent) (sent_at at Plain)) in
-      record {
-        each = λ number one there. elim (later_or sent (replicate (length bag - length sent) (sent_at at Plain)) number one there) [
-          | inl old ↦ each number one old
-          | inr new ↦ let beside : (unit : BagUnit) × (slice_get bag number ≡ Some unit) =
-              got_beside (sent ++ replicate (length bag - length sent) (sent_at at Plain)) bag number one size there in
-              subst (λ (o : Sent). IsOfUnit P x bag number o.mark) (sym (got_replicate (length bag - length sent) (sent_at at Plain) new.place one new.there))
-              (record { unit = beside.0; there = beside.1; holds = stays.plain x number beside.0 })
-        ];
-        all = size;
-      }
 
   -- a unit more
   sends_on : (x : X) (sent : List Sent) (on : Option Coming) (to : Option State) → AtWork on to → StaysOnLinks (λ links map bag. MarksAt P on to links bag x sent)
   sends_on x sent None None work = record {
     sends = λ unit links map bag is marks. record {
-      each = each_more x x bag (unit ∷ []) (bag ++ unit ∷ []) sent refl (λ number here one there mark holds. holds) marks.each;
+      each = each_more P x x bag (unit ∷ []) (bag ++ unit ∷ []) sent refl (λ number here one there mark holds. holds) marks.each;
       all = tt;
     };
     shuts = λ link links map bag marks. marks;
@@ -330,17 +332,17 @@ module _ {X : Type 0} (part : Book → X) (Side : X → Fact) (P : UnitFact X) (
     answers = λ n at dial link there s given b is side marks. marks;
     forgets = λ n at end s b side marks. marks;
     settles = λ n at on number s b side marks. record {
-      each = settled_each (part b) number s.bag b.sent marks.each;
+      each = settled_each P (part b) (stays.settles (part b)) number s.bag b.sent marks.each;
       all = all_settled on number s.links s.bag b.sent marks.all;
     };
     dials = λ n at dial s b is side marks. marks;
     renews = λ n at end s b side marks. marks;
-    changes = λ n at member secret s b side marks. marks;
+    changes = λ n at member secret s b formed side marks. marks;
     ticks = λ n at more s b side marks. marks;
     over = λ n at on next s given b side marks.
         let now : Book = note_given at given s b in
         let marked : IsMarked P (part now) s.bag now.sent =
-        subst (λ (x : X). IsMarked P x s.bag now.sent) (sym (written.given at given s b)) (others_marked (part b) s.bag b.sent at marks.each) in
+        subst (λ (x : X). IsMarked P x s.bag now.sent) (sym (written.given at given s b)) (others_marked P (part b) (stays.plain (part b)) s.bag b.sent at marks.each) in
         record { each = marked.each; all = all_for next s.links s.bag now.sent marked.all };
   }
 
@@ -359,7 +361,7 @@ module _ {X : Type 0} (part : Book → X) (Side : X → Fact) (P : UnitFact X) (
 
 -- ---- a run
 
-new_marked : {X : Type 0} (part : Book → X) (Side : X → Fact) (P : UnitFact X) → MarksStay part Side P → StepsMark part Side P
+pub new_marked : {X : Type 0} (part : Book → X) (Side : X → Fact) (P : UnitFact X) → MarksStay part Side P → StepsMark part Side P
 new_marked part Side P stays = record {
   plain = stays.plain;
   settles = stays.settles;

@@ -19,14 +19,14 @@ use Rattle.world_moves.proofs.LinkFrameLaws.{quiet_stays}
 use Rattle.domain_world.specs.Past.{Coming, note_at, note_given, past}
 use Rattle.domain_world.proofs.Frames.AloneStepLaws.{act_alone as hear_and_act}
 use Rattle.domain_world.proofs.Frames.BagFrameLaws.{IsServer, StepsMark, UnitFact, MarkFact, bag_at, first_marked, marked_keep}
-use Rattle.domain_world.proofs.Frames.ComingLaws.{CameFrom, StillHas, kept_same, kept_settled, StillIn, kept_sent}
+use Rattle.domain_world.proofs.Moves.ComingLaws.{CameFrom, StillHas, kept_same, kept_settled, StillIn, kept_sent}
 use Rattle.domain_world.proofs.Frames.FrameLaws.{Fact, HoldsIn, StaysWritten, OfSide}
-use Rattle.domain_world.proofs.Frames.OpenMadeLaws.{IsAtSide}
+use Rattle.domain_world.proofs.Moves.OpenMadeLaws.{IsAtSide}
 use Rattle.domain_world.proofs.Frames.StepFrameLaws.{ActionFact, Keeps, NoFact, RunFact, OfSteps, steps_keep}
 use Rattle.domain_world.proofs.Frames.AloneFrameLaws.{moves_keep_alone}
 use Rattle.domain_world.proofs.Frames.MoveFrameLaws.{HoldsAfterMoves}
 use Rattle.domain_world.proofs.Frames.MoveKeepLaws.{Both, KeepsMoves, MoveFact, NoSide, join_moves}
-use Rattle.domain_world.proofs.Frames.PlacedLaws.{HasBytes}
+use Rattle.domain_world.proofs.Moves.PlacedLaws.{HasBytes}
 use Rattle.outside.specs.declared.action.Action.{Action}
 
 -- ---- what is to hold
@@ -92,7 +92,7 @@ module _ {X : Type 0} (Holds : RunFact) (Fine : ActionFact) (keeps : Keeps NoFac
     settles = λ n at on number s b side fits. bag_keeps.still s.bag (settle number s).bag b (kept_settled number s.bag) fits;
     dials = λ n at dial s b is side fits. fits;
     renews = λ n at end s b side fits. fits;
-    changes = λ n at member secret s b side fits. fits;
+    changes = λ n at member secret s b formed side fits. fits;
     ticks = λ n at more s b side fits. fits;
     over = λ n at on next s given b side fits. bag_keeps.over at given s b fits;
   }

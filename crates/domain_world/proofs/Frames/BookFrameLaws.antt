@@ -13,7 +13,7 @@ use Rattle.world_moves.specs.World.{World}
 use Rattle.domain_world.specs.Past.{Coming, book, note_at, note_given, past}
 use Rattle.domain_world.proofs.Frames.MoveFrameLaws.{HoldsAfterMoves, later_keeps, moves_keep}
 use Rattle.domain_world.proofs.Frames.MoveKeepLaws.{KeepsMovesBy, MoveFact, NoSide, every}
-use Rattle.domain_world.proofs.Frames.PlacedLaws.{IsPlaced}
+use Rattle.domain_world.proofs.Moves.PlacedLaws.{IsPlaced}
 
 module _ (Holds : Book → Type 0)
     (bytes : (end : EndId) (w : Coming) (piece : List ℕ) (s after : State) (b : Book) → Holds b → Holds (note_at (Some end) w piece s after b))
@@ -37,7 +37,7 @@ module _ (Holds : Book → Type 0)
     settles = λ n at on number s b none holds. holds;
     dials = λ n at dial s b is none holds. holds;
     renews = λ n at end s b none holds. holds;
-    changes = λ n at member secret s b none holds. holds;
+    changes = λ n at member secret s b formed none holds. holds;
     ticks = λ n at more s b none holds. holds;
     over = λ n at on next s given b none holds. gives at given s b holds;
   }

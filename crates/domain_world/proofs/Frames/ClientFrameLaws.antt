@@ -23,10 +23,10 @@ use Rattle.world_moves.specs.Links.{acceptor_of}
 use Rattle.world_moves.specs.Moving.{renewed, changed}
 use Rattle.world_moves.proofs.EndKindLaws.{IfClient, clients_by, is_controller, renew_by}
 use Rattle.domain_world.specs.Past.{Coming, note_at, note_client, past}
-use Rattle.domain_world.proofs.Challenges.MessageOnceLaws.{each_put}
+use Rattle.domain_world.proofs.Messages.MessageOnceLaws.{each_put}
 use Rattle.domain_world.proofs.Frames.EndFrameLaws.{EndFact, IsCalm, KeepsEndsBy, by_calm, every_ends_after}
-use Rattle.domain_world.proofs.Frames.MarkPlaceLaws.{got_map}
-use Rattle.domain_world.proofs.Frames.OpenMadeLaws.{IsAtSide, IsOnSide}
+use Rattle.domain_world.proofs.Moves.MarkPlaceLaws.{got_map}
+use Rattle.domain_world.proofs.Moves.OpenMadeLaws.{IsAtSide, IsOnSide}
 use Rattle.domain_world.proofs.Frames.EndNoteLaws.{made_so}
 use Rattle.domain_world.proofs.Frames.EveryStepLaws.{dialled_apart, every_noted as noted_by}
 use Rattle.domain_world.proofs.Frames.MoveKeepLaws.{every}

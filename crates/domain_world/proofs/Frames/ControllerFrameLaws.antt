@@ -19,8 +19,8 @@ use Rattle.domain_world.specs.Past.{Coming, note_at, note_controller, note_given
 use Rattle.domain_world.proofs.Frames.AloneStepLaws.{alone_by as step_by}
 use Rattle.domain_world.proofs.Frames.EndNoteLaws.{OfControllers, noted_by}
 use Rattle.domain_world.proofs.Frames.FrameLaws.{Fact, HoldsAfter, HoldsIn, StaysWritten}
-use Rattle.domain_world.proofs.Frames.LeftLaws.{DrawsOn, end_draws}
-use Rattle.domain_world.proofs.Frames.NoBytesLaws.{IsNoBytes}
+use Rattle.domain_world.proofs.Moves.LeftLaws.{DrawsOn, end_draws}
+use Rattle.domain_world.proofs.Moves.NoBytesLaws.{IsNoBytes}
 use Rattle.domain_world.proofs.Frames.EventLaws.{quiet_no_bytes}
 
 -- of the controllers, and what was drawn and is left

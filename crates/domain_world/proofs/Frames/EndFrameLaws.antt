@@ -21,9 +21,9 @@ use Rattle.world_moves.specs.Links.{acceptor_of}
 use Rattle.world_moves.specs.Moving.{begun, changed, with_link}
 use Rattle.world_moves.specs.World.{World, first_world, happens, run}
 use Rattle.world_moves.specs.Alone.{HandsNothingOn}
-use Rattle.domain_world.specs.Claims.Sessions.{restarted}
+use Rattle.domain_world.specs.Claims.Sessions.{restart_of}
 use Rattle.domain_world.specs.Past.{Coming, book, note, note_at, note_given, past}
-use Rattle.domain_world.proofs.Frames.ComingLaws.{CameFrom}
+use Rattle.domain_world.proofs.Moves.ComingLaws.{CameFrom}
 use Rattle.domain_world.proofs.Frames.AloneFrameLaws.{StandsAlone, later_keeps_alone, move_keeps_alone, moves_keep_alone}
 use Rattle.domain_world.proofs.Frames.MoveFrameLaws.{HoldsAfterMoves, moves_keep}
 use Rattle.domain_world.proofs.Frames.MoveKeepLaws.{How, KeepsMovesBy, alone, every, KeepsCalmMoves, KeepsMoves, MoveFact, NoSide}
@@ -127,13 +127,13 @@ module _ (Holds : EndFact) (keeps : KeepsCalmEnds Holds) where
     forgets = λ n at end s b none holds. holds;
     settles = λ n at on number s b none holds. holds;
     dials = λ n at dial s b is none holds. holds;
-    changes = λ n at member secret s b none holds. keeps.changes at member secret s b holds;
+    changes = λ n at member secret s b formed none holds. keeps.changes at member secret s b holds;
     ticks = λ n at more s b none holds. holds;
     over = λ n at on next s given b none holds. keeps.over at on next s given b holds;
   }
 
   -- through one move at which no end is made anew
-  pub ends_through : (what : Move) (w : World) (b : Book) → restarted what w.state ≡ None → StandsAlone w.state → ((on : Option Coming) → Holds w.moves on (ends_in w.state) [] b) →
+  pub ends_through : (what : Move) (w : World) (b : Book) → restart_of what w.state ≡ None → StandsAlone w.state → ((on : Option Coming) → Holds w.moves on (ends_in w.state) [] b) →
       (next : Option Coming) → Holds (happens w what).moves next (ends_in (happens w what).state) [] (note w what b)
   ends_through what w b none stands holds = (move_keeps_alone OfCalmMoves calm_ends_keep what w b none stands holds).1
 
@@ -157,7 +157,7 @@ module _ (how : How) (Holds : EndFact) (keeps : KeepsEndsBy how Holds) where
     settles = λ n at on number s b none holds. holds;
     dials = λ n at dial s b is none holds. holds;
     renews = λ n at end s b none holds. keeps.renews at end (forget end s) b holds;
-    changes = λ n at member secret s b none holds. keeps.changes at member secret s b holds;
+    changes = λ n at member secret s b formed none holds. keeps.changes at member secret s b holds;
     ticks = λ n at more s b none holds. holds;
     over = λ n at on next s given b none holds. keeps.over at on next s given b holds;
   }

@@ -5,7 +5,7 @@ use Rattle.outside.specs.declared.event.Event.{Event}
 use Rattle.outside.specs.declared.event.Event.TheVariants as event
 use Rattle.domain_world.proofs.Frames.EndFrameLaws.{IsCalm, by_calm}
 use Rattle.domain_world.proofs.Frames.FrameLaws.{IsQuiet}
-use Rattle.domain_world.proofs.Frames.NoBytesLaws.{IsNoBytes}
+use Rattle.domain_world.proofs.Moves.NoBytesLaws.{IsNoBytes}
 
 pub by_quiet : (P : Event → Type 0) → ((link : ℕ) → P (event.Closed link)) → ((link : ℕ) → P (event.Dialled link)) → P event.DialFailed → P event.Stop → (what : Event) → IsQuiet what → P what
 by_quiet P closed dialled fails stops (event.Bytes link piece) quiet = absurd quiet

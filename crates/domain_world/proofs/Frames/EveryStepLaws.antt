@@ -1,7 +1,7 @@
 -- What a step of an end comes to in every world, whether its controllers ask others or not: it leaves a rest of the
 -- challenges that were left, and ends of one kind leave those of the others. So it is of what is written down of bytes.
 -- It serves `draws_of_runs_differ`, `Proved.let_in`, `Proved.messages` and others that look at no controller.
-use Rattle.std.proofs.Common.{◌≡◌, ℕ, Bool, true, false, List, [], ◌++◌, Option, Some, None, Ok, Err, slice_get, refl, sym, append-nil}
+use Rattle.std.proofs.Common.{◌≡◌, ℕ, Bool, true, false, List, [], ◌++◌, Option, Some, None, Ok, Err, slice_get, refl, sym, subst, append-nil}
 use Rattle.wire_base.specs.Maps.{lookup, same_number, take_out}
 use Rattle.outside.specs.Drawing.{Drawing, IsRest}
 use Rattle.outside.specs.Machine.{left_by, step_by, then_part}
@@ -35,12 +35,13 @@ use Rattle.world_moves.specs.declared.links.EndId.TheVariants.{Controller, Membe
 use Rattle.world_moves.specs.declared.links.Route.{Route}
 use Rattle.world_moves.specs.declared.links.Route.TheVariants.{ToMember, ToController, Between, Stranger}
 use Rattle.world_moves.specs.declared.state.State.{State}
+use Rattle.world_moves.specs.Acting.{done, hear_and_act, heard_by}
 use Rattle.world_moves.specs.Ends.{EndStates, EndStep, client_done, client_step, controller_done, controller_step, end_step, member_done, member_step, no_step}
 use Rattle.world_moves.specs.Links.{dialler_of}
 use Rattle.domain_world.specs.Past.{Coming, note_at, note_client, note_controller, note_member}
 use Rattle.world_moves.proofs.EndKindLaws.{is_controller, step_by as end_by}
-use Rattle.domain_world.proofs.Frames.LeftLaws.{DrawsOn}
-use Rattle.domain_world.proofs.Frames.OpenMadeLaws.{IsApart, IsAtSide, IsOnSide}
+use Rattle.domain_world.proofs.Moves.LeftLaws.{DrawsOn}
+use Rattle.domain_world.proofs.Moves.OpenMadeLaws.{IsApart, IsAtSide, IsOnSide}
 
 -- ---- a controller leaves a rest of the challenges
 
@@ -127,6 +128,36 @@ module _ (P : EndId → EndStep → Book → Type 0) (w : Coming) (piece : List 
   every_noted (Controller at) = controller_noted (slice_get s.ends.controllers at) at refl
   every_noted (Member at) = member_noted (slice_get s.ends.members at) at refl
   every_noted (Client at) = client_noted (slice_get s.ends.clients at) at refl
+
+-- so a state is once an end took that step
+abbrev pub stepped : EndId → EndStep → State → State
+stepped end step s = (done end (heard_by step s)).state
+
+-- the same with the state once the end acted
+pub every_acted : (P : EndId → EndStep → State → Book → Type 0) (w : Coming) (piece : List ℕ) (s : State) (b : Book) →
+    ((end : EndId) → P end (no_step s.ends s.chances) (stepped end (no_step s.ends s.chances) s) b) →
+    ((at : ℕ) (c : ControllerState) → slice_get s.ends.controllers at ≡ Some c →
+    let step : EndStep = controller_step (Some c) at (event.Bytes w.link piece) s.moment s.ends s.chances in
+    let after : State = stepped (Controller at) step s in P (Controller at) step after (note_controller (Some c) at w piece s after b)) →
+    ((at : ℕ) (m : MemberState) → slice_get s.ends.members at ≡ Some m →
+    let step : EndStep = member_step (Some m) at (event.Bytes w.link piece) s.moment s.ends s.chances in
+    let after : State = stepped (Member at) step s in P (Member at) step after (note_member (Some m) at w piece s after b)) →
+    ((at : ℕ) (c : ClientState) → slice_get s.ends.clients at ≡ Some c →
+    let step : EndStep = client_step (Some c) at (event.Bytes w.link piece) s.moment s.ends s.chances in
+    P (Client at) step (stepped (Client at) step s) (note_client (Some c) at w piece s b)) →
+    (end : EndId) → let after : State = (hear_and_act end (event.Bytes w.link piece) s).state in
+    P end (end_step end (event.Bytes w.link piece) s.moment s.ends s.chances) after (note_at (Some end) w piece s after b)
+every_acted P w piece s b none controllers members clients end =
+    let what : Event = event.Bytes w.link piece in
+    let after : State = (hear_and_act end what s).state in
+    every_noted (λ (one : EndId) (step : EndStep) (now : Book). after ≡ stepped one step s → P one step after now) w piece s after b
+    (λ one is. subst (λ (later : State). P one (no_step s.ends s.chances) later b) (sym is) (none one))
+    (λ at c there is.
+    subst (λ (later : State). P (Controller at) (controller_step (Some c) at what s.moment s.ends s.chances) later (note_controller (Some c) at w piece s later b)) (sym is) (controllers at c there))
+    (λ at m there is.
+    subst (λ (later : State). P (Member at) (member_step (Some m) at what s.moment s.ends s.chances) later (note_member (Some m) at w piece s later b)) (sym is) (members at m there))
+    (λ at c there is.
+    subst (λ (later : State). P (Client at) (client_step (Some c) at what s.moment s.ends s.chances) later (note_client (Some c) at w piece s b)) (sym is) (clients at c there)) end refl
 
 -- ---- a link that a member or a client dialled is between no controllers
 

@@ -31,7 +31,7 @@ use Rattle.domain_world.proofs.Frames.EndFrameLaws.{EndFact, KeepsEndsBy, every_
 use Rattle.domain_world.proofs.Frames.EveryStepLaws.{every_draws, every_noted}
 use Rattle.domain_world.proofs.Frames.MoveKeepLaws.{every}
 use Rattle.domain_world.proofs.Frames.FrameLaws.{calm_quiet, Fact, HoldsAfter, HoldsIn, IsQuiet, StaysWritten}
-use Rattle.domain_world.proofs.Frames.LeftLaws.{DrawsOn, end_draws}
+use Rattle.domain_world.proofs.Moves.LeftLaws.{DrawsOn, end_draws}
 use Rattle.world_moves.proofs.ChangeLaws.{by_change, member_begun}
 use Rattle.member_server.specs.declared.state.Running.{Running}
 

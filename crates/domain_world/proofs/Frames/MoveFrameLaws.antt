@@ -11,7 +11,8 @@ use Rattle.wire_base.specs.Numbers.{AreBytes}
 use Rattle.outside.specs.declared.action.Action.{Action}
 use Rattle.outside.specs.declared.event.Event.TheVariants as event
 use Rattle.logon_client.specs.declared.plan.ClientPlan.{ClientPlan}
-use Rattle.channel_events.specs.Marks.{OneOf}
+use Rattle.secret_change.specs.Secrets.{IsSecret}
+use Rattle.wire_base.specs.Lists.{OneOf}
 use Rattle.step_notes.specs.Records.{Book, InUnit, Outside, blank}
 use Rattle.world_moves.specs.declared.bag.BagUnit.{BagUnit}
 use Rattle.world_moves.specs.declared.links.EndId.{EndId}
@@ -31,19 +32,19 @@ use Rattle.world_moves.specs.Ends.{acceptors_in, count_of, end_at}
 use Rattle.world_moves.specs.Links.{accepted, acceptor_of, answered, dialler_of, handed_links, hearer_of, hearer_on, links_of, other_hearer}
 use Rattle.world_moves.specs.Moving.{act, answer_by, answered_link, begun, change_at, changed, come_by, come_on_own, connect_by, connect_first, deliver_by, deliver_on, deliver_unit, end_of_peer, fail_first, hand_on, lose_by, onward_by, open_link, renewed, restart_at, restart_by, route_to, settle, shut_at, shut_by, start_at, start_by, stranger_at, stranger_by, tick, with_link, without_first}
 use Rattle.world_moves.specs.World.{World, first_world, happens, run}
-use Rattle.domain_world.specs.Claims.Sessions.{end_by, restarted}
+use Rattle.domain_world.specs.Claims.Sessions.{end_by, restart_of}
 use Rattle.domain_world.specs.Past.{Coming, book, note, note_at, note_chosen, note_coming, note_deliver, note_hand, note_on, note_onward, note_own, note_pieces, note_unit, past}
-use Rattle.channel_events.proofs.ListLaws.{got_last, got_nothing}
+use Rattle.wire_base.proofs.ListLaws.{got_last, got_nothing}
 use Rattle.world_moves.proofs.BagLaws.{pieces_few}
 use Rattle.world_moves.proofs.BoundLaws.{hears_links}
 use Rattle.world_moves.proofs.LevelLaws.{unit_short}
 use Rattle.world_moves.proofs.LinkFrameLaws.{LinkFact, StaysOnLinks, closed_stays, heard_if_stays, move_stays}
 use Rattle.world_moves.proofs.OpenLaws.{forgotten_fewer, put_more, taken_fewer, taken_one}
 use Rattle.world_moves.proofs.QuietLaws.{closes_alone}
-use Rattle.domain_world.proofs.Frames.ComingLaws.{CameFrom, IsFromOutside, IsLinkOf, chosen_of, handed_outside, kept_same, piece_bytes, route_dials, run_still}
+use Rattle.domain_world.proofs.Moves.ComingLaws.{CameFrom, IsFromOutside, IsLinkOf, chosen_of, handed_outside, kept_same, piece_bytes, route_dials, run_still}
 use Rattle.domain_world.proofs.Frames.MoveKeepLaws.{AtWork, IsHeard, KeepsCalmMovesBy, KeepsMovesBy, MoveFact, NoSide, Progress, but_renewed, coming, every, started, waiting, with_rest}
-use Rattle.domain_world.proofs.Frames.OpenMadeLaws.{IsOnSide, hears_side}
-use Rattle.domain_world.proofs.Frames.PlacedLaws.{Placed, IsPlaced, placed_stay, Since, since_sent, HandsBytes, IsBytesBag, bag_before, settled_bag, settled_link, same_piece, HasBytes, bytes_in}
+use Rattle.domain_world.proofs.Moves.OpenMadeLaws.{IsOnSide, hears_side}
+use Rattle.domain_world.proofs.Moves.PlacedLaws.{Placed, IsPlaced, placed_stay, Since, since_sent, HandsBytes, IsBytesBag, bag_before, settled_bag, settled_link, same_piece, HasBytes, bytes_in}
 
 -- ---- how many links are open
 
@@ -266,10 +267,10 @@ module _ (Known : Type 0) (Holds : MoveFact) (keeps : KeepsCalmMovesBy every Kno
   restart_part None n at s b anew holds = nothing (waiting at None) (n + 2 * length s.open_links) n s [] b holds (omega arith)
   restart_part (Some number) n at s b anew holds = restart_by_part (end_at number s.ends) n at s b anew holds
 
-  change_part : (member : Option ℕ) (secret : List ℕ) (n at : ℕ) (s : State) (b : Book) → Holds n (waiting at None) s [] b → Quietly at (n + 1 + 2 * length s.open_links) (change_at member secret s) [] b
-  change_part None secret n at s b holds = nothing (waiting at None) (n + 1 + 2 * length s.open_links) n s [] b holds (omega arith)
-  change_part (Some member) secret n at s b holds =
-      done_part (waiting at None) tt n (Member member) (changed member secret s) [] b (keeps.changes n at member secret s b tt holds)
+  change_part : (member : Option ℕ) (secret : List ℕ) (n at : ℕ) (s : State) (b : Book) → (Known → IsSecret secret) → Holds n (waiting at None) s [] b → Quietly at (n + 1 + 2 * length s.open_links) (change_at member secret s) [] b
+  change_part None secret n at s b formed holds = nothing (waiting at None) (n + 1 + 2 * length s.open_links) n s [] b holds (omega arith)
+  change_part (Some member) secret n at s b formed holds =
+      done_part (waiting at None) tt n (Member member) (changed member secret s) [] b (keeps.changes n at member secret s b formed tt holds)
 
   -- ---- bytes come
 
@@ -412,7 +413,7 @@ module _ (Known : Type 0) (Holds : MoveFact) (keeps : KeepsCalmMovesBy every Kno
   }
 
   act_part : (what : Move) (n at : ℕ) (s : State) (b : Book) → IsPlaced s → (Known → IsBytesBag s.bag) → (Known → HandsBytes what) →
-      ((one : EndId) → restarted what s ≡ Some one → IsRenewed n at s b one) → HoldsFor n at s b →
+      ((one : EndId) → restart_of what s ≡ Some one → IsRenewed n at s b one) → HoldsFor n at s b →
       Moved n at s (act s what) (note_coming what at s b)
   act_part move.Onward n at s b placed have handed anew holds = onward_part (first_waiting s.bag) n at s b placed have holds
   act_part (move.Deliver unit link) n at s b placed have handed anew holds = deliver_part (chosen_place unit (length s.bag)) link n at s b placed have holds
@@ -433,7 +434,7 @@ module _ (Known : Type 0) (Holds : MoveFact) (keeps : KeepsCalmMovesBy every Kno
   act_part (move.Restart number) n at s b placed have handed anew holds =
       quiet_part (move.Restart number) (n + 2 * length s.open_links) n at s b placed (omega arith) (restart_part (chosen_place number (count_of s.ends)) n at s b anew (holds None))
   act_part (move.Change member secret) n at s b placed have handed anew holds =
-      quiet_part (move.Change member secret) (n + 1 + 2 * length s.open_links) n at s b placed (omega arith) (change_part (chosen_place member (length s.ends.members)) secret n at s b (holds None))
+      quiet_part (move.Change member secret) (n + 1 + 2 * length s.open_links) n at s b placed (omega arith) (change_part (chosen_place member (length s.ends.members)) secret n at s b handed (holds None))
   act_part (move.Tick more) n at s b placed have handed anew holds =
       quiet_part (move.Tick more) (n + 2 * length s.open_links) n at s b placed (omega arith)
       (nothing (waiting at None) (n + 2 * length s.open_links) n (tick more s) [] b (keeps.ticks n at more s b tt (holds None)) (omega arith))
@@ -533,7 +534,7 @@ any_keeps = record {
   settles = λ n at on number s b none holds. tt;
   dials = λ n at dial s b is none holds. tt;
   renews = λ n at end s b none holds. tt;
-  changes = λ n at member secret s b none holds. tt;
+  changes = λ n at member secret s b formed none holds. tt;
   ticks = λ n at more s b none holds. tt;
   over = λ n at on next s given b none holds. tt;
 }
@@ -547,7 +548,7 @@ placed_next what w b placed =
 -- ---- a move at which no end is made anew
 
 -- it holds on through it, though it isn't known to where one is
-pub move_keeps : (Holds : MoveFact) → KeepsCalmMovesBy every ⊥ NoSide Holds → (what : Move) (w : World) (b : Book) → restarted what w.state ≡ None → IsPlaced w.state →
+pub move_keeps : (Holds : MoveFact) → KeepsCalmMovesBy every ⊥ NoSide Holds → (what : Move) (w : World) (b : Book) → restart_of what w.state ≡ None → IsPlaced w.state →
     ((on : Option Coming) → Holds 0 (started w.moves on) w.state [] b) →
     (n : ℕ) × ((next : Option Coming) → Holds n (started (happens w what).moves next) (happens w what).state [] (note w what b))
 move_keeps Holds keeps what w b none placed holds =

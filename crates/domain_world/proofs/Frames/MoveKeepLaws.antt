@@ -8,6 +8,7 @@ use Rattle.outside.specs.declared.action.Action.{Action}
 use Rattle.outside.specs.declared.event.Event.{Event}
 use Rattle.outside.specs.declared.event.Event.TheVariants as event
 use Rattle.logon_client.specs.declared.plan.ClientPlan.{ClientPlan}
+use Rattle.secret_change.specs.Secrets.{IsSecret}
 use Rattle.step_notes.specs.Records.{Book}
 use Rattle.world_moves.specs.declared.links.EndId.{EndId}
 use Rattle.world_moves.specs.declared.links.EndId.TheVariants.{Client, Member}
@@ -21,8 +22,8 @@ use Rattle.world_moves.specs.Links.{acceptor_of, dialler_of}
 use Rattle.world_moves.specs.Moving.{answered_link, begun, changed, renewed, settle, tick, with_link, without_first}
 use Rattle.domain_world.specs.Past.{Coming, note_at, note_given}
 use Rattle.domain_world.proofs.Frames.AloneStepLaws.{renewed_alone}
-use Rattle.domain_world.proofs.Frames.ComingLaws.{CameFrom}
-use Rattle.domain_world.proofs.Frames.OpenMadeLaws.{IsAtSide, IsOnSide}
+use Rattle.domain_world.proofs.Moves.ComingLaws.{CameFrom}
+use Rattle.domain_world.proofs.Moves.OpenMadeLaws.{IsAtSide, IsOnSide}
 
 -- ---- what is to hold
 
@@ -93,7 +94,7 @@ AtWork (Some w) (Some after) = Unit {0}
 
 -- It holds on where an end takes a step, where an action is done, and where one thing changes beside that. It may rest
 -- on a side fact, of which the same is shown apart (`join_moves` puts the two together). `Known` is what is known of
--- the run: that what comes are bytes, and that few pieces come in a move.
+-- the run: that what comes are bytes, that few pieces come in a move, and that secrets have 16 bytes.
 pub record KeepsMovesBy (how : How) (Known : Type 0) (Side Holds : MoveFact) : Type 0 where
   -- an end takes a step
   pub closes : (n : ℕ) (p : Progress) (end : EndId) (link : ℕ) (s : State) (given : Given) (b : Book) → AtWork p.on p.to → Side n p s given b → Holds n p s given b →
@@ -129,7 +130,7 @@ pub record KeepsMovesBy (how : How) (Known : Type 0) (Side Holds : MoveFact) : T
       Holds n (waiting at (Some dial.end)) (without_first s) [] b
   pub renews : (n at : ℕ) (end : EndId) (s : State) (b : Book) → Side n (waiting at None) s [] b → Holds n (waiting at None) s [] b → Holds n (waiting at None) (how.renews end (forget end s)) [] b
   -- a member begins to change its secret
-  pub changes : (n at member : ℕ) (secret : List ℕ) (s : State) (b : Book) → Side n (waiting at None) s [] b → Holds n (waiting at None) s [] b →
+  pub changes : (n at member : ℕ) (secret : List ℕ) (s : State) (b : Book) → (Known → IsSecret secret) → Side n (waiting at None) s [] b → Holds n (waiting at None) s [] b →
       IsHeard Holds n (waiting at None) (Member member) (changed member secret s) [] b
   pub ticks : (n at more : ℕ) (s : State) (b : Book) → Side n (waiting at None) s [] b → Holds n (waiting at None) s [] b → Holds n (waiting at None) (tick more s) [] b
   -- the move is over, and what ends gave is written down; whatever comes in the next one
@@ -171,7 +172,7 @@ pub record KeepsCalmMovesBy (how : How) (Known : Type 0) (Side Holds : MoveFact)
   pub dials : (n at : ℕ) (dial : WaitingDial) (s : State) (b : Book) → slice_get s.dials 0 ≡ Some dial → Side n (waiting at None) s [] b → Holds n (waiting at None) s [] b →
       Holds n (waiting at (Some dial.end)) (without_first s) [] b
   -- a member begins to change its secret
-  pub changes : (n at member : ℕ) (secret : List ℕ) (s : State) (b : Book) → Side n (waiting at None) s [] b → Holds n (waiting at None) s [] b →
+  pub changes : (n at member : ℕ) (secret : List ℕ) (s : State) (b : Book) → (Known → IsSecret secret) → Side n (waiting at None) s [] b → Holds n (waiting at None) s [] b →
       IsHeard Holds n (waiting at None) (Member member) (changed member secret s) [] b
   pub ticks : (n at more : ℕ) (s : State) (b : Book) → Side n (waiting at None) s [] b → Holds n (waiting at None) s [] b → Holds n (waiting at None) (tick more s) [] b
   -- the move is over, and what ends gave is written down; whatever comes in the next one
@@ -228,7 +229,7 @@ join_calm Known A B one other = record {
   forgets = λ n at end s b none holds. (one.forgets n at end s b tt holds.0, other.forgets n at end s b holds.0 holds.1);
   settles = λ n at on number s b none holds. (one.settles n at on number s b tt holds.0, other.settles n at on number s b holds.0 holds.1);
   dials = λ n at dial s b is none holds. (one.dials n at dial s b is tt holds.0, other.dials n at dial s b is holds.0 holds.1);
-  changes = λ n at member secret s b none holds. (one.changes n at member secret s b tt holds.0, other.changes n at member secret s b holds.0 holds.1);
+  changes = λ n at member secret s b formed none holds. (one.changes n at member secret s b formed tt holds.0, other.changes n at member secret s b formed holds.0 holds.1);
   ticks = λ n at more s b none holds. (one.ticks n at more s b tt holds.0, other.ticks n at more s b holds.0 holds.1);
   over = λ n at on next s given b none holds. (one.over n at on next s given b tt holds.0, other.over n at on next s given b holds.0 holds.1);
 }
@@ -273,7 +274,7 @@ beside Known Side Holds keeps = record {
   settles = λ n at on number s b side holds. keeps.settles n at on number s b tt holds;
   dials = λ n at dial s b is side holds. keeps.dials n at dial s b is tt holds;
   renews = λ n at end s b side holds. keeps.renews n at end s b tt holds;
-  changes = λ n at member secret s b side holds. keeps.changes n at member secret s b tt holds;
+  changes = λ n at member secret s b formed side holds. keeps.changes n at member secret s b formed tt holds;
   ticks = λ n at more s b side holds. keeps.ticks n at more s b tt holds;
   over = λ n at on next s given b side holds. keeps.over n at on next s given b tt holds;
 }

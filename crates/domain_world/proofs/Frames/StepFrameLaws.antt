@@ -26,14 +26,15 @@ use Rattle.world_moves.specs.Alone.{HandsNothingOn, hear_alone as hear}
 use Rattle.domain_world.specs.Past.{Coming, note_at, note_given, past}
 use Rattle.domain_world.proofs.Frames.AloneStepLaws.{act_alone as hear_and_act, renewed_alone as renewed}
 use Rattle.domain_world.proofs.Frames.BagFrameLaws.{IsServer, no_more_of, no_part, no_side, nothing_marked, nothing_written, AllFor, MarkFact, first_marked, marked_keep}
-use Rattle.domain_world.proofs.Frames.ComingLaws.{CameFrom}
-use Rattle.domain_world.proofs.Frames.OpenMadeLaws.{IsAtSide}
+use Rattle.domain_world.proofs.Moves.ComingLaws.{CameFrom}
+use Rattle.domain_world.proofs.Moves.OpenMadeLaws.{IsAtSide}
 use Rattle.domain_world.proofs.Frames.EndFrameLaws.{IsCalm}
 use Rattle.domain_world.proofs.Frames.AloneFrameLaws.{moves_keep_alone, moves_carry_alone}
 use Rattle.domain_world.proofs.Frames.MoveFrameLaws.{HoldsAfterMoves}
 use Rattle.domain_world.proofs.Frames.MoveKeepLaws.{Both, IsHeard, KeepsMoves, MoveFact, NoSide, Progress, beside, coming, join_moves, started, waiting}
-use Rattle.domain_world.proofs.Frames.PlacedLaws.{HasBytes, HandsBytes, IsBytesBag}
+use Rattle.domain_world.proofs.Moves.PlacedLaws.{HasBytes, HandsBytes, IsBytesBag}
 use Rattle.domain_world.proofs.Frames.FrameLaws.{OfSide, side_keeps}
+use Rattle.domain_world.proofs.Lists.AllLaws.{all_both}
 
 -- ---- what is to hold
 
@@ -103,10 +104,6 @@ BothFacts A B n s given b = A n s given b × B n s given b
 
 abbrev pub BothFine : ActionFact → ActionFact → ActionFact
 BothFine F G end links what = F end links what × G end links what
-
-all_both : {T : Type 0} (P Q : T → Type 0) (items : List T) → AllByRecursion P items → AllByRecursion Q items → AllByRecursion (λ (item : T). P item × Q item) items
-all_both P Q [] one other = tt
-all_both P Q (item ∷ items) one other = ((one.0, other.0), all_both P Q items one.1 other.1)
 
 module _ (A B : RunFact) (F G : ActionFact) where
   both_heard : (n : ℕ) (end : EndId) (heard : Heard) (given : Given) (b : Book) → HasHeard A F n end heard given b → HasHeard B G n end heard given b →
@@ -255,7 +252,7 @@ module _ {Over : Type 0} (Holds : RunFact) (Fine : ActionFact) (keeps : KeepsWit
     settles = λ n at on number s b side holds. (keeps.settles n number s [] b tt holds.0, tt);
     dials = λ n at dial s b is side holds. (keeps.dials n s [] b tt holds.0, tt);
     renews = λ n at end s b side holds. (keeps.renews n end (forget end s) [] b tt (keeps.forgets n end s [] b tt holds.0), tt);
-    changes = λ n at member secret s b side holds. so_heard n (waiting at None) (Member member) (changed member secret s) [] b (keeps.changes n member secret s [] b tt holds.0) tt;
+    changes = λ n at member secret s b formed side holds. so_heard n (waiting at None) (Member member) (changed member secret s) [] b (keeps.changes n member secret s [] b tt holds.0) tt;
     ticks = λ n at more s b side holds. (keeps.ticks n more s [] b tt holds.0, tt);
     over = λ n at on next s given b side holds. (over n at on s given b side holds.0, tt);
   }

@@ -43,7 +43,7 @@ use Rattle.step_notes.proofs.Controllers.GrantVerdictLaws.{IsServedGrant, grante
 use Rattle.step_notes.proofs.Controllers.JudgedCallLaws.{if_network, status_done}
 use Rattle.step_notes.proofs.Controllers.JudgedStepLaws.{told_kept, same_status}
 use Rattle.domain_world.proofs.Frames.AloneStepLaws.{fresh_by}
-use Rattle.domain_world.proofs.Challenges.MessageOnceLaws.{set_cases}
+use Rattle.domain_world.proofs.Messages.MessageOnceLaws.{set_cases}
 use Rattle.domain_world.proofs.Frames.FrameLaws.{run_stays}
 use Rattle.domain_world.proofs.Frames.ControllerFrameLaws.{AmongControllers, ControllersFact, KeepsControllers, controllers_written}
 use Rattle.domain_world.proofs.Frames.EndNoteLaws.{judged_so, judgings_of}
@@ -51,12 +51,9 @@ use Rattle.domain_world.proofs.Judgements.JudgedLaws.{AreRight, HoldsIf, IsServe
 use Rattle.step_notes.proofs.ServedLaws.{served_such}
 use Rattle.outside.specs.declared.action.Judged.TheVariants as judged
 use Rattle.outside.specs.declared.event.Event.TheVariants as event
-use Rattle.channel_events.proofs.ListLaws.{all_weaker}
+use Rattle.wire_base.proofs.ListLaws.{all_weaker, some_is}
 
 -- ---- a call: its status is that of what it comes to
-
-some_is : {T : Type 0} (one other : T) → Some one ≡ Some other → one ≡ other
-some_is one other is = cc
 
 pub call_status : (w : Where) (line : Line) (c : JudgedCall) (d : Desk) → TellsItsStatus (judging_of w line c d (Some (answer_judged c w.name w.moment line d)))
 call_status w line c d channel stands passed =
@@ -176,7 +173,7 @@ controller_put plan judgings now controllers at c new there keeps all stands =
       ];
     }
 
-stand_on : (plan : Plan) → KeepsControllers judgings_of (ByPlan plan)
+pub stand_on : (plan : Plan) → KeepsControllers judgings_of (ByPlan plan)
 stand_on plan = record {
   of = judged_so;
   given = λ at given after b. refl;
@@ -206,7 +203,7 @@ first_planned hands_on (table ∷ tables) (name ∷ names) zero c there =
     (fresh_by (λ (x : ControllerState). (Some table ≡ Some x.table) × (Some name ≡ Some x.name)) table name (refl, refl) (refl, refl) hands_on)
 first_planned hands_on (table ∷ tables) (name ∷ names) (suc at) c there = first_planned hands_on tables names at c there
 
-first_stands : (plan : Plan) → StandsByPlan plan [] (first_world plan).state.ends.controllers
+pub first_stands : (plan : Plan) → StandsByPlan plan [] (first_world plan).state.ends.controllers
 first_stands plan = record {
   judged = tt;
   each = λ at c there. let both = first_planned plan.hands_on plan.tables plan.controllers at c there in
@@ -247,7 +244,7 @@ all_rightly plan (j ∷ judgings) planned right users = (
 )
 
 -- after all moves of a run
-stand_after : (plan : Plan) (moves : List Move) → HandsNothingOn plan → StandsByPlan plan (past plan moves).book.judged (past plan moves).world.state.ends.controllers
+pub stand_after : (plan : Plan) (moves : List Move) → HandsNothingOn plan → StandsByPlan plan (past plan moves).book.judged (past plan moves).world.state.ends.controllers
 stand_after plan moves nobody =
     run_stays judgings_of (AmongControllers judgings_of (ByPlan plan) (stand_on plan)) (controllers_written judgings_of (ByPlan plan) (stand_on plan)) plan moves nobody (first_stands plan)
 

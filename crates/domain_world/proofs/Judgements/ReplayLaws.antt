@@ -3,6 +3,7 @@
 use Rattle.std.proofs.Common.{◌≡◌, ◌≢◌, ◌↔◌, ℕ, zero, suc, ◌+◌, ◌-◌, ◌%◌, ◌^◌, Bool, true, false, List, [], ◌∷◌, ◌++◌, Option, Some, None, AllPairs, refl, sym, ap, ap₂, subst, ◌∙◌, arith, slice_get}
 use Rattle.std.proofs.lemmas.List.Elements.{recursion_from_All}
 use Rattle.wire_base.specs.declared.authenticator.Authenticator.{Authenticator}
+use Rattle.wire_base.proofs.ListLaws.{some_is}
 use Rattle.channel_keys.specs.Credentials.{cred_of}
 use Rattle.channel_keys.specs.Des.{IsBlock}
 use Rattle.channel_keys.proofs.CredLaws.{IsBlock-cred_of}
@@ -28,7 +29,7 @@ use Rattle.world_moves.specs.Alone.{HandsNothingOn}
 use Rattle.world_moves.specs.Ends.{fresh_controller}
 use Rattle.domain_world.specs.Claims.{ReplaysBySum, moved_if, moved_on, passed_on, judged_timestamp}
 use Rattle.domain_world.specs.Past.{numbers_on, past}
-use Rattle.channel_events.proofs.ListLaws.{moved_none, moved_one}
+use Rattle.channel_events.proofs.TimestampLaws.{moved_none, moved_one}
 use Rattle.channel_events.proofs.SameLaws.{one_channel}
 use Rattle.domain_world.proofs.Frames.AloneStepLaws.{fresh_by}
 use Rattle.domain_world.proofs.Frames.FrameLaws.{run_stays}
@@ -143,9 +144,6 @@ on_by (Some other) j channel is same =
 pub on_if : (passed : Bool) (j : Judging) (channel : ChannelIdentity) → is_channel (channel_if passed j) channel ≡ true → (passed ≡ true) × IsOn j channel
 on_if false j channel same = absurd cc
 on_if true j channel same = (refl, on_by (channel_in j.controller (computer_named j.asked) j.checks) j channel refl same)
-
-some_is : {T : Type 0} (one other : T) → Some one ≡ Some other → one ≡ other
-some_is one other is = cc
 
 module _ (j : Judging) (channel : ChannelIdentity) (on : IsOn j channel) where
   key_is : key_of_channel on.state ≡ channel_key channel

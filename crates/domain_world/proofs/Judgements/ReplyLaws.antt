@@ -20,10 +20,12 @@ use Rattle.channel_client.specs.declared.state.Step.{Step}
 use Rattle.channel_client.specs.declared.state.Step.TheVariants as step
 use Rattle.domain_controller.specs.State.{State as ControllerState}
 use Rattle.domain_controller.specs.Step.{step_of}
+use Rattle.domain_controller.proofs.TrustPlaceLaws.{got_all}
 use Rattle.member_server.specs.State.{State as MemberState}
 use Rattle.member_server.specs.Turns.{AtTurn}
 use Rattle.channel_turns.specs.declared.state.TurnTalk.{TurnTalk}
-use Rattle.channel_events.specs.Marks.{Mark, OneOf, Plain, Opening, Opened, Calling, ReplyTo}
+use Rattle.wire_base.specs.Lists.{OneOf}
+use Rattle.channel_events.specs.Marks.{Mark, Plain, Opening, Opened, Calling, ReplyTo}
 use Rattle.step_notes.specs.ChannelNames.{sends_in}
 use Rattle.step_notes.specs.ControllerNotes.{Answered, has_passed}
 use Rattle.step_notes.specs.Judged.{channel_if}
@@ -42,20 +44,16 @@ use Rattle.world_moves.specs.Ends.{actions_by, member_step}
 use Rattle.world_moves.specs.Alone.{HandsNothingOn}
 use Rattle.domain_world.specs.Claims.Replies.{IsReplyOfOne, RepliesCarryTheirJudgement}
 use Rattle.domain_world.specs.Past.{Coming, answers_of, first_of, judged_of, later_of, is_sent_on, marks_by, marks_of, note_at, note_controller, note_member, numbers_on, onto, past, with_reply, controller_asked}
-use Rattle.channel_events.proofs.ListLaws.{got_nothing, some_is}
+use Rattle.wire_base.proofs.ListLaws.{got_nothing, one_behind, some_is}
 use Rattle.step_notes.proofs.Controllers.ReplyStepLaws.{replies_sent}
 use Rattle.domain_world.proofs.Frames.BagFrameLaws.{IsOfUnit, MarksStay, UnitFact, controller_marks, member_marks, run_stays_marked}
 use Rattle.domain_world.proofs.Frames.FrameLaws.{Fact, StaysWritten}
-use Rattle.domain_world.proofs.Frames.NewUnitLaws.{IsNewUnit}
+use Rattle.domain_world.proofs.Moves.NewUnitLaws.{IsNewUnit}
 use Rattle.domain_world.proofs.Frames.EndNoteLaws.{book_by, judged_so}
-use Rattle.domain_world.proofs.Frames.PlainFormLaws.{plain_is}
+use Rattle.domain_world.proofs.Moves.PlainFormLaws.{plain_is}
 use Rattle.domain_world.proofs.Frames.TurnFrameLaws.{asked_marks}
 
 -- ---- one of more calls
-
-pub one_behind : {T : Type 0} (P : T → Type 0) (front items : List T) → OneOf P items → OneOf P (front ++ items)
-one_behind P [] items one = one
-one_behind P (item ∷ front) items one = inr (one_behind P front items one)
 
 pub one_older : {T : Type 0} (P : T → Type 0) (items older : List T) → OneOf P older → OneOf P (onto items older)
 one_older P [] older one = one
@@ -142,11 +140,6 @@ module _ (number : ℕ) (bytes : List ℕ) (mark : Mark) where
       first_placed one.sends one answers (all_placed answers) sent numbers place is marked sends numbered
 
 -- ---- no member marks a unit as a reply
-
-all_at : {T : Type 0} (P : T → Type 0) (items : List T) (place : ℕ) (item : T) → AllByRecursion P items → slice_get items place ≡ Some item → P item
-all_at P [] place item each there = absurd (got_nothing place item there)
-all_at P (first ∷ items) zero item each there = subst P (some_is first item there) each.0
-all_at P (first ∷ items) (suc place) item each there = all_at P items place item each.1 there
 
 module _ (judgings : List Judging) (number : ℕ) (bytes : List ℕ) where
   abbrev IsFree : Mark → Type 0
@@ -263,7 +256,7 @@ controller_new c at w piece s after b number unit mark new =
 member_new : (m : MemberState) (at : ℕ) (w : Coming) (piece : List ℕ) (s : State) (judgings : List Judging) (number place : ℕ) (bytes : List ℕ) (units : List BagUnit) (mark : Mark) →
     slice_get (marks_of w.link false units (member_marks at m w piece s)) place ≡ Some mark → IsReplyOfOne judgings number bytes mark
 member_new m at w piece s judgings number place bytes units mark marked =
-    all_at (IsFree judgings number bytes) (marks_of w.link false units (member_marks at m w piece s)) place mark
+    got_all (IsFree judgings number bytes) (marks_of w.link false units (member_marks at m w piece s)) place mark
     (marks_free judgings number bytes w.link false units (member_marks at m w piece s)
     (turns_free judgings number bytes (OfMember at) s (turn_units m w.link piece s.moment s.chances.left))) marked
 

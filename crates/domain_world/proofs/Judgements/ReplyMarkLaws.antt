@@ -17,8 +17,8 @@ use Rattle.step_notes.specs.Marking.{answered_marks, mark_if}
 use Rattle.step_notes.specs.Records.{InUnit, Judging, Source, computer_named, unit_in}
 use Rattle.step_notes.specs.Served.{work_after}
 use Rattle.domain_world.specs.Past.{first_of, judged_of, later_of, with_reply}
-use Rattle.channel_events.proofs.ListLaws.{no_some, some_is}
-use Rattle.domain_world.proofs.Frames.MarkNumberLaws.{AtNumbers, at_later}
+use Rattle.wire_base.proofs.ListLaws.{no_some, some_is}
+use Rattle.domain_world.proofs.Moves.MarkNumberLaws.{AtNumbers, at_later}
 use Rattle.domain_world.proofs.Judgements.JudgedLaws.{HoldsIf}
 
 -- ---- the mark of an answer

@@ -9,6 +9,7 @@ use Rattle.wire_base.specs.Maps.{IsMap, lookup, put, take_out}
 use Rattle.wire_base.specs.Names.{SameName, same_name}
 use Rattle.wire_base.proofs.MapLaws.{IsMap-put, IsMap-take_out, lookup-put_same, lookup-take_out_same, put_others, taken_others}
 use Rattle.wire_base.proofs.NameLaws.{IsSameness-same_name, same_name-Decides}
+use Rattle.wire_base.proofs.ListLaws.{some_is}
 use Rattle.channel_keys.specs.Credentials.{cred_of}
 use Rattle.channel_keys.proofs.CredLaws.{IsBlock-cred_of}
 use Rattle.authenticators.specs.Channels.{ChannelIdentity}
@@ -153,9 +154,6 @@ fewer_left challenge server left spent = spent.1
 
 pub drawn_order : (judgings : List Judging) (server : List ℕ) (left : List (List ℕ)) → IsInOrder judgings (server ∷ left) → IsInOrder judgings left
 drawn_order judgings server left order = record { moved = order.moved; unheard = order.unheard.1; apart = order.apart.1 }
-
-some_is : {T : Type 0} (one other : T) → Some one ≡ Some other → one ≡ other
-some_is one other is = cc
 
 pub pair_kept : (knows : Bool) (judgings : List Judging) (server : List ℕ) (left : List (List ℕ)) (controller : ℕ) (name client : List ℕ) (work : Work) →
     IsInOrder judgings (server ∷ left) → AreKept judgings (server ∷ left) controller work.computers →

@@ -1,6 +1,6 @@
 -- The seeds of the channels that controllers keep, through each step of an end.
 -- It serves `Proved.grants`, `Proved.replays`, `Proved.replies` and 3 more.
-use Rattle.std.proofs.Common.{◌≡◌, ◌≢◌, ℕ, List, [], ◌∷◌, ◌++◌, map, Option, Some, None, refl, sym, ap, subst, ◌∙◌, inl, inr, slice_get, slice_set}
+use Rattle.std.proofs.Common.{◌≡◌, ◌≢◌, ℕ, List, [], ◌∷◌, ◌++◌, Option, Some, None, refl, sym, ap, subst, ◌∙◌, inl, inr, slice_get, slice_set}
 use Rattle.std.specs.List.{AllByRecursion}
 use Rattle.authenticators.specs.Channels.{ChannelIdentity}
 use Rattle.outside.specs.declared.event.Event.{Event}
@@ -18,10 +18,10 @@ use Rattle.world_moves.specs.declared.state.State.{State}
 use Rattle.domain_world.specs.Claims.{moved_on}
 use Rattle.domain_world.specs.Past.{Coming, answers_of, at_controller, first_of, judged_of, later_of, onto, with_reply}
 use Rattle.step_notes.proofs.Controllers.NotedLaws.{NotedFact, StaysThrough, step_says}
-use Rattle.domain_world.proofs.Challenges.MessageOnceLaws.{set_cases}
+use Rattle.domain_world.proofs.Messages.MessageOnceLaws.{set_cases}
 use Rattle.domain_world.proofs.Judgements.SeedLaws.{AreApart, AreKept, AreUnheard, IsInOrder, IsSpent, authenticate_kept, channel_from, drawn_order, judged_as, judged_order, keeps_all, kept_on, logon_kept, others_unmoved, pair_kept}
 use Rattle.domain_world.proofs.Judgements.ChainLaws.{its_judging, judged_judging, opening_judging}
-use Rattle.domain_world.proofs.Frames.NoBytesLaws.{DoesNothingElse, IsNoBytes, KeepsComputers, does_nothing_else}
+use Rattle.domain_world.proofs.Moves.NoBytesLaws.{DoesNothingElse, IsNoBytes, KeepsComputers, does_nothing_else}
 use Rattle.outside.specs.declared.event.Event.TheVariants as event
 
 -- ---- fewer challenges are left

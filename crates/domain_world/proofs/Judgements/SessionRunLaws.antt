@@ -28,17 +28,17 @@ use Rattle.world_moves.specs.World.{World, first_world, happens, run}
 use Rattle.world_moves.specs.Alone.{HandsNothingOn, alone_end_step as end_step}
 use Rattle.logon_client.specs.declared.plan.ClientPlan.{ClientPlan}
 use Rattle.member_server.specs.declared.plan.MemberPlan.{MemberPlan}
-use Rattle.domain_world.specs.Claims.Sessions.{AreBySince, ControllerRenewed, end_by, is_since, last_start, renewal_by, renewals, restarted, sessions_behind, sessions_if, sessions_on, sessions_since, since_if, start_before, start_if}
+use Rattle.domain_world.specs.Claims.Sessions.{AreBySince, ControllerRenewed, end_by, is_since, last_start, renewal_by, renewals, restart_of, sessions_behind, sessions_if, sessions_on, sessions_since, since_if, start_before, start_if}
 use Rattle.domain_world.specs.Past.{Coming, answers_of, at_controller, book, first_of, judged_of, later_of, note, note_at, note_coming, note_controller, numbers_on, onto, past, with_reply}
-use Rattle.channel_events.proofs.ListLaws.{all_weaker, no_some}
-use Rattle.domain_world.proofs.Challenges.MessageOnceLaws.{each_put}
+use Rattle.wire_base.proofs.ListLaws.{all_weaker, no_some}
+use Rattle.domain_world.proofs.Messages.MessageOnceLaws.{each_put}
 use Rattle.domain_world.proofs.Frames.AloneFrameLaws.{StandsAlone, stands_first, stands_next}
 use Rattle.domain_world.proofs.Frames.AloneStepLaws.{act_alone as hear_and_act, alone_by as step_by, fresh_by}
 use Rattle.domain_world.proofs.Frames.EndFrameLaws.{EndFact, KeepsCalmEnds, ends_through}
 use Rattle.domain_world.proofs.Frames.EndNoteLaws.{judged_so, noted_by}
 use Rattle.domain_world.proofs.Frames.EventLaws.{calm_no_bytes}
-use Rattle.domain_world.proofs.Frames.NoBytesLaws.{IsNoBytes, KeepsComputers, does_nothing_else}
-use Rattle.domain_world.proofs.Judgements.OpeningRunLaws.{each_fresh}
+use Rattle.domain_world.proofs.Moves.NoBytesLaws.{IsNoBytes, KeepsComputers, does_nothing_else}
+use Rattle.domain_world.proofs.Judgements.Openings.OpeningRunLaws.{each_fresh}
 use Rattle.domain_world.proofs.Judgements.ChainLaws.{AreChained, IsBy, left_behind, left_of}
 use Rattle.domain_world.proofs.Judgements.SessionStepLaws.{RunningChains, RunsWith, kept_sessions, step_chains}
 use Rattle.world_moves.proofs.ChangeLaws.{by_change}
@@ -381,7 +381,7 @@ pub record IsRestart (what : Move) (at : ℕ) (s : State) (b : Book) (end : EndI
   pub acts : (act s what).state ≡ renewed end (forget end s)
   pub notes : note_coming what at s b ≡ b
 
-restarts : (what : Move) (at : ℕ) (s : State) (b : Book) (end : EndId) → restarted what s ≡ Some end → IsRestart what at s b end
+restarts : (what : Move) (at : ℕ) (s : State) (b : Book) (end : EndId) → restart_of what s ≡ Some end → IsRestart what at s b end
 restarts (move.Restart number) at s b end is = record { acts = restart_is (chosen_place number (count_of s.ends)) s end is; notes = refl }
 restarts move.Onward at s b end is = absurd (no_some end is)
 restarts (move.Deliver unit link) at s b end is = absurd (no_some end is)
@@ -397,7 +397,7 @@ restarts (move.Tick more) at s b end is = absurd (no_some end is)
 
 -- ---- a run
 
-one_move : (end : Option EndId) (what : Move) (w : World) (b : Book) (starts : List ControllerRenewed) → restarted what w.state ≡ end → StandsAlone w.state →
+one_move : (end : Option EndId) (what : Move) (w : World) (b : Book) (starts : List ControllerRenewed) → restart_of what w.state ≡ end → StandsAlone w.state →
     Stand starts w.moves b.judged w.state.ends.controllers →
     Stand (renewal_by end (w.moves + 1) ++ starts) (w.moves + 1) (note w what b).judged (happens w what).state.ends.controllers
 one_move None what w b starts is alone stands = ends_through (Stands starts) (stands_on starts) what w b is alone (λ on. stands) None
@@ -411,8 +411,8 @@ all_moves : (moves : List Move) (w : World) (b : Book) (starts : List Controller
     Stand (renewals moves w starts) (run moves w).moves (book moves w b).judged (run moves w).state.ends.controllers
 all_moves [] w b starts alone stands = stands
 all_moves (what ∷ moves) w b starts alone stands =
-    all_moves moves (happens w what) (note w what b) (renewal_by (restarted what w.state) (w.moves + 1) ++ starts) (stands_next what w b alone)
-    (one_move (restarted what w.state) what w b starts refl alone stands)
+    all_moves moves (happens w what) (note w what b) (renewal_by (restart_of what w.state) (w.moves + 1) ++ starts) (stands_next what w b alone)
+    (one_move (restart_of what w.state) what w b starts refl alone stands)
 
 -- in every run sessions follow the calls
 pub record SessionsStand (plan : Plan) (moves : List Move) : Type 0 where

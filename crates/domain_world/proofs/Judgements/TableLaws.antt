@@ -17,9 +17,9 @@ use Rattle.world_moves.specs.Alone.{HandsNothingOn}
 use Rattle.domain_world.specs.Claims.Tables.{AreByEarlier, IsLeft, TablesFollowVerdicts, accounts_after, accounts_if, left_by, left_if, left_on}
 use Rattle.domain_world.specs.Past.{Coming, answers_of, at_controller, first_of, judged_of, later_of, note_controller, numbers_on, onto, past, with_reply}
 use Rattle.step_notes.proofs.Controllers.JudgedStepLaws.{on_next}
-use Rattle.domain_world.proofs.Challenges.MessageOnceLaws.{each_put}
+use Rattle.domain_world.proofs.Messages.MessageOnceLaws.{each_put}
 use Rattle.domain_world.proofs.Frames.FrameLaws.{run_stays}
-use Rattle.domain_world.proofs.Frames.NoBytesLaws.{does_nothing_else}
+use Rattle.domain_world.proofs.Moves.NoBytesLaws.{does_nothing_else}
 use Rattle.domain_world.proofs.Frames.ControllerFrameLaws.{AmongControllers, ControllersFact, KeepsControllers, controllers_written}
 use Rattle.domain_world.proofs.Frames.EndNoteLaws.{judged_so, judgings_of}
 use Rattle.domain_world.proofs.Judgements.GrantLaws.{first_planned}
@@ -154,7 +154,7 @@ controller_comes c plan at w piece s after b is stands =
           (subst (λ (t : AccountTable). IsLeft plan at now t) (sym steps.1) brings.own);
     }
 
-stand_on : (plan : Plan) → KeepsControllers judgings_of (Stands plan)
+pub stand_on : (plan : Plan) → KeepsControllers judgings_of (Stands plan)
 stand_on plan = record {
   of = judged_so;
   given = λ at given after b. refl;
@@ -170,7 +170,7 @@ stand_on plan = record {
 one_table : (one other : AccountTable) → Some one ≡ Some other → one ≡ other
 one_table one other is = cc
 
-first_stands : (plan : Plan) → Stand plan [] (first_world plan).state.ends.controllers
+pub first_stands : (plan : Plan) → Stand plan [] (first_world plan).state.ends.controllers
 first_stands plan = record {
   judged = tt;
   each = λ at c there planned is. one_table c.table planned (sym (first_planned plan.hands_on plan.tables plan.controllers at c there).0 ∙ is);

@@ -37,7 +37,7 @@ use Rattle.step_notes.proofs.Controllers.NotedLaws.{NotedFact, StaysThrough, ste
 use Rattle.controller_calls.proofs.ReplyLaws.{Replies, authenticate_replies, challenge_replies, read_behind}
 use Rattle.domain_world.proofs.Judgements.ChainLaws.{judged_judging, opening_judging}
 use Rattle.wire_base.specs.declared.authenticator.Authenticator.{Authenticator}
-use Rattle.domain_world.proofs.Frames.NoBytesLaws.{IsBeside, IsNoBytes, does_nothing_else}
+use Rattle.domain_world.proofs.Moves.NoBytesLaws.{IsBeside, IsNoBytes, does_nothing_else}
 use Rattle.domain_world.proofs.Frames.EndNoteLaws.{judged_so, noted_by}
 use Rattle.domain_world.proofs.Frames.EventLaws.{calm_no_bytes}
 use Rattle.outside.specs.declared.action.Action.TheVariants as action

@@ -26,7 +26,7 @@ use Rattle.world_moves.specs.declared.plan.Plan.{Plan}
 use Rattle.world_moves.specs.declared.state.State.{State}
 use Rattle.domain_world.specs.Accepting.Answered.{PassesAreUnclashed}
 use Rattle.domain_world.specs.Past.{Coming, answers_of, any_clash, at_controller, first_of, judged_of, later_of, note_at, note_controller, note_member, note_messages, numbers_on, onto, past, with_reply}
-use Rattle.channel_events.proofs.ListLaws.{all_weaker, got_append}
+use Rattle.wire_base.proofs.ListLaws.{all_weaker, got_append}
 use Rattle.domain_world.proofs.Frames.BookFrameLaws.{book_holds}
 use Rattle.domain_world.proofs.Judgements.JudgedLaws.{onto_hold}
 use Rattle.domain_world.proofs.Frames.EndNoteLaws.{book_by}

@@ -31,7 +31,7 @@ use Rattle.world_moves.specs.Alone.{HandsNothingOn}
 use Rattle.domain_world.specs.Claims.Grants.{hash_of_user, users_of}
 use Rattle.domain_world.specs.Claims.Tables.{AreByEarlier, accounts_after, accounts_if, left_if, left_on}
 use Rattle.domain_world.specs.Past.{past}
-use Rattle.channel_events.proofs.ListLaws.{no_some}
+use Rattle.wire_base.proofs.ListLaws.{no_some}
 use Rattle.domain_world.proofs.Judgements.GrantLaws.{HasUsers}
 use Rattle.domain_world.proofs.Judgements.TableLaws.{tables_follow}
 

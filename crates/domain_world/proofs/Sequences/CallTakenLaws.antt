@@ -24,11 +24,12 @@ use Rattle.channel_client.specs.declared.state.Step.{Step}
 use Rattle.channel_client.specs.declared.state.Step.TheVariants as step
 use Rattle.channel_client.proofs.EffectLaws.{steps_have_effects}
 use Rattle.channel_events.specs.Marks.{Mark, Calling}
-use Rattle.channel_events.proofs.ListLaws.{got_append, some_is}
+use Rattle.wire_base.proofs.ListLaws.{got_append, some_is}
 use Rattle.step_notes.specs.MemberNotes.{TurnNote, asked_note, request_note, taking_note, timestamp_bound}
 use Rattle.step_notes.specs.Records.{ChannelTurn}
 use Rattle.step_notes.proofs.Members.TurnRequestLaws.{IsOfTurn, of_turn}
-use Rattle.domain_world.proofs.Requests.LooserLaws.{IsPlaced, NoRequests, Placed, calls_before}
+use Rattle.domain_world.specs.Accepting.SeenSteps.{IsPlaced, NoRequests, Placed}
+use Rattle.domain_world.proofs.Calls.LooserLaws.{calls_before}
 use Rattle.domain_world.proofs.Sequences.CallTurnLaws.{AreFarBy, CallsMade, KnowsCalls, LastIsOut, WaitsFor, answered_knows, called_knows, calls_still, opened_knows, set_called_knows}
 use Rattle.domain_world.proofs.Sequences.SeedTurnLaws.{Turned, none_on}
 

@@ -13,6 +13,7 @@ use Rattle.channel_client.specs.Machine.{ask_by, ask_of, can_start, lose_of, sta
 use Rattle.channel_client.specs.State.{Requester}
 use Rattle.channel_client.specs.declared.state.Pending.{Pending}
 use Rattle.channel_client.specs.declared.state.Question.{Question}
+use Rattle.channel_client.specs.declared.state.Sealing.{Sealing}
 use Rattle.channel_client.specs.declared.state.Standing.{Standing}
 use Rattle.channel_client.specs.declared.state.Standing.TheVariants as standing
 use Rattle.channel_client.specs.declared.state.Step.{Step}
@@ -20,14 +21,16 @@ use Rattle.channel_client.specs.declared.state.Step.TheVariants as step
 use Rattle.channel_client.specs.declared.state.Waiting.{Waiting}
 use Rattle.channel_client.specs.declared.caller.Caller.{Caller}
 use Rattle.logon_stubs.specs.declared.calls.Call.{Call}
-use Rattle.channel_events.specs.Marks.{Mark, Calling, OneOf}
-use Rattle.channel_events.proofs.ListLaws.{at_end, got_append, got_last, got_nothing, one_last, one_more, some_is}
+use Rattle.wire_base.specs.Lists.{OneOf}
+use Rattle.channel_events.specs.Marks.{Mark, Calling}
+use Rattle.wire_base.proofs.ListLaws.{at_end, got_append, got_last, got_nothing, one_last, one_more, some_is}
 use Rattle.member_server.specs.ChannelSteps.{IsCalm}
 use Rattle.member_server.specs.Laws.{Asks, Doing, Loses, Starts, Takes, state_after}
 use Rattle.step_notes.specs.MemberNotes.{timestamp_bound, turn_of}
 use Rattle.step_notes.specs.Records.{ChannelTurn, RequesterId}
+use Rattle.domain_world.specs.Accepting.SeenSteps.{IsPlaced}
 use Rattle.domain_world.specs.Accepting.Sequences.{AreUnitsApart, stamps_of}
-use Rattle.domain_world.proofs.Requests.LooserLaws.{IsPlaced, calls_before, placed_as}
+use Rattle.domain_world.proofs.Calls.LooserLaws.{calls_before, placed_as}
 use Rattle.domain_world.proofs.Sequences.SeedTurnLaws.{stamps_last, stamps_on}
 
 -- ---- what is known
@@ -160,24 +163,24 @@ module _ (Done : ℕ → Type 0) (marks : List Mark) (own : List ChannelTurn) (c
     );
   }
 
-  start_by : (who : RequesterId) (timestamp : ℕ) (challenge : List ℕ) (caller : Caller) (how : Standing) (logons : List Waiting) (place next : ℕ) (turn : Option Pending) (secret : Option (List ℕ)) →
-      let s : Requester = record { caller = caller; standing = how; waiting = logons; next_place = place; next_call = next; turn = turn; next = secret } in
+  start_by : (who : RequesterId) (timestamp : ℕ) (challenge : List ℕ) (caller : Caller) (how : Standing) (logons : List Waiting) (place next : ℕ) (turn : Option Pending) (secret : Option (List ℕ)) (sealing : Option Sealing) →
+      let s : Requester = record { caller = caller; standing = how; waiting = logons; next_place = place; next_call = next; turn = turn; next = secret; sealing = sealing } in
       can_start turn logons ≡ true → KnowsCalls Done marks own controller s →
       KnowsCalls Done marks (own ++ turn_of controller who (start_of s timestamp challenge).state) controller (start_of s timestamp challenge).state
-  start_by who timestamp challenge caller how logons place next (Some pending) secret can knows = absurd (let x = can in cc)
-  start_by who timestamp challenge caller how [] place next None secret can knows = absurd (let x = can in cc)
-  start_by who timestamp challenge caller standing.Nothing (logon ∷ logons) place next None secret can knows = λ c is. absurd (let x = is in cc)
-  start_by who timestamp challenge caller (standing.Half client server) (logon ∷ logons) place next None secret can knows = λ c is. absurd (let x = is in cc)
-  start_by who timestamp challenge caller (standing.Open o) (logon ∷ logons) place next None None can knows = λ c is.
+  start_by who timestamp challenge caller how logons place next (Some pending) secret sealing can knows = absurd (let x = can in cc)
+  start_by who timestamp challenge caller how [] place next None secret sealing can knows = absurd (let x = can in cc)
+  start_by who timestamp challenge caller standing.Nothing (logon ∷ logons) place next None secret sealing can knows = λ c is. absurd (let x = is in cc)
+  start_by who timestamp challenge caller (standing.Half client server) (logon ∷ logons) place next None secret sealing can knows = λ c is. absurd (let x = is in cc)
+  start_by who timestamp challenge caller (standing.Open o) (logon ∷ logons) place next None None sealing can knows = λ c is.
       started_far c (record { requester = who; channel = channel_of controller caller.computer o; timestamp = timestamp }) (some_is (channel_of controller caller.computer o) c is) (knows c is) next
       logon.place _ refl
-  start_by who timestamp challenge caller (standing.Open o) (logon ∷ logons) place next None (Some secret) can knows = λ c is.
+  start_by who timestamp challenge caller (standing.Open o) (logon ∷ logons) place next None (Some secret) sealing can knows = λ c is.
       set_started_far c (record { requester = who; channel = channel_of controller caller.computer o; timestamp = timestamp }) (some_is (channel_of controller caller.computer o) c is) (knows c is) next
       logon.place _ refl
 
   pub start_knows : (who : RequesterId) (timestamp : ℕ) (challenge : List ℕ) (s : Requester) → can_start s.turn s.waiting ≡ true → KnowsCalls Done marks own controller s →
       KnowsCalls Done marks (own ++ turn_of controller who (start_of s timestamp challenge).state) controller (start_of s timestamp challenge).state
-  start_knows who timestamp challenge s can knows = start_by who timestamp challenge s.caller s.standing s.waiting s.next_place s.next_call s.turn s.next can knows
+  start_knows who timestamp challenge s can knows = start_by who timestamp challenge s.caller s.standing s.waiting s.next_place s.next_call s.turn s.next s.sealing can knows
 
 -- ---- a call goes out
 

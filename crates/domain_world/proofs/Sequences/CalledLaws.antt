@@ -15,13 +15,13 @@ use Rattle.world_moves.specs.declared.state.State.{State}
 use Rattle.domain_world.specs.Accepting.Sequences.{AreSoFar, CallsOfTurns, HasPassed, HavePassed, IsMadeOn, TurnsAreCalled}
 use Rattle.domain_world.specs.Claims.SharedSequences.{timestamps_on}
 use Rattle.domain_world.specs.Past.{Past, controller_asked}
-use Rattle.domain_world.proofs.Frames.MarkPlaceLaws.{got_map}
-use Rattle.domain_world.proofs.Requests.CallHoldsLaws.{mark_there, marks_in}
+use Rattle.domain_world.proofs.Moves.MarkPlaceLaws.{got_map}
+use Rattle.domain_world.proofs.Calls.CallHoldsLaws.{mark_there, marks_in}
 use Rattle.domain_world.proofs.Sequences.CallTurnLaws.{AllDone, AreFar, AreFarBy, CallsMade, IsCalled, KnowsCalls}
 use Rattle.domain_world.proofs.Sequences.Own.OwnRunLaws.{own_stamps}
 use Rattle.domain_world.proofs.Sequences.Own.OwnTurnLaws.{mine}
 use Rattle.domain_world.proofs.Sequences.SeedTurnLaws.{stamps_on}
-use Rattle.domain_world.proofs.Frames.RequesterLaws.{asker_in, RunsWith, asker_runs, stands_open}
+use Rattle.domain_world.proofs.Moves.RequesterLaws.{asker_in, RunsWith, asker_runs, stands_open}
 use Rattle.channel_client.specs.declared.state.Step.TheVariants as step
 
 -- what is known of a requester, if its end runs

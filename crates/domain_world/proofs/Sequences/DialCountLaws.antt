@@ -12,7 +12,7 @@ use Rattle.world_moves.specs.declared.links.EndId.{EndId}
 use Rattle.world_moves.specs.declared.state.State.{State}
 use Rattle.world_moves.specs.declared.state.WaitingDial.{WaitingDial}
 use Rattle.world_moves.specs.Acting.{Given, dials_of_action, given_by, is_of_other, perform_quietly}
-use Rattle.domain_world.proofs.Frames.RequesterLaws.{asking_end, asks_at}
+use Rattle.domain_world.proofs.Moves.RequesterLaws.{asking_end, asks_at}
 
 abbrev pub one_if : Bool → ℕ
 one_if false = 0

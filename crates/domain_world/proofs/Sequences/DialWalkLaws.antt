@@ -90,7 +90,7 @@ module _ (Holds : DialFact) (keeps : KeepsDials Holds) where
     settles = λ n at on number s b none holds. holds;
     dials = λ n at dial s b is none holds. keeps.first dial s b.turns is holds;
     renews = λ n at end s b none holds. keeps.renews end s b.turns holds;
-    changes = λ n at member secret s b none holds. keeps.changes member secret s b.turns holds;
+    changes = λ n at member secret s b formed none holds. keeps.changes member secret s b.turns holds;
     ticks = λ n at more s b none holds. holds;
     over = λ n at on next s given b none holds. keeps.over s given b.turns holds;
   }

@@ -8,14 +8,14 @@ use Rattle.world_moves.specs.declared.state.WaitingDial.{WaitingDial}
 use Rattle.world_moves.specs.Alone.{HandsNothingOn}
 use Rattle.domain_world.specs.Claims.SharedSequences.{OneTurnIsOut, dials_of}
 use Rattle.domain_world.specs.Past.{past, controller_asked, running_in}
-use Rattle.domain_world.proofs.Frames.DrawnRunLaws.{draws_differ}
+use Rattle.domain_world.proofs.Moves.DrawnRunLaws.{draws_differ}
 use Rattle.domain_world.proofs.Sequences.DialCountLaws.{one_if, waiting_dials}
 use Rattle.domain_world.proofs.Sequences.DialWalkLaws.{AtState, dials_after}
 use Rattle.domain_world.proofs.Sequences.Own.OwnFrameLaws.{TurnsHold, TurnsKnown}
 use Rattle.domain_world.proofs.Sequences.Own.OwnRunLaws.{first_known, turns_keep, turns_at}
 use Rattle.domain_world.proofs.Sequences.Own.OwnTurnLaws.{TurnsIf, TurnsOf}
 use Rattle.step_notes.specs.Records.{OfMember}
-use Rattle.domain_world.proofs.Frames.RequesterLaws.{asks_at}
+use Rattle.domain_world.proofs.Moves.RequesterLaws.{asks_at}
 
 -- ---- the dials of a member are as many as are counted
 

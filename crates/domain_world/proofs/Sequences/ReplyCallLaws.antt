@@ -2,7 +2,7 @@
 -- It serves `Proved.answered`.
 use Rattle.std.proofs.Common.{◌≡◌, false, Some, refl, subst}
 use Rattle.channel_events.specs.Marks.{Mark}
-use Rattle.channel_events.proofs.ListLaws.{one_weaker}
+use Rattle.wire_base.proofs.ListLaws.{one_weaker}
 use Rattle.step_notes.specs.ControllerNotes.{has_passed}
 use Rattle.step_notes.specs.Records.{Judging}
 use Rattle.step_notes.specs.ReplySends.{IsReplyOfCall}
@@ -13,11 +13,11 @@ use Rattle.domain_world.specs.Past.{Past, past, plain_form}
 use Rattle.domain_world.specs.Schedules.{OfSchedules}
 use Rattle.domain_world.proofs.Accepting.AnsweredLaws.{passed_of}
 use Rattle.domain_world.proofs.Accepting.CarriedLaws.{requested}
-use Rattle.domain_world.proofs.Accepting.ListPlaceLaws.{placed}
+use Rattle.domain_world.proofs.Lists.ListPlaceLaws.{placed}
 use Rattle.domain_world.proofs.Accepting.ScheduleLaws.{units_heard}
 use Rattle.domain_world.proofs.Judgements.ReplyLaws.{replies_carry}
 use Rattle.domain_world.proofs.Judgements.UnclashedLaws.{passes_unclashed}
-use Rattle.domain_world.proofs.Requests.MarkWayLaws.{marks_have_their_way}
+use Rattle.domain_world.proofs.Calls.MarkWayLaws.{marks_have_their_way}
 
 pub replies_answer : OfSchedules (λ plan moves. (past plan moves).book.clash ≡ false → RepliesAnswerCalls (past plan moves))
 replies_answer plan moves nobody schedule clear n unit one channel number request bag there mark =
@@ -25,7 +25,7 @@ replies_answer plan moves nobody schedule clear n unit one channel number reques
     let all : UnitsAreHeard p = units_heard plan moves nobody schedule in
     let replied = subst (λ (m : Mark). IsReplyOfOne p.book.judged n (plain_form p.book.sent n unit) m) mark (replies_carry plan moves nobody n unit one bag there) in
     let found = placed (λ (j : Judging). (j.reply ≡ Some n) × IsReplyOfCall channel number request j (plain_form p.book.sent n unit)) p.book.judged replied in
-    let asked = requested p all.whole (marks_have_their_way plan moves nobody) all.judged (passes_unclashed plan moves) (replies_carry plan moves nobody) all.numbers clear found.place channel found.item request number
+    let asked = requested p all.whole (marks_have_their_way plan moves) all.judged (passes_unclashed plan moves) (replies_carry plan moves nobody) all.numbers clear found.place channel found.item request number
     (plain_form p.book.sent n unit) found.there found.is.1 in
     record {
       sent = asked.sent;

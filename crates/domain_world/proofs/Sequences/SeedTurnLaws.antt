@@ -11,6 +11,7 @@ use Rattle.authenticators.specs.SecureChannels.{channel_of}
 use Rattle.channel_client.specs.declared.hearing.SetHearing.TheVariants as set_hearing
 use Rattle.channel_client.specs.declared.caller.Caller.{Caller}
 use Rattle.channel_client.specs.declared.state.Pending.{Pending}
+use Rattle.channel_client.specs.declared.state.Sealing.{Sealing}
 use Rattle.channel_client.specs.declared.state.Standing.{Standing}
 use Rattle.channel_client.specs.declared.state.Standing.TheVariants as standing
 use Rattle.channel_client.specs.declared.state.Waiting.{Waiting}
@@ -26,7 +27,8 @@ use Rattle.channel_events.specs.RequestSteps.{IsFreshIf, drawn_if}
 use Rattle.channel_events.specs.Requests.{Holds, IsDrawn}
 use Rattle.channel_events.specs.Seeds.{channel_seed}
 use Rattle.channel_events.proofs.ChannelSeedLaws.{first_seed, next_is}
-use Rattle.channel_events.proofs.ListLaws.{all_weaker, moved_none, moved_one, some_is}
+use Rattle.wire_base.proofs.ListLaws.{all_weaker, some_is}
+use Rattle.channel_events.proofs.TimestampLaws.{moved_none, moved_one}
 use Rattle.channel_events.proofs.SameLaws.{itself, one_channel}
 use Rattle.member_server.specs.Dials.{ComesUnstarted, IsNoStart}
 use Rattle.member_server.specs.Laws.{Asks, Doing, Loses, Starts, Takes, state_after}
@@ -247,27 +249,27 @@ module _ (own : List ChannelTurn) (drawn : List (List ℕ)) where
       }
 
   -- where one can start, by how far the channel is
-  start_by : (controller : ℕ) (who : RequesterId) (timestamp : ℕ) (challenge : List ℕ) (caller : Caller) (how : Standing) (logons : List Waiting) (place next : ℕ) (turn : Option Pending) (secret : Option (List ℕ)) →
-      let s : Requester = record { caller = caller; standing = how; waiting = logons; next_place = place; next_call = next; turn = turn; next = secret } in
+  start_by : (controller : ℕ) (who : RequesterId) (timestamp : ℕ) (challenge : List ℕ) (caller : Caller) (how : Standing) (logons : List Waiting) (place next : ℕ) (turn : Option Pending) (secret : Option (List ℕ)) (sealing : Option Sealing) →
+      let s : Requester = record { caller = caller; standing = how; waiting = logons; next_place = place; next_call = next; turn = turn; next = secret; sealing = sealing } in
       can_start turn logons ≡ true → IsFreshIf (needs_challenge how) challenge drawn → AllByRecursion (λ (turn : ChannelTurn). IsDrawn turn.channel.client drawn) own → IsCoherent s →
       Turned (view_of controller s) own drawn →
       Turned (view_of controller (start_of s timestamp challenge).state) (own ++ turn_of controller who (start_of s timestamp challenge).state) (drawn_if (needs_challenge how) challenge drawn)
-  start_by controller who timestamp challenge caller how logons place next (Some pending) secret can new before coherent turned = absurd (let x = can in cc)
-  start_by controller who timestamp challenge caller how [] place next None secret can new before coherent turned = absurd (let x = can in cc)
-  start_by controller who timestamp challenge caller standing.Nothing (logon ∷ logons) place next None secret can new before coherent turned =
-      let s : Requester = record { caller = caller; standing = standing.Nothing; waiting = logon ∷ logons; next_place = place; next_call = next; turn = None; next = secret } in
+  start_by controller who timestamp challenge caller how logons place next (Some pending) secret sealing can new before coherent turned = absurd (let x = can in cc)
+  start_by controller who timestamp challenge caller how [] place next None secret sealing can new before coherent turned = absurd (let x = can in cc)
+  start_by controller who timestamp challenge caller standing.Nothing (logon ∷ logons) place next None secret sealing can new before coherent turned =
+      let s : Requester = record { caller = caller; standing = standing.Nothing; waiting = logon ∷ logons; next_place = place; next_call = next; turn = None; next = secret; sealing = sealing } in
       subst (λ (all : List ChannelTurn). Turned (view_of controller (start_of s timestamp challenge).state) all (drawn ++ challenge ∷ [])) (sym (append-nil own))
       (begins_turned challenge (view_of controller s) (view_of controller (start_of s timestamp challenge).state) (steps_have_effects.start controller s timestamp challenge coherent).0 new before)
-  start_by controller who timestamp challenge caller (standing.Half client server) (logon ∷ logons) place next None secret can new before coherent turned =
-      let s : Requester = record { caller = caller; standing = standing.Half client server; waiting = logon ∷ logons; next_place = place; next_call = next; turn = None; next = secret } in
+  start_by controller who timestamp challenge caller (standing.Half client server) (logon ∷ logons) place next None secret sealing can new before coherent turned =
+      let s : Requester = record { caller = caller; standing = standing.Half client server; waiting = logon ∷ logons; next_place = place; next_call = next; turn = None; next = secret; sealing = sealing } in
       subst (λ (all : List ChannelTurn). Turned (view_of controller (start_of s timestamp challenge).state) all drawn) (sym (append-nil own))
       (changed Counts (view_of controller s) (view_of controller (start_of s timestamp challenge).state) tt (steps_have_effects.start controller s timestamp challenge coherent).0 turned)
-  start_by controller who timestamp challenge caller (standing.Open o) (logon ∷ logons) place next None None can new before coherent turned =
-      let s : Requester = record { caller = caller; standing = standing.Open o; waiting = logon ∷ logons; next_place = place; next_call = next; turn = None; next = None } in
+  start_by controller who timestamp challenge caller (standing.Open o) (logon ∷ logons) place next None None sealing can new before coherent turned =
+      let s : Requester = record { caller = caller; standing = standing.Open o; waiting = logon ∷ logons; next_place = place; next_call = next; turn = None; next = None; sealing = sealing } in
       let turn : ChannelTurn = record { requester = who; channel = channel_of controller caller.computer o; timestamp = timestamp } in
       moves_turned turn (view_of controller s) (view_of controller (start_of s timestamp challenge).state) (steps_have_effects.start controller s timestamp challenge coherent).0 refl turned
-  start_by controller who timestamp challenge caller (standing.Open o) (logon ∷ logons) place next None (Some secret) can new before coherent turned =
-      let s : Requester = record { caller = caller; standing = standing.Open o; waiting = logon ∷ logons; next_place = place; next_call = next; turn = None; next = Some secret } in
+  start_by controller who timestamp challenge caller (standing.Open o) (logon ∷ logons) place next None (Some secret) sealing can new before coherent turned =
+      let s : Requester = record { caller = caller; standing = standing.Open o; waiting = logon ∷ logons; next_place = place; next_call = next; turn = None; next = Some secret; sealing = sealing } in
       let turn : ChannelTurn = record { requester = who; channel = channel_of controller caller.computer o; timestamp = timestamp } in
       moves_turned turn (view_of controller s) (view_of controller (start_of s timestamp challenge).state) (steps_have_effects.start controller s timestamp challenge coherent).0 refl turned
 
@@ -277,5 +279,5 @@ module _ (own : List ChannelTurn) (drawn : List (List ℕ)) where
   starts_so controller who timestamp challenge needs s can need new before coherent turned =
       subst
       (λ (b : Bool). Turned (view_of controller (start_of s timestamp challenge).state) (own ++ turn_of controller who (start_of s timestamp challenge).state) (drawn_if b challenge drawn)) need
-      (start_by controller who timestamp challenge s.caller s.standing s.waiting s.next_place s.next_call s.turn s.next can (subst (λ (b : Bool). IsFreshIf b challenge drawn) (sym need) new) before
+      (start_by controller who timestamp challenge s.caller s.standing s.waiting s.next_place s.next_call s.turn s.next s.sealing can (subst (λ (b : Bool). IsFreshIf b challenge drawn) (sym need) new) before
       coherent turned)

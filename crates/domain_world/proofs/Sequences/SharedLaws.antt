@@ -13,10 +13,13 @@ use Rattle.authenticators.specs.SecureChannels.{SecureChannelState, channel_of}
 use Rattle.authenticators.proofs.ChannelLaws.{same_channel-Decides}
 use Rattle.channel_client.specs.declared.state.Pending.{Pending}
 use Rattle.domain_controller.specs.declared.state.Running.{Running as ControllerRunning}
-use Rattle.channel_events.specs.Marks.{Mark, OneOf, Plain, Opening, Opened, Calling, ReplyTo}
+use Rattle.domain_controller.proofs.TrustPlaceLaws.{got_all}
+use Rattle.wire_base.specs.Lists.{OneOf}
+use Rattle.channel_events.specs.Marks.{Mark, Plain, Opening, Opened, Calling, ReplyTo}
 use Rattle.channel_events.specs.Seeds.{channel_seed, client_credential}
 use Rattle.channel_events.proofs.ChannelSeedLaws.{same_credential}
-use Rattle.channel_events.proofs.ListLaws.{moved_none, moved_one, one_weaker, one_with, some_is}
+use Rattle.wire_base.proofs.ListLaws.{one_weaker, one_with, some_is}
+use Rattle.channel_events.proofs.TimestampLaws.{moved_none, moved_one}
 use Rattle.channel_events.proofs.SameLaws.{one_channel, same_back}
 use Rattle.step_notes.specs.ControllerNotes.{has_passed}
 use Rattle.step_notes.specs.Judged.{passed_channel}
@@ -28,7 +31,7 @@ use Rattle.domain_world.specs.Claims.Replies.{IsReplyOfOne}
 use Rattle.domain_world.specs.Accepting.Answered.{AnswersAreHeard, IsProved}
 use Rattle.domain_world.proofs.Judgements.ReplyLaws.{replies_carry}
 use Rattle.domain_world.proofs.Judgements.UnclashedLaws.{passes_unclashed}
-use Rattle.domain_world.proofs.Requests.MarkWayLaws.{marks_have_their_way}
+use Rattle.domain_world.proofs.Calls.MarkWayLaws.{marks_have_their_way}
 use Rattle.domain_world.specs.Accepting.Carried.{IsAsMarked, IsJudgedAsCarried, IsNotJudged, IsPlain, IsWholeAsMarked, JudgedAsCarried, MarkedUnitsAreWhole, call_carried}
 use Rattle.domain_world.specs.Accepting.Sequences.{HavePassed, CallsAreStamped, CallsOfTurns, HasPassed, IsMadeOn, IsPassedIn, SequencesFollow, TakenCallsPass, TurnsAreCalled, stamps_of}
 use Rattle.domain_world.specs.Claims.{IsClear, moved_on, passed_on, same_unit, judged_timestamp}
@@ -39,9 +42,9 @@ use Rattle.domain_world.proofs.Accepting.AnsweredRunLaws.{is_proved}
 use Rattle.domain_world.proofs.Accepting.CarriedLaws.{one_unit, replies_to}
 use Rattle.domain_world.proofs.Accepting.UnitLaws.{heard_in}
 use Rattle.domain_world.proofs.Sequences.Own.OwnRunLaws.{sequences_own}
-use Rattle.domain_world.proofs.Accepting.ListPlaceLaws.{Placed, all_at, placed}
+use Rattle.domain_world.proofs.Lists.ListPlaceLaws.{Placed, placed}
 use Rattle.domain_world.proofs.Judgements.MovedLaws.{moved_same}
-use Rattle.domain_world.proofs.Frames.DrawnRunLaws.{draws_differ}
+use Rattle.domain_world.proofs.Moves.DrawnRunLaws.{draws_differ}
 use Rattle.domain_world.proofs.Judgements.ReplayLaws.{on_if, seeds_kept}
 use Rattle.domain_world.proofs.Judgements.SeedStepLaws.{AreKeptIf, SeedsFollow}
 use Rattle.domain_world.proofs.Sequences.SumLaws.{CameIn, is_hit, moved_total, total, total_all, total_append, weight, weight_once, weight_some}
@@ -134,7 +137,7 @@ module _ (past : Past) (known : IsProved past) (heard : AnswersAreHeard past) (c
   came_by (InUnit n) k j came there passed =
       let on : PassedOn (passed_channel j) channel = passed_by (passed_channel j) channel passed in
       let made : IsMade (sent_channel (slice_get past.book.sent n)) on.other = made_at past known heard clear k j on.other n there on.is came in
-      let carried : IsJudgedAsCarried past j n = all_at (λ (one : Judging). (u : ℕ) → one.source ≡ InUnit u → IsJudgedAsCarried past one u) all_judged k j judged there n came in
+      let carried : IsJudgedAsCarried past j n = got_all (λ (one : Judging). (u : ℕ) → one.source ≡ InUnit u → IsJudgedAsCarried past one u) all_judged k j judged there n came in
       record { unit = n; came = came; one = by_sent (slice_get past.book.sent n) n j made.named carried refl made.is (made.same.client ∙ on.same.client) }
 
   moved_by_made : moved_on channel all_judged ≡ total channel calls.made all_judged
@@ -272,7 +275,7 @@ pub taken_pass : TakenCallsPass
 taken_pass plan moves nobody heard clear n is =
     let p : Past = past plan moves in
     let replies = replies_carry plan moves nobody in
-    let its = replies_to p heard.whole (marks_have_their_way plan moves nobody) heard.judged (passes_unclashed plan moves) replies heard.numbers clear heard.openings is.taken is.turn in
+    let its = replies_to p heard.whole (marks_have_their_way plan moves) heard.judged (passes_unclashed plan moves) replies heard.numbers clear heard.openings is.taken is.turn in
     let replied = subst (λ (m : Mark). IsReplyOfOne p.book.judged is.taken.reply (plain_form p.book.sent is.taken.reply is.turn.carrier) m) its.mark (replies is.taken.reply is.turn.carrier its.sent is.turn.there its.there) in
     one_weaker (λ (j : Judging). (j.reply ≡ Some is.taken.reply) × IsReplyOfCall its.channel its.number is.taken.call j (plain_form p.book.sent is.taken.reply is.turn.carrier)) (IsPassedIn n) p.book.judged
     (λ j of. (passed_of (has_passed j.how) j its.channel refl of.1.passed, of.1.came ∙ ap InUnit is.call)) replied

@@ -4,7 +4,7 @@ use Rattle.std.proofs.Common.{◌≡◌, List, sym, ap, subst, ◌∙◌}
 use Rattle.rpc_units.specs.declared.unit.Unit.{Unit as RpcUnit}
 use Rattle.end_links.specs.Sending.{request_of}
 use Rattle.channel_events.specs.Marks.{Mark, Calling}
-use Rattle.channel_events.proofs.ListLaws.{some_is}
+use Rattle.wire_base.proofs.ListLaws.{some_is}
 use Rattle.step_notes.specs.Records.{given_in, timestamp_in}
 use Rattle.controller_calls.specs.declared.calls.JudgedCall.{JudgedCall}
 use Rattle.world_moves.specs.declared.bag.BagUnit.{BagUnit}
@@ -16,7 +16,7 @@ use Rattle.domain_world.proofs.Accepting.CarriedLaws.{asked_is, one_whole}
 use Rattle.domain_world.proofs.Accepting.Heard.MarkSentLaws.{IsCallSent}
 use Rattle.domain_world.proofs.Accepting.Heard.MarkWholeLaws.{FitsMark, OfMark, marks_fit}
 use Rattle.domain_world.proofs.Frames.BagFrameLaws.{IsOfUnit}
-use Rattle.domain_world.proofs.Frames.PlainFormLaws.{plain_heard}
+use Rattle.domain_world.proofs.Moves.PlainFormLaws.{plain_heard}
 
 pub calls_stamped : OfSchedules (λ plan moves. CallsAreStamped (past plan moves))
 calls_stamped plan moves nobody is n unit one channel number timestamp asked there noted mark whole carried =
@@ -25,7 +25,7 @@ calls_stamped plan moves nobody is n unit one channel number timestamp asked the
     let same : had.unit ≡ unit = some_is had.unit unit (sym had.there ∙ there) in
     let fits : FitsMark unit (Calling channel number timestamp) =
     subst (λ (m : Mark). FitsMark unit m) mark (subst (λ (u : BagUnit). FitsMark u one.mark) same had.holds) in
-    let sent : IsCallSent number timestamp unit.bytes = (fits (λ plain. plain)).1 in
+    let sent : IsCallSent channel number timestamp unit.bytes = (fits (λ plain. plain)).1 in
     let request : RpcUnit = request_of number 0 sent.opnum sent.stub in
     let is_request : whole.unit ≡ request = one_whole unit.bytes whole.frames sent.frames whole.unit request (plain_heard (past plan moves).book.sent n unit whole.frames whole.unit whole.heard) sent.heard in
     -- what is sent is read as the one that is carried

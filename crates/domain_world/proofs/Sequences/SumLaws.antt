@@ -6,8 +6,9 @@ use Rattle.std.specs.List.{AllByRecursion}
 use Rattle.std.proofs.lemmas.Bool.Decides.{Decides-eqb}
 use Rattle.authenticators.specs.Channels.{ChannelIdentity}
 use Rattle.authenticators.specs.Sequences.{moved_by}
-use Rattle.channel_events.specs.Marks.{OneOf}
-use Rattle.channel_events.proofs.ListLaws.{got_nothing, moved_none, moved_one, some_is}
+use Rattle.wire_base.specs.Lists.{OneOf}
+use Rattle.wire_base.proofs.ListLaws.{got_nothing, some_is}
+use Rattle.channel_events.proofs.TimestampLaws.{moved_none, moved_one}
 use Rattle.step_notes.specs.Records.{InUnit, Judging, Source, unit_in}
 use Rattle.domain_world.specs.Accepting.Sequences.{AreUnitsApart, stamps_of}
 use Rattle.domain_world.specs.Claims.{moved_if, moved_on, passed_on, same_unit, judged_timestamp}

@@ -13,7 +13,8 @@ use Rattle.logon_stubs.specs.declared.info.Verdict.TheVariants.{Granted, Status}
 use Rattle.ntlm_responses.specs.Verification.{base_key_of}
 use Rattle.member_server.specs.Outcomes.{key_in, outcome_of}
 use Rattle.member_server.specs.Turns.{ending_of}
-use Rattle.channel_events.specs.Marks.{Mark, OneOf, Plain, Opening, Opened, Calling, ReplyTo}
+use Rattle.wire_base.specs.Lists.{OneOf}
+use Rattle.channel_events.specs.Marks.{Mark, Plain, Opening, Opened, Calling, ReplyTo}
 use Rattle.step_notes.specs.Judged.{passed_channel}
 use Rattle.step_notes.specs.Marking.{clashes}
 use Rattle.step_notes.specs.Records.{ChallengeSent, IfNetwork, InUnit, Judging, MessageMade, MessageTaken, OutcomeTold, Sent, unit_in}

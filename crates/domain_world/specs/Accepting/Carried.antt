@@ -18,7 +18,8 @@ use Rattle.logon_stubs.specs.declared.calls.LogonCall.{LogonCall}
 use Rattle.logon_stubs.specs.declared.calls.LogonReply.{LogonReply}
 use Rattle.logon_stubs.specs.declared.calls.Reply.TheVariants as reply
 use Rattle.end_links.specs.Sending.{request_of}
-use Rattle.channel_events.specs.Marks.{Mark, OneOf, Plain, Opening, Opened, Calling, ReplyTo}
+use Rattle.wire_base.specs.Lists.{OneOf}
+use Rattle.channel_events.specs.Marks.{Mark, Plain, Opening, Opened, Calling, ReplyTo}
 use Rattle.step_notes.specs.Marking.{sent_channel}
 use Rattle.step_notes.specs.Records.{CallTaken, InUnit, Judging, MessageTaken, OfMember, RequesterId, Sent}
 use Rattle.controller_calls.specs.declared.calls.JudgedCall.{JudgedCall}

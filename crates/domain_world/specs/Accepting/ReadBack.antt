@@ -17,7 +17,8 @@ use Rattle.channel_client.specs.declared.judging.Judgement.TheVariants as judgem
 use Rattle.channel_client.specs.declared.state.Standing.TheVariants as standing
 use Rattle.member_server.specs.Outcomes.{outcome_of}
 use Rattle.member_server.specs.Turns.{ending_of}
-use Rattle.channel_events.specs.Marks.{OneOf, ReplyTo}
+use Rattle.wire_base.specs.Lists.{OneOf}
+use Rattle.channel_events.specs.Marks.{ReplyTo}
 use Rattle.step_notes.specs.Marking.{sent_channel}
 use Rattle.step_notes.specs.Records.{IfNetwork, Judging, MessageTaken, OutcomeTold, Sent}
 use Rattle.step_notes.specs.ReplySends.{IsReplyOfCall, reply_passed}

@@ -18,7 +18,8 @@ use Rattle.channel_turns.specs.declared.state.Dialling.{Dialling}
 use Rattle.channel_turns.specs.declared.state.Dialling.TheVariants as dialling
 use Rattle.member_server.specs.declared.state.Logon.{Logon}
 use Rattle.member_server.specs.declared.state.Running.{Running as MemberRunning}
-use Rattle.channel_events.specs.Marks.{Calling, OneOf}
+use Rattle.wire_base.specs.Lists.{OneOf}
+use Rattle.channel_events.specs.Marks.{Calling}
 use Rattle.channel_events.specs.Requests.{CallsAreApart, Requests}
 use Rattle.step_notes.specs.ChannelNames.{standing_channel}
 use Rattle.step_notes.specs.Records.{MessageTaken, RequesterId, Sent}

@@ -5,7 +5,8 @@ use Rattle.std.specs.List.{AllByRecursion}
 use Rattle.authenticators.specs.Channels.{ChannelIdentity, SameChannel}
 use Rattle.authenticators.specs.SecureChannels.{SecureChannelState}
 use Rattle.channel_client.specs.declared.state.Pending.{Pending}
-use Rattle.channel_events.specs.Marks.{Calling, OneOf, ReplyTo}
+use Rattle.wire_base.specs.Lists.{OneOf}
+use Rattle.channel_events.specs.Marks.{Calling, ReplyTo}
 use Rattle.step_notes.specs.ControllerNotes.{has_passed}
 use Rattle.step_notes.specs.Records.{CallTaken, InUnit, Judging, RequesterId, Sent, given_in, timestamp_in}
 use Rattle.controller_calls.specs.declared.calls.JudgedCall.{JudgedCall}

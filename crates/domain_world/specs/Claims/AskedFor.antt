@@ -14,7 +14,8 @@ use Rattle.member_server.specs.Turns.{AtTurn}
 use Rattle.member_server.specs.declared.state.Logon.{Logon}
 use Rattle.member_server.specs.declared.state.Running.{Running}
 use Rattle.channel_turns.specs.declared.state.TurnTalk.{TurnTalk}
-use Rattle.channel_events.specs.Marks.{Mark, OneOf}
+use Rattle.wire_base.specs.Lists.{OneOf}
+use Rattle.channel_events.specs.Marks.{Mark}
 use Rattle.step_notes.specs.CallLogons.{AreForChange, AreForLogon, AsksUnlessStopped, IfCalling, IsForItsChange, IsForItsLogon, info_at}
 use Rattle.step_notes.specs.ChannelNames.{sends_in}
 use Rattle.step_notes.specs.Marking.{turn_marks}

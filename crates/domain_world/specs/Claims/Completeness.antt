@@ -17,7 +17,7 @@ use Rattle.member_server.specs.declared.plan.MemberPlan.{MemberPlan}
 use Rattle.outside.specs.declared.action.Judged.TheVariants as judged
 use Rattle.outside.specs.declared.action.Outcome.TheVariants as outcome
 use Rattle.sam_logon.specs.MayLogOn.{MayLogOn}
-use Rattle.channel_events.specs.Marks.{OneOf}
+use Rattle.wire_base.specs.Lists.{OneOf}
 use Rattle.step_notes.specs.Records.{IfNetwork, Judging, OutcomeTold}
 use Rattle.world_moves.specs.declared.links.EndId.TheVariants.{Controller, Member}
 use Rattle.world_moves.specs.declared.links.Route.TheVariants.{ToMember}

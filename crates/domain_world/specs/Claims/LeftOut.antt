@@ -26,7 +26,7 @@ use Rattle.member_server.specs.declared.state.AtLink.{AtLink}
 use Rattle.member_server.specs.declared.state.Phase.{Phase}
 use Rattle.member_server.specs.declared.state.Phase.TheVariants as phase
 use Rattle.member_server.specs.declared.state.Talk.{Talk}
-use Rattle.channel_events.specs.Marks.{OneOf}
+use Rattle.wire_base.specs.Lists.{OneOf}
 use Rattle.step_notes.specs.MemberNotes.{LinkAt, challenge_note, link_units, message_in, message_note, next_draw, taken_link}
 use Rattle.step_notes.specs.Records.{ChallengeSent, MessageTaken}
 

@@ -7,7 +7,7 @@ use Rattle.outside.specs.declared.action.Outcome.{Outcome}
 use Rattle.outside.specs.declared.action.Outcome.TheVariants as outcome
 use Rattle.account_table.specs.LookUps.{account_in}
 use Rattle.account_table.specs.declared.account.Account.{Account}
-use Rattle.channel_events.specs.Marks.{OneOf}
+use Rattle.wire_base.specs.Lists.{OneOf}
 use Rattle.step_notes.specs.Records.{Judging, MessageTaken, OutcomeTold}
 use Rattle.world_moves.specs.Counting.{is_in}
 use Rattle.domain_world.specs.Claims.{answers, info_asked}

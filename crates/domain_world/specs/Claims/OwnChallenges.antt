@@ -3,7 +3,7 @@
 -- a claim says is this project's own choice.
 use Rattle.std.specs.Prelude.{◌≢◌, AllPairs}
 use Rattle.std.specs.List.{AllByRecursion}
-use Rattle.channel_events.specs.Marks.{OneOf}
+use Rattle.wire_base.specs.Lists.{OneOf}
 use Rattle.step_notes.specs.Records.{ChallengeSent, MessageTaken}
 use Rattle.domain_world.specs.Claims.{IsLinkOf, IsUnusedChallenge}
 use Rattle.domain_world.specs.Past.{Past}

@@ -2,7 +2,8 @@
 -- 3.5.4.5.4): the reply to what its own cases make of the call, granted or not. In a run this is said of calls that
 -- came in a unit of the bag. What is claimed is this project's own choice.
 use Rattle.std.specs.Prelude.{ℕ, ◌≡◌, List, Some, slice_get}
-use Rattle.channel_events.specs.Marks.{Mark, OneOf, Plain, Opening, Opened, Calling, ReplyTo}
+use Rattle.wire_base.specs.Lists.{OneOf}
+use Rattle.channel_events.specs.Marks.{Mark, Plain, Opening, Opened, Calling, ReplyTo}
 use Rattle.step_notes.specs.Records.{Judging, Sent}
 use Rattle.step_notes.specs.ReplySends.{IsReplyOfCall}
 use Rattle.world_moves.specs.declared.bag.BagUnit.{BagUnit}

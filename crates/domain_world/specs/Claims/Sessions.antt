@@ -27,9 +27,9 @@ end_by None s = None
 end_by (Some number) s = end_at number s.ends
 
 -- the end that a move makes anew, if it is a restart
-abbrev pub restarted : Move → State → Option EndId
-restarted (move.Restart number) s = end_by (chosen_place number (count_of s.ends)) s
-restarted _ s = None
+abbrev pub restart_of : Move → State → Option EndId
+restart_of (move.Restart number) s = end_by (chosen_place number (count_of s.ends)) s
+restart_of _ s = None
 
 -- A controller was made anew, by the last of so many moves.
 pub record ControllerRenewed : Type 0 where
@@ -43,7 +43,7 @@ renewal_by _ moves = []
 -- those of these moves from a world on, before the earlier ones, so that the newest is first
 abbrev pub renewals : List Move → World → List ControllerRenewed → List ControllerRenewed
 renewals [] w earlier = earlier
-renewals (what ∷ moves) w earlier = renewals moves (happens w what) (renewal_by (restarted what w.state) (w.moves + 1) ++ earlier)
+renewals (what ∷ moves) w earlier = renewals moves (happens w what) (renewal_by (restart_of what w.state) (w.moves + 1) ++ earlier)
 
 -- ---- since when a controller keeps its sessions
 

@@ -20,7 +20,7 @@ use Rattle.member_server.specs.declared.state.Logon.{Logon}
 use Rattle.member_server.specs.declared.state.Phase.TheVariants as phase
 use Rattle.member_server.specs.declared.state.Running.{Running}
 use Rattle.member_server.specs.declared.state.Talk.{Talk}
-use Rattle.channel_events.specs.Marks.{OneOf}
+use Rattle.wire_base.specs.Lists.{OneOf}
 use Rattle.step_notes.specs.Records.{ChallengeSent, MessageMade, MessageTaken}
 use Rattle.world_moves.specs.declared.links.Route.TheVariants.{ToMember}
 use Rattle.domain_world.specs.Past.{Past}

@@ -18,6 +18,7 @@ use Rattle.channel_client.specs.declared.state.Standing.TheVariants as standing
 use Rattle.channel_client.specs.declared.state.Step.TheVariants as step
 use Rattle.domain_controller.specs.State.{State as ControllerState}
 use Rattle.domain_controller.specs.Trusting.{no_trusting}
+use Rattle.domain_controller.proofs.TurnOutLaws.{got_set}
 use Rattle.member_server.specs.Secrets.{is_denied, secrets_dropped}
 use Rattle.logon_steps.proofs.SetTurnLaws.{set_reply_comes}
 use Rattle.logon_steps.specs.SetTurns.{set_reply_bytes}
@@ -46,16 +47,16 @@ use Rattle.logon_steps.proofs.MemberLinkLaws.{links_step}
 use Rattle.logon_steps.proofs.TurningLaws.{response_comes, unit_comes}
 use Rattle.logon_runs.specs.Failing.FailingSteps.{out_talk, who_fault}
 use Rattle.logon_runs.specs.Failing.Failings.{failing_turn, FailingsAreSeen, settled_at, settled_with}
-use Rattle.logon_runs.specs.Seen.LinkScenes.{given_caller, Meeting, meeting_scene, rest_scene, unit_down, unit_up}
-use Rattle.logon_runs.specs.Scenes.{IsNoClose, Scene, Shows, dials_made, units_sent, with_actions}
-use Rattle.logon_runs.specs.Seen.TurnScenes.{Turn, unit_back}
-use Rattle.logon_runs.specs.Seen.WaitingUnits.{after_hearing, with_client_at, with_member_at}
+use Rattle.logon_runs.specs.Scenes.LinkScenes.{given_caller, Meeting, meeting_scene, rest_scene, unit_down, unit_up}
+use Rattle.logon_runs.specs.Scenes.Scene.{IsNoClose, Scene, Shows, dials_made, units_sent, with_actions}
+use Rattle.logon_runs.specs.Scenes.TurnScenes.{Turn, unit_back}
+use Rattle.logon_runs.specs.Scenes.WaitingUnits.{after_hearing, with_client_at, with_member_at}
 use Rattle.logon_runs.proofs.Failing.FailingStepLaws.{failings_step, fault_sends}
-use Rattle.logon_runs.proofs.Seen.LinkSceneLaws.{closes_own, heard_down, heard_up, none_left, sent_down}
-use Rattle.logon_runs.proofs.Seen.SceneLaws.{Leaves, got_same, performed_quietly, quietly_leave, scenes_go_on}
-use Rattle.logon_runs.proofs.Seen.TurnSceneLaws.{closes_turn, heard_back}
-use Rattle.logon_runs.proofs.Seen.TurningSceneLaws.{scenes_turn}
-use Rattle.logon_runs.proofs.Seen.WaitingLaws.{waiting_comes}
+use Rattle.logon_runs.proofs.Scenes.LinkSceneLaws.{closes_own, heard_down, heard_up, none_left, sent_down}
+use Rattle.logon_runs.proofs.Scenes.SceneLaws.{Leaves, performed_quietly, quietly_leave, scenes_go_on}
+use Rattle.logon_runs.proofs.Scenes.TurnSceneLaws.{closes_turn, heard_back}
+use Rattle.logon_runs.proofs.Scenes.TurningSceneLaws.{scenes_turn}
+use Rattle.logon_runs.proofs.Scenes.WaitingLaws.{waiting_comes}
 
 -- ---- a dial that reaches nobody
 
@@ -98,7 +99,7 @@ client_fails s v peer dials after actions shows waits reaches none_close step =
     (waiting_comes.client (without_first s) v.at_client v.client after event.DialFailed v.left actions shows.client
     (ap₂ (λ (now : ℕ) (l : List (List ℕ)). client_step_of v.client event.DialFailed now l) shows.moment shows.left ∙ step
     ∙ ap (λ (l : List (List ℕ)). whole_step l v.left actions after) (sym shows.left)))
-    (got_same s.ends.clients v.at_client v.client after shows.client) shows.member shows.controller shows.alone
+    (got_set s.ends.clients v.at_client v.client after shows.client) shows.member shows.controller shows.alone
 
 member_fails : (s : State) (v : Scene) (peer : List ℕ) (dials : List WaitingDial) (after : MemberState) (actions : List Action) → Shows s v →
     v.dials ≡ record { end = Member v.at_member; peer = peer } ∷ dials → route_to (Member v.at_member) (end_of_peer peer s.ends) ≡ None → AllByRecursion IsNoClose actions →
@@ -109,7 +110,7 @@ member_fails s v peer dials after actions shows waits reaches none_close step =
     (waiting_comes.member (without_first s) v.at_member v.member after event.DialFailed v.left actions shows.member
     (ap₂ (λ (now : ℕ) (l : List (List ℕ)). member_step_of v.member event.DialFailed now l) shows.moment shows.left ∙ step
     ∙ ap (λ (l : List (List ℕ)). whole_step l v.left actions after) (sym shows.left)))
-    shows.client (got_same s.ends.members v.at_member v.member after shows.member) shows.controller shows.alone
+    shows.client (got_set s.ends.members v.at_member v.member after shows.member) shows.controller shows.alone
 
 pub failings_are_seen : FailingsAreSeen
 failings_are_seen = record {

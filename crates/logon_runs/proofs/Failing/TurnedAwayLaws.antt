@@ -56,24 +56,24 @@ use Rattle.logon_steps.proofs.AskingLaws.{same_bytes}
 use Rattle.logon_steps.proofs.CallingLaws.{calls_can_go}
 use Rattle.logon_steps.proofs.ControllerTurnLaws.{controllers_step}
 use Rattle.logon_steps.proofs.KnowingLaws.{computers_are_known}
-use Rattle.logon_runs.specs.Seen.LinkScenes.{rest_scene}
-use Rattle.logon_runs.specs.Seen.Others.{IsStepOn}
+use Rattle.logon_runs.specs.Scenes.LinkScenes.{rest_scene}
+use Rattle.logon_runs.specs.Scenes.Others.{IsStepOn}
 use Rattle.logon_client.specs.declared.outcome.ClientOutcome.TheVariants.{In}
 use Rattle.logon_runs.specs.Phases.{key_at, told_of, Aim, Calls, Coming, DialsBefore, DialsHeld, Fits, IsKnown, IsTurning, Third, TurnAt, WhoAsked, own, own_keeping, scene_of, standing_for, step_for, turn_before, turn_on, waits_for}
 use Rattle.logon_runs.specs.Runs.{Asked, info_asked, message_for, with_moved}
-use Rattle.logon_runs.specs.Scenes.{Shows}
-use Rattle.logon_runs.specs.Seen.TurnScenes.{Turn}
+use Rattle.logon_runs.specs.Scenes.Scene.{Shows}
+use Rattle.logon_runs.specs.Scenes.TurnScenes.{Turn}
 use Rattle.logon_runs.specs.Failing.TurnedAway.{AwayPhase, Faulted, FitsAway, IsAway, IsRefusal, IsSettled, HasEnded, LogonsAreTurnedAway, Refused, Settled, Unheard, away_scene, refusing, settled_in}
-use Rattle.logon_runs.specs.Seen.WaitingUnits.{waiting}
+use Rattle.logon_runs.specs.Scenes.WaitingUnits.{waiting}
 use Rattle.logon_runs.proofs.Failing.FailingLaws.{failings_are_seen}
-use Rattle.logon_runs.proofs.First.FirstTraceLaws.{after_below}
+use Rattle.logon_runs.proofs.FirstLogon.FirstTraceLaws.{after_below}
 use Rattle.logon_runs.proofs.RunLaws.{between_still, same_computer}
 use Rattle.logon_runs.proofs.SecretRestLaws.{fits_counted}
-use Rattle.logon_runs.proofs.Seen.StartLaws.{starts_are_seen}
-use Rattle.logon_runs.proofs.Seen.TurnSceneLaws.{turns_are_seen}
-use Rattle.logon_runs.proofs.Seen.TurningSceneLaws.{scenes_turn}
-use Rattle.logon_runs.proofs.Seen.TwoLinkLaws.{turns_have_links}
-use Rattle.logon_runs.proofs.Seen.StepOnLaws.{by_step}
+use Rattle.logon_runs.proofs.Scenes.StartLaws.{starts_are_seen}
+use Rattle.logon_runs.proofs.Scenes.TurnSceneLaws.{turns_are_seen}
+use Rattle.logon_runs.proofs.Scenes.TurningSceneLaws.{scenes_turn}
+use Rattle.logon_runs.proofs.Scenes.TwoLinkLaws.{turns_have_links}
+use Rattle.logon_runs.proofs.Scenes.StepOnLaws.{by_step}
 
 -- ---- the statuses of verdicts
 

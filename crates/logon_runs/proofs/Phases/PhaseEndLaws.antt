@@ -4,6 +4,7 @@ use Rattle.std.proofs.Common.{ap, ◌≡◌, ℕ, ◌<◌, ◌≤◌, ◌^◌, B
 use Rattle.std.specs.Prelude.{◌==◌}
 use Rattle.wire_base.specs.Units.{AreUnits}
 use Rattle.wire_base.proofs.NumberLaws.{bytes_from_all}
+use Rattle.wire_base.proofs.ListLaws.{got_last}
 use Rattle.channel_keys.specs.Hidden.{crypt_key}
 use Rattle.authenticators.specs.SecureChannels.{SecureChannelState, after_call, after_return, fresh_channel, key_of_channel}
 use Rattle.ntlm_seal.specs.Sessions.{SessionState}
@@ -40,19 +41,19 @@ use Rattle.logon_steps.proofs.ClientStepLaws.{echo_are, echo_length}
 use Rattle.logon_steps.proofs.GrantingLaws.{logons_are_granted}
 use Rattle.logon_steps.proofs.MemoCallLaws.{memo_calls_go}
 use Rattle.logon_runs.specs.Grants.{CanBeTold}
-use Rattle.logon_runs.specs.Seen.LinkScenes.{meeting_scene, rest_scene, unit_down}
+use Rattle.logon_runs.specs.Scenes.LinkScenes.{meeting_scene, rest_scene, unit_down}
 use Rattle.logon_runs.specs.Phases.{WasTold, Coming, Ending, Fits, IsEnding, IsKnown, IsSetOrNot, Third, TurnAt, WhoAsked, key_at, meeting_at, own, own_keeping, scene_of, terms_at, told_of, turn_before, turn_on, waits_for}
 use Rattle.logon_runs.specs.Phases.{Echoed, Echoes, Granted, Named}
 use Rattle.logon_runs.specs.Runs.{Asked, hidden, message_for, on_for, sam_for}
-use Rattle.logon_runs.specs.Scenes.{Scene, Shows}
-use Rattle.logon_runs.specs.Seen.TurnScenes.{Turn, turn_scene, unit_back, with_accounts}
-use Rattle.logon_runs.proofs.Seen.AskSceneLaws.{logons_are_seen}
-use Rattle.logon_runs.proofs.First.FirstTraceLaws.{after_below}
+use Rattle.logon_runs.specs.Scenes.Scene.{Scene, Shows}
+use Rattle.logon_runs.specs.Scenes.TurnScenes.{Turn, turn_scene, unit_back, with_accounts}
+use Rattle.logon_runs.proofs.Scenes.AskSceneLaws.{logons_are_seen}
+use Rattle.logon_runs.proofs.FirstLogon.FirstTraceLaws.{after_below}
 use Rattle.logon_runs.proofs.GrantLaws.{grants_are_told}
-use Rattle.logon_runs.proofs.Seen.LinkSceneLaws.{meetings_are_seen}
+use Rattle.logon_runs.proofs.Scenes.LinkSceneLaws.{meetings_are_seen}
 use Rattle.logon_runs.proofs.SecretRestLaws.{fits_counted}
 use Rattle.logon_runs.proofs.RunLaws.{between_still}
-use Rattle.logon_runs.proofs.Seen.TwoLinkLaws.{got_last, turns_have_links}
+use Rattle.logon_runs.proofs.Scenes.TwoLinkLaws.{turns_have_links}
 use Rattle.ntlm_responses.proofs.ResponseLaws.{All-base_key_of, length-base_key_of}
 use Rattle.logon_client.specs.declared.outcome.ClientOutcome.TheVariants.{In}
 use Rattle.logon_client.specs.declared.state.Phase.TheVariants as client_phase

@@ -17,14 +17,14 @@ use Rattle.world_moves.specs.declared.state.State.{State}
 use Rattle.world_moves.specs.Moving.{act, moment_after, onward, tick}
 use Rattle.logon_runs.specs.Phases.{Aim, ArrivesAt, ComesSoFar, ComesTo, Coming, First, Fits, Fourth, HasUser, HasUserAt, HasUserIn, IsKnown, IsOver, IsReady, IsSetOrNot, IsUnderWay, LogonPhase, MayLogOnAt, PhasesGoOn, Progress, Second, Third, TurnAt, WhoAsked, key_at, meeting_at, progress_after, progress_of, progress_onward, scene_of, told_of, with_its_controller}
 use Rattle.logon_runs.specs.Phases.{Acked, Answers, Binds, BindsBefore, BindsHeld, Calls, Challenged, Dials, DialsBefore, DialsHeld, Echoed, Echoes, Granted, Halved, Named, Proved, Sets}
-use Rattle.logon_runs.specs.Seen.Others.{IsStepOn, is_onward}
+use Rattle.logon_runs.specs.Scenes.Others.{IsStepOn, is_onward}
 use Rattle.logon_runs.specs.Runs.{Asked}
-use Rattle.logon_runs.specs.Scenes.{Scene, Shows}
-use Rattle.logon_runs.specs.Seen.WaitingUnits.{waiting}
-use Rattle.logon_runs.specs.Seen.LinkScenes.{rest_scene}
-use Rattle.logon_runs.proofs.Seen.StartLaws.{starts_are_seen}
-use Rattle.logon_runs.proofs.Seen.TurningSceneLaws.{scenes_turn}
-use Rattle.logon_runs.proofs.Seen.StepOnLaws.{by_step, if_so}
+use Rattle.logon_runs.specs.Scenes.Scene.{Scene, Shows}
+use Rattle.logon_runs.specs.Scenes.WaitingUnits.{waiting}
+use Rattle.logon_runs.specs.Scenes.LinkScenes.{rest_scene}
+use Rattle.logon_runs.proofs.Scenes.StartLaws.{starts_are_seen}
+use Rattle.logon_runs.proofs.Scenes.TurningSceneLaws.{scenes_turn}
+use Rattle.logon_runs.proofs.Scenes.StepOnLaws.{by_step, if_so}
 use Rattle.logon_runs.proofs.Phases.PhaseStartLaws.{ComesBy, left_seen, answers_on, binds_on, challenged_on, connects_on, under}
 use Rattle.logon_runs.proofs.Phases.PhaseTurnLaws.{acked_on, binds_held, bound_on, calls_on, dials_held, halved_on, proved_on, sets_on}
 use Rattle.logon_runs.proofs.Phases.PhaseEndLaws.{echoed_on, echoes_on, granted_on, named_on}

@@ -16,19 +16,20 @@ use Rattle.logon_steps.specs.Meeting.{flags_agreed}
 use Rattle.logon_steps.proofs.GrantingLaws.{logons_are_granted}
 use Rattle.logon_steps.proofs.MemoCallLaws.{memo_calls_go}
 use Rattle.logon_steps.proofs.TellingLaws.{logons_are_short}
-use Rattle.logon_runs.specs.Seen.LinkScenes.{FitsGiven, its_link, unit_up}
+use Rattle.logon_runs.specs.Scenes.LinkScenes.{FitsGiven, its_link, unit_up}
 use Rattle.logon_runs.specs.Runs.{Asked, StandsInStep, asked_at}
 use Rattle.logon_runs.specs.Phases.{DrawsFew, Aim, ComesSoFar, NotYet, Progress, Coming, First, Fits, HasThree, IsAimed, IsAnswering, IsReady, IsTurning, IsKnown, LogonPhase, Third, TurnAt, WhoAsked, key_at, own, scene_of, standing_for, step_for, terms_at, progress_of, turn_before, waits_for, with_its_controller}
 use Rattle.logon_runs.specs.Phases.{Acked, Answers, Binds, BindsBefore, BindsHeld, Calls, Challenged, Dials, DialsBefore, DialsHeld, Echoed, Echoes, Granted, Halved, Named, Proved, Sets}
-use Rattle.logon_runs.specs.Scenes.{Scene, Shows}
-use Rattle.logon_runs.specs.Seen.TurnScenes.{Turn}
-use Rattle.logon_runs.proofs.Seen.AskSceneLaws.{logons_are_seen}
-use Rattle.logon_runs.proofs.First.FirstTraceLaws.{after_below}
-use Rattle.logon_runs.proofs.Seen.LinkSceneLaws.{meetings_are_seen}
+use Rattle.logon_runs.specs.Scenes.Scene.{Scene, Shows}
+use Rattle.logon_runs.specs.Scenes.TurnScenes.{Turn}
+use Rattle.logon_runs.proofs.Scenes.AskSceneLaws.{logons_are_seen}
+use Rattle.logon_runs.proofs.FirstLogon.FirstTraceLaws.{after_below}
+use Rattle.logon_runs.proofs.Scenes.LinkSceneLaws.{meetings_are_seen}
 use Rattle.logon_runs.proofs.RunLaws.{timestamp_below}
-use Rattle.logon_runs.proofs.Seen.StartLaws.{starts_are_seen}
-use Rattle.logon_runs.proofs.Seen.TurnSceneLaws.{turns_are_seen}
-use Rattle.logon_runs.proofs.Seen.TwoLinkLaws.{got_last, turns_have_links}
+use Rattle.logon_runs.proofs.Scenes.StartLaws.{starts_are_seen}
+use Rattle.logon_runs.proofs.Scenes.TurnSceneLaws.{turns_are_seen}
+use Rattle.logon_runs.proofs.Scenes.TwoLinkLaws.{turns_have_links}
+use Rattle.wire_base.proofs.ListLaws.{got_last}
 
 -- ---- the phase that follows
 

@@ -61,21 +61,21 @@ use Rattle.logon_steps.proofs.SetTurnLaws.{controllers_set, set_units_go, taken_
 use Rattle.logon_steps.proofs.AskingLaws.{same_bytes}
 use Rattle.domain_controller.proofs.WholeParts.{hash_table}
 use Rattle.logon_runs.specs.Grants.{KeyArrives}
-use Rattle.logon_runs.specs.Seen.LinkScenes.{its_link}
+use Rattle.logon_runs.specs.Scenes.LinkScenes.{its_link}
 use Rattle.logon_runs.specs.Phases.{NotYet, Fourth, IsSetAt, WasJudged, WasOpened, WasSet, progress_called, progress_onward, Aim, ArrivesAt, Coming, First, Fits, HasThree, IsAimed, IsPlanned, IsReady, IsTurning, HasUserAt, HasUserIn, MayLogOnAt, IsKnown, Second, Third, TurnAt, WhoAsked, own, scene_of, standing_for, step_for, turn_before, turn_on}
 use Rattle.logon_runs.specs.Phases.{Acked, BindsBefore, BindsHeld, Calls, DialsBefore, DialsHeld, Granted, Halved, Proved, Sets}
 use Rattle.logon_runs.specs.Runs.{Asked, hidden, info_asked, sam_for, with_moved}
-use Rattle.logon_runs.specs.First.FirstRuns.{with_pair}
-use Rattle.logon_runs.specs.Scenes.{Shows}
-use Rattle.logon_runs.specs.Seen.TurnScenes.{IsBetween, Turn, dial_scene, waiting_scene, with_accounts, with_secrets}
-use Rattle.logon_runs.proofs.Seen.AskSceneLaws.{logons_are_seen}
-use Rattle.logon_runs.proofs.First.FirstTraceLaws.{after_below}
-use Rattle.logon_runs.proofs.Seen.LinkSceneLaws.{found_here}
+use Rattle.logon_runs.specs.FirstLogon.FirstRuns.{with_pair}
+use Rattle.logon_runs.specs.Scenes.Scene.{Shows}
+use Rattle.logon_runs.specs.Scenes.TurnScenes.{IsBetween, Turn, dial_scene, waiting_scene, with_accounts, with_secrets}
+use Rattle.logon_runs.proofs.Scenes.AskSceneLaws.{logons_are_seen}
+use Rattle.logon_runs.proofs.FirstLogon.FirstTraceLaws.{after_below}
+use Rattle.logon_runs.proofs.Scenes.LinkSceneLaws.{found_here}
 use Rattle.logon_runs.proofs.RunLaws.{between_still, same_computer, timestamp_below}
-use Rattle.logon_runs.proofs.Seen.SetSceneLaws.{sets_are_seen}
+use Rattle.logon_runs.proofs.Scenes.SetSceneLaws.{sets_are_seen}
 use Rattle.logon_runs.proofs.SecretRestLaws.{fits_set}
-use Rattle.logon_runs.proofs.Seen.TurnSceneLaws.{turns_are_seen}
-use Rattle.logon_runs.proofs.Seen.TwoLinkLaws.{turns_have_links}
+use Rattle.logon_runs.proofs.Scenes.TurnSceneLaws.{turns_are_seen}
+use Rattle.logon_runs.proofs.Scenes.TwoLinkLaws.{turns_have_links}
 use Rattle.logon_runs.proofs.Phases.PhaseStartLaws.{ComesBy, under_less, left_so, under}
 
 -- ---- the bind, the answer and the call

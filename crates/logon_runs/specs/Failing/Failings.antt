@@ -48,11 +48,11 @@ use Rattle.logon_steps.specs.Meeting.{bound_for}
 use Rattle.logon_steps.specs.MemberLinks.{asked_talk}
 use Rattle.logon_steps.specs.MemoCalls.{RequestGoes}
 use Rattle.logon_steps.specs.Turning.{IsTurnReply}
-use Rattle.logon_runs.specs.Seen.AskScenes.{turn_within, with_controller}
+use Rattle.logon_runs.specs.Scenes.AskScenes.{turn_within, with_controller}
 use Rattle.logon_runs.specs.Failing.FailingSteps.{out_talk, who_fault}
-use Rattle.logon_runs.specs.Seen.LinkScenes.{given_after, IsJoined, its_link, Meeting, meeting_scene, rest_scene, unit_down, unit_up}
-use Rattle.logon_runs.specs.Scenes.{Shows}
-use Rattle.logon_runs.specs.Seen.TurnScenes.{IsBetween, Turn, turn_scene, unit_back, waiting_scene}
+use Rattle.logon_runs.specs.Scenes.LinkScenes.{given_after, IsJoined, its_link, Meeting, meeting_scene, rest_scene, unit_down, unit_up}
+use Rattle.logon_runs.specs.Scenes.Scene.{Shows}
+use Rattle.logon_runs.specs.Scenes.TurnScenes.{IsBetween, Turn, turn_scene, unit_back, waiting_scene}
 
 -- the member's turn for that logon, whose channel stands so, with these held
 abbrev pub failing_turn : Meeting → ClientPhase → NetworkInfo → List ℕ → Authenticate → List (List ℕ) → AccountTable → List ℕ → Standing → List Route → OpenMap → ℕ → Turn

@@ -32,13 +32,13 @@ use Rattle.logon_steps.specs.ClientSteps.{client_ended}
 use Rattle.logon_steps.specs.ControllerTurns.{passed_reply, reply_bytes, turn_link}
 use Rattle.logon_runs.specs.Failing.FailingSteps.{out_talk, who_fault}
 use Rattle.logon_runs.specs.Failing.Failings.{settled_at}
-use Rattle.logon_runs.specs.Seen.LinkScenes.{Meeting, meeting_scene, rest_scene, unit_down, unit_up}
-use Rattle.logon_runs.specs.Seen.Others.{IsStepOn}
+use Rattle.logon_runs.specs.Scenes.LinkScenes.{Meeting, meeting_scene, rest_scene, unit_down, unit_up}
+use Rattle.logon_runs.specs.Scenes.Others.{IsStepOn}
 use Rattle.logon_runs.specs.Phases.{Aim, Calls, Coming, DialsBefore, DialsHeld, Fits, FitsStill, HasJoined, IsKnown, IsOver, IsSetOrNot, IsTurning, KeepsOthers, Third, TurnAt, WhoAsked, own, own_keeping, scene_of, turn_on, waits_for}
 use Rattle.logon_runs.specs.Runs.{Asked, StandsInStep, info_asked}
-use Rattle.logon_runs.specs.Scenes.{Scene, Shows}
-use Rattle.logon_runs.specs.Seen.TurnScenes.{turn_scene, unit_back, with_accounts}
-use Rattle.logon_runs.specs.Seen.WaitingUnits.{waiting}
+use Rattle.logon_runs.specs.Scenes.Scene.{Scene, Shows}
+use Rattle.logon_runs.specs.Scenes.TurnScenes.{turn_scene, unit_back, with_accounts}
+use Rattle.logon_runs.specs.Scenes.WaitingUnits.{waiting}
 
 -- what is left when it is over: the member's secrets and its channel, its next number, all links, and what the
 -- controller keeps

@@ -62,8 +62,8 @@ use Rattle.member_server.specs.declared.state.Logon.{Logon}
 use Rattle.member_server.specs.declared.state.Running.{Running}
 use Rattle.channel_turns.specs.declared.state.TurnTalk.{TurnTalk}
 use Rattle.member_server.specs.declared.state.Work.{Work}
-use Rattle.channel_events.specs.Marks.{OneOf}
-use Rattle.channel_events.proofs.ListLaws.{one_last}
+use Rattle.wire_base.specs.Lists.{OneOf}
+use Rattle.wire_base.proofs.ListLaws.{one_last}
 use Rattle.step_notes.specs.CallLogons.{waiting_for}
 use Rattle.step_notes.proofs.Controllers.HeardLaws.{AreRead, each_read}
 use Rattle.step_notes.proofs.Members.KeptLogonLaws.{OfEach, one_before}

@@ -17,6 +17,7 @@ use Rattle.step_notes.specs.Records.{Book, InUnit, Judging, Outside, Source}
 use Rattle.step_notes.specs.Served.{work_after}
 use Rattle.step_notes.proofs.Controllers.JudgedInRangeLaws.{replies_are_read}
 use Rattle.domain_controller.specs.Hearing.{hear as hear_unit}
+use Rattle.domain_controller.proofs.TrustPlaceLaws.{got_all}
 use Rattle.world_moves.specs.declared.bag.BagUnit.{BagUnit}
 use Rattle.world_moves.specs.declared.links.EndId.{EndId}
 use Rattle.world_moves.specs.declared.links.EndId.TheVariants.{Controller, Client, Member}
@@ -31,19 +32,18 @@ use Rattle.world_moves.specs.Alone.{HandsNothingOn, hear_alone as hear}
 use Rattle.domain_world.specs.Accepting.Carried.{IsJudgedAsCarried, JudgedAsCarried}
 use Rattle.domain_world.specs.Accepting.ReadBack.{RepliesAreReadBack}
 use Rattle.domain_world.specs.Past.{Coming, Past, answers_of, at_controller, judged_of, note_at, note_controller, numbers_on, past, plain_form}
-use Rattle.channel_events.proofs.ListLaws.{got_nothing}
+use Rattle.wire_base.proofs.ListLaws.{got_nothing}
 use Rattle.domain_world.specs.Schedules.{OfSchedules}
 use Rattle.domain_world.proofs.Frames.AloneStepLaws.{act_alone as hear_and_act}
 use Rattle.domain_world.proofs.Accepting.Heard.JudgedUnitLaws.{AllHeardSo, AnyAction, CarriedIf, HeardSo, IsCarriedCall, IsJudgedWell, IsWholeCarried, JudgedFact, JudgedStand, acts_stand, answer_holds, any_actions, any_heard, running_so, settled_stand, unit_so, whole_carried}
-use Rattle.domain_world.proofs.Accepting.ListPlaceLaws.{all_at}
-use Rattle.domain_world.proofs.Accepting.Quiet.QuietStepLaws.{ControllerIsQuiet, QuietAction, QuietFact, QuietState}
-use Rattle.domain_world.proofs.Accepting.Quiet.QuietRunLaws.{has_bytes, quiet_first, quiet_keeps}
-use Rattle.domain_world.proofs.Frames.ComingLaws.{CameFrom}
-use Rattle.domain_world.proofs.Frames.OpenMadeLaws.{IsAtSide}
+use Rattle.domain_world.proofs.Quiet.QuietStepLaws.{ControllerIsQuiet, QuietAction, QuietFact, QuietState}
+use Rattle.domain_world.proofs.Quiet.QuietRunLaws.{has_bytes, quiet_first, quiet_keeps}
+use Rattle.domain_world.proofs.Moves.ComingLaws.{CameFrom}
+use Rattle.domain_world.proofs.Moves.OpenMadeLaws.{IsAtSide}
 use Rattle.domain_world.proofs.Frames.StepFrameLaws.{BothFacts, BothFine, HasHeard, HoldsAfterRun, Keeps, join, run_keeps}
 use Rattle.domain_world.proofs.Frames.EndNoteLaws.{book_by, judged_so}
 use Rattle.domain_world.proofs.Judgements.JudgedLaws.{HoldsIf, are_if_taken, judged_hold, onto_hold}
-use Rattle.domain_world.proofs.Frames.PlainFormLaws.{heard_plain}
+use Rattle.domain_world.proofs.Moves.PlainFormLaws.{heard_plain}
 
 -- ---- the answers of a controller
 
@@ -176,6 +176,6 @@ judged_as_carried plan moves nobody is = carried_as (past plan moves) (past plan
 pub replies_back : OfSchedules (λ plan moves. RepliesAreReadBack (past plan moves))
 replies_back plan moves nobody is n unit one there noted channel number request place j judged mark reply whole =
     let well : IsJudgedWell (past plan moves).world.state.bag j =
-    all_at (IsJudgedWell (past plan moves).world.state.bag) (past plan moves).book.judged place j (judged_stand plan moves nobody is).judged judged in
+    got_all (IsJudgedWell (past plan moves).world.state.bag) (past plan moves).book.judged place j (judged_stand plan moves nobody is).judged judged in
     let call : IsCarriedCall (past plan moves).world.state.bag j.number j.asked request = well.carried request reply.came in
     (replies_are_read.read j (plain_form (past plan moves).book.sent n unit) reply.carries whole.frames whole.unit well.range call.level whole.heard).read

@@ -44,14 +44,14 @@ use Rattle.world_moves.proofs.QuietLaws.{units_by as sent_by}
 use Rattle.domain_world.specs.Accepting.Carried.{IsWholeUnit, call_carried, call_judged}
 use Rattle.domain_world.specs.Accepting.Runs.{IsOfMember}
 use Rattle.domain_world.specs.Past.{Coming}
-use Rattle.channel_events.proofs.ListLaws.{at_end, got_append, some_is}
+use Rattle.wire_base.proofs.ListLaws.{at_end, got_append, some_is}
 use Rattle.domain_world.proofs.Accepting.Heard.HeardUnitLaws.{heard_level}
-use Rattle.domain_world.proofs.Accepting.Quiet.QuietListenLaws.{ListensWell, WellUnlessStopped, entries_found}
-use Rattle.domain_world.proofs.Accepting.Quiet.QuietRunLaws.{one_piece}
-use Rattle.domain_world.proofs.Accepting.Quiet.QuietStepLaws.{IsMade, WholeBag}
-use Rattle.domain_world.proofs.Frames.ComingLaws.{IsPieceOf, IsStill, StillHas, kept_settled}
-use Rattle.domain_world.proofs.Frames.MarkPlaceLaws.{got_beside, settled_length}
-use Rattle.domain_world.proofs.Frames.OpenMadeLaws.{IsApart, IsAtSide, side_of}
+use Rattle.domain_world.proofs.Quiet.QuietListenLaws.{ListensWell, WellUnlessStopped, entries_found}
+use Rattle.domain_world.proofs.Quiet.QuietRunLaws.{one_piece}
+use Rattle.domain_world.proofs.Quiet.QuietStepLaws.{IsMade, WholeBag}
+use Rattle.domain_world.proofs.Moves.ComingLaws.{IsPieceOf, IsStill, StillHas, kept_settled}
+use Rattle.domain_world.proofs.Moves.MarkPlaceLaws.{got_beside, settled_length}
+use Rattle.domain_world.proofs.Moves.OpenMadeLaws.{IsApart, IsAtSide, side_of}
 use Rattle.domain_world.proofs.Frames.StepFrameLaws.{ActionFact, RunFact}
 use Rattle.domain_world.proofs.Judgements.JudgedLaws.{HoldsIf, judging_holds, opening_holds}
 

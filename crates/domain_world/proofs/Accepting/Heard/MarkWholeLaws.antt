@@ -20,10 +20,13 @@ use Rattle.domain_controller.specs.ReadBack.{IsReadBack, heard_reply, opened_rep
 use Rattle.domain_controller.specs.State.{State as ControllerState}
 use Rattle.domain_controller.proofs.AloneLaws.{number_fits, reply_alone}
 use Rattle.domain_controller.proofs.ReadBackLaws.{replies_are_read_back}
+use Rattle.domain_controller.proofs.TrustPlaceLaws.{got_all}
 use Rattle.member_server.specs.State.{State as MemberState}
 use Rattle.member_server.specs.declared.state.Running.{Running}
 use Rattle.end_links.specs.Sending.{request_of}
-use Rattle.channel_client.specs.Whole.{InRangeRequester}
+use Rattle.channel_client.specs.declared.caller.Caller.{Caller}
+use Rattle.step_notes.specs.CallLogons.{AsksUnlessStopped}
+use Rattle.member_server.specs.Machine.{account_of}
 use Rattle.domain_world.specs.Schedules.{OfSchedules}
 use Rattle.domain_world.proofs.Frames.AloneStepLaws.{act_alone as hear_and_act}
 use Rattle.domain_world.proofs.Accepting.CarriedLaws.{one_whole}
@@ -51,30 +54,31 @@ use Rattle.world_moves.proofs.LinkFrameLaws.{IsOnLink, actions_stay}
 use Rattle.domain_world.specs.Accepting.Carried.{IsAsMarked, IsNoAnswer, IsPlain, MarkedUnitsAreWhole, IsNotJudged, call_judged}
 use Rattle.domain_world.specs.Claims.Replies.{IsReplyOfOne}
 use Rattle.domain_world.specs.Past.{Coming, at_controller, marks_of, note_at, note_controller, note_given, note_member, note_messages, past, sent_at, controller_asked}
-use Rattle.channel_events.proofs.ListLaws.{got_append, got_nothing, some_is}
+use Rattle.wire_base.proofs.ListLaws.{got_append, got_nothing, some_is}
 use Rattle.domain_world.proofs.Accepting.Heard.HeardFrontLaws.{IsOfRequest, of_request, opens_no_logon, reply_no_call}
 use Rattle.domain_world.proofs.Accepting.Heard.HeardUnitLaws.{heard_stub}
 use Rattle.domain_world.proofs.Accepting.Heard.JudgedRunLaws.{judged_stand}
 use Rattle.domain_world.proofs.Accepting.Heard.JudgedUnitLaws.{IsCarriedCall, IsJudgedWell, JudgedStand, route_of}
 use Rattle.domain_world.proofs.Accepting.LetInStepLaws.{IsDialledBy}
-use Rattle.domain_world.proofs.Accepting.Heard.MarkSentLaws.{CarriesMark, IsRequestSent, SendsIf, controller_sends, member_sends}
-use Rattle.domain_world.proofs.Accepting.ListPlaceLaws.{Placed, all_at, placed}
-use Rattle.domain_world.proofs.Accepting.Quiet.QuietRunLaws.{comes_whole, has_bytes, quiet_first, quiet_keeps}
-use Rattle.domain_world.proofs.Accepting.Quiet.QuietStepLaws.{MemberIsQuiet, QuietAction, QuietFact, QuietState}
-use Rattle.domain_world.proofs.Accepting.Quiet.QuietTurnLaws.{IfOn}
-use Rattle.domain_world.proofs.Frames.BagFrameLaws.{IsOfUnit, IsServer, OfEachUnit, UnitFact, controller_marks, goes_on_with, member_marks, no_part, no_side, nothing_written}
+use Rattle.domain_world.proofs.Accepting.Heard.BoundOpeningLaws.{AllAskSo, AsksSo, AsksWell, BoundIf, all_fresh_so, asks_written, no_part, one_asks_so}
+use Rattle.domain_world.proofs.Accepting.Heard.MarkSentLaws.{CarriesMark, FitsWell, IsRequestSent, NamesWell, SendsIf, controller_sends, makes_marks, member_sends}
+use Rattle.domain_world.proofs.Lists.ListPlaceLaws.{Placed, placed}
+use Rattle.domain_world.proofs.Quiet.QuietRunLaws.{comes_whole, has_bytes, quiet_first, quiet_keeps}
+use Rattle.domain_world.proofs.Quiet.QuietStepLaws.{MemberIsQuiet, QuietAction, QuietFact, QuietState}
+use Rattle.domain_world.proofs.Quiet.QuietTurnLaws.{IfOn}
+use Rattle.domain_world.proofs.Frames.BagFrameLaws.{IsOfUnit, IsServer, OfEachUnit, UnitFact, controller_marks, goes_on_with, member_marks}
 use Rattle.domain_world.proofs.Frames.BagStepLaws.{BagKeeps, BookFact, run_fits}
-use Rattle.domain_world.proofs.Frames.ComingLaws.{CameFrom, IsStill, StillHas}
-use Rattle.domain_world.proofs.Frames.FrontLaws.{controller_unit}
-use Rattle.domain_world.proofs.Frames.MarkPlaceLaws.{got_beside, got_replicate, later_or, marks_length, no_longer, plain_of_none}
-use Rattle.domain_world.proofs.Frames.NewUnitLaws.{new_or_plain}
-use Rattle.domain_world.proofs.Frames.OpenMadeLaws.{IsAtSide, IsMore, MoreOf, goes_on, no_more}
+use Rattle.domain_world.proofs.Moves.ComingLaws.{CameFrom, IsStill, StillHas}
+use Rattle.domain_world.proofs.Moves.FrontLaws.{controller_unit}
+use Rattle.domain_world.proofs.Moves.MarkPlaceLaws.{got_beside, got_replicate, later_or, marks_length, no_longer, plain_of_none}
+use Rattle.domain_world.proofs.Moves.NewUnitLaws.{new_or_plain}
+use Rattle.domain_world.proofs.Moves.OpenMadeLaws.{IsAtSide, IsMore, MoreOf, goes_on, no_more}
 use Rattle.domain_world.proofs.Frames.StepFrameLaws.{HoldsAfterRun, run_keeps}
 use Rattle.domain_world.proofs.Judgements.ReplyLaws.{replies_carry}
 use Rattle.domain_world.proofs.Frames.TurnFrameLaws.{turns_sent, asked_book}
-use Rattle.domain_world.proofs.Frames.PlacedLaws.{bytes_in, HasBytes}
+use Rattle.domain_world.proofs.Moves.PlacedLaws.{bytes_in, HasBytes}
 use Rattle.domain_world.proofs.Frames.EndNoteLaws.{acted_by}
-use Rattle.domain_world.proofs.Frames.PlainFormLaws.{heard_plain, plain_is}
+use Rattle.domain_world.proofs.Moves.PlainFormLaws.{heard_plain, plain_is}
 
 -- ---- what is to hold of each unit
 
@@ -159,29 +163,41 @@ controller_fits c at w piece s b side same each =
     elim (controller_unit c at w.link w.back piece s (at_controller at c w s) side more.units more.is more.on place unit mark there marked) [
       | inl plain ↦ plain_fits unit mark plain
       | inr new ↦ λ not. (
-        controller_kind s.links unit w.link w.back at (all_at (IsOnLink s.links) more.units place unit more.on there) new.on side,
+        controller_kind s.links unit w.link w.back at (got_all (IsOnLink s.links) more.units place unit more.on there) new.on side,
         controller_sends c at w piece s new.place mark unit.bytes new.marked new.sends,
       )
     ]) each
 
-known_running : (links : List Route) (k : ℕ) (r : Option Running) (running : Running) → r ≡ Some running → MemberIsQuiet links k r →
-    InRangeRequester running.logons.channel × IfOn (IsDialledBy links k) running.dialling
-known_running links k None running is quiet = absurd (let never = is in cc)
-known_running links k (Some one) running is quiet =
-    subst (λ (x : Running). InRangeRequester x.logons.channel × IfOn (IsDialledBy links k) x.dialling) (some_is one running is) (quiet.range.channel, quiet.turn)
+-- who asks has the names of its plan
+named_well : (running : Running) → AsksUnlessStopped (Some running) → BoundIf (Some running) → NamesWell running.logons.channel
+named_well running asks bound = record {
+  account = ap (λ (c : Caller). c.account) asks.caller ∙ ap (λ (c : Caller). account_of c.computer) (sym asks.caller);
+  kind = ap (λ (c : Caller). c.kind) asks.caller;
+  set = asks.own.set;
+  bound = bound;
+}
 
-member_fits : (m : MemberState) (at : ℕ) (w : Coming) (piece : List ℕ) (s : State) (b : Book) → slice_get s.ends.members at ≡ Some m → QuietState s → CameFrom w.source s w piece →
+pub known_running : (links : List Route) (k : ℕ) (r : Option Running) (running : Running) → r ≡ Some running → MemberIsQuiet links k r → AsksUnlessStopped r → BoundIf r →
+    FitsWell running.logons.channel × IfOn (IsDialledBy links k) running.dialling
+known_running links k None running is quiet asks bound = absurd (let never = is in cc)
+known_running links k (Some one) running is quiet asks bound =
+    subst (λ (x : Running). FitsWell x.logons.channel × IfOn (IsDialledBy links k) x.dialling) (some_is one running is) ((quiet.range.channel, named_well one asks bound), quiet.turn)
+
+member_fits : (m : MemberState) (at : ℕ) (w : Coming) (piece : List ℕ) (s : State) (b : Book) → slice_get s.ends.members at ≡ Some m → QuietState s → AsksSo m → CameFrom w.source s w piece →
     length b.sent ≡ length s.bag → MarksFit s.bag b →
     let after : State = (done (Member at) (heard_by (member_step (Some m) at (event.Bytes w.link piece) s.moment s.ends s.chances) s)).state in
     MarksFit after.bag (note_member (Some m) at w piece s after b)
-member_fits m at w piece s b is quiet came same each =
+member_fits m at w piece s b is quiet asks came same each =
     let heard : Heard = heard_by (member_step (Some m) at (event.Bytes w.link piece) s.moment s.ends s.chances) s in
     let after : State = (done (Member at) heard).state in
     let marks : List Mark = member_marks at m w piece s in
     let more : IsMore s.links s.bag after.links after.bag = actions_stay (MoreOf s.links s.bag) (goes_on s.links s.bag) (Member at) heard.actions heard.state (no_more s.links s.bag) in
-    let sends : SendsIf (IsDialledBy s.links at w.link) w.link marks heard.actions =
-    member_sends (IsDialledBy s.links at) (controller_asked (OfMember at) s) w.link piece s.chances.left (λ own. comes_whole w.source s w piece quiet.bag came (at, own.controller, own.at)) m s.moment
-    (λ running runs. known_running s.links at m.running running runs (quiet.members at m is)) in
+    let sends : SendsIf CarriesMark (IsDialledBy s.links at w.link) w.link marks heard.actions =
+    member_sends CarriesMark (IsDialledBy s.links at) (controller_asked (OfMember at) s) w.link piece s.chances.left (λ own. comes_whole w.source s w piece quiet.bag came (at, own.controller, own.at)) m
+    s.moment
+    (λ running runs.
+    let known = known_running s.links at m.running running runs (quiet.members at m is) asks.0 asks.1 in
+    (makes_marks (controller_asked (OfMember at) s) piece running.logons.channel known.0, known.1)) in
     let old : List Sent = (asked_book (OfMember at) w (turn_units m w.link piece s.moment s.chances.left) s after (note_messages at m w piece s b)).sent in
     let kept : old ≡ b.sent =
     turns_sent (OfMember at) w (turn_units m w.link piece s.moment s.chances.left) s after (note_messages at m w piece s b) in
@@ -193,19 +209,19 @@ member_fits m at w piece s b is quiet came same each =
       | inr own ↦ elim (new_or_plain (ToController at own.0.controller) (Member at) w.link false heard.actions marks heard.state more.units place unit mark own.0.at refl own.1.front more.is more.on there marked) [
         | inl plain ↦ plain_fits unit mark plain
         | inr new ↦ λ not. (
-          member_kind s.links unit w.link at own.0.controller (all_at (IsOnLink s.links) more.units place unit more.on there) new.on own.0.at,
+          member_kind s.links unit w.link at own.0.controller (got_all (IsOnLink s.links) more.units place unit more.on there) new.on own.0.at,
           own.1.carries new.place mark unit.bytes new.marked new.sends,
         )
       ]
     ]) each)
 
 end_fits : (end : EndId) (w : Coming) (piece : List ℕ) (s : State) (b : Book) → IsAtSide s.links w.link w.back end → CameFrom w.source s w piece → (IsServer end → length b.sent ≡ length s.bag) →
-    QuietState s → MarksFit s.bag b →
+    QuietState s → AllAskSo s.ends.members → MarksFit s.bag b →
     MarksFit (hear_and_act end (event.Bytes w.link piece) s).state.bag (note_at (Some end) w piece s (hear_and_act end (event.Bytes w.link piece) s).state b)
-end_fits end w piece s b side came same quiet each =
+end_fits end w piece s b side came same quiet asks each =
     acted_by (λ (one : EndId) (step : EndStep) (after : State) (now : Book).
     IsAtSide s.links w.link w.back one → (IsServer one → length b.sent ≡ length s.bag) → MarksFit after.bag now) w piece s b (λ one here even. each)
-    (λ at c is here even. controller_fits c at w piece s b here (even refl) each) (λ at m is here even. member_fits m at w piece s b is quiet came (even refl) each)
+    (λ at c is here even. controller_fits c at w piece s b here (even refl) each) (λ at m is here even. member_fits m at w piece s b is quiet (one_asks_so s.ends.members at m is asks) came (even refl) each)
     (λ at c is here even.
     let heard : Heard = heard_by (client_step (Some c) at (event.Bytes w.link piece) s.moment s.ends s.chances) s in
     let after : State = (done (Client at) heard).state in
@@ -215,10 +231,10 @@ end_fits end w piece s b side came same quiet each =
     record { now = one; there = ap (λ (all : List BagUnit). slice_get all number) more.is ∙ got_append s.bag more.units number one there; bytes = refl; link = refl; kind = refl; back = refl })
     each) end side same
 
-pub marks_keep : BagKeeps QuietFact no_part no_side MarksFit
+pub marks_keep : BagKeeps QuietFact no_part AsksWell MarksFit
 marks_keep = record {
   still = still_fit;
-  comes = λ n end w piece s given b side came bytes marked quiet none each. end_fits end w piece s b side came marked quiet each;
+  comes = λ n end w piece s given b side came bytes marked quiet asks each. end_fits end w piece s b side came marked quiet asks each;
   over = over_fit;
 }
 
@@ -256,7 +272,7 @@ module _ (bag : List BagUnit) (js : List Judging) (stand : JudgedStand bag js) (
       placed (λ (j : Judging). (j.reply ≡ Some n) × IsReplyOfCall channel number request j bytes) js replied in
       let j : Judging = one.item in
       let its : IsReplyOfCall channel number request j bytes = one.is.1 in
-      let well : IsJudgedWell bag j = all_at (IsJudgedWell bag) js one.place j stand.judged one.there in
+      let well : IsJudgedWell bag j = got_all (IsJudgedWell bag) js one.place j stand.judged one.there in
       let carried : IsCarriedCall bag j.number j.asked request = well.carried request its.came in
       let made : IsReadAsMade j bytes its.carries unit = replies_are_read.read j bytes its.carries frames unit well.range carried.level heard in
       let small : j.number < 2 ^ 32 =
@@ -268,7 +284,7 @@ module _ (bag : List BagUnit) (js : List Judging) (stand : JudgedStand bag js) (
 
   as_marked : (mark : Mark) → CarriesMark mark bytes → IsReplyOfOne js n bytes mark → IsAsMarked mark unit
   as_marked Plain sent replied = tt
-  as_marked (Opening channel number) sent replied = opening_no_call number bytes frames unit are heard sent
+  as_marked (Opening channel number) sent replied = opening_no_call number bytes frames unit are heard sent.sent
   as_marked (Opened channel number request) sent replied = (
     reply_not_judged unit number sent.context _ (opened_is number bytes frames unit sent heard),
     opened_no_answer number bytes frames unit sent heard,
@@ -286,7 +302,7 @@ module _ (plan : Plan) (moves : List Move) (nobody : HandsNothingOn plan) (is : 
 
   pub marks_fit : MarksFit (past plan moves).world.state.bag (past plan moves).book
   marks_fit =
-      run_fits QuietFact QuietAction quiet_keeps no_part no_side nothing_written MarksFit marks_keep plan moves nobody has (quiet_first plan is.start is.forms) tt
+      run_fits QuietFact QuietAction quiet_keeps no_part AsksWell asks_written MarksFit marks_keep plan moves nobody has (quiet_first plan is.start is.forms) (all_fresh_so plan.members)
       (λ number one there. absurd (got_nothing number one there))
 
   after_quiet : QuietState (past plan moves).world.state

@@ -41,21 +41,21 @@ use Rattle.world_moves.proofs.LinkFrameLaws.{actions_stay}
 use Rattle.domain_world.specs.Accepting.Carried.{IsWholeUnit, call_carried}
 use Rattle.domain_world.specs.Accepting.Runs.{IsOfMember}
 use Rattle.domain_world.specs.Past.{Coming, accepted_of, answers_of, at_controller, first_of, later_of, note_at, note_controller, numbers_on, past, replied_with}
-use Rattle.channel_events.proofs.ListLaws.{all_weaker, got_append, some_is}
+use Rattle.wire_base.proofs.ListLaws.{all_weaker, got_append, some_is}
 use Rattle.domain_world.proofs.Frames.AloneStepLaws.{act_alone as hear_and_act}
 use Rattle.domain_world.proofs.Accepting.Heard.JudgedRunLaws.{judged_first, judged_keeps}
 use Rattle.domain_world.proofs.Accepting.Heard.JudgedUnitLaws.{AnyAction, AreOwn, IsWholeCarried, JudgedFact, whole_carried}
-use Rattle.domain_world.proofs.Accepting.Quiet.QuietListenLaws.{ListensWell, WellUnlessStopped, entries_found}
-use Rattle.domain_world.proofs.Accepting.Quiet.QuietRunLaws.{has_bytes, quiet_first, quiet_keeps}
-use Rattle.domain_world.proofs.Accepting.Quiet.QuietStepLaws.{ControllerIsQuiet, IsMade, QuietAction, QuietFact, QuietState}
+use Rattle.domain_world.proofs.Quiet.QuietListenLaws.{ListensWell, WellUnlessStopped, entries_found}
+use Rattle.domain_world.proofs.Quiet.QuietRunLaws.{has_bytes, quiet_first, quiet_keeps}
+use Rattle.domain_world.proofs.Quiet.QuietStepLaws.{ControllerIsQuiet, IsMade, QuietAction, QuietFact, QuietState}
 use Rattle.domain_world.proofs.Frames.BagFrameLaws.{no_part, no_side, nothing_written}
 use Rattle.domain_world.proofs.Frames.BagStepLaws.{BagKeeps, BookFact, run_fits}
-use Rattle.domain_world.proofs.Frames.ComingLaws.{CameFrom, IsPieceOf, IsStill, StillHas}
+use Rattle.domain_world.proofs.Moves.ComingLaws.{CameFrom, IsPieceOf, IsStill, StillHas}
 use Rattle.domain_world.proofs.Frames.EndNoteLaws.{accepted_so, book_by}
-use Rattle.domain_world.proofs.Frames.OpenMadeLaws.{IsApart, IsAtSide, IsMore, MoreOf, goes_on, no_more, side_of}
+use Rattle.domain_world.proofs.Moves.OpenMadeLaws.{IsApart, IsAtSide, IsMore, MoreOf, goes_on, no_more, side_of}
 use Rattle.domain_world.proofs.Frames.StepFrameLaws.{BothFacts, BothFine, Keeps, NoFact, join}
 use Rattle.domain_world.proofs.Judgements.JudgedLaws.{are_if_taken}
-use Rattle.domain_world.proofs.Judgements.OpeningMarkLaws.{onto_all}
+use Rattle.domain_world.proofs.Judgements.Openings.OpeningMarkLaws.{onto_all}
 
 -- ---- what is to hold
 

@@ -27,7 +27,8 @@ use Rattle.channel_client.specs.declared.state.Standing.TheVariants as standing
 use Rattle.domain_controller.specs.Machine.{info_of, reply_info, status_of}
 use Rattle.member_server.specs.Outcomes.{outcome_of}
 use Rattle.member_server.specs.Turns.{ending_of}
-use Rattle.channel_events.specs.Marks.{OneOf, ReplyTo}
+use Rattle.wire_base.specs.Lists.{OneOf}
+use Rattle.channel_events.specs.Marks.{ReplyTo}
 use Rattle.step_notes.specs.Judged.{IsNextOn}
 use Rattle.step_notes.specs.Marking.{mark_channel}
 use Rattle.step_notes.specs.Records.{Judging, MessageTaken, OutcomeTold, Sent, computer_named, given_in}
@@ -38,7 +39,7 @@ use Rattle.world_moves.specs.Counting.{is_in}
 use Rattle.domain_world.specs.Accepting.Answered.{IsLetInAsRead, IsOutcomeRead, IsToldAsRead, outcome_read, verdict_read}
 use Rattle.domain_world.specs.Accepting.ReadBack.{IsLetInInTurn, IsReadIn, IsToldInTurn, OutcomesAreReadBack, RepliesAreReadBack, TurnsAreTold, TurnsLetIn}
 use Rattle.domain_world.specs.Past.{Past, plain_form}
-use Rattle.channel_events.proofs.ListLaws.{all_weaker, one_weaker, some_is}
+use Rattle.wire_base.proofs.ListLaws.{all_weaker, one_weaker, some_is}
 use Rattle.domain_world.proofs.Judgements.MovedLaws.{IsFound, passed_in}
 
 -- ---- a reply that a member takes as an answer

@@ -7,7 +7,7 @@ use Rattle.wire_base.specs.Maps.{place_of}
 use Rattle.authenticators.specs.Channels.{ChannelIdentity, SameChannel, same_channel}
 use Rattle.authenticators.proofs.ChannelLaws.{same_channel-Decides}
 use Rattle.channel_events.specs.Marks.{Calling, Mark, Opened, Opening, Plain, ReplyTo}
-use Rattle.channel_events.proofs.ListLaws.{got_nothing, some_is}
+use Rattle.wire_base.proofs.ListLaws.{got_nothing, some_is}
 use Rattle.channel_events.proofs.SameLaws.{one_channel}
 use Rattle.step_notes.specs.Records.{Sent}
 use Rattle.domain_world.specs.Past.{call_made, is_call_of, is_calling}

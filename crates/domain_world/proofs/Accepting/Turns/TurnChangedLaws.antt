@@ -1,11 +1,11 @@
 -- What holds of messages whose answer was taken, and of what is told, where something is written down of the messages
 -- on one link: their call, or their answer. It serves `schedules_are_heard`.
-use Rattle.std.proofs.Common.{◌≡◌, ℕ, true, List, [], ◌∷◌, ◌++◌, inr, Option, Some, None, refl, sym, subst, ◌∙◌, slice_get}
+use Rattle.std.proofs.Common.{◌≡◌, ℕ, true, List, ◌++◌, Option, Some, None, refl, sym, subst, ◌∙◌, slice_get}
 use Rattle.std.specs.List.{AllByRecursion}
 use Rattle.member_server.specs.State.{State as MemberState}
 use Rattle.member_server.specs.declared.state.Logon.{Logon}
-use Rattle.channel_events.specs.Marks.{OneOf}
-use Rattle.channel_events.proofs.ListLaws.{all_weaker, one_with, some_is}
+use Rattle.wire_base.specs.Lists.{OneOf}
+use Rattle.wire_base.proofs.ListLaws.{all_weaker, one_behind, one_with, some_is}
 use Rattle.step_notes.specs.Records.{Book, CallTaken, MessageTaken, OutcomeTold}
 use Rattle.step_notes.proofs.Members.KeptLogonLaws.{KeptIn, kept_so, one_before}
 use Rattle.world_moves.specs.declared.plan.Plan.{Plan}
@@ -16,15 +16,7 @@ use Rattle.domain_world.specs.Accepting.ReadBack.{IsLetInInTurn, IsToldInTurn}
 use Rattle.domain_world.specs.Past.{change_message, with_answer, with_call}
 use Rattle.domain_world.proofs.Accepting.Turns.TurnFactLaws.{Any, HasFree, IsAnswered, IsFree, IsKnown, TurnFacts, past_at}
 use Rattle.domain_world.proofs.Accepting.Turns.TurnNotedLaws.{each_changed, one_changed}
-use Rattle.domain_world.proofs.Frames.AllLaws.{all_join}
-
-pub all_pair : {T : Type 0} (P Q : T → Type 0) (items : List T) → AllByRecursion P items → AllByRecursion Q items → AllByRecursion (λ (item : T). P item × Q item) items
-all_pair P Q [] one other = tt
-all_pair P Q (item ∷ items) one other = ((one.0, other.0), all_pair P Q items one.1 other.1)
-
-pub one_after : {T : Type 0} (P : T → Type 0) (items more : List T) → OneOf P more → OneOf P (items ++ more)
-one_after P [] more one = one
-one_after P (item ∷ items) more one = inr (one_after P items more one)
+use Rattle.domain_world.proofs.Lists.AllLaws.{all_both, all_join}
 
 no_reply : (reply : Option ℕ) (u : ℕ) → reply ≡ None → reply ≡ Some u → ⊥
 no_reply reply u none is = let both : None ≡ Some u = sym none ∙ is in absurd (let x = both in cc)
@@ -41,7 +33,7 @@ module _ (plan : Plan) (t : State) (d : Book) (messages : List MessageTaken) (an
         taken = facts.taken;
         answered = each_changed link (with_call number) (λ (message : MessageTaken). IsAnswered plan t d answers told message × Open message) (IsAnswered plan t d answers told)
             (λ message here fits u reply. absurd (no_reply message.reply u (fits.1 here) reply)) (λ message differs fits. fits.0) messages
-            (all_pair (IsAnswered plan t d answers told) Open messages facts.answered own);
+            (all_both (IsAnswered plan t d answers told) Open messages facts.answered own);
         let_in = all_weaker (IsKnown plan t d messages) (IsKnown plan t d (change_message (Some link) (with_call number) messages)) told
             (λ one known is.
             one_changed link (with_call number) (λ (message : MessageTaken). IsLetInInTurn (past_at plan t d) one message × Open message) (IsLetInInTurn (past_at plan t d) one)
@@ -89,11 +81,11 @@ module _ (plan : Plan) (t : State) (d : Book) (messages : List MessageTaken) (an
               (λ message here fits n reply.
               let its = fits.1 here in
               subst (λ (x : ℕ). OneOf (IsAnswerFor (with_answer (Some u) message) x) (answers ++ new) × OneOf (one_told (with_answer (Some u) message) x) (told ++ more)) (some_is u n reply)
-              (one_after (IsAnswerFor (with_answer (Some u) message) u) answers new its.0, one_after (one_told (with_answer (Some u) message) u) told more its.1))
+              (one_behind (IsAnswerFor (with_answer (Some u) message) u) answers new its.0, one_behind (one_told (with_answer (Some u) message) u) told more its.1))
               (λ message differs fits n reply.
               let its = fits.0 n reply in
               (one_before (IsAnswerFor message n) answers new its.0, one_before (one_told message n) told more its.1)) messages
-              (all_pair (IsAnswered plan t d answers told) Taken messages facts.answered taken);
+              (all_both (IsAnswered plan t d answers told) Taken messages facts.answered taken);
           let_in = all_join (IsKnown plan t d after) told more
               (all_weaker (IsKnown plan t d messages) (IsKnown plan t d after) told
               (λ one known is.

@@ -10,8 +10,8 @@ use Rattle.rpc_units.specs.Calls.{IsHeard}
 use Rattle.member_server.specs.declared.plan.MemberPlan.{MemberPlan}
 use Rattle.member_server.specs.declared.state.Logon.{Logon}
 use Rattle.member_server.specs.State.{State as MemberState}
-use Rattle.channel_events.specs.Marks.{OneOf}
-use Rattle.channel_events.proofs.ListLaws.{all_weaker, one_weaker}
+use Rattle.wire_base.specs.Lists.{OneOf}
+use Rattle.wire_base.proofs.ListLaws.{all_weaker, one_weaker}
 use Rattle.step_notes.specs.Marking.{sent_channel}
 use Rattle.step_notes.specs.Records.{Book, CallTaken, MessageTaken, OfMember, OutcomeTold, RequesterId, Sent}
 use Rattle.step_notes.proofs.Members.KeptLogonLaws.{KeptIn, one_before}
@@ -26,10 +26,10 @@ use Rattle.domain_world.specs.Accepting.Carried.{AsksOf, IsAnswerFor, IsTakenInT
 use Rattle.domain_world.specs.Accepting.ReadBack.{IsLetInInTurn, IsReadIn, IsToldInTurn}
 use Rattle.domain_world.specs.Claims.{HasController}
 use Rattle.domain_world.specs.Past.{Past}
-use Rattle.domain_world.proofs.Challenges.MessageApartLaws.{links_in}
-use Rattle.domain_world.proofs.Frames.ComingLaws.{IsStill, StillHas}
-use Rattle.domain_world.proofs.Frames.AllLaws.{all_join}
-use Rattle.domain_world.proofs.Frames.PlainFormLaws.{plain_stays}
+use Rattle.domain_world.proofs.Messages.MessageApartLaws.{links_in}
+use Rattle.domain_world.proofs.Moves.ComingLaws.{IsStill, StillHas}
+use Rattle.domain_world.proofs.Lists.AllLaws.{all_join}
+use Rattle.domain_world.proofs.Moves.PlainFormLaws.{plain_stays}
 
 -- ---- messages on different links
 

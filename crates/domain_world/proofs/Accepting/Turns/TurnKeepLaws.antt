@@ -10,8 +10,8 @@ use Rattle.logon_client.specs.declared.plan.ClientPlan.{ClientPlan}
 use Rattle.member_server.specs.Machine.{fresh_member}
 use Rattle.member_server.specs.State.{State as MemberState}
 use Rattle.member_server.specs.declared.plan.MemberPlan.{MemberPlan}
-use Rattle.channel_events.specs.Marks.{OneOf}
-use Rattle.channel_events.proofs.ListLaws.{all_weaker, got_append, got_nothing, one_weaker, some_is, one_found}
+use Rattle.wire_base.specs.Lists.{OneOf}
+use Rattle.wire_base.proofs.ListLaws.{all_weaker, got_append, got_nothing, one_weaker, some_is, one_found}
 use Rattle.step_notes.specs.Records.{Book, MessageTaken, OutcomeTold, Sent, blank, unit_in}
 use Rattle.step_notes.proofs.Members.KeptLogonLaws.{Dials, KeptIn}
 use Rattle.world_moves.specs.declared.bag.BagUnit.{BagUnit}
@@ -37,9 +37,9 @@ use Rattle.domain_world.proofs.Accepting.Turns.TurnNotedLaws.{or_false}
 use Rattle.domain_world.proofs.Accepting.Turns.TurnQuietLaws.{change_same, change_stays, action_still, acts_stay, changed_stays, hear_grows, others_hear, others_tell, over_grows, over_stays, quiet_hears, renew_same, renew_stays, same_ends, step_same, told_yet}
 use Rattle.domain_world.proofs.Accepting.Turns.TurnMarkLaws.{marks_known}
 use Rattle.domain_world.proofs.Accepting.Turns.TurnSideLaws.{TurnSide, member_comes}
-use Rattle.domain_world.proofs.Challenges.MessageApartLaws.{links_in, messages_apart}
-use Rattle.domain_world.proofs.Frames.ComingLaws.{CameFrom, StillHas, kept_same, kept_settled}
-use Rattle.domain_world.proofs.Frames.OpenMadeLaws.{IsAtSide}
+use Rattle.domain_world.proofs.Messages.MessageApartLaws.{links_in, messages_apart}
+use Rattle.domain_world.proofs.Moves.ComingLaws.{CameFrom, StillHas, kept_same, kept_settled}
+use Rattle.domain_world.proofs.Moves.OpenMadeLaws.{IsAtSide}
 use Rattle.domain_world.proofs.Frames.StepFrameLaws.{AnyAction, all_any, HasHeard, Keeps, RunFact}
 use Rattle.domain_world.proofs.Frames.EndFrameLaws.{IsCalm, by_calm}
 use Rattle.domain_world.proofs.Frames.EndNoteLaws.{noted_by}

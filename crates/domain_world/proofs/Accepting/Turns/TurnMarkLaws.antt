@@ -1,6 +1,6 @@
 -- In every run each unit that goes back and was made for a channel was made by a controller that is there: so a member
 -- that takes an answer has a controller in its plan. It serves `schedules_are_heard`.
-use Rattle.std.proofs.Common.{◌≡◌, ℕ, zero, suc, ◌<◌, Bool, true, false, List, [], ◌∷◌, length, map, Option, Some, None, refl, sym, subst, ◌∙◌, slice_get, arith}
+use Rattle.std.proofs.Common.{◌≡◌, ℕ, ◌<◌, Bool, true, false, List, [], ◌∷◌, length, map, Option, Some, None, refl, sym, subst, ◌∙◌}
 use Rattle.std.specs.List.{AllByRecursion}
 use Rattle.std.proofs.lemmas.List.{length-set}
 use Rattle.authenticators.specs.Channels.{ChannelIdentity}
@@ -11,8 +11,10 @@ use Rattle.domain_controller.specs.Machine.{Desk}
 use Rattle.domain_controller.specs.declared.hearing.Heard.{Heard}
 use Rattle.controller_calls.specs.declared.line.Line.{Line}
 use Rattle.domain_controller.specs.declared.state.Talk.{Talk}
+use Rattle.domain_controller.proofs.TurnOutLaws.{got_inside}
+use Rattle.domain_controller.proofs.TrustPlaceLaws.{got_all}
 use Rattle.channel_events.specs.Marks.{Mark, Plain, Opening, Opened, Calling, ReplyTo}
-use Rattle.channel_events.proofs.ListLaws.{all_weaker, got_nothing, some_is}
+use Rattle.wire_base.proofs.ListLaws.{all_weaker, some_is}
 use Rattle.step_notes.specs.ControllerNotes.{Where, answer_on, call_answer, identity_by, channel_in, has_passed, heard_answer, judging_by, judging_of, opened_by, opened_mark, opening, passing, reply_mark, units_of_controller}
 use Rattle.step_notes.specs.Marking.{answered_marks, mark_channel}
 use Rattle.step_notes.specs.Records.{Book, Judging, computer_named, unit_in, OfMember}
@@ -30,14 +32,9 @@ use Rattle.domain_world.proofs.Accepting.Turns.TurnFactLaws.{MarksAreKnown}
 use Rattle.domain_world.proofs.Accepting.Turns.TurnQuietLaws.{step_same}
 use Rattle.domain_world.proofs.Frames.BagFrameLaws.{IsOfUnit, MarksStay, UnitFact, run_stays_marked, member_marks}
 use Rattle.domain_world.proofs.Frames.FrameLaws.{Fact, StaysWritten, run_stays}
-use Rattle.domain_world.proofs.Requests.MarkWayLaws.{IsRequest, all_at, if_marked, marks_have_their_way, turns_way}
+use Rattle.domain_world.proofs.Calls.MarkWayLaws.{IsRequest, if_marked, marks_have_their_way, turns_way}
 use Rattle.controller_calls.specs.declared.calls.ControllerCall.TheVariants as call
 use Rattle.domain_controller.specs.declared.hearing.Heard.TheVariants as heard
-
-got_within : {T : Type 0} (items : List T) (k : ℕ) (item : T) → slice_get items k ≡ Some item → k < length items
-got_within [] k item there = absurd (got_nothing k item there)
-got_within (first ∷ items) zero item there = omega arith
-got_within (first ∷ items) (suc k) item there = omega (arith, got_within items k item there)
 
 -- ---- what controllers mark
 
@@ -147,12 +144,12 @@ module _ (count : ℕ) where
     settles = λ x number unit mark is. is;
     grows = λ end w piece s after b number unit one holds there sent is. is;
     controllers = λ c at w piece s after b number unit mark there holds even new.
-        all_at IsKnownMark (answered_marks (map (answer_on w.link (at_controller at c w s)) (units_of_controller c w.link piece s.moment s.chances.left))) new.place mark
+        got_all IsKnownMark (answered_marks (map (answer_on w.link (at_controller at c w s)) (units_of_controller c w.link piece s.moment s.chances.left))) new.place mark
         (answers_known w.link (at_controller at c w s) (units_of_controller c w.link piece s.moment s.chances.left)
-        (subst (λ (n : ℕ). at < n) holds (got_within s.ends.controllers at c there))) new.marked;
+        (subst (λ (n : ℕ). at < n) holds (got_inside s.ends.controllers at c there))) new.marked;
     members = λ m at w piece s b there holds side even units is on place unit mark got marked.
         let marks : List Mark = member_marks at m w piece s in
-        all_at IsKnownMark (marks_of w.link false units marks) place mark
+        got_all IsKnownMark (marks_of w.link false units marks) place mark
         (marks_all w.link false units marks
         (all_weaker IsRequest IsKnownMark marks request_known (turns_way (OfMember at) s (turn_units m w.link piece s.moment s.chances.left)))) marked;
   }
@@ -171,4 +168,4 @@ marks_known plan moves nobody n unit one named there back noted made =
     let is : IsOfUnit (OfUnit count) tt (past plan moves).world.state.bag n one.mark =
     run_stays_marked (λ (b : Book). tt) (SoMany count) (OfUnit count) (many_stay count) (marks_stay count) plan moves nobody refl n one noted in
     subst (λ (c : ℕ). named.controller < c) (sym (run_stays (λ (b : Book). tt) (SoMany count) (many_stay count) plan moves nobody refl))
-    (known_by count one.mark unit.back named (marks_have_their_way plan moves nobody n unit one there noted) back is.holds made)
+    (known_by count one.mark unit.back named (marks_have_their_way plan moves n unit one there noted) back is.holds made)

@@ -31,8 +31,8 @@ use Rattle.member_server.specs.declared.state.Phase.TheVariants as phase
 use Rattle.member_server.specs.declared.state.Running.{Running}
 use Rattle.member_server.specs.declared.state.Talk.{Talk}
 use Rattle.channel_turns.specs.declared.state.TurnTalk.{TurnTalk}
-use Rattle.channel_events.specs.Marks.{OneOf}
-use Rattle.channel_events.proofs.ListLaws.{one_with}
+use Rattle.wire_base.specs.Lists.{OneOf}
+use Rattle.wire_base.proofs.ListLaws.{one_with}
 use Rattle.step_notes.specs.ChannelNames.{place_answered}
 use Rattle.step_notes.specs.Marking.{clashes, is_channel, sent_channel}
 use Rattle.step_notes.specs.MemberNotes.{LinkAt, TurnNote, asked_note, is_challenged, link_units, message_after, message_at, message_by, message_kept, message_note, taken_note, taking_note, turn_note, turn_units_in}
@@ -44,9 +44,9 @@ use Rattle.step_notes.proofs.Members.UnservedLaws.{LinksIn}
 use Rattle.domain_world.specs.Past.{answer_on_channel, answers_by, change_if, change_message, first_of, later_of, note_turn, note_turns}
 use Rattle.domain_world.proofs.Accepting.Heard.AnswerReadLaws.{HearsWhole}
 use Rattle.domain_world.proofs.Accepting.Turns.TurnFactLaws.{Any, HasFree, IsFree}
-use Rattle.domain_world.proofs.Requests.WholeNotedLaws.{last_noted, note_for, whole_answers, whole_messages, whole_units}
-use Rattle.domain_world.proofs.Requests.WholeOutLaws.{noted}
-use Rattle.domain_world.proofs.Frames.AllLaws.{all_flat}
+use Rattle.domain_world.proofs.Calls.WholeNotedLaws.{last_noted, note_for, whole_answers, whole_messages, whole_units}
+use Rattle.domain_world.proofs.Calls.WholeOutLaws.{noted}
+use Rattle.domain_world.proofs.Lists.AllLaws.{all_flat}
 
 -- ---- a message that is taken then has no answer
 

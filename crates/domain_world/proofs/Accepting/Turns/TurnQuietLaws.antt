@@ -20,8 +20,9 @@ use Rattle.channel_turns.specs.declared.state.Dialling.{Dialling}
 use Rattle.member_server.specs.declared.state.Running.{Running}
 use Rattle.member_server.proofs.KeptLaws.{lets_in_the_granted}
 use Rattle.step_notes.specs.Records.{Book, MessageTaken, OutcomeTold, Sent}
-use Rattle.channel_events.specs.Marks.{OneOf, Plain}
-use Rattle.channel_events.proofs.ListLaws.{all_weaker, got_append, one_weaker}
+use Rattle.wire_base.specs.Lists.{OneOf}
+use Rattle.channel_events.specs.Marks.{Plain}
+use Rattle.wire_base.proofs.ListLaws.{all_weaker, got_append, one_weaker}
 use Rattle.step_notes.proofs.Members.KeptLogonLaws.{Dials, KeptIn, step_keeps}
 use Rattle.step_notes.proofs.Members.TurnAnswerLaws.{none_whole}
 use Rattle.world_moves.specs.declared.links.EndId.{EndId}
@@ -39,8 +40,8 @@ use Rattle.domain_world.specs.Accepting.ReadBack.{IsLetInInTurn, IsToldInTurn}
 use Rattle.domain_world.specs.Past.{note_given, sent_at, told_by, told_in}
 use Rattle.domain_world.proofs.Frames.AloneStepLaws.{alone_by as step_by, renew_alone_by as renew_by, renewed_alone as renewed}
 use Rattle.domain_world.proofs.Accepting.Turns.TurnFactLaws.{Any, GrowsTo, HasFree, IsAnswered, IsKnown, KeepFree, SameEnds, TurnFacts, facts_stay, past_at}
-use Rattle.domain_world.proofs.Challenges.MessageOnceLaws.{each_put}
-use Rattle.domain_world.proofs.Frames.ComingLaws.{StillHas, StillIn, kept_same, kept_sent}
+use Rattle.domain_world.proofs.Messages.MessageOnceLaws.{each_put}
+use Rattle.domain_world.proofs.Moves.ComingLaws.{StillHas, StillIn, kept_same, kept_sent}
 use Rattle.domain_world.proofs.Frames.GivenLaws.{told_cases}
 use Rattle.world_moves.proofs.ChangeLaws.{by_change, member_begun}
 

@@ -16,23 +16,23 @@ use Rattle.world_moves.specs.Forms.{IsSchedule}
 use Rattle.world_moves.specs.Links.{acceptor_of}
 use Rattle.world_moves.specs.World.{first_world}
 use Rattle.world_moves.specs.Alone.{hear_alone as hear}
+use Rattle.domain_world.specs.Accepting.SeenSteps.{Differ}
 use Rattle.domain_world.specs.Accepting.ReadBack.{TurnsAreHeard}
 use Rattle.domain_world.specs.Past.{past}
 use Rattle.channel_events.specs.Marks.{Mark}
 use Rattle.channel_events.proofs.RequestLaws.{called_is}
 use Rattle.domain_world.specs.Schedules.{OfSchedules}
 use Rattle.domain_world.proofs.Accepting.LetInStepLaws.{IsDialledBy}
-use Rattle.domain_world.proofs.Accepting.Quiet.QuietRunLaws.{has_bytes, is_quiet, quiet_first, quiet_keeps}
-use Rattle.domain_world.proofs.Accepting.Quiet.QuietStepLaws.{QuietAction, QuietFact}
+use Rattle.domain_world.proofs.Quiet.QuietRunLaws.{has_bytes, is_quiet, quiet_first, quiet_keeps}
+use Rattle.domain_world.proofs.Quiet.QuietStepLaws.{QuietAction, QuietFact}
 use Rattle.domain_world.proofs.Accepting.Turns.TurnFactLaws.{past_at}
 use Rattle.domain_world.proofs.Accepting.Turns.TurnKeepLaws.{TurnsHold, TurnsRestOn, turns_begin, turns_keep, turns_of}
-use Rattle.domain_world.proofs.Frames.DrawnRunLaws.{all_of, end_all, given_all}
+use Rattle.domain_world.proofs.Moves.DrawnRunLaws.{all_of, end_all, given_all}
 use Rattle.domain_world.proofs.Frames.StepFrameLaws.{ActionFact, AnyAction, BothFacts, BothFine, HoldsAfterRun, Keeps, NoFact, RunFact, WhileFew, all_any, join, run_keeps, while_few, with_side}
-use Rattle.domain_world.proofs.Requests.CallFrameLaws.{CallsKept, QuietSide, calls_keep, first_calls, out_at}
-use Rattle.domain_world.proofs.Requests.CallHoldsLaws.{CallsHold, differ_front, mark_there, marks_in}
-use Rattle.domain_world.proofs.Requests.CallStepLaws.{most_steps}
-use Rattle.domain_world.proofs.Requests.OutStepLaws.{HasOne}
-use Rattle.domain_world.proofs.Requests.StepApartLaws.{Differ}
+use Rattle.domain_world.proofs.Calls.CallFrameLaws.{CallsKept, QuietSide, calls_keep, first_calls, out_at}
+use Rattle.domain_world.proofs.Calls.CallHoldsLaws.{CallsHold, differ_front, mark_there, marks_in}
+use Rattle.domain_world.proofs.Calls.CallStepLaws.{most_steps}
+use Rattle.domain_world.proofs.Calls.OutStepLaws.{HasOne}
 
 -- ---- what was drawn and what is left, at each state
 

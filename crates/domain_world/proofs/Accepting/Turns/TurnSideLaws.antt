@@ -26,8 +26,8 @@ use Rattle.member_server.specs.declared.state.Phase.{Phase}
 use Rattle.member_server.specs.declared.state.Running.{Running}
 use Rattle.channel_turns.specs.declared.state.TurnTalk.{TurnTalk}
 use Rattle.member_server.proofs.KeptLaws.{lets_in_the_granted}
-use Rattle.channel_events.specs.Marks.{OneOf}
-use Rattle.channel_events.proofs.ListLaws.{all_weaker, got_append, one_weaker, some_is}
+use Rattle.wire_base.specs.Lists.{OneOf}
+use Rattle.wire_base.proofs.ListLaws.{all_weaker, got_append, one_weaker, some_is}
 use Rattle.step_notes.specs.CallLogons.{AsksUnlessStopped}
 use Rattle.step_notes.specs.ChannelNames.{standing_channel}
 use Rattle.step_notes.specs.Marking.{clashes}
@@ -54,20 +54,20 @@ use Rattle.domain_world.specs.Claims.{HasController}
 use Rattle.domain_world.specs.Past.{Coming, answers_by, at_member, controller_number, controller_of_plan, first_of, note_member, note_messages, numbers_on, told_in, controller_asked}
 use Rattle.domain_world.proofs.Accepting.Heard.AnswerReadLaws.{HearsWhole}
 use Rattle.domain_world.proofs.Accepting.LetInStepLaws.{IsAcceptedBy, IsDialledBy}
-use Rattle.domain_world.proofs.Accepting.Quiet.QuietRunLaws.{one_piece}
+use Rattle.domain_world.proofs.Quiet.QuietRunLaws.{one_piece}
 use Rattle.domain_world.proofs.Accepting.Turns.TurnFactLaws.{Any, AreApart, GrowsTo, HasFree, IsAnswered, IsKnown, MarksAreKnown, SameEnds, TurnFacts, answered_stays, apart_front, controller_stays, facts_stay, known_stays, marks_before, past_at, all_stay}
 use Rattle.domain_world.proofs.Accepting.Turns.TurnNotedLaws.{IsTurnNoted, bytes_free, or_false, turn_noted, units_new, turn_answers}
 use Rattle.domain_world.proofs.Accepting.Turns.TurnQuietLaws.{IsSilent, free_put, member_silent, same_ends, told_yet, yet_more}
 use Rattle.domain_world.proofs.Accepting.Turns.TurnWholeLaws.{ComesWhole, whole_facts}
-use Rattle.domain_world.proofs.Challenges.MessageApartLaws.{links_append, links_in, turns_links}
-use Rattle.domain_world.proofs.Challenges.MessageOnceLaws.{set_cases}
-use Rattle.domain_world.proofs.Frames.ComingLaws.{CameFrom, CameInUnit, IsPieceOf, came_in_unit, kept_same}
-use Rattle.domain_world.proofs.Frames.MemberPlanLaws.{controllers_alike}
-use Rattle.domain_world.proofs.Frames.OpenMadeLaws.{IsAtSide, side_of}
+use Rattle.domain_world.proofs.Messages.MessageApartLaws.{links_append, links_in, turns_links}
+use Rattle.domain_world.proofs.Messages.MessageOnceLaws.{set_cases}
+use Rattle.domain_world.proofs.Moves.ComingLaws.{CameFrom, CameInUnit, IsPieceOf, came_in_unit, kept_same}
+use Rattle.domain_world.proofs.Moves.MemberPlanLaws.{controllers_alike}
+use Rattle.domain_world.proofs.Moves.OpenMadeLaws.{IsAtSide, side_of}
 use Rattle.domain_world.proofs.Frames.TurnFrameLaws.{asked_leave, turns_sent, turns_told, asked_book, asked_notes, asked_keep}
-use Rattle.domain_world.proofs.Requests.WholeOutLaws.{noted as noted_by}
+use Rattle.domain_world.proofs.Calls.WholeOutLaws.{noted as noted_by}
 use Rattle.domain_world.proofs.Accepting.LetInLaws.{none_if_taken}
-use Rattle.domain_world.proofs.Frames.AllLaws.{all_join}
+use Rattle.domain_world.proofs.Lists.AllLaws.{all_join}
 
 -- ---- what the facts rest on, at each time of a run
 
@@ -132,6 +132,17 @@ other_units (Some running) link piece left is = on_units running.dialling link p
 pub turns_clash : (who : RequesterId) (w : Coming) (units : List (ServedUnit AtTurn TurnTalk)) (s after : State) (b : Book) → (asked_book who w units s after b).clash ≡ false → b.clash ≡ false
 turns_clash who w units s after b none =
     asked_keep who w units s after b (λ (later : Book). later.clash ≡ false → b.clash ≡ false) (λ note served number later so apart. so (or_false later.clash _ apart).0) (λ apart. apart) none
+
+-- what comes at a member on a link that it dialled comes back
+back_by : (back : Bool) (route : Route) (k controller : ℕ) → route ≡ ToController k controller → side_of back route ≡ Some (Member k) → back ≡ true
+back_by true route k controller is at = refl
+back_by false route k controller is at =
+    let both : Some (Controller controller) ≡ Some (Member k) = sym (ap (λ (r : Route). side_of false r) is) ∙ at in
+    absurd (let x = both in cc)
+
+pub comes_back : (links : List Route) (k link : ℕ) (back : Bool) → IsDialledBy links k link → IsAtSide links link back (Member k) → back ≡ true
+comes_back links k link back dialled at =
+    back_by back at.route k dialled.controller (some_is at.route (ToController k dialled.controller) (sym at.made ∙ dialled.at)) at.side
 
 part_cases : (part : Result (Part DialWork) StepRefused) → ((p : Part DialWork) × (part ≡ Ok p)) ⊎ ((why : StepRefused) × (part ≡ Err why))
 part_cases (Ok p) = inl (p, refl)
@@ -278,15 +289,9 @@ module _ (plan : Plan) (k : ℕ) (w : Coming) (piece : List ℕ) (s after : Stat
     quiet_on : IsQuietTurn (dialling.On w.link said)
     quiet_on = subst IsQuietTurn on (side.quiet.members k (member run) running there refl)
 
-    back_by : (back : Bool) (route : Route) → route ≡ ToController k dialled_on.controller → side_of back route ≡ Some (Member k) → back ≡ true
-    back_by true route is at = refl
-    back_by false route is at =
-        let both : Some (Controller dialled_on.controller) ≡ Some (Member k) = sym (ap (λ (r : Route). side_of false r) is) ∙ at in
-        absurd (let x = both in cc)
-
     -- it comes back
     pub is_back : IsAtSide s.links w.link w.back (Member k) → w.back ≡ true
-    is_back at = back_by w.back at.route (some_is at.route (ToController k dialled_on.controller) (sym at.made ∙ dialled_on.at)) at.side
+    is_back at = comes_back s.links k w.link w.back dialled_on at
 
     module _ (u : ℕ) (piece_of : IsPieceOf s u w piece) (back : w.back ≡ true) (facts : TurnFacts plan s b b.messages b.answers (told_yet given b)) (carried : unit_in w.source ≡ Some u)
         (unclashed : (book_after run).clash ≡ false) (apart : AreApart (links_in (messages_in run))) (plans : AreAlikeButSecrets plan.members s.member_plans) (marks : MarksAreKnown (heard run).state (book_after run)) where

@@ -36,8 +36,9 @@ use Rattle.member_server.specs.Turns.{DialWork, ending_of}
 use Rattle.member_server.specs.declared.outcomes.Ending.TheVariants as ending
 use Rattle.member_server.specs.declared.state.Logon.{Logon}
 use Rattle.member_server.specs.declared.state.Running.{Running}
-use Rattle.channel_events.specs.Marks.{Calling, OneOf}
-use Rattle.channel_events.proofs.ListLaws.{all_weaker, some_is}
+use Rattle.wire_base.specs.Lists.{OneOf}
+use Rattle.channel_events.specs.Marks.{Calling}
+use Rattle.wire_base.proofs.ListLaws.{all_weaker, some_is}
 use Rattle.channel_events.proofs.SameLaws.{same_back, same_on, same_self}
 use Rattle.step_notes.specs.CallLogons.{AsksForKept}
 use Rattle.step_notes.specs.ChannelNames.{passed_note, place_answered, standing_channel}
@@ -60,14 +61,16 @@ use Rattle.domain_world.specs.Claims.{HasController}
 use Rattle.domain_world.specs.Past.{answers_by, call_made, change_message, taken_as, told_by, told_in, with_answer, with_call}
 use Rattle.domain_world.proofs.Accepting.Heard.AnswerReadLaws.{HearsWhole, IsAnswerOf, TellsAnswer, answer_is, answer_tells, heard_whole, out_differ, IsReplyRead, logon_read, set_answer_is, set_read}
 use Rattle.domain_world.proofs.Accepting.Turns.CallUnitLaws.{IsCallAt, call_at, call_is}
-use Rattle.domain_world.proofs.Accepting.Turns.TurnChangedLaws.{all_pair, answered_facts, called_facts}
+use Rattle.domain_world.proofs.Accepting.Turns.TurnChangedLaws.{answered_facts, called_facts}
 use Rattle.domain_world.proofs.Accepting.Turns.TurnFactLaws.{Any, AreApart, HasFree, IsFree, MarksAreKnown, TurnFacts, answers_more, facts_stay, one_is_all, past_at}
 use Rattle.domain_world.proofs.Accepting.Turns.TurnNotedLaws.{IsMadeFor, answered_is, is_answer, none_taken, unclashed as made_unless}
 use Rattle.domain_world.proofs.Accepting.Turns.TurnQuietLaws.{granted_known, same_ends, told_of}
-use Rattle.domain_world.proofs.Challenges.MessageApartLaws.{links_in}
-use Rattle.domain_world.proofs.Frames.ComingLaws.{kept_same}
-use Rattle.domain_world.proofs.Requests.WholeOutLaws.{noted as noted_by}
-use Rattle.domain_world.proofs.Frames.PlainFormLaws.{heard_plain}
+use Rattle.domain_world.proofs.Messages.MessageApartLaws.{links_in}
+use Rattle.domain_world.proofs.Moves.ComingLaws.{kept_same}
+use Rattle.domain_world.proofs.Calls.WholeOutLaws.{noted as noted_by}
+use Rattle.domain_world.proofs.Moves.PlainFormLaws.{heard_plain}
+use Rattle.domain_world.proofs.Lists.AllLaws.{all_both}
+use Rattle.domain_controller.proofs.SendLaws.{none_some}
 
 -- ---- a grant is that of the unit
 
@@ -159,7 +162,7 @@ pub record ComesWhole (plan : Plan) (k number u : ℕ) (s t : State) (b d : Book
   pub done : event_part running (event.Bytes number bytes) now left ≡ Ok part
   pub lets_in : AllByRecursion (IsTold running (event.Bytes number bytes)) part.value.0.actions
   pub after : (m : MemberState) → slice_get t.ends.members k ≡ Some m →
-      m.running ≡ Some (record { logons = part.value.0.logons; links = part.value.0.links; dialling = part.value.1 })
+      m.running ≡ Some (record { logons = part.value.0.logons; links = part.value.0.links; dialling = part.value.1; sealing = None })
 
 -- ---- the other logons that are kept
 
@@ -176,9 +179,6 @@ keep_with : (X : Type 0) (Fits More : ℕ → Logon → Type 0) (r : Option Runn
 keep_with X Fits More None kept so = tt
 keep_with X Fits More (Some running) kept so =
     (each_pair Fits (λ (p : ℕ) (l : Logon). X → More p l) running.logons.asked kept.0 (each_if X More running.logons.asked (so running refl)), kept.1)
-
-no_some : {T : Type 0} (found : Option T) (item : T) → found ≡ None → found ≡ Some item → ⊥
-no_some found item none is = let both : None ≡ Some item = sym none ∙ is in absurd (let x = both in cc)
 
 module _ (plan : Plan) (k number u : ℕ) (s t : State) (b d : Book) (messages : List MessageTaken) (running : Running) (bytes : List ℕ) (unit : RpcUnit) (controller now : ℕ) (left : List (List ℕ))
     (part : Part DialWork) (comes : ComesWhole plan k number u s t b d messages running bytes unit controller now left part) where
@@ -316,7 +316,7 @@ module _ (plan : Plan) (k number u : ℕ) (s t : State) (b d : Book) (messages :
         (change_message (link_of_place answered running.logons) (with_answer (Some u)) (change_message (link_of_place note.called running.logons) (with_call requested) messages)) answers (told ++ more))
         (sym (answered_is (take_of c unit).taken controller c (take_of c unit).state ∙ none))
         (silent_facts (change_message (link_of_place note.called running.logons) (with_call requested) messages) answers
-        (λ link how granted. no_some (place_answered (take_of c unit).taken) granted.place none (ap place_answered granted.takes))
+        (λ link how granted. none_some granted.place (place_answered (take_of c unit).taken) none (ap place_answered granted.takes))
         (called_facts plan t d messages answers told (link_of_place note.called running.logons) requested (called_free note.called) facts)))
 
     module _ (place : ℕ) (v : Verdict) (answered : (take_of c unit).taken ≡ taken.Answer place v) (channel : ChannelIdentity) (stands : standing_channel controller c ≡ Some channel)
@@ -390,7 +390,7 @@ module _ (plan : Plan) (k number u : ℕ) (s t : State) (b d : Book) (messages :
         others j m there =
             keep_with (j ≡ k) (HasFree j messages) (λ (p : ℕ) (l : Logon). p ≢ place) m.running (facts.free j m there)
             (λ r runs same.
-            let after : Running = record { logons = part.value.0.logons; links = part.value.0.links; dialling = part.value.1 } in
+            let after : Running = record { logons = part.value.0.logons; links = part.value.0.links; dialling = part.value.1; sealing = None } in
             let is : r ≡ after = some_is r after (sym runs ∙ comes.after m (subst (λ (n : ℕ). slice_get t.ends.members n ≡ Some m) same there)) in
             subst (λ (asked : List (ℕ × Logon)). OfEach (λ (p : ℕ) (l : Logon). p ≢ place) asked) (sym (ap (λ (x : Running). x.logons.asked) is ∙ tells.asked))
             (out_differ place running.logons.asked
@@ -408,7 +408,7 @@ module _ (plan : Plan) (k number u : ℕ) (s t : State) (b d : Book) (messages :
               told_found (λ (one : OutcomeTold). IsToldInTurn (past_at plan t d) (with_answer (Some u) message) u one) k logon.link (outcome_of (ending_of v) logon)
                   (told_there message logon.link (outcome_of (ending_of v) logon) (both.0 here) refl refl) part.value.0.actions tells.told,
             ))
-            (all_pair (λ (message : MessageTaken). message.link ≡ logon.link → IsFree k place logon message) (λ (message : MessageTaken). message.link ≡ logon.link → IsOutThere message) messages
+            (all_both (λ (message : MessageTaken). message.link ≡ logon.link → IsFree k place logon message) (λ (message : MessageTaken). message.link ≡ logon.link → IsOutThere message) messages
             (own_all place logon kept) out_all))
             (lets_in (λ (one : OutcomeTold). (message : MessageTaken) → message.link ≡ logon.link → IsFree k place logon message → IsLetInInTurn (past_at plan t d) one (with_answer (Some u) message))
             (λ link how granted message here mine.
@@ -428,7 +428,7 @@ module _ (plan : Plan) (k number u : ℕ) (s t : State) (b d : Book) (messages :
       answered_by None kept =
           answers_more plan t d messages answers new (told ++ more) (all_in_turn own_read (Some place) channel stands is_note at)
           (silent_facts messages answers
-          (λ link how granted. no_some (lookup same_number place running.logons.asked) granted.logon kept
+          (λ link how granted. none_some granted.logon (lookup same_number place running.logons.asked) kept
           (subst (λ (n : ℕ). lookup same_number n running.logons.asked ≡ Some granted.logon) (sym (same_grant link how granted).0) granted.kept)) facts)
       answered_by (Some logon) kept = answered_there logon kept
 

@@ -24,24 +24,24 @@ use Rattle.world_moves.specs.Ends.{EndStates, renew_client, renew_member, with_m
 use Rattle.world_moves.specs.MemberPlans.{AreAlikeButSecrets}
 use Rattle.world_moves.specs.Moving.{begun, changed as begun_change}
 use Rattle.world_moves.specs.World.{first_world}
+use Rattle.domain_world.specs.Accepting.SeenSteps.{Differ, HearsNone}
 use Rattle.domain_world.specs.Accepting.Sequences.{IsTakenFor}
 use Rattle.domain_world.specs.Past.{controller_asked, running_in}
 use Rattle.domain_world.proofs.Frames.AloneStepLaws.{renew_alone_by as renew_by, renew_controller_alone as renew_controller, renewed_alone as renewed}
 use Rattle.domain_world.proofs.Accepting.Turns.TurnFactLaws.{AreApart, GrowsTo, SameEnds, marks_before, past_at}
 use Rattle.domain_world.proofs.Accepting.Turns.TurnQuietLaws.{change_same, renew_same, same_ends}
-use Rattle.domain_world.proofs.Challenges.MessageApartLaws.{links_in}
-use Rattle.domain_world.proofs.Frames.ComingLaws.{StillHas, kept_same}
+use Rattle.domain_world.proofs.Messages.MessageApartLaws.{links_in}
+use Rattle.domain_world.proofs.Moves.ComingLaws.{StillHas, kept_same}
 use Rattle.domain_world.proofs.Frames.EventLaws.{by_no_bytes}
-use Rattle.domain_world.proofs.Frames.NoBytesLaws.{IsNoBytes}
-use Rattle.domain_world.proofs.Requests.CallHoldsLaws.{marks_in}
-use Rattle.domain_world.proofs.Requests.StepApartLaws.{Differ, HearsNone}
+use Rattle.domain_world.proofs.Moves.NoBytesLaws.{IsNoBytes}
+use Rattle.domain_world.proofs.Calls.CallHoldsLaws.{marks_in}
 use Rattle.domain_world.proofs.Sequences.DialCountLaws.{given_append, given_dials, given_other}
 use Rattle.domain_world.proofs.Sequences.Own.OwnFrameLaws.{text_dials, StillDrawn, mine_drawn}
 use Rattle.domain_world.proofs.Sequences.Own.OwnKeepLaws.{OwnHolds}
 use Rattle.domain_world.proofs.Sequences.Own.OwnStayLaws.{one_stays, HearsIf, NoNewCalls, OwnFacts, all_stay, on_any, OwnBy, OwnOf, own_put}
 use Rattle.domain_world.proofs.Sequences.Own.OwnTurnLaws.{AreDrawn, mine}
 use Rattle.domain_world.proofs.Sequences.SeedTurnLaws.{turned_blank}
-use Rattle.domain_world.proofs.Frames.RequesterLaws.{not_client, asker_in, asker_first}
+use Rattle.domain_world.proofs.Moves.RequesterLaws.{not_client, asker_in, asker_first}
 use Rattle.world_moves.proofs.ChangeLaws.{by_change, member_begun, text_begun}
 
 -- ---- events at which no bytes come

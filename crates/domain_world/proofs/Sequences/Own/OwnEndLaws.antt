@@ -9,17 +9,17 @@ use Rattle.domain_world.specs.Accepting.Sequences.{IsTakenFor, TurnsAreCalled}
 use Rattle.domain_world.specs.Claims.{IsClear}
 use Rattle.domain_world.specs.Past.{Past, past, controller_asked}
 use Rattle.domain_world.specs.Schedules.{OfSchedules}
-use Rattle.domain_world.proofs.Accepting.Quiet.QuietRunLaws.{has_bytes}
+use Rattle.domain_world.proofs.Quiet.QuietRunLaws.{has_bytes}
 use Rattle.domain_world.proofs.Accepting.ScheduleLaws.{units_heard}
 use Rattle.domain_world.proofs.Accepting.Turns.TurnFactLaws.{apart_from, past_at, taken_stays, world_in}
 use Rattle.domain_world.proofs.Accepting.Turns.TurnMarkLaws.{marks_known}
 use Rattle.domain_world.proofs.Accepting.Turns.TurnQuietLaws.{same_ends}
 use Rattle.domain_world.proofs.Accepting.Turns.TurnRunLaws.{TurnAction, TurnSide, side_first, side_keeps}
-use Rattle.domain_world.proofs.Challenges.MessageApartLaws.{messages_apart}
-use Rattle.domain_world.proofs.Frames.ComingLaws.{kept_same}
-use Rattle.domain_world.proofs.Frames.DrawnRunLaws.{draws_differ}
+use Rattle.domain_world.proofs.Messages.MessageApartLaws.{messages_apart}
+use Rattle.domain_world.proofs.Moves.ComingLaws.{kept_same}
+use Rattle.domain_world.proofs.Moves.DrawnRunLaws.{draws_differ}
 use Rattle.domain_world.proofs.Frames.StepFrameLaws.{AnyAction, BothFacts, BothFine, HoldsAfterRun, KeepsWith, NoFact, join_with}
-use Rattle.domain_world.proofs.Requests.CallHoldsLaws.{marks_in}
+use Rattle.domain_world.proofs.Calls.CallHoldsLaws.{marks_in}
 use Rattle.domain_world.proofs.Sequences.CallTurnLaws.{KnowsCalls}
 use Rattle.domain_world.proofs.Sequences.CalledLaws.{AllKnow, KnowsIf, turns_called}
 use Rattle.domain_world.proofs.Sequences.Own.OwnCarryLaws.{first_own}
@@ -30,7 +30,7 @@ use Rattle.domain_world.proofs.Sequences.Own.OwnTurnLaws.{mine}
 use Rattle.domain_world.proofs.Sequences.Own.OwnWalkLaws.{own_keeps}
 use Rattle.domain_world.proofs.Sequences.Own.OwnWholeLaws.{own_comes}
 use Rattle.domain_world.proofs.Sequences.SharedLaws.{taken_pass}
-use Rattle.domain_world.proofs.Frames.RequesterLaws.{asker_in}
+use Rattle.domain_world.proofs.Moves.RequesterLaws.{asker_in}
 
 -- after a move
 known_if : (Done : ℕ → Type 0) (marks : List Mark) (drawn : List (List ℕ)) (turns : List ChannelTurn) (controller : ℕ) (who : RequesterId) (r : Option Running) →

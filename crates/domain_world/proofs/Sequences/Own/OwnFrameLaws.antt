@@ -11,7 +11,7 @@ use Rattle.logon_client.specs.Machine.{step_of as client_step_of}
 use Rattle.logon_client.specs.State.{State as ClientState}
 use Rattle.channel_client.specs.Effects.{view_of}
 use Rattle.channel_events.specs.Requests.{IsDrawn}
-use Rattle.channel_events.proofs.ListLaws.{all_weaker}
+use Rattle.wire_base.proofs.ListLaws.{all_weaker}
 use Rattle.member_server.specs.Machine.{step_of}
 use Rattle.member_server.specs.State.{State as MemberState}
 use Rattle.member_server.specs.declared.plan.MemberPlan.{MemberPlan}
@@ -24,14 +24,14 @@ use Rattle.world_moves.specs.declared.state.State.{State}
 use Rattle.world_moves.specs.declared.state.WaitingDial.{WaitingDial}
 use Rattle.world_moves.specs.Acting.{Given, given_by}
 use Rattle.world_moves.specs.Ends.{EndStates, EndStep, actions_by, client_step, member_step, with_client}
+use Rattle.domain_world.specs.Accepting.SeenSteps.{Differ}
 use Rattle.domain_world.proofs.Frames.AloneStepLaws.{alone_by as step_by}
-use Rattle.domain_world.proofs.Requests.CallHoldsLaws.{SameNumbers, differ_front}
-use Rattle.domain_world.proofs.Requests.StepApartLaws.{Differ}
+use Rattle.domain_world.proofs.Calls.CallHoldsLaws.{SameNumbers, differ_front}
 use Rattle.domain_world.proofs.Sequences.DialCountLaws.{answered_dials, dials_out, given_append, given_dials, given_other, none_counted}
 use Rattle.domain_world.proofs.Sequences.DialWalkLaws.{DialFact}
 use Rattle.domain_world.proofs.Sequences.Own.OwnTurnLaws.{Answers, AreDrawn, TurnsIf, member_step as own_step, mine, times}
 use Rattle.domain_world.proofs.Sequences.SeedTurnLaws.{Turned, drawn_still, turned_later}
-use Rattle.domain_world.proofs.Frames.RequesterLaws.{asked_in, not_controller, not_client, not_that, asker_in, asker_same, asked_put, asks_at}
+use Rattle.domain_world.proofs.Moves.RequesterLaws.{asked_in, not_controller, not_client, not_that, asker_in, asker_same, asked_put, asks_at}
 use Rattle.domain_world.specs.Past.{running_in}
 use Rattle.secret_change.specs.Secrets.{written_secrets}
 use Rattle.outside.specs.declared.action.Action.TheVariants.{Keep}

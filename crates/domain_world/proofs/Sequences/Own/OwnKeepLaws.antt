@@ -15,20 +15,20 @@ use Rattle.world_moves.specs.Acting.{Given, given_by, heard_by}
 use Rattle.world_moves.specs.Ends.{EndStep, client_step, no_step}
 use Rattle.world_moves.specs.Alone.{alone_controller_step as controller_step, hear_alone as hear}
 use Rattle.world_moves.proofs.EndKindLaws.{IfMember}
+use Rattle.domain_world.specs.Accepting.SeenSteps.{Differ}
 use Rattle.domain_world.specs.Accepting.Sequences.{IsTakenFor}
 use Rattle.domain_world.specs.Past.{note_given, sent_at, turns_in, controller_asked}
 use Rattle.domain_world.proofs.Frames.AloneStepLaws.{alone_by as step_by}
 use Rattle.domain_world.proofs.Accepting.Turns.TurnFactLaws.{AreApart, MarksAreKnown, SameEnds, marks_before, past_at}
 use Rattle.domain_world.proofs.Accepting.Turns.TurnQuietLaws.{hear_grows, over_grows, step_same}
-use Rattle.domain_world.proofs.Challenges.MessageApartLaws.{links_in}
+use Rattle.domain_world.proofs.Messages.MessageApartLaws.{links_in}
 use Rattle.domain_world.proofs.Frames.StepFrameLaws.{RunFact}
-use Rattle.domain_world.proofs.Frames.ComingLaws.{kept_same}
-use Rattle.domain_world.proofs.Frames.LeftLaws.{DrawsOn, end_draws}
-use Rattle.domain_world.proofs.Requests.CallFrameLaws.{plain_calls}
-use Rattle.domain_world.proofs.Requests.CallHoldsLaws.{differ_front, marks_append, marks_in}
-use Rattle.domain_world.proofs.Requests.CallStepLaws.{most_steps}
-use Rattle.domain_world.proofs.Requests.LooserLaws.{calls_before}
-use Rattle.domain_world.proofs.Requests.StepApartLaws.{Differ}
+use Rattle.domain_world.proofs.Moves.ComingLaws.{kept_same}
+use Rattle.domain_world.proofs.Moves.LeftLaws.{DrawsOn, end_draws}
+use Rattle.domain_world.proofs.Calls.CallFrameLaws.{plain_calls}
+use Rattle.domain_world.proofs.Calls.CallHoldsLaws.{differ_front, marks_append, marks_in}
+use Rattle.domain_world.proofs.Calls.CallStepLaws.{most_steps}
+use Rattle.domain_world.proofs.Calls.LooserLaws.{calls_before}
 use Rattle.domain_world.proofs.Sequences.DialCountLaws.{given_append, given_dials, given_other}
 use Rattle.domain_world.proofs.Sequences.DialWalkLaws.{AtState}
 use Rattle.domain_world.proofs.Sequences.Own.OwnFrameLaws.{StillDrawn, TurnsHold, TurnsKnown}
@@ -37,7 +37,7 @@ use Rattle.domain_world.proofs.Sequences.Own.OwnRunLaws.{hold_over, turns_at}
 use Rattle.domain_world.proofs.Sequences.Own.OwnStayLaws.{HearsIf, OwnFacts, all_stay, member_hears, OwnOf, own_on, on_any, NoNewCalls}
 use Rattle.domain_world.proofs.Sequences.Own.OwnTurnLaws.{TurnsIf}
 use Rattle.domain_world.proofs.Sequences.SeedTurnLaws.{drawn_still}
-use Rattle.domain_world.proofs.Frames.RequesterLaws.{not_controller, not_client, asker_in}
+use Rattle.domain_world.proofs.Moves.RequesterLaws.{not_controller, not_client, asker_in}
 
 -- ---- the fact
 

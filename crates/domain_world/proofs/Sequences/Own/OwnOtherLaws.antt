@@ -5,7 +5,7 @@ use Rattle.outside.specs.declared.event.Event.{Event}
 use Rattle.outside.specs.declared.event.Event.TheVariants as event
 use Rattle.end_links.specs.Serving.{ServedUnit}
 use Rattle.channel_events.specs.Marks.{Mark, Calling}
-use Rattle.channel_events.proofs.ListLaws.{got_append}
+use Rattle.wire_base.proofs.ListLaws.{got_append}
 use Rattle.member_server.specs.Machine.{step_of}
 use Rattle.member_server.specs.State.{State as MemberState}
 use Rattle.member_server.specs.Turns.{AtTurn}
@@ -22,12 +22,12 @@ use Rattle.world_moves.specs.Alone.{hear_alone as hear}
 use Rattle.world_moves.proofs.EndKindLaws.{of_member}
 use Rattle.domain_world.specs.Past.{Coming, at_member, marks_of, note_member, note_messages, sent_at, with_marks, with_taken}
 use Rattle.domain_world.proofs.Accepting.Turns.TurnFactLaws.{AreApart, apart_front}
-use Rattle.domain_world.proofs.Challenges.MessageApartLaws.{links_append, links_in}
-use Rattle.domain_world.proofs.Requests.CallComesLaws.{if_none, no_requests_sent, other_none, units_in_none}
-use Rattle.domain_world.proofs.Requests.CallHoldsLaws.{marks_append, marks_in}
-use Rattle.domain_world.proofs.Requests.LooserLaws.{calls_before}
-use Rattle.domain_world.proofs.Requests.OutStepLaws.{IsOther}
-use Rattle.domain_world.proofs.Requests.WholeNotedLaws.{none_marked}
+use Rattle.domain_world.proofs.Messages.MessageApartLaws.{links_append, links_in}
+use Rattle.domain_world.proofs.Calls.CallComesLaws.{if_none, no_requests_sent, other_none, units_in_none}
+use Rattle.domain_world.proofs.Calls.CallHoldsLaws.{marks_append, marks_in}
+use Rattle.domain_world.proofs.Calls.LooserLaws.{calls_before}
+use Rattle.domain_world.proofs.Calls.OutStepLaws.{IsOther}
+use Rattle.domain_world.proofs.Calls.WholeNotedLaws.{none_marked}
 use Rattle.domain_world.proofs.Sequences.Own.OwnCarryLaws.{book_changed}
 use Rattle.domain_world.proofs.Sequences.Own.OwnKeepLaws.{OwnHolds, own_hears}
 use Rattle.domain_world.proofs.Sequences.Own.OwnStayLaws.{HearsIf}

@@ -14,14 +14,14 @@ use Rattle.world_moves.specs.World.{first_world}
 use Rattle.world_moves.specs.Alone.{HandsNothingOn}
 use Rattle.domain_world.specs.Past.{note_given, turns_in, controller_asked}
 use Rattle.domain_world.proofs.Frames.StepFrameLaws.{ActionFact, HoldsAfterRun, KeepsWith, NoFact, RunFact, run_beside}
-use Rattle.domain_world.proofs.Sequences.CallStepLaws.{OwnCalls}
+use Rattle.domain_world.proofs.Sequences.CalledStepLaws.{OwnCalls}
 use Rattle.domain_world.proofs.Sequences.DialCountLaws.{given_dials}
 use Rattle.domain_world.proofs.Sequences.DialWalkLaws.{AtState, OfDials, dials_keep}
 use Rattle.domain_world.proofs.Sequences.Own.OwnFrameLaws.{TurnsKnown}
 use Rattle.domain_world.proofs.Sequences.Own.OwnRunLaws.{first_known, turns_keep, all_turns}
 use Rattle.domain_world.proofs.Sequences.Own.OwnTurnLaws.{TurnsOf, mine, no_times, none_or_one, one_time, times}
-use Rattle.domain_world.proofs.Frames.PlacedLaws.{HasBytes}
-use Rattle.domain_world.proofs.Frames.RequesterLaws.{asked_now, asker_in}
+use Rattle.domain_world.proofs.Moves.PlacedLaws.{HasBytes}
+use Rattle.domain_world.proofs.Moves.RequesterLaws.{asked_now, asker_in}
 
 -- ---- of one requester
 

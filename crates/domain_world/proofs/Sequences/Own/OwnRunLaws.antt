@@ -18,7 +18,7 @@ use Rattle.channel_client.specs.declared.state.Step.{Step}
 use Rattle.channel_client.specs.declared.state.Step.TheVariants as step
 use Rattle.channel_client.specs.State.{Requester}
 use Rattle.channel_events.specs.Seeds.{channel_seed}
-use Rattle.channel_events.proofs.ListLaws.{some_is}
+use Rattle.wire_base.proofs.ListLaws.{some_is}
 use Rattle.logon_stubs.specs.declared.calls.Call.TheVariants as call
 use Rattle.member_server.specs.Machine.{fresh_member}
 use Rattle.member_server.specs.declared.plan.MemberPlan.{MemberPlan}
@@ -40,14 +40,14 @@ use Rattle.world_moves.proofs.EndKindLaws.{IfMember}
 use Rattle.domain_world.specs.Claims.SharedSequences.{SequencesAreOwn, Stands, timestamps_on}
 use Rattle.domain_world.specs.Past.{past, running_in, turns_by, turns_in, controller_asked}
 use Rattle.domain_world.proofs.Frames.AloneStepLaws.{renew_alone as renew, renew_alone_by as renew_by, renew_controller_alone as renew_controller}
-use Rattle.domain_world.proofs.Frames.DrawnRunLaws.{draws_differ}
+use Rattle.domain_world.proofs.Moves.DrawnRunLaws.{draws_differ}
 use Rattle.domain_world.proofs.Sequences.DialCountLaws.{counted, dials_out, done_same, forgotten_few, given_dials, gone_all, none_counted, one_if, waiting_dials}
 use Rattle.domain_world.proofs.Sequences.DialWalkLaws.{AtState, KeepsDials, dials_after}
 use Rattle.domain_world.proofs.Sequences.Own.OwnFrameLaws.{change_holds, TurnsHold, TurnsKnown, begin_holds, hear_holds, same_turns}
 use Rattle.domain_world.proofs.Sequences.Own.OwnTurnLaws.{AreDrawn, TurnsIf, TurnsOf, both_drawn, mine, times, turn_drawn}
 use Rattle.domain_world.proofs.Sequences.SeedTurnLaws.{Turned, on_channel, stamps_on, turned_blank}
-use Rattle.domain_world.proofs.Frames.RequesterLaws.{asked_alike, asked_in, asked_now, asking_end, asks_at, not_controller, not_client, asker_in, RunsWith, asker_runs, stands_open, asker_first, asker_same, asked_put, same_is, same_asks}
-use Rattle.domain_world.proofs.Requests.CallHoldsLaws.{SameNumbers}
+use Rattle.domain_world.proofs.Moves.RequesterLaws.{asked_alike, asked_in, asked_now, asking_end, asks_at, not_controller, not_client, asker_in, RunsWith, asker_runs, stands_open, asker_first, asker_same, asked_put, same_is, same_asks}
+use Rattle.domain_world.proofs.Calls.CallHoldsLaws.{SameNumbers}
 use Rattle.world_moves.proofs.KeptLaws.{plans_alike}
 
 -- ---- dials

@@ -18,19 +18,19 @@ use Rattle.world_moves.specs.declared.state.State.{State}
 use Rattle.world_moves.specs.Acting.{Given, Heard, given_by, heard_by}
 use Rattle.world_moves.specs.Ends.{actions_by, member_step, with_member}
 use Rattle.world_moves.specs.MemberPlans.{AreAlikeButSecrets}
+use Rattle.domain_world.specs.Accepting.SeenSteps.{Differ, HearsNone}
 use Rattle.domain_world.specs.Accepting.Sequences.{IsTakenFor}
 use Rattle.domain_world.specs.Past.{controller_asked, running_in}
 use Rattle.domain_world.proofs.Accepting.Turns.TurnFactLaws.{GrowsTo, past_at, taken_stays, world_in}
-use Rattle.domain_world.proofs.Frames.MarkPlaceLaws.{got_map}
-use Rattle.domain_world.proofs.Requests.CallHoldsLaws.{differ_front, mark_there, marks_in}
-use Rattle.domain_world.proofs.Requests.StepApartLaws.{Differ, HearsNone}
-use Rattle.domain_world.proofs.Sequences.CallStepLaws.{OwnCalls, own_grows}
+use Rattle.domain_world.proofs.Moves.MarkPlaceLaws.{got_map}
+use Rattle.domain_world.proofs.Calls.CallHoldsLaws.{differ_front, mark_there, marks_in}
+use Rattle.domain_world.proofs.Sequences.CalledStepLaws.{OwnCalls, own_grows}
 use Rattle.domain_world.proofs.Sequences.DialCountLaws.{given_append, given_dials, given_other}
 use Rattle.domain_world.proofs.Sequences.Own.OwnFrameLaws.{StillDrawn, still_drawn}
 use Rattle.domain_world.proofs.Sequences.Own.OwnStepLaws.{OwnIf, own_quiet}
 use Rattle.domain_world.proofs.Sequences.Own.OwnTurnLaws.{AreDrawn}
 use Rattle.domain_world.proofs.Sequences.SeedTurnLaws.{drawn_still}
-use Rattle.domain_world.proofs.Frames.RequesterLaws.{asked_stays, asking_end, not_that, asker_in, asker_kept, asker_put}
+use Rattle.domain_world.proofs.Moves.RequesterLaws.{asked_stays, asking_end, not_that, asker_in, asker_kept, asker_put}
 
 -- ---- what is known
 

@@ -27,14 +27,13 @@ use Rattle.step_notes.specs.MemberNotes.{request_note, taking_note, turn_of}
 use Rattle.step_notes.specs.Records.{ChannelTurn, RequesterId}
 use Rattle.world_moves.specs.Acting.{Given, given_by}
 use Rattle.world_moves.specs.Ends.{actions_by}
-use Rattle.domain_world.proofs.Requests.LooserLaws.{IsPlaced, Placed}
-use Rattle.domain_world.proofs.Requests.StepApartLaws.{Differ}
-use Rattle.domain_world.proofs.Sequences.CallStepLaws.{OwnCalls, step_calls}
+use Rattle.domain_world.specs.Accepting.SeenSteps.{Differ, IsPlaced, Placed}
+use Rattle.domain_world.proofs.Sequences.CalledStepLaws.{OwnCalls, step_calls}
 use Rattle.domain_world.proofs.Sequences.CallTakenLaws.{IsAnswer, taken_knows}
 use Rattle.domain_world.proofs.Sequences.CallTurnLaws.{KnowsCalls, calm_knows}
 use Rattle.domain_world.proofs.Sequences.Own.OwnTurnLaws.{mine}
 use Rattle.domain_world.proofs.Sequences.WaitStepLaws.{same_turn}
-use Rattle.domain_world.proofs.Frames.RequesterLaws.{asking_end}
+use Rattle.domain_world.proofs.Moves.RequesterLaws.{asking_end}
 
 -- what is known of a member, if it runs
 abbrev pub OwnIf : (ℕ → Type 0) → List Mark → List (List ℕ) → List ChannelTurn → Given → ℕ → RequesterId → Option Running → Type 0

@@ -25,7 +25,7 @@ use Rattle.channel_client.specs.declared.state.Standing.TheVariants as standing
 use Rattle.channel_client.specs.declared.state.Step.TheVariants as step
 use Rattle.logon_stubs.specs.declared.info.Verdict.{Verdict}
 use Rattle.channel_events.specs.Marks.{Calling}
-use Rattle.channel_events.proofs.ListLaws.{some_is}
+use Rattle.wire_base.proofs.ListLaws.{some_is}
 use Rattle.channel_events.proofs.SameLaws.{same_self}
 use Rattle.member_server.specs.Turns.{DialWork}
 use Rattle.member_server.specs.declared.state.Running.{Running}
@@ -38,9 +38,10 @@ use Rattle.world_moves.specs.declared.state.State.{State}
 use Rattle.domain_world.specs.Accepting.Sequences.{IsTakenFor}
 use Rattle.domain_world.proofs.Accepting.Heard.AnswerReadLaws.{IsReplyRead, answer_is, logon_read, set_answer_is, set_read}
 use Rattle.domain_world.proofs.Accepting.Turns.TurnFactLaws.{past_at}
+use Rattle.domain_world.specs.Accepting.Carried.{IsTakenInTurn}
 use Rattle.domain_world.proofs.Accepting.Turns.TurnWholeLaws.{ComesWhole, in_turn}
-use Rattle.domain_world.proofs.Frames.MarkPlaceLaws.{got_map}
-use Rattle.domain_world.proofs.Requests.CallHoldsLaws.{marks_in}
+use Rattle.domain_world.proofs.Moves.MarkPlaceLaws.{got_map}
+use Rattle.domain_world.proofs.Calls.CallHoldsLaws.{marks_in}
 use Rattle.domain_world.proofs.Sequences.CallTakenLaws.{IsAnswer}
 
 -- ---- a call that goes out
@@ -112,10 +113,14 @@ module _ (plan : Plan) (k number u : ℕ) (s t : State) (b d : Book) (messages :
   abbrev c : Requester
   c = running.logons.channel
 
+  -- the call is answered by the unit
+  abbrev pub TakenNow : ℕ → Type 0
+  TakenNow call = IsTakenInTurn (past_at plan t d) (record { at = 0; requester = OfMember k; call = call; reply = u })
+
   -- by the reply that is read
   read_for : (its : IsReplyRead c unit) (of : Option ℕ) (on : ChannelIdentity) → standing_channel controller c ≡ Some on →
       taking_note (Some (take_of c unit)) controller c ≡ passed_note on of (Some (number_in c.turn)) → (channel : ChannelIdentity) (called : ℕ) → (view_of controller c).stands ≡ Some channel →
-      (view_of controller c).asking ≡ Some called → (n timestamp : ℕ) → slice_get (marks_in b.sent) n ≡ Some (Calling channel called timestamp) → IsTakenFor (past_at plan t d) n
+      (view_of controller c).asking ≡ Some called → (n timestamp : ℕ) → slice_get (marks_in b.sent) n ≡ Some (Calling channel called timestamp) → TakenNow n
   read_for its of on is_on is_note channel called stands asking n timestamp there =
       let asked : (view_of controller c).asking ≡ Some its.pending.number =
       ap (λ (how : Standing). asking_in how (step_in c.turn) (number_in c.turn)) its.stands
@@ -124,17 +129,13 @@ module _ (plan : Plan) (k number u : ℕ) (s t : State) (b d : Book) (messages :
       let same : called ≡ its.pending.number = some_is called its.pending.number (sym asking ∙ asked) in
       let one : on ≡ channel = some_is on channel (sym is_on ∙ stands) in
       let out = got_map (λ (sent : Sent). sent.mark) b.sent n (Calling channel called timestamp) there in
-      record {
-        taken = record { at = 0; requester = OfMember k; call = n; reply = u };
-        call = refl;
-        turn = in_turn plan k number u s t b d messages running bytes unit controller now left part comes its of on is_on is_note 0 n timestamp out.0 channel out.1
-            (out.2 ∙ ap (λ (i : ℕ). Calling channel i timestamp) same) (subst (λ (x : ChannelIdentity). SameChannel channel x) (sym one) (same_self channel));
-      }
+      in_turn plan k number u s t b d messages running bytes unit controller now left part comes its of on is_on is_note 0 n timestamp out.0 channel out.1
+      (out.2 ∙ ap (λ (i : ℕ). Calling channel i timestamp) same) (subst (λ (x : ChannelIdentity). SameChannel channel x) (sym one) (same_self channel))
 
   -- the call that is asked on the channel that stands has its answer
-  pub taken_for : (channel : ChannelIdentity) (called : ℕ) → IsAnswer (take_of c unit).taken → (view_of controller c).stands ≡ Some channel → (view_of controller c).asking ≡ Some called → (n timestamp : ℕ) →
-      slice_get (marks_in b.sent) n ≡ Some (Calling channel called timestamp) → IsTakenFor (past_at plan t d) n
-  taken_for channel called is stands asking n timestamp there = elim (answer_of (take_of c unit).taken is) [
+  pub turn_for : (channel : ChannelIdentity) (called : ℕ) → IsAnswer (take_of c unit).taken → (view_of controller c).stands ≡ Some channel → (view_of controller c).asking ≡ Some called → (n timestamp : ℕ) →
+      slice_get (marks_in b.sent) n ≡ Some (Calling channel called timestamp) → TakenNow n
+  turn_for channel called is stands asking n timestamp there = elim (answer_of (take_of c unit).taken is) [
     | inl answer ↦
         (let takes = channels_are_named_alike.calls.takes controller c unit answer.place (ap place_answered answer.is) in
         read_for (logon_read c unit answer.place answer.verdict (answer_is c unit answer.place answer.verdict answer.is)) (Some answer.place) takes.0 takes.1 takes.3 channel called stands asking n timestamp there)
@@ -142,3 +143,8 @@ module _ (plan : Plan) (k number u : ℕ) (s t : State) (b d : Book) (messages :
         (let sets = channels_are_named_alike.calls.sets controller c unit set in
         read_for (set_read c unit (set_answer_is c unit set)) None sets.0 sets.1 sets.3 channel called stands asking n timestamp there)
   ]
+
+  pub taken_for : (channel : ChannelIdentity) (called : ℕ) → IsAnswer (take_of c unit).taken → (view_of controller c).stands ≡ Some channel → (view_of controller c).asking ≡ Some called → (n timestamp : ℕ) →
+      slice_get (marks_in b.sent) n ≡ Some (Calling channel called timestamp) → IsTakenFor (past_at plan t d) n
+  taken_for channel called is stands asking n timestamp there =
+      record { taken = record { at = 0; requester = OfMember k; call = n; reply = u }; call = refl; turn = turn_for channel called is stands asking n timestamp there }

@@ -19,7 +19,7 @@ use Rattle.channel_client.specs.declared.caller.Caller.{Caller}
 use Rattle.channel_client.specs.declared.state.Pending.{Pending}
 use Rattle.channel_client.specs.declared.state.Standing.{Standing}
 use Rattle.channel_events.specs.Requests.{IsDrawn}
-use Rattle.channel_events.proofs.ListLaws.{one_last}
+use Rattle.wire_base.proofs.ListLaws.{one_last}
 use Rattle.member_server.specs.ChannelSteps.{IsNextTurn}
 use Rattle.member_server.specs.Dials.{IsDialledBy, IsNoAnswer, IsWaiting, StaysOutIfTaken, TurnStepsIfTaken, dials_in}
 use Rattle.member_server.specs.Laws.{InOrderUnlessStopped, IsInOrder, is_dialled}
@@ -41,11 +41,12 @@ use Rattle.world_moves.specs.declared.links.EndId.{EndId}
 use Rattle.world_moves.specs.declared.state.WaitingDial.{WaitingDial}
 use Rattle.world_moves.specs.Acting.{Given, given_by}
 use Rattle.world_moves.specs.Ends.{actions_by}
-use Rattle.domain_world.proofs.Requests.ReadyLaws.{ready_coherent}
-use Rattle.domain_world.proofs.Requests.StepApartLaws.{Differ, fresh_last}
+use Rattle.domain_world.specs.Accepting.SeenSteps.{Differ}
+use Rattle.domain_world.proofs.Calls.ReadyLaws.{ready_coherent}
+use Rattle.domain_world.proofs.Calls.StepApartLaws.{fresh_last}
 use Rattle.domain_world.proofs.Sequences.DialCountLaws.{answered_dials, dials_out, given_append, given_dials, given_own, one_if}
 use Rattle.domain_world.proofs.Sequences.SeedTurnLaws.{Turned, comes_so, drawn_still, starts_so, turned_alike, turned_later}
-use Rattle.domain_world.proofs.Frames.RequesterLaws.{asking_end, is_itself}
+use Rattle.domain_world.proofs.Moves.RequesterLaws.{asking_end, is_itself}
 
 -- ---- the turns of a member
 

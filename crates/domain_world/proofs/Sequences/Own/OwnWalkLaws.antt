@@ -6,7 +6,7 @@ use Rattle.outside.specs.declared.event.Event.{Event}
 use Rattle.outside.specs.declared.event.Event.TheVariants as event
 use Rattle.channel_events.specs.Marks.{Mark, Calling}
 use Rattle.channel_events.specs.Requests.{IsNoRequest}
-use Rattle.channel_events.proofs.ListLaws.{all_weaker, got_append}
+use Rattle.wire_base.proofs.ListLaws.{all_weaker, got_append}
 use Rattle.domain_controller.specs.State.{State as ControllerState}
 use Rattle.logon_client.specs.State.{State as ClientState}
 use Rattle.step_notes.specs.ControllerNotes.{units_of_controller}
@@ -25,22 +25,22 @@ use Rattle.domain_world.specs.Past.{Coming, answers_of, any_clash, at_controller
 use Rattle.domain_world.proofs.Frames.AloneStepLaws.{act_alone as hear_and_act}
 use Rattle.domain_world.proofs.Accepting.Turns.TurnNotedLaws.{or_false}
 use Rattle.domain_world.proofs.Accepting.Turns.TurnQuietLaws.{action_still}
-use Rattle.domain_world.proofs.Frames.ComingLaws.{CameFrom, kept_same, kept_settled}
-use Rattle.domain_world.proofs.Frames.OpenMadeLaws.{IsAtSide}
+use Rattle.domain_world.proofs.Moves.ComingLaws.{CameFrom, kept_same, kept_settled}
+use Rattle.domain_world.proofs.Moves.OpenMadeLaws.{IsAtSide}
 use Rattle.domain_world.specs.Accepting.Answered.{IsItsWay}
-use Rattle.domain_world.proofs.Requests.MarkWayLaws.{answers_way}
+use Rattle.domain_world.proofs.Calls.MarkWayLaws.{answers_way}
 use Rattle.domain_world.proofs.Frames.BagFrameLaws.{IsServer}
 use Rattle.domain_world.proofs.Frames.StepFrameLaws.{AnyAction, HasHeard, KeepsWith, RunFact, all_any}
-use Rattle.domain_world.proofs.Requests.CallComesLaws.{no_requests_sent, reply_no_request}
-use Rattle.domain_world.proofs.Requests.CallHoldsLaws.{marks_append, marks_in}
-use Rattle.domain_world.proofs.Requests.LooserLaws.{calls_before}
-use Rattle.domain_world.proofs.Requests.WholeNotedLaws.{no_requests_marked}
+use Rattle.domain_world.proofs.Calls.CallComesLaws.{no_requests_sent, reply_no_request}
+use Rattle.domain_world.proofs.Calls.CallHoldsLaws.{marks_append, marks_in}
+use Rattle.domain_world.proofs.Calls.LooserLaws.{calls_before}
+use Rattle.domain_world.proofs.Calls.WholeNotedLaws.{no_requests_marked}
 use Rattle.domain_world.proofs.Sequences.Own.OwnCarryLaws.{own_change, book_changed, changed, client_begins, none_if, own_anew}
 use Rattle.domain_world.proofs.Sequences.Own.OwnKeepLaws.{HearsNoUnit, OwnHolds, own_hears}
 use Rattle.domain_world.proofs.Sequences.Own.OwnStayLaws.{HearsIf}
 use Rattle.domain_world.proofs.Frames.EndNoteLaws.{book_by}
 use Rattle.domain_world.proofs.Frames.EventLaws.{calm_no_bytes}
-use Rattle.domain_world.proofs.Frames.NoBytesLaws.{IsNoBytes}
+use Rattle.domain_world.proofs.Moves.NoBytesLaws.{IsNoBytes}
 use Rattle.world_moves.proofs.KeptLaws.{plans_alike}
 
 no_unit : (end : EndId) (what : Event) (s : State) → IsNoBytes what → HearsNoUnit end what s

@@ -18,6 +18,7 @@ use Rattle.channel_turns.specs.declared.state.Dialling.TheVariants as dialling
 use Rattle.member_server.specs.declared.state.Running.{Running}
 use Rattle.channel_turns.specs.declared.state.TurnTalk.{TurnTalk}
 use Rattle.member_server.proofs.AskedLaws.{asks_what_waits}
+use Rattle.rpc_units.specs.declared.unit.Unit.{Unit as RpcUnit}
 use Rattle.end_links.specs.Links.{LinkState}
 use Rattle.step_notes.specs.MemberNotes.{TurnNote, taking_note}
 use Rattle.step_notes.specs.Records.{Book, ChannelTurn, Sent, unit_in, OfMember, RequesterId}
@@ -28,25 +29,27 @@ use Rattle.world_moves.specs.Acting.{Given, Heard, given_by, heard_by, perform_a
 use Rattle.world_moves.specs.Ends.{actions_by, member_step}
 use Rattle.world_moves.specs.Alone.{hear_alone as hear}
 use Rattle.world_moves.proofs.EndKindLaws.{of_member}
+use Rattle.domain_world.specs.Accepting.SeenSteps.{Differ, IsPlaced, NoRequests, Placed, PlacedBy, seen_running}
+use Rattle.domain_world.specs.Accepting.Carried.{IsTakenInTurn}
 use Rattle.domain_world.specs.Accepting.Sequences.{IsTakenFor}
 use Rattle.domain_world.specs.Past.{Coming, note_member, sent_at, controller_asked, running_in}
 use Rattle.domain_world.specs.Accepting.Runs.{view_with}
 use Rattle.domain_world.proofs.Frames.AloneStepLaws.{act_alone as hear_and_act}
+use Rattle.domain_world.proofs.Accepting.CarriedLaws.{one_whole}
 use Rattle.domain_world.proofs.Accepting.LetInStepLaws.{IsDialledBy}
 use Rattle.domain_world.proofs.Accepting.Turns.TurnFactLaws.{AreApart, GrowsTo, MarksAreKnown, TurnFacts, apart_front, marks_before, past_at}
 use Rattle.domain_world.proofs.Accepting.Turns.TurnQuietLaws.{told_yet}
 use Rattle.domain_world.proofs.Accepting.Turns.TurnRunLaws.{TurnSide, rests_on}
 use Rattle.domain_world.proofs.Accepting.Turns.TurnSideLaws.{TurnSide as RestSide, comes, dialled_on, ends_same, first_book, hears as heard_whole, is_back, messages_in, new_in, sent_stays, turns_clash, units_of, whole}
-use Rattle.domain_world.proofs.Challenges.MessageApartLaws.{links_append, links_in, turns_links}
-use Rattle.domain_world.proofs.Frames.ComingLaws.{CameFrom, CameInUnit, IsPieceOf, came_in_unit, kept_same}
-use Rattle.domain_world.proofs.Frames.OpenMadeLaws.{IsAtSide}
-use Rattle.domain_world.proofs.Requests.CallComesLaws.{IsWhole, marks, request_placed, served, turn, units_whole}
-use Rattle.domain_world.proofs.Requests.CallFrameLaws.{TurnOn, turn_case}
-use Rattle.domain_world.proofs.Requests.CallHoldsLaws.{CallsHold, differ_front, marks_append, marks_in, marks_sent, requests_at}
-use Rattle.domain_world.proofs.Requests.CallStepLaws.{most_steps}
-use Rattle.domain_world.proofs.Requests.LooserLaws.{IsPlaced, NoRequests, Placed}
-use Rattle.domain_world.proofs.Requests.StepApartLaws.{Differ, PlacedBy, seen_member, seen_running}
-use Rattle.domain_world.proofs.Requests.WholeNotedLaws.{placed_part}
+use Rattle.domain_world.proofs.Messages.MessageApartLaws.{links_append, links_in, turns_links}
+use Rattle.domain_world.proofs.Moves.ComingLaws.{CameFrom, CameInUnit, IsPieceOf, came_in_unit, kept_same}
+use Rattle.domain_world.proofs.Moves.OpenMadeLaws.{IsAtSide}
+use Rattle.domain_world.proofs.Calls.CallComesLaws.{IsWhole, marks, request_placed, served, turn, units_whole}
+use Rattle.domain_world.proofs.Calls.CallFrameLaws.{TurnOn, turn_case}
+use Rattle.domain_world.proofs.Calls.CallHoldsLaws.{CallsHold, differ_front, marks_append, marks_in, marks_sent, requests_at}
+use Rattle.domain_world.proofs.Calls.CallStepLaws.{most_steps}
+use Rattle.domain_world.proofs.Calls.StepApartLaws.{seen_member}
+use Rattle.domain_world.proofs.Calls.WholeNotedLaws.{placed_part}
 use Rattle.domain_world.proofs.Sequences.CallTakenLaws.{IsAnswer}
 use Rattle.domain_world.proofs.Sequences.DialCountLaws.{given_append, given_other}
 use Rattle.domain_world.proofs.Sequences.Own.OwnFrameLaws.{StillDrawn}
@@ -54,13 +57,13 @@ use Rattle.domain_world.proofs.Sequences.Own.OwnKeepLaws.{OwnHolds, own_hears}
 use Rattle.domain_world.proofs.Sequences.Own.OwnOtherLaws.{other_comes}
 use Rattle.domain_world.proofs.Sequences.Own.OwnStayLaws.{HearsIf, NoNewOn, OnStanding, OwnFacts, before_stays, taken_for_stays, OwnOf, own_put}
 use Rattle.domain_world.proofs.Sequences.Own.OwnStepLaws.{OwnIf, own_whole}
-use Rattle.domain_world.proofs.Sequences.Own.OwnTakenLaws.{called_on, taken_for}
+use Rattle.domain_world.proofs.Sequences.Own.OwnTakenLaws.{called_on, taken_for, turn_for}
 use Rattle.domain_world.proofs.Sequences.Own.OwnWalkLaws.{MemberComes}
 use Rattle.domain_world.proofs.Sequences.SeedTurnLaws.{drawn_still}
 use Rattle.domain_world.proofs.Frames.EndNoteLaws.{turns_leave}
 use Rattle.domain_world.proofs.Frames.TurnFrameLaws.{turns_sent}
-use Rattle.domain_world.proofs.Frames.RequesterLaws.{asked_stays, asker_in, asker_is, not_that}
-use Rattle.domain_world.proofs.Requests.ByRequesterLaws.{seen_so, by_requester_apart}
+use Rattle.domain_world.proofs.Moves.RequesterLaws.{asked_stays, asker_in, asker_is, not_that}
+use Rattle.domain_world.proofs.Calls.ByRequesterLaws.{seen_so, by_requester_apart}
 
 -- ---- the marks that are written down
 
@@ -252,6 +255,32 @@ module _ (plan : Plan) (n at : ℕ) (w : Coming) (piece : List ℕ)
       (λ part ok channel number is_answer stands asking i timestamp there.
       taken_for plan at w.link u s t b d (messages_in plan at w piece s after given b (Some running)) running piece unit its s.moment s.chances.left part
       (comes plan at w piece s after given b rest running said is on u piece_of back facts carried unclashed first turns.0 marks_known part ok) channel number is_answer stands asking i timestamp there) differ
+
+  -- the reply to the call that is asked on the channel that stands is taken in the turn of the call
+  pub answer_turn : (u : ℕ) → IsPieceOf s u w piece → unit_in w.source ≡ Some u → IsAtSide s.links w.link w.back (Member at) → TurnSide plan n s given b → n + 1 ≤ most_steps → d.clash ≡ false →
+      AreApart (links_in d.messages) → MarksAreKnown t d → Differ s.chances.drawn → (whole_one : IsWhole w.link piece running) (part : Part DialWork) → part_of ≡ Ok part → (channel : ChannelIdentity) (number : ℕ) →
+      IsAnswer (take_of c whole_one.unit).taken → (view_of its c).stands ≡ Some channel → (view_of its c).asking ≡ Some number → (i timestamp : ℕ) →
+      slice_get (marks_in b.sent) i ≡ Some (Calling channel number timestamp) → IsTakenInTurn (past_at plan t d) (record { at = 0; requester = OfMember at; call = i; reply = u })
+  answer_turn u piece_of carried at_side side few unclashed apart marks_known differ whole_one part ok channel number is_answer stands asking i timestamp there =
+      let first : AreApart (links_in (messages_in plan at w piece s after given b (Some running))) =
+      subst AreApart (turns_links (OfMember at) w (units_of plan at w piece s after given b (Some running)) s after (first_book plan at w piece s after given b (Some running))) apart in
+      let few_before : n ≤ most_steps = omega (arith, few) in
+      let unclashed_before : b.clash ≡ false =
+      turns_clash (OfMember at) w (units_of plan at w piece s after given b (Some running)) s after (first_book plan at w piece s after given b (Some running)) unclashed in
+      let apart_before : AreApart (links_in b.messages) =
+      apart_front (links_in b.messages) (links_in (new_in plan at w piece s after given b (Some running)))
+      (subst AreApart (links_append b.messages (new_in plan at w piece s after given b (Some running))) first) in
+      let marks_before_so : MarksAreKnown s b = marks_before s t b d grows marks_known in
+      let rest : RestSide plan s b = rests_on plan n s given b side.0 few_before in
+      let turns = side.1 few_before in
+      let facts : TurnFacts plan s b b.messages b.answers (told_yet given b) = turns.1 unclashed_before apart_before marks_before_so in
+      let back : w.back ≡ true = is_back plan at w piece s after given b rest running said is on at_side in
+      let heard = heard_whole plan at w piece s after given b rest running said is on u piece_of back facts carried unclashed first turns.0 marks_known in
+      let unit = (whole plan at w piece s after given b rest running said is on u piece_of back facts carried unclashed first turns.0 marks_known).0.unit in
+      let same : whole_one.unit ≡ unit = one_whole piece whole_one.frames heard.frames whole_one.unit unit whole_one.heard heard.heard in
+      turn_for plan at w.link u s t b d (messages_in plan at w piece s after given b (Some running)) running piece unit its s.moment s.chances.left part
+      (comes plan at w piece s after given b rest running said is on u piece_of back facts carried unclashed first turns.0 marks_known part ok) channel number
+      (subst (λ (x : RpcUnit). IsAnswer (take_of c x).taken) same is_answer) stands asking i timestamp there
 
   came_from : CameFrom w.source s w piece → IsAtSide s.links w.link w.back (Member at) → TurnSide plan n s given b → OwnHolds plan n s given b →
       OwnHolds plan (n + 1) t more_given d

@@ -1,0 +1,451 @@
+-- A member that replaces its secret, at states that were written down by hand: which meet the claim that it and its
+-- controller are never apart, and which don't. It serves `members_tell_apart`.
+use Rattle.std.proofs.Common.{◌≡◌, ◌<◌, ℕ, zero, suc, false, List, [], ◌∷◌, ◌++◌, replicate, get_or, Option, Some, None, inl, inr, refl, sym, ap, subst, ◌∙◌, arith, slice_get}
+use Rattle.std.specs.Prelude.{◌≢◌, codes}
+use Rattle.std.specs.Option.{option_map}
+use Rattle.std.proofs.lemmas.List.Elements.{All-from_recursion, All-nil, All-replicate}
+use Rattle.wire_base.specs.Names as names
+use Rattle.wire_base.specs.Names.{IsName, SameName, same_name}
+use Rattle.wire_base.proofs.NumberLaws.{bytes_from_all}
+use Rattle.account_table.specs.AccountTable.{AccountTable}
+use Rattle.account_table.specs.LookUps.{account_in, machine_name, place_in}
+use Rattle.account_table.specs.declared.account.Account.{Account}
+use Rattle.secret_change.specs.Secrets.{IsSecret, SecretsState, alone, next_of, secrets_of, written_secrets}
+use Rattle.secret_change.specs.declared.secrets.Next.{Next}
+use Rattle.secret_change.proofs.FormLaws.{written_is_read}
+use Rattle.channel_client.specs.Machine.{fresh_requester}
+use Rattle.channel_turns.specs.declared.state.Dialling.TheVariants as dialling
+use Rattle.domain_controller.specs.State.{State as ControllerState}
+use Rattle.domain_controller.specs.Step.{first_state}
+use Rattle.member_server.specs.Machine.{caller_of}
+use Rattle.member_server.specs.State.{State as MemberState}
+use Rattle.member_server.specs.declared.plan.MemberPlan.{MemberPlan}
+use Rattle.member_server.specs.declared.state.Running.{Running as MemberRunning}
+use Rattle.step_notes.specs.Records.{Book, Judging, OfMember, RequesterId}
+use Rattle.logon_client.specs.Plans.{CanLogOn}
+use Rattle.logon_runs.specs.FirstLogon.ExampleLogon.{ann_plan, corp, file1, file1_plan}
+use Rattle.world_moves.specs.declared.links.EndId.TheVariants.{Controller}
+use Rattle.world_moves.specs.declared.moves.Move.TheVariants as move
+use Rattle.world_moves.specs.declared.plan.Plan.{Plan}
+use Rattle.world_moves.specs.Acting.{keep_by}
+use Rattle.world_moves.specs.Forms.{HasMoveForm, IsAccount, IsByte, IsClientPlan, IsMemberPlan, IsSchedule, IsTable}
+use Rattle.world_moves.specs.Moving.{end_of_peer}
+use Rattle.world_moves.specs.World.{IsMove, World, first_ends, kept_by, kept_of}
+use Rattle.world_moves.proofs.AloneLaws.{plain_plan}
+use Rattle.domain_world.specs.Claims.{IsClear}
+use Rattle.domain_world.specs.Claims.NeverApart.{BeginsAlike, IsAmong, IsNeverApart, MembersAreNeverApart, computer_of, has_foreign_set}
+use Rattle.domain_world.specs.Past.{Past, past}
+use Rattle.wire_base.proofs.ListLaws.{got_nothing, no_some, some_is}
+use Rattle.claim_examples.specs.CompletenessExamples.{able_member, able_table, machine_account}
+use Rattle.claim_examples.specs.NeverApartExamples.{OfBeginnings, OfNeverApart, OfProvedRun, both_secrets, change_moves, change_plan, controller_having, holds_and_kept, member_holding, member_with, new_secret, old_secret, other_secret, plan_of, running_with, second_secret, set_passed, state_of, stopped_member, table_with, tried_secrets, two_plan, two_set}
+use Rattle.claim_examples.specs.ClaimExamples.{small_account}
+use Rattle.claim_examples.proofs.CompletenessLaws.{a_name, account_form, table_form}
+
+-- ---- the account
+
+found_with : (hash : List ℕ) → account_in (table_with hash).accounts (machine_name (codes "FILE1")) ≡ Some (record machine_account { hash = hash })
+unfolding place_in same_name names.upper_of
+found_with hash = refl
+
+found_none : account_in (able_table (small_account ∷ [])).accounts (machine_name (codes "FILE1")) ≡ None
+unfolding place_in same_name names.upper_of
+found_none = refl
+
+found_no_second : account_in (table_with second_secret).accounts (machine_name (codes "FILE2")) ≡ None
+unfolding place_in same_name names.upper_of
+found_no_second = refl
+
+names_apart : SameName (codes "FILE2") (codes "FILE1") → ⊥
+unfolding names.upper_of
+names_apart same = let never : 0x32 ≡ 0x31 = ap (λ (name : List ℕ). get_or name 4 0) same in omega (arith, never)
+
+names_alike : SameName (codes "file1") (codes "FILE1")
+unfolding names.upper_of
+names_alike = refl
+
+-- ---- secrets
+
+old_is_new : old_secret ≡ new_secret → ⊥
+old_is_new same = let never : 0x41 ≡ 0x61 = ap (λ (secret : List ℕ). get_or secret 0 0) same in omega (arith, never)
+
+other_is_old : other_secret ≡ old_secret → ⊥
+other_is_old same = let never : 0x61 ≡ 0x41 = ap (λ (secret : List ℕ). get_or secret 0 0) same in omega (arith, never)
+
+other_is_new : other_secret ≡ new_secret → ⊥
+other_is_new same = let never : 0x62 ≡ 0x61 = ap (λ (secret : List ℕ). get_or secret 15 0) same in omega (arith, never)
+
+-- one secret
+among_alone : (secret : List ℕ) → IsAmong secret (alone secret)
+among_alone secret = record { among = inl refl; when_alone = λ none. refl }
+
+among_old : IsAmong old_secret both_secrets
+among_old = record { among = inl refl; when_alone = λ none. absurd (let never = none in cc) }
+
+among_new : IsAmong new_secret both_secrets
+among_new = record { among = inr refl; when_alone = λ none. absurd (let never = none in cc) }
+
+among_old_tried : IsAmong old_secret tried_secrets
+among_old_tried = record { among = inl refl; when_alone = λ none. absurd (let never = none in cc) }
+
+among_new_tried : IsAmong new_secret tried_secrets
+among_new_tried = record { among = inr refl; when_alone = λ none. absurd (let never = none in cc) }
+
+-- ---- the premise
+
+same_member : (one other : ℕ) → OfMember one ≡ OfMember other → one ≡ other
+same_member one other is = cc
+
+none_else : (who : RequesterId) (name : List ℕ) → who ≢ OfMember 0 → computer_of change_plan who ≡ Some name → SameName name (codes "FILE1") → ⊥
+none_else (OfMember zero) name other is same = other refl
+none_else (OfMember (suc k)) name other is same = no_some name is
+
+abbrev begins_alike : BeginsAlike change_plan 0
+begins_alike = record {
+  own = able_member old_secret;
+  is_plan = refl;
+  secret = old_secret;
+  one = refl;
+  controller = 0;
+  reaches = refl;
+  table = table_with old_secret;
+  is_table = refl;
+  account = record machine_account { hash = old_secret };
+  found = found_with old_secret;
+  hash = refl;
+  only = none_else;
+}
+
+none_second : (who : RequesterId) (name : List ℕ) → who ≢ OfMember 1 → computer_of two_plan who ≡ Some name → SameName name (codes "FILE1") → ⊥
+none_second (OfMember zero) name other is same = names_apart (subst (λ (one : List ℕ). SameName one (codes "FILE1")) (sym (some_is (codes "FILE2") name is)) same)
+none_second (OfMember (suc zero)) name other is same = other refl
+none_second (OfMember (suc (suc k))) name other is same = no_some name is
+
+second_begins : BeginsAlike two_plan 1
+second_begins = record {
+  own = record (able_member old_secret) { controller = 1 ∷ [] };
+  is_plan = refl;
+  secret = old_secret;
+  one = refl;
+  controller = 1;
+  reaches = refl;
+  table = table_with old_secret;
+  is_table = refl;
+  account = record machine_account { hash = old_secret };
+  found = found_with old_secret;
+  hash = refl;
+  only = none_second;
+}
+
+-- ---- what it says of a state
+
+-- of a plan whose first end is its controller
+the_controller : (plan : Plan) (own : MemberPlan) (controller : ℕ) → end_of_peer (0 ∷ []) (first_ends plan) ≡ Some (Controller 0) → able_member old_secret ≡ own →
+    end_of_peer own.controller (first_ends plan) ≡ Some (Controller controller) → 0 ≡ controller
+the_controller plan own controller first same reaches =
+    let is : Some (Controller 0) ≡ Some (Controller controller) = sym first ∙ ap (λ (one : MemberPlan). end_of_peer one.controller (first_ends plan)) same ∙ reaches in cc
+
+-- of a world in which the account has this hash, whatever stands at the member
+apart_in : (w : World) (b : Book) (c : ControllerState) (hash : List ℕ) → slice_get w.state.ends.controllers 0 ≡ Some c → c.table ≡ table_with hash →
+    ((m : MemberState) (running : MemberRunning) → slice_get w.state.ends.members 0 ≡ Some m → m.running ≡ Some running → IsAmong hash running.logons.plan.secrets) →
+    ((secrets : SecretsState) → kept_of w 0 ≡ Some secrets → IsAmong hash secrets) → MembersAreNeverApart (record { plan = change_plan; world = w; book = b })
+apart_in w b c hash there table held kept foreign zero begins =
+    let own : able_member old_secret ≡ begins.own = some_is (able_member old_secret) begins.own begins.is_plan in
+    let controller : 0 ≡ begins.controller = the_controller change_plan begins.own begins.controller refl own begins.reaches in
+    record {
+      state = c;
+      at = subst (λ (k : ℕ). slice_get w.state.ends.controllers k ≡ Some c) controller there;
+      account = record machine_account { hash = hash };
+      found = subst (λ (plan : MemberPlan). account_in c.table.accounts (machine_name plan.computer) ≡ Some (record machine_account { hash = hash })) own
+          (subst (λ (t : AccountTable). account_in t.accounts (machine_name (codes "FILE1")) ≡ Some (record machine_account { hash = hash })) (sym table) (found_with hash));
+      held = held;
+      kept = kept;
+    }
+apart_in w b c hash there table held kept foreign (suc k) begins = absurd (got_nothing k begins.own begins.is_plan)
+
+-- of a state that was written down
+apart_by : (member : MemberState) (kept : SecretsState) (hash : List ℕ) (calls : List Judging) →
+    ((running : MemberRunning) → member.running ≡ Some running → IsAmong hash running.logons.plan.secrets) → IsAmong hash kept → MembersAreNeverApart (state_of member kept hash calls)
+apart_by member kept hash calls held among =
+    let run : Past = state_of member kept hash calls in
+    apart_in run.world run.book (controller_having hash) hash refl refl
+    (λ m running there runs. held running (ap MemberState.running (some_is member m there) ∙ runs))
+    (λ secrets is. subst (λ (s : SecretsState). IsAmong hash s) (some_is kept secrets is) among)
+
+holding : (held : SecretsState) (hash : List ℕ) → IsAmong hash held → (running : MemberRunning) → (member_holding held).running ≡ Some running → IsAmong hash running.logons.plan.secrets
+holding held hash among running runs =
+    subst (λ (r : MemberRunning). IsAmong hash r.logons.plan.secrets) (some_is (running_with held) running runs) among
+
+runs_not : (hash : List ℕ) (running : MemberRunning) → stopped_member.running ≡ Some running → IsAmong hash running.logons.plan.secrets
+runs_not hash running runs = absurd (no_some running runs)
+
+-- the hash of the account that the claim finds
+hash_is : (member : MemberState) (kept : SecretsState) (hash : List ℕ) (calls : List Judging) (its : IsNeverApart (state_of member kept hash calls) 0 begins_alike) → its.account.hash ≡ hash
+hash_is member kept hash calls its =
+    let state : controller_having hash ≡ its.state = some_is (controller_having hash) its.state its.at in
+    let found : Some (record machine_account { hash = hash }) ≡ Some its.account =
+    sym (found_with hash) ∙ ap (λ (c : ControllerState). account_in c.table.accounts (machine_name (codes "FILE1"))) state ∙ its.found in
+    ap (λ (account : Account). account.hash) (sym (some_is (record machine_account { hash = hash }) its.account found))
+
+held_so : (held kept : SecretsState) (hash : List ℕ) (calls : List Judging) → has_foreign_set calls ≡ false → MembersAreNeverApart (holds_and_kept held kept hash calls) → IsAmong hash held
+held_so held kept hash calls own claim =
+    let its : IsNeverApart (holds_and_kept held kept hash calls) 0 begins_alike = claim own 0 begins_alike in
+    subst (λ (h : List ℕ). IsAmong h held) (hash_is (member_holding held) kept hash calls its) (its.held (member_holding held) (running_with held) refl refl)
+
+kept_so : (member : MemberState) (kept : SecretsState) (hash : List ℕ) (calls : List Judging) → has_foreign_set calls ≡ false → MembersAreNeverApart (state_of member kept hash calls) → IsAmong hash kept
+kept_so member kept hash calls own claim =
+    let its : IsNeverApart (state_of member kept hash calls) 0 begins_alike = claim own 0 begins_alike in
+    subst (λ (h : List ℕ). IsAmong h kept) (hash_is member kept hash calls its) (its.kept kept refl)
+
+-- another one than the current and the next one
+not_among : (hash current : List ℕ) (next : Option Next) → (hash ≡ current → ⊥) → (next_of (record { current = current; next = next }) ≡ Some hash → ⊥) →
+    IsAmong hash (record { current = current; next = next }) → ⊥
+not_among hash current next apart else among = elim among.among [ inl is ↦ apart is | inr is ↦ else is ]
+
+none_next : (hash current : List ℕ) → next_of (alone current) ≡ Some hash → ⊥
+none_next hash current is = no_some hash is
+
+-- ---- a first move
+
+is_secret : (byte : ℕ) → byte < 256 → IsSecret (replicate 16 byte)
+is_secret byte small = (refl, bytes_from_all (replicate 16 byte) (All-replicate (λ (one : ℕ). one < 256) 16 byte small))
+
+text_read : secrets_of (written_secrets both_secrets) ≡ Some both_secrets
+text_read = written_is_read both_secrets (is_secret 0x41 (omega arith), is_secret 0x61 (omega arith))
+
+abbrev begun_running : MemberRunning
+begun_running = record {
+  logons = record { plan = member_with both_secrets; channel = fresh_requester (caller_of (able_member old_secret)); asked = [] };
+  links = [];
+  dialling = dialling.Nothing;
+  sealing = None;
+}
+
+abbrev begun_member : MemberState
+begun_member = record { running = Some begun_running }
+
+-- what was kept, once the change began
+kept_begun : kept_of (past change_plan (move.Change 0 new_secret ∷ [])).world 0 ≡ Some both_secrets
+kept_begun = ap (λ (found : Option SecretsState). kept_by (slice_get (keep_by found 0 (able_member old_secret ∷ [])) 0)) text_read
+
+begun_apart : MembersAreNeverApart (past change_plan (move.Change 0 new_secret ∷ []))
+begun_apart =
+    let run : Past = past change_plan (move.Change 0 new_secret ∷ []) in
+    apart_in run.world run.book (first_state (table_with old_secret) (codes "PDC")) old_secret refl refl
+    (λ m running there runs.
+    subst (λ (r : MemberRunning). IsAmong old_secret r.logons.plan.secrets) (some_is begun_running running (ap MemberState.running (some_is begun_member m there) ∙ runs)) among_old)
+    (λ secrets is. subst (λ (s : SecretsState). IsAmong old_secret s) (some_is both_secrets secrets (sym kept_begun ∙ is)) among_old)
+
+-- ---- two controllers and two members
+
+two_apart : MembersAreNeverApart two_set
+two_apart foreign zero begins =
+    let own : record (able_member second_secret) { computer = codes "FILE2" } ≡ begins.own =
+    some_is (record (able_member second_secret) { computer = codes "FILE2" }) begins.own begins.is_plan in
+    let reaches : Some (Controller 0) ≡ Some (Controller begins.controller) = ap (λ (one : MemberPlan). end_of_peer one.controller (first_ends two_plan)) own ∙ begins.reaches in
+    let controller : 0 ≡ begins.controller = cc in
+    let table : table_with second_secret ≡ begins.table =
+    some_is (table_with second_secret) begins.table (ap (λ (k : ℕ). slice_get two_plan.tables k) controller ∙ begins.is_table) in
+    absurd (no_some begins.account (sym found_no_second ∙ ap (λ (t : AccountTable). account_in t.accounts (machine_name (codes "FILE2"))) table
+    ∙ ap (λ (plan : MemberPlan). account_in begins.table.accounts (machine_name plan.computer)) own ∙ begins.found))
+two_apart foreign (suc zero) begins =
+    let own : record (able_member old_secret) { controller = 1 ∷ [] } ≡ begins.own =
+    some_is (record (able_member old_secret) { controller = 1 ∷ [] }) begins.own begins.is_plan in
+    let reaches : Some (Controller 1) ≡ Some (Controller begins.controller) = ap (λ (one : MemberPlan). end_of_peer one.controller (first_ends two_plan)) own ∙ begins.reaches in
+    let controller : 1 ≡ begins.controller = cc in
+    record {
+      state = controller_having new_secret;
+      at = subst (λ (k : ℕ). slice_get two_set.world.state.ends.controllers k ≡ Some (controller_having new_secret)) controller refl;
+      account = record machine_account { hash = new_secret };
+      found = subst (λ (plan : MemberPlan). account_in (table_with new_secret).accounts (machine_name plan.computer) ≡ Some (record machine_account { hash = new_secret })) own (found_with new_secret);
+      held = λ m running there runs.
+          holding both_secrets new_secret among_new running (ap MemberState.running (some_is (member_holding both_secrets) m there) ∙ runs);
+      kept = λ secrets is. subst (λ (s : SecretsState). IsAmong new_secret s) (some_is both_secrets secrets is) among_new;
+    }
+two_apart foreign (suc (suc k)) begins = absurd (got_nothing k begins.own begins.is_plan)
+
+pub of_beginnings : OfBeginnings
+of_beginnings = record {
+  meets = begins_alike;
+  meets_second = second_begins;
+  fails_hash = λ begins.
+      let own : able_member old_secret ≡ begins.own = some_is (able_member old_secret) begins.own begins.is_plan in
+      let controller : 0 ≡ begins.controller =
+      the_controller (plan_of (able_member old_secret ∷ []) (replicate 16 0x40)) begins.own begins.controller refl own begins.reaches in
+      let table : table_with (replicate 16 0x40) ≡ begins.table =
+      some_is (table_with (replicate 16 0x40)) begins.table (ap (λ (k : ℕ). slice_get (table_with (replicate 16 0x40) ∷ []) k) controller ∙ begins.is_table) in
+      let found : Some (record machine_account { hash = replicate 16 0x40 }) ≡ Some begins.account =
+      sym (found_with (replicate 16 0x40)) ∙ ap (λ (t : AccountTable). account_in t.accounts (machine_name (codes "FILE1"))) table
+      ∙ ap (λ (plan : MemberPlan). account_in begins.table.accounts (machine_name plan.computer)) own ∙ begins.found in
+      let hash : replicate 16 0x40 ≡ begins.secret = ap (λ (account : Account). account.hash) (some_is (record machine_account { hash = replicate 16 0x40 }) begins.account found) ∙ begins.hash in
+      let secret : old_secret ≡ begins.secret = ap (λ (s : SecretsState). s.current) (ap (λ (plan : MemberPlan). plan.secrets) own ∙ begins.one) in
+      let never : 0x40 ≡ 0x41 = ap (λ (one : List ℕ). get_or one 0 0) (hash ∙ sym secret) in
+      omega (arith, never);
+  fails_two = λ begins.
+      let own : member_with both_secrets ≡ begins.own = some_is (member_with both_secrets) begins.own begins.is_plan in
+      absurd (let none : both_secrets.next ≡ None = ap (λ (s : SecretsState). s.next) (ap (λ (plan : MemberPlan). plan.secrets) own ∙ begins.one) in cc);
+  fails_unknown = λ begins.
+      let own : able_member old_secret ≡ begins.own = some_is (able_member old_secret) begins.own begins.is_plan in
+      let controller : 0 ≡ begins.controller =
+      the_controller (record change_plan { tables = able_table (small_account ∷ []) ∷ [] }) begins.own begins.controller refl own begins.reaches in
+      let table : able_table (small_account ∷ []) ≡ begins.table =
+      some_is (able_table (small_account ∷ [])) begins.table (ap (λ (k : ℕ). slice_get (able_table (small_account ∷ []) ∷ []) k) controller ∙ begins.is_table) in
+      no_some begins.account (sym found_none ∙ ap (λ (t : AccountTable). account_in t.accounts (machine_name (codes "FILE1"))) table
+      ∙ ap (λ (plan : MemberPlan). account_in begins.table.accounts (machine_name plan.computer)) own ∙ begins.found);
+  fails_named = λ begins.
+      let own : able_member old_secret ≡ begins.own = some_is (able_member old_secret) begins.own begins.is_plan in
+      begins.only (OfMember 1) (codes "file1") (λ same. absurd (omega (arith, same_member 1 0 same))) refl
+      (subst (λ (plan : MemberPlan). SameName (codes "file1") plan.computer) own names_alike);
+  stranger = refl;
+  stranger_earlier = refl;
+  stranger_status = refl;
+  own = refl;
+  barred = refl;
+  logon = refl;
+}
+
+pub of_never_apart : OfNeverApart
+of_never_apart = record {
+  both = apart_by (member_holding both_secrets) both_secrets old_secret [] (holding both_secrets old_secret among_old) among_old;
+  set = apart_by (member_holding both_secrets) both_secrets new_secret (set_passed ∷ []) (holding both_secrets new_secret among_new) among_new;
+  tried_early = apart_by (member_holding tried_secrets) both_secrets old_secret [] (holding tried_secrets old_secret among_old_tried) among_old;
+  tried = apart_by (member_holding tried_secrets) both_secrets new_secret (set_passed ∷ []) (holding tried_secrets new_secret among_new_tried) among_new;
+  learned = apart_by (member_holding (alone new_secret)) (alone new_secret) new_secret (set_passed ∷ []) (holding (alone new_secret) new_secret (among_alone new_secret)) (among_alone new_secret);
+  stopped = apart_by stopped_member both_secrets new_secret (set_passed ∷ []) (runs_not new_secret) among_new;
+  changed = begun_apart;
+  two = two_apart;
+  stranger = λ own member begins. absurd (let never = own in cc);
+  fails_other = λ claim.
+      not_among other_secret old_secret both_secrets.next other_is_old (λ is. other_is_new (sym (some_is new_secret other_secret is)))
+      (held_so both_secrets both_secrets other_secret (set_passed ∷ []) refl claim);
+  fails_held = λ claim. not_among old_secret new_secret None old_is_new (none_next old_secret new_secret) (held_so (alone new_secret) both_secrets old_secret [] refl claim);
+  fails_confirmed = λ claim.
+      not_among old_secret new_secret None old_is_new (none_next old_secret new_secret) (kept_so (member_holding both_secrets) (alone new_secret) old_secret [] refl claim);
+  fails_kept = λ claim.
+      not_among new_secret old_secret None (λ is. old_is_new (sym is)) (none_next new_secret old_secret) (kept_so (member_holding both_secrets) (alone old_secret) new_secret (set_passed ∷ []) refl claim);
+  fails_exchanged = λ claim.
+      not_among old_secret new_secret None old_is_new (none_next old_secret new_secret) (held_so (alone new_secret) (alone new_secret) old_secret (set_passed ∷ []) refl claim);
+  fails_stopped = λ claim.
+      not_among new_secret old_secret None (λ is. old_is_new (sym is)) (none_next new_secret old_secret) (kept_so stopped_member (alone old_secret) new_secret (set_passed ∷ []) refl claim);
+}
+
+-- ---- a run, of which the claim is proved
+
+-- FILE1's account
+machine_form : (byte : ℕ) → byte < 256 → IsAccount (record machine_account { hash = replicate 16 byte })
+machine_form byte small = record {
+  name = a_name (codes "FILE1$") (omega arith)
+      ((omega arith, omega arith), ((omega arith, omega arith), ((omega arith, omega arith), ((omega arith, omega arith), ((omega arith, omega arith), ((omega arith, omega arith), tt))))));
+  rid = account_form.rid;
+  hash = (refl, All-replicate IsByte 16 byte small);
+  full_name = account_form.full_name;
+  group = account_form.group;
+  few_groups = account_form.few_groups;
+  groups = account_form.groups;
+  expires = account_form.expires;
+  password_set = account_form.password_set;
+  password_expires = account_form.password_expires;
+  few_workstations = account_form.few_workstations;
+  workstations = account_form.workstations;
+  few_extra_sids = account_form.few_extra_sids;
+  extra_sids = account_form.extra_sids;
+  bad_count = account_form.bad_count;
+  few_controllers = account_form.few_controllers;
+  controllers = account_form.controllers;
+}
+
+change_table_form : (byte : ℕ) → byte < 256 → IsTable (table_with (replicate 16 byte))
+change_table_form byte small = record {
+  domain = table_form.domain;
+  sid = table_form.sid;
+  numbers = table_form.numbers;
+  lockout = table_form.lockout;
+  few = omega arith;
+  accounts = All-from_recursion IsAccount (table_with (replicate 16 byte)).accounts (machine_form byte small, tt);
+  distinct = refl;
+  trusts = table_form.trusts;
+  distinct_domains = refl;
+}
+
+member_form : (name : List ℕ) (byte number : ℕ) → IsName name → byte < 256 → number < 256 →
+    IsMemberPlan (record (able_member (replicate 16 byte)) { computer = name; controller = number ∷ [] })
+member_form name byte number named small short = record {
+  computer = named;
+  domain = table_form.domain;
+  secret = (refl, All-replicate IsByte 16 byte small);
+  next = tt;
+  controller = All-from_recursion IsByte (number ∷ []) (short, tt);
+}
+
+file1_named : IsName (codes "FILE1")
+file1_named = a_name (codes "FILE1") (omega arith)
+    ((omega arith, omega arith), ((omega arith, omega arith), ((omega arith, omega arith), ((omega arith, omega arith), ((omega arith, omega arith), tt)))))
+
+file2_named : IsName (codes "FILE2")
+file2_named = a_name (codes "FILE2") (omega arith)
+    ((omega arith, omega arith), ((omega arith, omega arith), ((omega arith, omega arith), ((omega arith, omega arith), ((omega arith, omega arith), tt)))))
+
+change_schedule : IsSchedule two_plan change_moves
+change_schedule = record {
+  start = record { tables = refl; clients = All-nil CanLogOn };
+  forms = record {
+    tables = All-from_recursion IsTable two_plan.tables (change_table_form 0x33 (omega arith), (change_table_form 0x41 (omega arith), tt));
+    controllers = All-from_recursion IsName two_plan.controllers (
+      a_name (codes "PDC") (omega arith) ((omega arith, omega arith), ((omega arith, omega arith), ((omega arith, omega arith), tt))),
+      (a_name (codes "BDC") (omega arith) ((omega arith, omega arith), ((omega arith, omega arith), ((omega arith, omega arith), tt))), tt),
+    );
+    members = All-from_recursion IsMemberPlan two_plan.members (
+      member_form (codes "FILE2") 0x33 0 file2_named (omega arith) (omega arith),
+      (member_form (codes "FILE1") 0x41 1 file1_named (omega arith) (omega arith), tt),
+    );
+    clients = All-nil IsClientPlan;
+    now = omega arith;
+    seed = (refl, All-replicate IsByte 32 0 (omega arith));
+  };
+  few = omega arith;
+  each = All-from_recursion IsMove change_moves (tt, tt);
+  move_forms = All-from_recursion HasMoveForm change_moves ((omega arith, (refl, All-replicate IsByte 16 0x61 (omega arith))), tt);
+}
+
+-- no seed comes round where nothing was judged
+none_wraps : (later rest : List Judging) (second : Judging) → [] ≡ later ++ second ∷ rest → ⊥
+none_wraps [] rest second is = let never = is in cc
+none_wraps (j ∷ later) rest second is = let never = is in cc
+
+change_clear : IsClear (past two_plan change_moves).book
+change_clear = record { apart = refl; onward = λ wraps. none_wraps wraps.later (wraps.between ++ wraps.first ∷ wraps.earlier) wraps.second wraps.all }
+
+alone_named : (plan : Plan) (own : MemberPlan) → plan.members ≡ own ∷ [] → (who : RequesterId) (name : List ℕ) → who ≢ OfMember 0 → computer_of plan who ≡ Some name → ⊥
+alone_named plan own is (OfMember zero) name other named = other refl
+alone_named plan own is (OfMember (suc k)) name other named =
+    no_some name (sym (ap (λ (members : List MemberPlan). option_map (λ (one : MemberPlan). one.computer) (slice_get members (suc k))) is) ∙ named)
+
+pub of_proved_run : OfProvedRun
+of_proved_run = record {
+  schedule = change_schedule;
+  clear = change_clear;
+  own = refl;
+  begins = second_begins;
+  claimed = λ proved. proved.never_apart (plain_plan two_plan refl) change_schedule change_clear refl 1 second_begins;
+}
+
+-- ---- the member of the run in which ann logs on
+
+ann_found : account_in corp.accounts (machine_name (codes "FILE1")) ≡ Some file1
+unfolding place_in same_name names.upper_of
+ann_found = refl
+
+pub ann_begins : BeginsAlike ann_plan 0
+ann_begins = record {
+  own = file1_plan;
+  is_plan = refl;
+  secret = replicate 16 3;
+  one = refl;
+  controller = 0;
+  reaches = refl;
+  table = corp;
+  is_table = refl;
+  account = file1;
+  found = ann_found;
+  hash = refl;
+  only = λ who name other named same. alone_named ann_plan file1_plan refl who name other named;
+}

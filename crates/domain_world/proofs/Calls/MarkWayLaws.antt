@@ -1,0 +1,342 @@
+-- In every run each unit that is marked as a request goes on from the end that dialled its link, and each that is
+-- marked as a reply goes back to it. It serves `Proved.ways`.
+use Rattle.std.proofs.Common.{◌≡◌, ℕ, zero, suc, ◌==◌, ◌&&◌, not, Bool, true, false, List, [], ◌∷◌, ◌++◌, drop, length, map, Option, Some, None, refl, sym, ap, ◌∙◌, subst, slice_get}
+use Rattle.std.specs.List.{AllByRecursion}
+use Rattle.authenticators.specs.Channels.{ChannelIdentity}
+use Rattle.outside.specs.declared.event.Event.TheVariants as event
+use Rattle.controller_calls.specs.declared.calls.ControllerCall.TheVariants as call
+use Rattle.end_links.specs.Serving.{ServedUnit}
+use Rattle.channel_client.specs.declared.state.SetStep.TheVariants as set_step
+use Rattle.channel_client.specs.Effects.{step_in}
+use Rattle.channel_client.specs.Machine.{Taking}
+use Rattle.channel_client.specs.State.{Requester}
+use Rattle.channel_client.specs.declared.answers.Taken.{Taken}
+use Rattle.channel_client.specs.declared.answers.Taken.TheVariants as taken
+use Rattle.channel_client.specs.declared.state.Question.TheVariants as question
+use Rattle.channel_client.specs.declared.state.Standing.{Standing}
+use Rattle.channel_client.specs.declared.state.Standing.TheVariants as standing
+use Rattle.channel_client.specs.declared.state.Step.{Step}
+use Rattle.channel_client.specs.declared.state.Step.TheVariants as step
+use Rattle.domain_controller.specs.Hearing.{hear}
+use Rattle.domain_controller.specs.Machine.{Desk}
+use Rattle.domain_controller.specs.declared.hearing.Heard.{Heard}
+use Rattle.domain_controller.specs.declared.hearing.Heard.TheVariants as heard
+use Rattle.controller_calls.specs.declared.line.Line.{Line}
+use Rattle.domain_controller.specs.declared.state.Talk.{Talk}
+use Rattle.domain_controller.proofs.TrustPlaceLaws.{got_all}
+use Rattle.member_server.specs.Turns.{AtTurn}
+use Rattle.channel_turns.specs.declared.state.TurnTalk.{TurnTalk}
+use Rattle.channel_events.specs.Marks.{Mark, Plain}
+use Rattle.step_notes.specs.ControllerNotes.{Where, answer_on, call_answer, channel_in, has_passed, heard_answer, judging_by, judging_of, opened_by, opened_mark, opening, passing, reply_mark, units_of_controller}
+use Rattle.step_notes.specs.Marking.{answered_marks, mark_if}
+use Rattle.step_notes.specs.MemberNotes.{asked_note, taken_note, taking_at, taking_note, turn_note, turn_units, TurnNote}
+use Rattle.step_notes.specs.Records.{Book, Judging, OfMember, RequesterId, Sent, computer_named, unit_in}
+use Rattle.controller_calls.specs.declared.calls.ControllerCall.{ControllerCall}
+use Rattle.step_notes.specs.Served.{work_after}
+use Rattle.world_moves.specs.declared.bag.BagUnit.{BagUnit}
+use Rattle.world_moves.specs.declared.moves.Move.{Move}
+use Rattle.world_moves.specs.declared.plan.Plan.{Plan}
+use Rattle.world_moves.specs.declared.state.State.{State}
+use Rattle.world_moves.specs.declared.links.EndId.{EndId}
+use Rattle.world_moves.specs.declared.links.EndId.TheVariants.{Controller, Member, Client}
+use Rattle.world_moves.specs.declared.links.Route.{Route}
+use Rattle.world_moves.specs.Acting.{Heard as EndHeard, hear_and_act, heard_by}
+use Rattle.world_moves.specs.Bag.{settle_at}
+use Rattle.world_moves.specs.Ends.{EndStep, client_step, controller_step, member_step}
+use Rattle.domain_world.specs.Accepting.Answered.{IsItsWay, MarksHaveTheirWay}
+use Rattle.domain_world.specs.Past.{Coming, at_controller, controller_asked, is_sent_on, marks_by, marks_of, note_at, note_given, note_messages, past, sent_at}
+use Rattle.wire_base.proofs.ListLaws.{got_nothing, some_is}
+use Rattle.world_moves.proofs.LinkFrameLaws.{StaysOnLinks, actions_stay, quiet_stays}
+use Rattle.domain_world.proofs.Frames.BagFrameLaws.{IsMarked, IsOfUnit, IsServer, MarksStay, OfEachUnit, UnitFact, bag_at, controller_marks, each_more, marked_more, member_marks, others_marked, settled_each}
+use Rattle.domain_world.proofs.Frames.FrameLaws.{Fact}
+use Rattle.domain_world.proofs.Frames.EveryStepLaws.{every_acted, stepped}
+use Rattle.domain_world.proofs.Moves.MarkPlaceLaws.{settled_length}
+use Rattle.domain_world.proofs.Frames.MoveFrameLaws.{HoldsAfterMoves, moves_keep}
+use Rattle.domain_world.proofs.Frames.MoveKeepLaws.{AtWork, KeepsMovesBy, MoveFact, NoSide, every}
+use Rattle.domain_world.proofs.Moves.OpenMadeLaws.{IsMore, IsOnSide, MoreOf, goes_on, no_more, side_of}
+use Rattle.domain_world.proofs.Frames.TurnFrameLaws.{asked_book, asked_marks, turns_sent}
+
+-- ---- what each end marks
+
+-- no reply; and no request
+abbrev pub IsRequest : Mark → Type 0
+IsRequest mark = IsItsWay false mark
+
+abbrev IsReply : Mark → Type 0
+IsReply mark = IsItsWay true mark
+
+asked_way : (st : Option Step) (how : Standing) (controller : ℕ) (before after : Requester) → IsRequest (asked_note st how controller before after).mark
+asked_way None how controller before after = tt
+asked_way (Some (step.Bind c)) how controller before after = tt
+asked_way (Some (step.Reply (question.Challenge client))) how controller before after = tt
+asked_way (Some (step.Reply question.Authenticate)) standing.Nothing controller before after = tt
+asked_way (Some (step.Reply question.Authenticate)) (standing.Half client server) controller before after = refl
+asked_way (Some (step.Reply question.Authenticate)) (standing.Open o) controller before after = tt
+asked_way (Some (step.Reply question.Logon)) standing.Nothing controller before after = tt
+asked_way (Some (step.Reply question.Logon)) (standing.Half client server) controller before after = tt
+asked_way (Some (step.Reply question.Logon)) (standing.Open o) controller before after = refl
+asked_way (Some (step.Set (set_step.Bind c))) how controller before after = tt
+asked_way (Some (step.Set set_step.Reply)) standing.Nothing controller before after = tt
+asked_way (Some (step.Set set_step.Reply)) (standing.Half client server) controller before after = tt
+asked_way (Some (step.Set set_step.Reply)) (standing.Open o) controller before after = refl
+
+taken_way : (what : Taken) (controller : ℕ) (before after : Requester) → IsRequest (taken_note what controller before after).mark
+taken_way (taken.Skip right) controller before after = tt
+taken_way (taken.Next right frames) controller before after = asked_way (step_in after.turn) after.standing controller before after
+taken_way taken.Half controller before after = tt
+taken_way taken.Opened controller before after = tt
+taken_way (taken.Answer place verdict) controller before after = tt
+taken_way (taken.Dropped place cause) controller before after = tt
+taken_way taken.Set controller before after = tt
+
+taking_way : (taking : Option Taking) (controller : ℕ) (before : Requester) → IsRequest (taking_note taking controller before).mark
+taking_way None controller before = tt
+taking_way (Some taking) controller before = taken_way taking.taken controller before taking.state
+
+opened_way : (unit : Option ℕ) (channel : ChannelIdentity) (number : ℕ) → IsReply (opened_mark unit channel number)
+opened_way None channel number = tt
+opened_way (Some unit) channel number = refl
+
+opening_way : (channel : Option ChannelIdentity) (w : Where) (number : ℕ) → IsReply (opening channel w number).mark
+opening_way None w number = tt
+opening_way (Some channel) w number = opened_way (unit_in w.source) channel number
+
+reply_way : (unit : Option ℕ) (channel : ChannelIdentity) (number : ℕ) → IsReply (reply_mark unit channel number)
+reply_way None channel number = tt
+reply_way (Some unit) channel number = refl
+
+passing_way : (channel : Option ChannelIdentity) (j : Judging) → IsReply (passing channel j).mark
+passing_way None j = tt
+passing_way (Some channel) j = reply_way (unit_in j.source) channel j.number
+
+judging_way : (passed : Bool) (j : Judging) → IsReply (judging_by passed j).mark
+judging_way false j = tt
+judging_way true j = passing_way (channel_in j.controller (computer_named j.asked) j.checks) j
+
+call_way : (c : ControllerCall) (line : Line) (w : Where) (before : Desk) (after : Option Desk) → IsReply (call_answer c line w before after).mark
+call_way (call.Challenge c) line w before after = tt
+call_way (call.Authenticate c) line w before after = opening_way (opened_by w.controller c before) w line.call
+call_way (call.Judged c) line w before after = judging_way (has_passed (judging_of w line c before after).how) (judging_of w line c before after)
+
+heard_way : (what : Heard) (w : Where) (before : Desk) (after : Option Desk) → IsReply (heard_answer what w before after).mark
+heard_way (heard.Close cause) w before after = tt
+heard_way (heard.Answer bytes talk) w before after = tt
+heard_way (heard.Waits talk) w before after = tt
+heard_way (heard.Asked line c talk) w before after = call_way c line w before after
+
+pub if_marked : (P : Mark → Type 0) (sends : Bool) (mark : Mark) (more : List Mark) → P mark → AllByRecursion P more → AllByRecursion P (mark_if sends mark ++ more)
+if_marked P false mark more is each = each
+if_marked P true mark more is each = (is, each)
+
+pub answers_way : (link : ℕ) (w : Where) (units : List (ServedUnit Desk Talk)) → AllByRecursion IsReply (answered_marks (map (answer_on link w) units))
+answers_way link w [] = tt
+answers_way link w (unit ∷ units) =
+    if_marked IsReply (answer_on link w unit).sends (answer_on link w unit).mark (answered_marks (map (answer_on link w) units))
+    (heard_way (hear link unit.bytes unit.talk) w unit.work (work_after unit.part)) (answers_way link w units)
+
+pub turns_way : (who : RequesterId) (s : State) (units : List (ServedUnit AtTurn TurnTalk)) → AllByRecursion IsRequest (asked_marks who s units)
+turns_way who s [] = tt
+turns_way who s (unit ∷ units) =
+    let note : TurnNote = turn_note (controller_asked who s) unit in
+    if_marked IsRequest note.sends note.mark (asked_marks who s units)
+    (taking_way (taking_at unit) (controller_asked who s) unit.work.work.logons.channel) (turns_way who s units)
+
+-- ---- which unit gets which mark
+
+onward : (same back : Bool) → (same && not back) ≡ true → back ≡ false
+onward true false is = refl
+onward true true is = absurd (let x = is in cc)
+onward false back is = absurd (let x = is in cc)
+
+backward : (same back : Bool) → (same && back) ≡ true → back ≡ true
+backward true back is = is
+backward false back is = absurd (let x = is in cc)
+
+-- what is sent on the link in that direction goes so
+goes_so : (back : Bool) (link : ℕ) (unit : BagUnit) → is_sent_on link back unit ≡ true → unit.back ≡ back
+goes_so false link unit is = onward (unit.link == link) unit.back is
+goes_so true link unit is = backward (unit.link == link) unit.back is
+
+-- units of which each is marked so: those that are on the link in that direction by marks of that way, the others for
+-- no channel
+abbrev AreWay : List BagUnit → List Mark → Type 0
+AreWay units marks = (place : ℕ) (unit : BagUnit) (mark : Mark) → slice_get units place ≡ Some unit → slice_get marks place ≡ Some mark → IsItsWay unit.back mark
+
+first_way : (unit : BagUnit) (mark : Mark) (units : List BagUnit) (marks : List Mark) → IsItsWay unit.back mark → AreWay units marks → AreWay (unit ∷ units) (mark ∷ marks)
+first_way unit mark units marks is later zero one found there marked =
+    subst (λ (m : Mark). IsItsWay one.back m) (some_is mark found marked) (subst (λ (u : BagUnit). IsItsWay u.back mark) (some_is unit one there) is)
+first_way unit mark units marks is later (suc place) one found there marked = later place one found there marked
+
+by_way : (on back : Bool) (link : ℕ) (unit : BagUnit) (units : List BagUnit) (marks : List Mark) → is_sent_on link back unit ≡ on → AllByRecursion (IsItsWay back) marks →
+    ((rest : List Mark) → AllByRecursion (IsItsWay back) rest → AreWay units (marks_of link back units rest)) →
+    AreWay (unit ∷ units) (marks_by on marks (λ (rest : List Mark). marks_of link back units rest))
+by_way false back link unit units marks on each later = first_way unit Plain units (marks_of link back units marks) tt (later marks each)
+by_way true back link unit units [] on each later = first_way unit Plain units (marks_of link back units []) tt (later [] tt)
+by_way true back link unit units (mark ∷ marks) on each later =
+    first_way unit mark units (marks_of link back units marks)
+    (subst (λ (b : Bool). IsItsWay b mark) (sym (goes_so back link unit on)) each.0) (later marks each.1)
+
+units_way : (back : Bool) (link : ℕ) (units : List BagUnit) (marks : List Mark) → AllByRecursion (IsItsWay back) marks → AreWay units (marks_of link back units marks)
+units_way back link [] marks each = λ place unit mark there marked. absurd (got_nothing place unit there)
+units_way back link (unit ∷ units) marks each =
+    by_way (is_sent_on link back unit) back link unit units marks refl each (λ rest all. units_way back link units rest all)
+
+-- ---- a run
+
+abbrev pub OfUnit : UnitFact (Unit {0})
+OfUnit x number unit mark = IsItsWay unit.back mark
+
+abbrev AreTheirWay : List BagUnit → List Sent → Type 0
+AreTheirWay bag sent = OfEachUnit OfUnit tt bag sent
+
+-- where bytes come, each unit has its mark, unless a client is at that side of the link
+abbrev AllOn : Option Coming → List Route → List BagUnit → List Sent → Type 0
+AllOn None links bag sent = Unit {0}
+AllOn (Some w) links bag sent = (end : EndId) → IsOnSide links w.link w.back end → IsServer end → length sent ≡ length bag
+
+record GoTheirWay (on : Option Coming) (to : Option State) (links : List Route) (bag : List BagUnit) (sent : List Sent) : Type 0 where
+  each : AreTheirWay (bag_at to bag) sent
+  all : AllOn on links (bag_at to bag) sent
+
+abbrev Ways : MoveFact
+Ways n p s given b = GoTheirWay p.on p.to s.links s.bag b.sent
+
+all_on : (on : Option Coming) (links : List Route) (bag : List BagUnit) (sent : List Sent) → length sent ≡ length bag → AllOn on links bag sent
+all_on None links bag sent all = tt
+all_on (Some w) links bag sent all = λ end there server. all
+
+all_settled : (on : Option Coming) (number : ℕ) (links : List Route) (bag : List BagUnit) (sent : List Sent) → AllOn on links bag sent → AllOn on links (settle_at number bag) sent
+all_settled None number links bag sent all = tt
+all_settled (Some w) number links bag sent all = λ end there server. all end there server ∙ sym (settled_length number bag)
+
+-- the units that an end at work adds
+record Adds (end : EndId) (step : EndStep) (s : State) : Type 0 where
+  units : List BagUnit
+  is : (stepped end step s).bag ≡ s.bag ++ units
+
+end_adds : (end : EndId) (step : EndStep) (s : State) → Adds end step s
+end_adds end step s =
+    let heard : EndHeard = heard_by step s in
+    let more : IsMore s.links s.bag (stepped end step s).links (stepped end step s).bag =
+    actions_stay (MoreOf s.links s.bag) (goes_on s.links s.bag) end heard.actions heard.state (no_more s.links s.bag) in
+    record { units = more.units; is = more.is }
+
+abbrev EndWay : EndId → State → Book → Type 0
+EndWay end after now = AreTheirWay after.bag now.sent × (IsServer end → length now.sent ≡ length after.bag)
+
+-- a server's new units get marks of that way
+server_ways : (end : EndId) (step : EndStep) (s : State) (sent : List Sent) (link : ℕ) (back : Bool) (marks : List Mark) (at : ℕ) → AllByRecursion (IsItsWay back) marks → AreTheirWay s.bag sent →
+    length sent ≡ length s.bag → IsMarked OfUnit tt (stepped end step s).bag (sent ++ map (sent_at at) (marks_of link back (drop (length s.bag) (stepped end step s).bag) marks))
+server_ways end step s sent link back marks at each ways all =
+    let adds : Adds end step s = end_adds end step s in
+    marked_more OfUnit tt tt s (stepped end step s).bag sent link back marks at adds.units adds.is (λ number unit one there mark way. way)
+    (units_way back link adds.units marks each) (record { each = ways; all = all })
+
+end_ways : (end : EndId) (w : Coming) (piece : List ℕ) (s : State) (b : Book) → AreTheirWay s.bag b.sent → (IsServer end → length b.sent ≡ length s.bag) →
+    let after : State = (hear_and_act end (event.Bytes w.link piece) s).state in EndWay end after (note_at (Some end) w piece s after b)
+end_ways end w piece s b each all =
+    every_acted (λ (one : EndId) (step : EndStep) (after : State) (now : Book). (IsServer one → length b.sent ≡ length s.bag) → EndWay one after now) w piece s b
+    (λ one even. (each, even))
+    (λ at c is even.
+    let step : EndStep = controller_step (Some c) at (event.Bytes w.link piece) s.moment s.ends s.chances in
+    let marked = server_ways (Controller at) step s b.sent w.link true (controller_marks at c w piece s) w.at
+    (answers_way w.link (at_controller at c w s) (units_of_controller c w.link piece s.moment s.chances.left)) each (even refl) in (marked.each, (λ server. marked.all)))
+    (λ at m is even.
+    let step : EndStep = member_step (Some m) at (event.Bytes w.link piece) s.moment s.ends s.chances in
+    let after : State = stepped (Member at) step s in
+    let units : List (ServedUnit AtTurn TurnTalk) = turn_units m w.link piece s.moment s.chances.left in
+    let old : List Sent = (asked_book (OfMember at) w units s after (note_messages at m w piece s b)).sent in
+    let marked = server_ways (Member at) step s b.sent w.link false (member_marks at m w piece s) w.at (turns_way (OfMember at) s units) each (even refl) in
+    subst (λ (sent : List Sent).
+    let now : List Sent = sent ++ map (sent_at w.at) (marks_of w.link false (drop (length s.bag) after.bag) (member_marks at m w piece s)) in
+    AreTheirWay after.bag now × (IsServer (Member at) → length now ≡ length after.bag)) (sym (turns_sent (OfMember at) w units s after (note_messages at m w piece s b)))
+    (marked.each, (λ server. marked.all)))
+    (λ at c is even.
+    let step : EndStep = client_step (Some c) at (event.Bytes w.link piece) s.moment s.ends s.chances in
+    let adds : Adds (Client at) step s = end_adds (Client at) step s in (
+      each_more OfUnit tt tt s.bag adds.units (stepped (Client at) step s).bag b.sent adds.is (λ number unit one there mark way. way) each,
+      (λ server. absurd (let never : true ≡ false = server in cc)),
+    )) end all
+
+-- two ends at one side of a link are one
+one_end : (one other : EndId) (links : List Route) (link : ℕ) (back : Bool) → IsOnSide links link back one → IsOnSide links link back other → one ≡ other
+one_end one other links link back first second =
+    let found : Some first.route ≡ Some second.route = sym first.made ∙ second.made in
+    let route : first.route ≡ second.route = cc in
+    let both : Some one ≡ Some other = sym first.side ∙ ap (λ (r : Route). side_of back r) route ∙ second.side in cc
+
+-- a unit more
+sends_on : (sent : List Sent) (on : Option Coming) (to : Option State) → AtWork on to → StaysOnLinks (λ links map bag. GoTheirWay on to links bag sent)
+sends_on sent None None work = record {
+  sends = λ unit links map bag is ways. record {
+    each = each_more OfUnit tt tt bag (unit ∷ []) (bag ++ unit ∷ []) sent refl (λ number here one there mark way. way) ways.each;
+    all = tt;
+  };
+  shuts = λ link links map bag ways. ways;
+}
+sends_on sent None (Some after) work =
+    record { sends = λ unit links map bag is ways. record { each = ways.each; all = tt }; shuts = λ link links map bag ways. ways }
+sends_on sent (Some w) None work = absurd work
+sends_on sent (Some w) (Some after) work =
+    record { sends = λ unit links map bag is ways. record { each = ways.each; all = ways.all }; shuts = λ link links map bag ways. ways }
+
+ways_keep : KeepsMovesBy every ⊥ NoSide Ways
+ways_keep = record {
+  closes = λ n p end link s given b work none ways. ways;
+  opens = λ n at dial route s given b out none ways. record { each = ways.each; all = tt };
+  dialled = λ n at end link s given b side none ways. ways;
+  fails = λ n at end s b none ways. ways;
+  begins = λ n at client plan s b is none ways. ways;
+  comes = λ n end w piece s given b side came bytes none ways.
+      let heard = end_ways end w piece s b ways.each (λ server. ways.all end side server) in
+      record {
+        each = heard.0;
+        all = λ other there server. heard.1 (subst IsServer (one_end other end s.links w.link w.back there side) server);
+      };
+  reaches = λ n w s given b none ways. record { each = ways.each; all = ways.all };
+  acts = λ n p end what s given b work none ways.
+      quiet_stays (λ links map bag. GoTheirWay p.on p.to links bag b.sent) (sends_on b.sent p.on p.to work) end what s ways;
+  shuts = λ n p link s given b work none ways. ways;
+  answers = λ n at dial link there s given b is none ways. ways;
+  forgets = λ n at end s b none ways. ways;
+  settles = λ n at on number s b none ways. record {
+    each = settled_each OfUnit tt (λ k unit mark way. way) number s.bag b.sent ways.each;
+    all = all_settled on number s.links s.bag b.sent ways.all;
+  };
+  dials = λ n at dial s b is none ways. ways;
+  renews = λ n at end s b none ways. ways;
+  changes = λ n at member secret s b formed none ways. ways;
+  ticks = λ n at more s b none ways. ways;
+  over = λ n at on next s given b none ways.
+      let marked = others_marked OfUnit tt (λ number unit. tt) s.bag b.sent at ways.each in
+      record { each = marked.each; all = all_on next s.links s.bag (note_given at given s b).sent marked.all };
+}
+
+first_ways : (on : Option Coming) → GoTheirWay on None [] [] []
+first_ways on = record { each = λ number one there. absurd (got_nothing number one there); all = all_on on [] [] [] refl }
+
+-- in every run
+pub marks_have_their_way : (plan : Plan) (moves : List Move) → MarksHaveTheirWay (past plan moves)
+marks_have_their_way plan moves number unit one there marked =
+    let after : HoldsAfterMoves ⊥ Ways plan moves = moves_keep ⊥ Ways ways_keep plan moves (λ none. absurd none) first_ways in
+    let is : IsOfUnit OfUnit tt (past plan moves).world.state.bag number one.mark = after.holds.each number one marked in
+    subst (λ (u : BagUnit). IsItsWay u.back one.mark) (some_is is.unit unit (sym is.there ∙ there)) is.holds
+
+-- ---- beside another fact of marks, which one frame carries with it
+
+abbrev NothingElse : Unit {0} → Fact
+NothingElse x ends chances links = Unit {0}
+
+pub ways_stay : MarksStay (λ (b : Book). tt) NothingElse OfUnit
+ways_stay = record {
+  plain = λ x number unit. tt;
+  settles = λ x number unit mark is. is;
+  grows = λ end w piece s after b number unit one holds there sent is. is;
+  controllers = λ c at w piece s after b number unit mark there holds even new.
+      subst (λ (back : Bool). IsItsWay back mark) (sym new.way)
+      (got_all IsReply (answered_marks (map (answer_on w.link (at_controller at c w s)) (units_of_controller c w.link piece s.moment s.chances.left))) new.place mark
+      (answers_way w.link (at_controller at c w s) (units_of_controller c w.link piece s.moment s.chances.left)) new.marked);
+  members = λ m at w piece s b there holds side even units is on place unit mark got marked.
+      units_way false w.link units (member_marks at m w piece s)
+      (turns_way (OfMember at) s (turn_units m w.link piece s.moment s.chances.left)) place unit mark got marked;
+}

@@ -1,0 +1,102 @@
+-- What is proved of runs where nobody can be asked holds of those in which no call comes for a trusted domain. It
+-- serves `what_is_proved_alone_is_carried_over` and `claims_hold_of_runs`.
+use Rattle.std.proofs.Common.{◌≡◌, false, List, [], sym, ap, ap₂, subst, ◌∙◌}
+use Rattle.step_notes.specs.Records.{Book}
+use Rattle.world_moves.specs.declared.moves.Move.{Move}
+use Rattle.world_moves.specs.declared.plan.Plan.{Plan}
+use Rattle.world_moves.specs.Forms.{IsSchedule}
+use Rattle.world_moves.specs.Unforwarded.{IsUnforwarded, alone_plan}
+use Rattle.world_moves.specs.World.{World, first_world}
+use Rattle.domain_world.specs.Accepting.Answered.{CallsAskForMessages}
+use Rattle.domain_world.specs.Accepting.Carried.{MarkedUnitsAreWhole}
+use Rattle.domain_world.specs.Accepting.Sequences.{RepliesAnswerCalls, TurnsAreCalled}
+use Rattle.domain_world.specs.Claims.{AcceptsAllGranted, AcceptsOnlyGranted, IsClear, KeysAgree, PassesTheNextCredential, ReplaysBySum, ShortResponsesLetInOnce, TellsOfCallsAlone}
+use Rattle.domain_world.specs.Claims.Completeness.{EachSucceeds}
+use Rattle.domain_world.specs.Claims.Counts.{EachCallRaisesOnce}
+use Rattle.domain_world.specs.Claims.Grants.{GrantsWhoMayLogOn, GrantsWhoseHashIsStored}
+use Rattle.domain_world.specs.Claims.MarkedUnits.{AnswersHaveCalls, CallsAreMarked, RepliesAreMarked}
+use Rattle.domain_world.specs.Claims.Names.{LetsInByName}
+use Rattle.domain_world.specs.Claims.OneByOne.{NoneClashes}
+use Rattle.domain_world.specs.Claims.OpeningReplies.{OpeningsAreMarked, RepliesAnswerOpenings, RepliesAreToOpenings}
+use Rattle.domain_world.specs.Claims.Openings.{OpeningsAreInOrder}
+use Rattle.domain_world.specs.Claims.Replies.{RepliesCarryTheirJudgement}
+use Rattle.domain_world.specs.Claims.RequestNumbers.{RequestsHaveNumbers}
+use Rattle.domain_world.specs.Claims.Sessions.{ControllerRenewed, SessionsFollow, renewals}
+use Rattle.domain_world.specs.Claims.SharedSequences.{OneTurnIsOut, SequencesAreOwn, SequencesAreShared}
+use Rattle.domain_world.specs.Claims.Statuses.{StatusesAreTold}
+use Rattle.domain_world.specs.Claims.Tables.{TablesFollowVerdicts}
+use Rattle.domain_world.specs.Past.{Past, past}
+use Rattle.domain_world.specs.Unforwarded.{CarriesOver, IsProvedAlone}
+use Rattle.domain_world.proofs.Unforwarded.ErasedBookLaws.{books_alone}
+use Rattle.domain_world.proofs.Unforwarded.ErasedLaws.{runs_alone}
+use Rattle.domain_world.proofs.Unforwarded.RunSeenLaws.{complete_so, one_by_one_so, renewals_seen, schedule_seen}
+use Rattle.domain_world.proofs.Unforwarded.SeenLaws.{all_so, answered_so, call_marks_so, called_so, grants_so, once_so, one_turn_so, only_so, opened_by_so, opened_marks_so, opened_so, openings_so, own_so, reply_marks_so, seen, sessions_so, shared_so, tables_so}
+
+module _ (plan : Plan) (moves : List Move) (is : IsUnforwarded plan moves) (alone : IsProvedAlone (alone_plan plan) moves) where
+  abbrev run_seen : Past
+  run_seen = past plan moves
+
+  -- the run of the plan whose controllers ask nobody
+  abbrev other : Past
+  other = past (alone_plan plan) moves
+
+  same : other ≡ seen run_seen
+  same = ap₂ (λ (w : World) (b : Book). record { plan = alone_plan plan; world = w; book = b }) (runs_alone plan moves is) (books_alone plan moves is)
+
+  -- what holds of it holds of this run, as it is where nobody can be asked
+  on : (Holds : Past → Type 0) → Holds other → Holds (seen run_seen)
+  on Holds holds = subst Holds same holds
+
+  schedule_alone : IsSchedule plan moves → IsSchedule (alone_plan plan) moves
+  schedule_alone schedule = schedule_seen plan moves schedule
+
+  calm_so : run_seen.book.clash ≡ false → other.book.clash ≡ false
+  calm_so calm = ap (λ (b : Book). b.clash) (books_alone plan moves is) ∙ calm
+
+  clear_so : IsClear run_seen.book → IsClear other.book
+  clear_so clear = subst IsClear (sym (books_alone plan moves is)) clear
+
+  sessions_here : SessionsFollow run_seen (renewals moves (first_world plan) [])
+  sessions_here =
+      sessions_so run_seen (renewals moves (first_world plan) [])
+      (subst (λ (renewed : List ControllerRenewed). SessionsFollow (seen run_seen) renewed) (renewals_seen plan moves is)
+      (on (λ (q : Past). SessionsFollow q (renewals moves (first_world (alone_plan plan)) [])) alone.sessions))
+
+  carried_over : IsProvedAlone plan moves
+  carried_over = record {
+    openings = openings_so run_seen (on OpeningsAreInOrder alone.openings);
+    opened = opened_so run_seen (on RepliesAnswerOpenings alone.opened);
+    opened_by = λ schedule calm. opened_by_so run_seen (on RepliesAreToOpenings (alone.opened_by (schedule_alone schedule) (calm_so calm)));
+    numbers = λ schedule. on RequestsHaveNumbers (alone.numbers (schedule_alone schedule));
+    credentials = on PassesTheNextCredential alone.credentials;
+    alone = on TellsOfCallsAlone alone.alone;
+    replays = on ReplaysBySum alone.replays;
+    grants = grants_so run_seen (on GrantsWhoMayLogOn alone.grants);
+    let_on = on GrantsWhoseHashIsStored alone.let_on;
+    statuses = on StatusesAreTold alone.statuses;
+    tables = tables_so run_seen (on TablesFollowVerdicts alone.tables);
+    sessions = sessions_here;
+    replies = on RepliesCarryTheirJudgement alone.replies;
+    answered = λ schedule calm. answered_so run_seen (on RepliesAnswerCalls (alone.answered (schedule_alone schedule) (calm_so calm)));
+    names = λ schedule calm. on LetsInByName (alone.names (schedule_alone schedule) (calm_so calm));
+    only = λ schedule clear. only_so run_seen (on AcceptsOnlyGranted (alone.only (schedule_alone schedule) (clear_so clear)));
+    all = λ schedule clear. all_so run_seen (on AcceptsAllGranted (alone.all (schedule_alone schedule) (clear_so clear)));
+    keys = λ schedule clear. on KeysAgree (alone.keys (schedule_alone schedule) (clear_so clear));
+    counts = λ schedule clear. on EachCallRaisesOnce (alone.counts (schedule_alone schedule) (clear_so clear));
+    once = λ schedule clear. once_so run_seen (on ShortResponsesLetInOnce (alone.once (schedule_alone schedule) (clear_so clear)));
+    one_turn = one_turn_so run_seen (on OneTurnIsOut alone.one_turn);
+    own = own_so run_seen (on SequencesAreOwn alone.own);
+    sequences = λ schedule clear. shared_so run_seen (on SequencesAreShared (alone.sequences (schedule_alone schedule) (clear_so clear)));
+    called = λ schedule clear. called_so run_seen (on TurnsAreCalled (alone.called (schedule_alone schedule) (clear_so clear)));
+    whole = λ schedule. on MarkedUnitsAreWhole (alone.whole (schedule_alone schedule));
+    have_calls = λ schedule. on AnswersHaveCalls (alone.have_calls (schedule_alone schedule));
+    asks_for = λ schedule. on CallsAskForMessages (alone.asks_for (schedule_alone schedule));
+    call_marks = λ schedule. call_marks_so run_seen (on CallsAreMarked (alone.call_marks (schedule_alone schedule)));
+    reply_marks = λ schedule. reply_marks_so run_seen (on RepliesAreMarked (alone.reply_marks (schedule_alone schedule)));
+    opened_marks = λ schedule. opened_marks_so run_seen (on OpeningsAreMarked (alone.opened_marks (schedule_alone schedule)));
+    complete = complete_so plan moves is (on (λ (q : Past). EachSucceeds q moves) alone.complete);
+    one_by_one = one_by_one_so plan moves is (on (λ (q : Past). NoneClashes q moves) alone.one_by_one);
+  }
+
+pub carries_over : CarriesOver
+carries_over = carried_over

@@ -1,6 +1,0 @@
--- Logons at any member, whatever its controller answers: what controllers answer, the phases, and where they lead.
-pub mod AnyPhases
-pub mod AnyStarts
-pub mod ControllerAnswers
-pub mod GrantRests
-pub mod SetAnswers
