@@ -105,6 +105,10 @@ class Dropped(Exception):
 class Requester:
     """The end that asks, by the rules of the shared channel, and the line that is written of its steps."""
 
+    # the flags that it offers, and those that it needs granted
+    offered, needed = OFFERED, RC4_FLAG
+    operation = "turns.run"
+
     def __init__(self, secret=b"\x41" * 16, computer="FILE1", kind=2, place=0, call=1):
         self.secret, self.computer, self.account, self.kind = secret, computer.encode(), (computer + "$").encode("utf-16-le"), kind
         self.waiting, self.place, self.call, self.turn = [], place, call, None
@@ -118,7 +122,7 @@ class Requester:
         self.answers.append(answer)
 
     def case(self):
-        return line("turns.run", *self.words), steps(self.answers)
+        return line(self.operation, *self.words), steps(self.answers)
 
     def key(self):
         return strong_key(self.secret, self.client, self.server)
@@ -145,8 +149,12 @@ class Requester:
         self.add(f"fill/{count}", [self.let_wait(info) for _ in range(count)][-1])
         return self
 
+    def draws(self):
+        """Whether a turn that starts draws a challenge."""
+        return self.client is None
+
     def can(self):
-        self.add("can", f"{truth(self.waiting and self.turn is None)} {truth(self.client is None)}")
+        self.add("can", f"{truth(self.waiting and self.turn is None)} {truth(self.draws())}")
         return self
 
     # secrets
@@ -176,7 +184,7 @@ class Requester:
             return CHALLENGE, {"primary": None, "computer": computer, "challenge": challenge}
         if self.seed is None:
             return AUTHENTICATE, {"primary": None, "account": self.account, "channel": self.kind, "computer": computer,
-                                  "credential": credential(self.key(), self.client), "flags": OFFERED}
+                                  "credential": credential(self.key(), self.client), "flags": self.offered}
         made = credential(self.key(), plus(self.seed, timestamp)), timestamp
         self.seed = plus(self.seed, timestamp + 1)
         self.awaited = credential(self.key(), self.seed)
@@ -185,6 +193,9 @@ class Requester:
                          "hidden": hidden_by(self.key(), self.next)}
         return LOGON, {"server": None, "computer": computer, "authenticator": made, "returned": (ZEROS, 0), "info": info, "validation": 3}
 
+    def bind(self, number):
+        return whole(BIND, call=number, send=LIMIT, receive=LIMIT, group=0, contexts=[(0, NETLOGON, [NDR])])
+
     def start(self, timestamp=1_700_000_000, challenge="1011121314151617"):
         answer = "none"
         if self.waiting and self.turn is None:
@@ -192,8 +203,7 @@ class Requester:
             number = self.number()
             opnum, fields = self.begin(timestamp, bytes.fromhex(challenge), info)
             self.turn = {"number": number, "place": place, "opnum": opnum, "fields": fields, "bound": False}
-            bind = whole(BIND, call=number, send=LIMIT, receive=LIMIT, group=0, contexts=[(0, NETLOGON, [NDR])])
-            answer = write_unit(bind).hex()
+            answer = write_unit(self.bind(number)).hex()
         self.add(f"start/{timestamp}/{challenge}", answer)
         return self
 
@@ -215,7 +225,11 @@ class Requester:
         stub = write_set(**turn["fields"]) if turn["opnum"] == SET else write("call", turn["opnum"], turn["fields"]).stub
         turn.update(bound=True, number=self.number())
         unit = whole(REQUEST, call=turn["number"], hint=len(stub), context=0, opnum=turn["opnum"], stub=stub)
-        return "next " + ",".join(frame.hex() for frame in frames_of(unit, max(1432, min(LIMIT, receive))))
+        return "next " + ",".join(frame.hex() for frame in self.frames(unit, receive))
+
+    def frames(self, unit, receive):
+        """The frames of a request, for a peer that receives so many bytes."""
+        return frames_of(unit, max(1432, min(LIMIT, receive)))
 
     def judge(self, reply):
         turn = self.turn
@@ -228,7 +242,7 @@ class Requester:
         if turn["opnum"] == AUTHENTICATE:
             if reply["credential"] != credential(self.key(), self.server):
                 raise Dropped("NotNext")
-            if reply["flags"] & ~OFFERED or not reply["flags"] & RC4_FLAG:
+            if reply["flags"] & ~self.offered or self.needed & ~reply["flags"]:
                 raise Dropped("BadReply")
             self.seed, self.turn = credential(self.key(), self.client), None
             return "opened"
@@ -262,17 +276,18 @@ class Requester:
             raise Dropped("BadReply") from None
         return self.judge(reply)
 
+    def taken(self, unit):
+        """What a unit comes to for the turn that is out."""
+        place = self.turn["place"]
+        try:
+            return self.hear(unit)
+        except Dropped as cause:
+            self.drop()
+            return f"dropped {place} {cause}"
+
     def take(self, unit):
         data = write_unit(unit) if isinstance(unit, dict) else unit
-        answer = "no turn"
-        if self.turn:
-            place = self.turn["place"]
-            try:
-                answer = self.hear(read_unit(data))
-            except Dropped as cause:
-                self.drop()
-                answer = f"dropped {place} {cause}"
-        self.add(f"take/{data.hex()}", answer)
+        self.add(f"take/{data.hex()}", self.taken(read_unit(data)) if self.turn else "no turn")
         return self
 
     # units that answer the step that waits
@@ -280,17 +295,21 @@ class Requester:
     def ack(self, receive=4280, results=((0, 0, NDR),), **fields):
         return self.take(ack_of(self.turn["number"], receive, results, **fields))
 
-    def reply(self, stub, **fields):
+    def stub_of(self, stub):
+        """The stub of a reply that is given by its fields."""
         if isinstance(stub, dict):
-            stub = write_set_reply(**stub) if self.turn["opnum"] == SET else write("reply", self.turn["opnum"], stub).stub
-        return self.take(response_of(self.turn["number"], stub, **fields))
+            return write_set_reply(**stub) if self.turn["opnum"] == SET else write("reply", self.turn["opnum"], stub).stub
+        return stub
+
+    def reply(self, stub, **fields):
+        return self.take(response_of(self.turn["number"], self.stub_of(stub), **fields))
 
     def half(self, server="2021222324252627"):
         return self.start().ack().reply({"challenge": bytes.fromhex(server), "status": 0})
 
     def right(self, **fields):
         """The reply to Authenticate with the right credential."""
-        return {"credential": credential(self.key(), self.server), "flags": OFFERED, "status": 0} | fields
+        return {"credential": credential(self.key(), self.server), "flags": self.offered, "status": 0} | fields
 
     def opened(self):
         self.half().start().ack()

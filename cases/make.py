@@ -52,7 +52,9 @@ PROGRAMS = {
     "end_cases": [
         "end_links",
         "end_loop",
+        "channel_sealing",
         "channel_client",
+        "sealed_turns",
         "channel_turns",
         "controller_calls",
         "domain_controller",

@@ -50,7 +50,7 @@ COMMANDS = {
         MEMBER,
         "serve",
         SERVE_MEMBER,
-        ["listen", "computer", "domain", "secret", "controller", "seed", "boot", "events", "change"],
+        ["listen", "computer", "domain", "secret", "controller", "seed", "boot", "events", "change", "seal"],
     ),
     "Logon": (
         LOGON,
@@ -67,9 +67,10 @@ FILES = ["table", "seed", "secret", "hash", "secrets", "change"]
 NUMBERS = ["boot", "events", "number"]
 MOSTS = {"echo": 4096, "moves": 100000}
 TEXTS = ADDRESSES + NAMES + FILES
-DEFAULTS = {"events": MOST, "echo": 0, "level": "privacy", "auth": "v2", "secrets": None, "change": None}
+DEFAULTS = {"events": MOST, "echo": 0, "level": "privacy", "auth": "v2", "secrets": None, "change": None, "seal": "off"}
 LEVELS = {"connect": 2, "integrity": 5, "privacy": 6}
 AUTHS = {"v1": "V1", "v1ess": "V1Ess", "v2": "V2"}
+SWITCH = {"on": "true", "off": "false"}
 
 
 def words_of(command, values):
@@ -91,6 +92,8 @@ def field(option, value):
         return str(LEVELS[value])
     if option == "auth":
         return AUTHS[value]
+    if option == "seal":
+        return SWITCH[value]
     if option in TEXTS:
         return '"' + expanded(value) + '"'
     return str(int(value))
@@ -139,6 +142,8 @@ def wrong_values(option):
         return ["", "Connect", "connects", "connec", "2"]
     if option == "auth":
         return ["", "V2", "v", "v22", "ntlm", "v1"]
+    if option == "seal":
+        return ["", "On", "OFF", "o", "onn", "of", "offf", "1", "true", "yes"]
     most = MOSTS.get(option, MOST)
     return ["", "+7", "x", "7x", "0x7", "4294967296", "9999999999", "00000000001", "\u0667", str(most + 1)]
 
@@ -155,6 +160,8 @@ def right_values(option):
         return list(LEVELS)
     if option == "auth":
         return ["v1ess", "v2"]
+    if option == "seal":
+        return list(SWITCH)
     most = MOSTS.get(option, MOST)
     return ["0", "007", "0000000000", str(most), f"{most:010}"]
 
@@ -179,7 +186,7 @@ def of_values():
             dashed = words_of(first, {**usual, option: "-7"})
             out.append(asks(role, dashed, bad(0)))
             joined = [word for word in words_of(first, {key: usual[key] for key in usual if key != option})]
-            answer = bad(number) if option in NUMBERS or option in MOSTS or option in ["level", "auth"] else None
+            answer = bad(number) if option in NUMBERS or option in MOSTS or option in ["level", "auth", "seal"] else None
             if answer:
                 out.append(asks(role, joined + [f"--{option}=-7"], answer))
         # An order of the options that isn't that of the table.
@@ -216,6 +223,8 @@ def of_lines():
     out += [
         asks(MEMBER, member[:1] + ["--change", "c"] + member[1:], job("Member", {**SERVE_MEMBER, "change": "c"})),
         asks(MEMBER, member + ["--change=c", "--events", "3"], job("Member", {**SERVE_MEMBER, "change": "c", "events": "3"})),
+        asks(MEMBER, member[:1] + ["--seal", "on"] + member[1:], job("Member", {**SERVE_MEMBER, "seal": "on"})),
+        asks(MEMBER, member + ["--seal=on", "--change", "c"], job("Member", {**SERVE_MEMBER, "change": "c", "seal": "on"})),
     ]
     for words in [
         [],
@@ -253,6 +262,11 @@ def of_lines():
         (MEMBER, member + ["--change"]),
         (MEMBER, member + ["--change", "c", "--change", "c"]),
         (MEMBER, member + ["--changes", "c"]),
+        (MEMBER, member + ["--seal"]),
+        (MEMBER, member + ["--seal", "on", "--seal", "off"]),
+        (MEMBER, member + ["--sealed", "on"]),
+        (CONTROLLER, usual + ["--seal", "on"]),
+        (LOGON, words_of("logon", {**ASK, "seal": "on"})),
         (CONTROLLER, usual + ["--change", "c"]),
         (LOGON, words_of("logon", {**ASK, "secrets": "c"})),
         (LOGON, words_of("logon", {**ASK, "change": "c"})),

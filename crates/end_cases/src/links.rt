@@ -21,7 +21,7 @@ use wire_base::{Blob, Frames};
 // ---- bindings
 
 /// An interface: its UUID, a point and its version.
-fn interface(part: &str) -> anyhow::Result<Syntax> {
+pub(crate) fn interface(part: &str) -> anyhow::Result<Syntax> {
     let (uuid, version) = part.split_once('.').unwrap_or(("", ""));
     Ok(Syntax {
         uuid: sixteen(uuid)?,

@@ -12,6 +12,8 @@ mod hearing;
 mod links;
 mod members;
 mod scenes;
+mod sealed_turns;
+mod sealing;
 mod serves;
 mod small;
 mod turning;
@@ -31,6 +33,7 @@ fn answer(alloc: Global, words: &[&str]) -> anyhow::Result<String> {
         "links" => links::answer(alloc, operation, words),
         "member" => members::run(alloc, words),
         "loop" => serves::answer(alloc, operation, words),
+        "sealing" => sealing::answer(alloc, operation, words),
         "turning" => turning::answer(alloc, operation, words),
         "turns" => turns::answer(alloc, operation, words),
         "world" => worlds::answer(alloc, operation, words),

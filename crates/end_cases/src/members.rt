@@ -35,6 +35,7 @@ pub(crate) fn plan(alloc: Global, words: &[&str]) -> anyhow::Result<MemberPlan> 
         domain,
         secrets,
         controller,
+        sealed: false,
     })
 }
 

@@ -4,7 +4,7 @@
 use crate::scenes::{actions_text, add_left, chances, numbered_text};
 use crate::turns::{ask, channel, frames_text, info, set_next, use_secret};
 use case_words::{answer_steps, blob, bytes, no_case, number, number64, refusal_text, truth, word};
-use channel_client::{Channel, ShortFrames, Turn};
+use channel_client::{PlainChannel, ShortFrames, Turn};
 use channel_turns::{
     Dialling, Heard, TurnEnd, TurnEnded, TurnTalk, TurnWork, Turning, bind_turn, hear,
     link_answers, link_closes, link_hears, lose_turn, next_dial, next_turn, no_dial, serve_turn,
@@ -125,7 +125,11 @@ fn put_back(
 }
 
 /// A step of the channel alone: a logon waits, or a secret is given.
-fn do_on_channel(alloc: Global, channel: &mut Channel, parts: &[&str]) -> anyhow::Result<String> {
+fn do_on_channel(
+    alloc: Global,
+    channel: &mut PlainChannel,
+    parts: &[&str],
+) -> anyhow::Result<String> {
     match word(parts, 0) {
         "secret" => use_secret(alloc, channel, word(parts, 1)),
         "following" => set_next(alloc, channel, word(parts, 1)),
@@ -400,7 +404,7 @@ fn step(alloc: Global, scene: &mut Scene, step: &str) -> anyhow::Result<String> 
 }
 
 /// A scene of the line's channel and challenges.
-fn begin(alloc: Global, channel: Channel, draws: &str) -> anyhow::Result<Scene> {
+fn begin(alloc: Global, channel: PlainChannel, draws: &str) -> anyhow::Result<Scene> {
     Ok(Scene {
         turning: Some(Turning {
             channel,

@@ -1,4 +1,5 @@
-//! Cases of `channel_client`: a channel and its steps, a scenario a line.
+//! Cases of `channel_client`: a channel that seals nothing and its steps, a scenario a line. `sealed_turns` has those
+//! of a channel that may seal.
 
 ghost use Rattle.std.specs.Prelude.{◌≡◌, ◌≤◌, true, length};
 ghost use Rattle.logon_stubs.specs.Parts.{FitsText, FitsBytes};
@@ -6,11 +7,12 @@ ghost use Rattle.logon_stubs.specs.Writing.{CanWriteNetworkInfo};
 
 use crate::members::name;
 use crate::scenes::numbered_text;
+use crate::sealed_turns;
 use case_words::{
     add_part, answer_steps, blob, bytes, debug_text, eight, no_case, number, number16, sixteen,
     text, text_units, truth, word,
 };
-use channel_client::{Channel, TakeRefused, Taken, Turn};
+use channel_client::{PlainChannel, TakeRefused, Taken, Turn};
 use logon_stubs::NetworkInfo;
 use outside::DropCause;
 use rpc_units::{Unit, read_unit};
@@ -20,7 +22,7 @@ use wire_base::{Blob, Frames, NoMemory, Units};
 /// A channel at work, and the right to its turn while one is out.
 #[derive(Drop)]
 struct Scene {
-    channel: Channel,
+    channel: PlainChannel,
     turn: Option<Turn>,
 }
 
@@ -39,7 +41,7 @@ fn fits_bytes(bytes: &Blob) -> bool
 }
 
 /// Whether a logon may be asked.
-fn can_write(info: &NetworkInfo) -> bool
+pub(crate) fn can_write(info: &NetworkInfo) -> bool
     ensures { result ≡ true → CanWriteNetworkInfo info.now }
 {
     let texts = fits(&info.domain) && fits(&info.user) && fits(&info.workstation);
@@ -47,7 +49,7 @@ fn can_write(info: &NetworkInfo) -> bool
 }
 
 /// Whether an account's name is one that a channel may have.
-fn is_account(units: &Units) -> bool
+pub(crate) fn is_account(units: &Units) -> bool
     ensures { result ≡ true → length units.now ≤ 65 }
 {
     units.units().len() <= 65
@@ -91,7 +93,7 @@ fn no_text(alloc: Global) -> Units {
 }
 
 /// A logon without names and responses.
-fn empty_info(alloc: Global) -> NetworkInfo {
+pub(crate) fn empty_info(alloc: Global) -> NetworkInfo {
     NetworkInfo {
         domain: no_text(alloc),
         control: 0,
@@ -107,7 +109,7 @@ fn empty_info(alloc: Global) -> NetworkInfo {
 /// Lets a logon wait.
 pub(crate) fn ask(
     alloc: Global,
-    channel: &mut Channel,
+    channel: &mut PlainChannel,
     logon: NetworkInfo,
 ) -> anyhow::Result<String> {
     if !can_write(&logon) {
@@ -166,15 +168,19 @@ fn next_text(alloc: Global, frames: &Frames) -> anyhow::Result<String> {
     Ok(format!(in alloc; "next {frames}")?)
 }
 
-/// What a unit came to; the right goes back to the scene where it comes back.
-fn taken_text(alloc: Global, scene: &mut Scene, taken: Taken) -> anyhow::Result<String> {
+/// What a unit came to; the right goes back where it comes back.
+pub(crate) fn taken_text(
+    alloc: Global,
+    back: &mut Option<Turn>,
+    taken: Taken,
+) -> anyhow::Result<String> {
     match taken {
         Taken::Skip(turn) => {
-            scene.turn = Some(turn);
+            *back = Some(turn);
             Ok("skip".to_string(alloc)?)
         }
         Taken::Next(turn, frames) => {
-            scene.turn = Some(turn);
+            *back = Some(turn);
             next_text(alloc, frames.frames())
         }
         Taken::Half => Ok("half".to_string(alloc)?),
@@ -191,7 +197,7 @@ fn take_unit(alloc: Global, scene: &mut Scene, unit: &Unit) -> anyhow::Result<St
         return Ok("no turn".to_string(alloc)?);
     };
     match scene.channel.take(alloc, turn, unit) {
-        Ok(taken) => taken_text(alloc, scene, taken),
+        Ok(taken) => taken_text(alloc, &mut scene.turn, taken),
         Err(TakeRefused::Memory(_)) => Err(NoMemory.into()),
     }
 }
@@ -216,7 +222,7 @@ fn lose(alloc: Global, scene: &mut Scene) -> anyhow::Result<String> {
 #[tactic(auto, using(member_server::proofs::SecretLaws::giving))]
 pub(crate) fn use_secret(
     alloc: Global,
-    channel: &mut Channel,
+    channel: &mut PlainChannel,
     secret: &str,
 ) -> anyhow::Result<String> {
     let secret = sixteen(secret)?;
@@ -228,7 +234,7 @@ pub(crate) fn use_secret(
 }
 
 /// The secret of a word, or none.
-fn following(word: &str) -> anyhow::Result<Option<[u8; 16]>> {
+pub(crate) fn following(word: &str) -> anyhow::Result<Option<[u8; 16]>> {
     match word {
         "none" => Ok(None),
         secret => Ok(Some(sixteen(secret)?)),
@@ -239,7 +245,7 @@ fn following(word: &str) -> anyhow::Result<Option<[u8; 16]>> {
 #[tactic(auto, using(member_server::proofs::SecretLaws::giving))]
 pub(crate) fn set_next(
     alloc: Global,
-    channel: &mut Channel,
+    channel: &mut PlainChannel,
     secret: &str,
 ) -> anyhow::Result<String> {
     let next = following(secret)?;
@@ -272,7 +278,7 @@ fn step(alloc: Global, scene: &mut Scene, step: &str) -> anyhow::Result<String> 
 }
 
 /// The channel of a line: `SECRET COMPUTER ACCOUNT KIND`. None where it may not have the account.
-pub(crate) fn channel(alloc: Global, words: &[&str]) -> anyhow::Result<Option<Channel>> {
+pub(crate) fn channel(alloc: Global, words: &[&str]) -> anyhow::Result<Option<PlainChannel>> {
     let secret = sixteen(word(words, 1))?;
     let kind = number16(word(words, 4))?;
     let account = text_units(alloc, word(words, 3))?;
@@ -280,7 +286,7 @@ pub(crate) fn channel(alloc: Global, words: &[&str]) -> anyhow::Result<Option<Ch
         return Ok(None);
     }
     let computer = name(alloc, word(words, 2))?;
-    let channel = Channel::new(alloc, secret, computer, account, kind)?;
+    let channel = PlainChannel::new(alloc, secret, computer, account, kind)?;
     Ok(Some(channel))
 }
 
@@ -300,6 +306,6 @@ fn run(alloc: Global, words: &[&str]) -> anyhow::Result<String> {
 pub(crate) fn answer(alloc: Global, operation: &str, words: &[&str]) -> anyhow::Result<String> {
     match operation {
         "run" => run(alloc, words),
-        _ => no_case(alloc),
+        _ => sealed_turns::answer(alloc, operation, words),
     }
 }
