@@ -38,6 +38,25 @@ impl Model for ForwardedCall {
 }
 
 impl ForwardedCall {
+    /// The same logon again. It takes no memory.
+    pub fn copy(&self) -> ForwardedCall
+        ensures { result ≡ self.now }
+    {
+        ForwardedCall {
+            line: self.line,
+            validation: self.validation,
+            key: self.key,
+            credential: self.credential,
+        }
+    }
+
+    /// Where its answer goes, or None once that link has closed. It takes no memory.
+    pub fn line(&self) -> Option<Line>
+        ensures { result ≡ self.now.line }
+    {
+        self.line
+    }
+
     /// A link of that number was closed: where the answer was to go there, it goes nowhere.
     pub fn forget_link(&mut self, number: u32)
         ensures { self.new ≡ call_without number self.old }

@@ -62,7 +62,7 @@ turned happens parts after turning done beside lt at is rest happened put =
     ∙ ap (λ (d : Turned). after_turned parts.turn_of d parts) (happened ∙ ap (λ (t : Turning). happens t) is)
     ∙ sym (ap (λ found. turn_at found happens parts) at)
 
-some_inside : {T : Type 0} (items : List T) (at : ℕ) (item : T) → slice_get items at ≡ Some item → at < length items
+pub some_inside : {T : Type 0} (items : List T) (at : ℕ) (item : T) → slice_get items at ≡ Some item → at < length items
 some_inside [] zero item is = absurd (let x = is in cc)
 some_inside [] (suc at) item is = absurd (let x = is in cc)
 some_inside (first ∷ items) zero item is = omega arith
@@ -135,7 +135,7 @@ pub ruleset asking = (asked_place, asked_none, asked_full, unasked_same)
 
 -- ---- a logon that is answered
 
-none_kept : {A K V : Type 0} (same : A → K → Bool) (key : A) (entries : List (K × V)) → lookup same key entries ≡ None → take_out same key entries ≡ entries
+pub none_kept : {A K V : Type 0} (same : A → K → Bool) (key : A) (entries : List (K × V)) → lookup same key entries ≡ None → take_out same key entries ≡ entries
 none_kept same key [] none = refl
 none_kept same key (entry ∷ entries) none =
     elim (cases_Bool (has_key same key entry)) [

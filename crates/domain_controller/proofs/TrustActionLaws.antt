@@ -285,6 +285,13 @@ others_are : (b : Bool) (number : ℕ) (parts : Parts) → (close_by b number pa
 others_are false number parts = refl
 others_are true number parts = turn_leaves (slice_get parts.work.queues.requesters parts.turn_of) (λ turning. link_closes number turning) parts
 
+-- what is kept to seal says nothing here
+as_answer : (r : Running) (t : Trusting) (actions : List Action) → AreAnswer (trusting_after (parts_of r t)) actions → AreAnswer t actions
+as_answer r t actions are = record { answer = are.answer; of = are.of; is = are.is }
+
+as_turn : (r : Running) (t : Trusting) (number : ℕ) (actions : List Action) → AreOfTurn (trusting_after (parts_of r t)) number actions → AreOfTurn t number actions
+as_turn r t number actions are = record { requests = are.requests; are = are.are; closes = are.closes; answer = are.answer; of = are.of; is = are.is }
+
 opening_acts : (s : State) (r : Running) (number : ℕ) →
     AreOpening s.trusting (are_full s.trusting number r.links) number (open_number number (close_number number (parts_of r s.trusting))).work.work.actions
 opening_acts s r number =
@@ -292,7 +299,7 @@ opening_acts s r number =
     let on : Bool = is_on number parts.dialling in
     subst (λ (links : LinkMap). AreOpening s.trusting (nat_le 256 (length links)) number (open_number number (close_number number parts)).work.work.actions)
     (others_are on number parts)
-    (opened_acts (nat_le 256 (length (close_number number parts).links)) s.trusting number (close_number number parts) (closed_acts on number parts refl))
+    (opened_acts (nat_le 256 (length (close_number number parts).links)) s.trusting number (close_number number parts) (as_answer r s.trusting _ (closed_acts on number parts refl)))
 
 abbrev Sends : ℕ → List Action → Type 0
 Sends link actions = AllByRecursion (IsSendOn link) actions
@@ -465,7 +472,7 @@ acts_in_order = record {
       step_acts (AreOfTurn s.trusting number) (turn_none s.trusting number) s.running s (event.Bytes number piece) now left (λ r is.
       let parts : Parts = parts_of r s.trusting in
       subst (λ (b : Bool). BytesAre (AreOfTurn s.trusting number) number piece s.name now s.table parts left b) (sym on)
-      (hears_at (slice_get parts.work.queues.requesters parts.turn_of) number piece parts refl on));
+      (as_turn r s.trusting number _ (hears_at (slice_get parts.work.queues.requesters parts.turn_of) number piece parts refl on)));
   accepted = λ s running number link piece now left off is there.
       step_acts (Served number (cut_stream (link.rest ++ piece)).units) tt s.running s (event.Bytes number piece) now left (λ r so.
       let parts : Parts = parts_of r s.trusting in
@@ -488,7 +495,7 @@ acts_in_order = record {
   closed = λ s number now left.
       step_acts (AreAnswer s.trusting) (answer_none s.trusting) s.running s (event.Closed number) now left (λ r is.
       let parts : Parts = parts_of r s.trusting in
-      closed_acts (is_on number parts.dialling) number parts refl);
+      as_answer r s.trusting _ (closed_acts (is_on number parts.dialling) number parts refl));
   dialled = λ s number now left.
       step_acts (Sends number) tt s.running s (event.Dialled number) now left (λ r is.
       let parts : Parts = parts_of r s.trusting in
@@ -499,7 +506,7 @@ acts_in_order = record {
   failed = λ s now left.
       step_acts (AreAnswer s.trusting) (answer_none s.trusting) s.running s event.DialFailed now left (λ r is.
       let parts : Parts = parts_of r s.trusting in
-      failed_acts (is_waiting parts.dialling) parts refl);
+      as_answer r s.trusting _ (failed_acts (is_waiting parts.dialling) parts refl));
   stop = λ s now left. step_acts (λ actions. actions ≡ []) refl s.running s event.Stop now left (λ r is. refl);
   stopped = λ s what now left none. ap (λ (r : Option Running). actions_of (trust_step_on r s what now left)) none;
 }

@@ -37,7 +37,7 @@ use Rattle.domain_controller.specs.declared.trusting.Parts.{Parts}
 
 -- ---- a unit
 
-abbrev alone : Desk → TrustDesk
+abbrev pub alone : Desk → TrustDesk
 alone d = with_queues no_queues d
 
 call_alone : (c : ControllerCall) (line : Line) (talk : Talk) (name : List ℕ) (now : ℕ) (d : Desk) (left : List (List ℕ)) →
@@ -47,7 +47,7 @@ call_alone (call.Authenticate c) line talk name now d left = refl
 call_alone (call.Judged c) line talk name now d left =
     ap (λ (handing : Handing). goes_on_trusting (after_handing handing line no_queues) talk left) (judges_here.alone c name now line d)
 
-heard_alone : (what : Heard) (link : ℕ) (name : List ℕ) (now : ℕ) (d : Desk) (left : List (List ℕ)) →
+pub heard_alone : (what : Heard) (link : ℕ) (name : List ℕ) (now : ℕ) (d : Desk) (left : List (List ℕ)) →
     by_trust_heard what link name now (alone d) left ≡ beside no_queues (by_heard what link name now d left)
 heard_alone (heard.Close cause) link name now d left = refl
 heard_alone (heard.Answer bytes talk) link name now d left = refl
@@ -198,6 +198,6 @@ steps_alone = record {
   halts = λ s is. ap (λ t. record s { running = None; trusting = t }) (sym is);
   first = λ table name. refl;
   without_trusts = λ table name none. ap (λ requesters. record (first_state table name) {
-    trusting = record { queues = record { requesters = requesters; forwarded = [] }; turn_of = 0; dialling = dialling.Nothing };
+    trusting = record { queues = record { requesters = requesters; forwarded = [] }; turn_of = 0; dialling = dialling.Nothing; sealing = None };
   }) (none_there table name table.trusts none);
 }

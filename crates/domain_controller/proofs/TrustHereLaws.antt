@@ -46,6 +46,7 @@ use Rattle.domain_controller.specs.TrustStep as trust_step
 use Rattle.domain_controller.specs.TrustStep.{TrustPart, TrustParts, after_turned, after_units, by_trust_event, event_and_turn, first_trust_state, first_waiting, is_idle, next_if, next_part, next_turn, parts_of, start_at, start_on, starts, trust_halted, trust_part, trust_state_after, trust_step_of, trust_step_on, turning_of}
 use Rattle.domain_controller.specs.declared.hearing.Heard.{Heard}
 use Rattle.domain_controller.specs.declared.hearing.Heard.TheVariants as heard
+use Rattle.domain_controller.specs.declared.sealed.Sealing.{Sealing}
 use Rattle.domain_controller.specs.declared.state.Running.{Running}
 use Rattle.domain_controller.specs.declared.state.Talk.{Talk}
 use Rattle.domain_controller.specs.declared.trusting.Parts.{Parts}
@@ -71,7 +72,7 @@ grows_told old all grows told =
     let many : told_trusts all ≡ told_trusts old + told_trusts grows.0 = ap told_trusts grows.1 ∙ more_trusts old grows.0 in
     omega (arith, told, many)
 
-abbrev Tells : ServedPart TrustDesk Talk → Type 0
+abbrev pub Tells : ServedPart TrustDesk Talk → Type 0
 Tells (Err why) = Unit {0}
 Tells (Ok part) = 1 ≤ told_trusts part.value.0.work.work.actions
 
@@ -131,14 +132,14 @@ units_tell name now link = record {
 
 -- ---- a unit
 
-abbrev queues_of : List Requester → Queues
+abbrev pub queues_of : List Requester → Queues
 queues_of requesters = record { requesters = requesters; forwarded = [] }
 
-abbrev beside_them : List Requester → Desk → TrustDesk
+abbrev pub beside_them : List Requester → Desk → TrustDesk
 beside_them requesters d = with_queues (queues_of requesters) d
 
 -- it is served as where nobody is asked, or it is told that it is for a trusted domain
-data ServesHere (requesters : List Requester) (part : ServedPart TrustDesk Talk) (alone : ServedPart Desk Talk) : Type 0 where
+pub data ServesHere (requesters : List Requester) (part : ServedPart TrustDesk Talk) (alone : ServedPart Desk Talk) : Type 0 where
   Alone : part ≡ beside (queues_of requesters) alone → ServesHere requesters part alone
   ForTrust : Tells part → ServesHere requesters part alone
 
@@ -158,7 +159,7 @@ call_here requesters (call.Authenticate c) line talk name now d left = Alone ref
 call_here requesters (call.Judged c) line talk name now d left =
     goes_here requesters c line talk name now d left (answer_trust_call c name now line (beside_them requesters d)) (call_goes c name now line (beside_them requesters d))
 
-heard_here : (requesters : List Requester) (what : Heard) (link : ℕ) (name : List ℕ) (now : ℕ) (d : Desk) (left : List (List ℕ)) →
+pub heard_here : (requesters : List Requester) (what : Heard) (link : ℕ) (name : List ℕ) (now : ℕ) (d : Desk) (left : List (List ℕ)) →
     ServesHere requesters (by_trust_heard what link name now (beside_them requesters d) left) (by_heard what link name now d left)
 heard_here requesters (heard.Close cause) link name now d left = Alone refl
 heard_here requesters (heard.Answer bytes talk) link name now d left = Alone refl
@@ -193,7 +194,7 @@ module _ (requesters : List Requester) (name : List ℕ) (now link : ℕ) where
   talk_tells d (Some talk) left units why told =
       served_stays (trust_server name now link) Tells (units_tell name now link) (record { units = units; rest = []; refused = why }) d talk left told
 
-  open_tells : (part : ServedPart TrustDesk Talk) (units : List (List ℕ)) (why : Option UnitRefused) → Tells part →
+  pub open_tells : (part : ServedPart TrustDesk Talk) (units : List (List ℕ)) (why : Option UnitRefused) → Tells part →
       Tells (then_open part (λ later said rest. served_by (trust_server name now link) units why later said rest))
   open_tells (Err why) units refused told = tt
   open_tells (Ok part) units refused told = talk_tells part.value.0 part.value.1 part.left units refused told
@@ -219,7 +220,7 @@ module _ (requesters : List Requester) (name : List ℕ) (now link : ℕ) where
 -- ---- an event
 
 module _ (requesters : List Requester) (turn : ℕ) where
-  abbrev parts_here : Work → LinkMap → Parts
+  abbrev pub parts_here : Work → LinkMap → Parts
   parts_here work links = record {
     work = record { work = work; queues = queues_of requesters };
     links = links;
@@ -234,7 +235,7 @@ module _ (requesters : List Requester) (turn : ℕ) where
   lift (Err why) = Err why
   lift (Ok part) = Ok (record { value = lifted part.value; left = part.left })
 
-  abbrev PartTells : TrustPart → Type 0
+  abbrev pub PartTells : TrustPart → Type 0
   PartTells (Err why) = Unit {0}
   PartTells (Ok part) = 1 ≤ told_trusts part.value.parts.work.work.actions
 
@@ -259,7 +260,7 @@ module _ (requesters : List Requester) (turn : ℕ) where
   put_told None number parts told = told
   put_told (Some link) number parts told = told
 
-  units_told : (part : ServedPart TrustDesk Talk) (rest : List ℕ) (number : ℕ) (others : LinkMap) (parts : Parts) → Tells part → PartTells (after_units part rest number others parts)
+  pub units_told : (part : ServedPart TrustDesk Talk) (rest : List ℕ) (number : ℕ) (others : LinkMap) (parts : Parts) → Tells part → PartTells (after_units part rest number others parts)
   units_told (Err why) rest number others parts told = tt
   units_told (Ok part) rest number others parts told =
       put_told (trust_step.link_with rest part.value.1) number (record parts { work = part.value.0.work; links = others }) told
@@ -341,7 +342,7 @@ with_table : (part : Result (Part Parts) StepRefused) (requesters : List Request
 with_table (Err why) requesters turn table told = tt
 with_table (Ok part) requesters turn table told = told
 
-turn_told : (part : TrustPart) (requesters : List Requester) (turn : ℕ) (trusts : List Trust) (now : ℕ) → PartTells requesters turn part →
+pub turn_told : (part : TrustPart) (requesters : List Requester) (turn : ℕ) (trusts : List Trust) (now : ℕ) → PartTells requesters turn part →
     PartTells requesters turn (then_part part (λ after rest. then_part (next_turn trusts now after.parts rest) (λ later last. trust_part after.table later last)))
 turn_told (Err why) requesters turn trusts now told = tt
 turn_told (Ok part) requesters turn trusts now told =
@@ -365,13 +366,14 @@ nobody_starts (s ∷ requesters) none =
 
 -- ---- a step
 
-abbrev quiet : List Requester → ℕ → Trusting
-quiet requesters turn = record { queues = queues_of requesters; turn_of = turn; dialling = dialling.Nothing }
+abbrev pub quiet : List Requester → ℕ → Trusting
+quiet requesters turn = record { queues = queues_of requesters; turn_of = turn; dialling = dialling.Nothing; sealing = None }
 
-is_quiet : (t : Trusting) → NoneIsAsked t → t ≡ quiet t.queues.requesters t.turn_of
+pub is_quiet : (t : Trusting) → NoneIsAsked t → t ≡ quiet t.queues.requesters t.turn_of
 is_quiet t none =
-    ap (λ (calls : _). record { queues = record { requesters = t.queues.requesters; forwarded = calls }; turn_of = t.turn_of; dialling = t.dialling }) none.none
-    ∙ ap (λ (how : Dialling). record { queues = queues_of t.queues.requesters; turn_of = t.turn_of; dialling = how }) none.idle
+    ap (λ (calls : _). record { queues = record { requesters = t.queues.requesters; forwarded = calls }; turn_of = t.turn_of; dialling = t.dialling; sealing = t.sealing }) none.none
+    ∙ ap (λ (how : Dialling). record { queues = queues_of t.queues.requesters; turn_of = t.turn_of; dialling = how; sealing = t.sealing }) none.idle
+    ∙ ap (λ (kept : Option Sealing). record { queues = queues_of t.queues.requesters; turn_of = t.turn_of; dialling = dialling.Nothing; sealing = kept }) none.unsealing
 
 abbrev stepped_by : State → List (List ℕ) → TrustPart → Stepped State
 stepped_by s left part =
@@ -433,7 +435,7 @@ stays_on (Some running) s what now left = part_stays (step.step_part running s w
 
 pub answers_here : AnswersHere
 answers_here = record {
-  first = λ table name. record { nobody = (stays_in_order.first table name).busy refl; none = refl; idle = refl };
+  first = λ table name. record { nobody = (stays_in_order.first table name).busy refl; none = refl; idle = refl; unsealing = refl };
   step = λ s what now left none.
       step_here s.running s what now left s.trusting.queues.requesters s.trusting.turn_of (is_quiet s.trusting none) none.nobody;
   stays = λ s what now left. stays_on s.running s what now left;

@@ -470,8 +470,8 @@ step_order (Some running) s what now left stands is =
     let parts : Parts = parts_of running s.trusting in
     let event : TrustPart = by_trust_event what s.name now s.table parts left in
     taken_order (event_and_turn s.table.trusts what s.name now s.table parts left) (length s.table.trusts) s left
-    (turn_behind event s.table.trusts now (event_stands what s.name now s.table parts left stands)
-    (event_asks what (length s.table.trusts) s.name now s.table parts left stands (record { order = is.queues; few = is.trusts })))
+    (turn_behind event s.table.trusts now (event_stands what s.name now s.table parts left (record { outs = stands.outs; inside = stands.inside }))
+    (event_asks what (length s.table.trusts) s.name now s.table parts left (record { outs = stands.outs; inside = stands.inside }) (record { order = is.queues; few = is.trusts })))
 
 -- ---- at first
 

@@ -50,7 +50,7 @@ trust_server_leaves name now link = record {
 
 -- ---- how many are drawn
 
-abbrev DrawsFew : List (List ℕ) → ServedPart TrustDesk Talk → Type 0
+abbrev pub DrawsFew : List (List ℕ) → ServedPart TrustDesk Talk → Type 0
 DrawsFew left part = length left + extra_after (λ (t : Talk). 0) part ≤ length (left_by part) + 1 + 0
 
 challenge_few : (c : ChallengeCall) (line : Line) (talk : Talk) (name : List ℕ) (now : ℕ) (d : TrustDesk) (left : List (List ℕ)) →
@@ -58,7 +58,7 @@ challenge_few : (c : ChallengeCall) (line : Line) (talk : Talk) (name : List ℕ
 challenge_few c line talk name now d [] = omega arith
 challenge_few c line talk name now d (server ∷ left) = omega arith
 
-heard_few : (h : Heard) (link : ℕ) (name : List ℕ) (now : ℕ) (d : TrustDesk) (left : List (List ℕ)) → DrawsFew left (by_trust_heard h link name now d left)
+pub heard_few : (h : Heard) (link : ℕ) (name : List ℕ) (now : ℕ) (d : TrustDesk) (left : List (List ℕ)) → DrawsFew left (by_trust_heard h link name now d left)
 heard_few (heard.Close cause) link name now d left = nothing_drawn (length left) 0
 heard_few (heard.Answer bytes talk) link name now d left = nothing_drawn (length left) 0
 heard_few (heard.Waits talk) link name now d left = nothing_drawn (length left) 0

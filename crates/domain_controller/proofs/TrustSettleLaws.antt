@@ -52,7 +52,7 @@ use Rattle.domain_controller.specs.declared.trusting.TrustWork.{TrustWork}
 
 -- ---- actions
 
-made_more : (actions more : List Action) → most_made_by (actions ++ more) ≡ most_made_by actions + most_made_by more
+pub made_more : (actions more : List Action) → most_made_by (actions ++ more) ≡ most_made_by actions + most_made_by more
 made_more [] more = omega arith
 made_more (b ∷ actions) more = omega (arith, made_more actions more)
 
@@ -82,13 +82,13 @@ pub same_count : (number : ℕ) (calls : ForwardedCalls) → length (calls_witho
 same_count number [] = refl
 same_count number (entry ∷ calls) = omega (arith, same_count number calls)
 
-out_by : (b : Bool) (entry : (ℕ × ℕ) × ForwardedState) (calls taken : ForwardedCalls) (found : Option ForwardedState) (f : ForwardedState) →
+out_by : {V : Type 0} (b : Bool) (entry : (ℕ × ℕ) × V) (calls taken : List ((ℕ × ℕ) × V)) (found : Option V) (f : V) →
     (found ≡ Some f → length taken + 1 ≡ length calls) → (if b then Some entry.1 else found) ≡ Some f →
     length (if b then calls else entry ∷ taken) + 1 ≡ length (entry ∷ calls)
 out_by true entry calls taken found f ih is = omega arith
 out_by false entry calls taken found f ih is = omega (arith, ih is)
 
-pub taken_count : (key : ℕ × ℕ) (calls : ForwardedCalls) (f : ForwardedState) → lookup same_place key calls ≡ Some f →
+pub taken_count : {V : Type 0} (key : ℕ × ℕ) (calls : List ((ℕ × ℕ) × V)) (f : V) → lookup same_place key calls ≡ Some f →
     length (take_out same_place key calls) + 1 ≡ length calls
 taken_count key [] f is = absurd (let x = is in cc)
 taken_count key (entry ∷ calls) f is =
@@ -135,15 +135,15 @@ place_ends place verdict w = found_ends (lookup same_place place w.queues.forwar
 
 -- ---- within a step
 
-abbrev weight_of : Parts → ℕ
+abbrev pub weight_of : Parts → ℕ
 weight_of p = trusting_weight (trusting_after p)
 
 -- nothing was closed, and so much is to be made at most
-record Fits (most : ℕ) (p : Parts) : Type 0 where
-  quiet : AllByRecursion IsQuiet p.work.work.actions
-  within : most_made_by p.work.work.actions + weight_of p ≤ most
+pub record Fits (most : ℕ) (p : Parts) : Type 0 where
+  pub quiet : AllByRecursion IsQuiet p.work.work.actions
+  pub within : most_made_by p.work.work.actions + weight_of p ≤ most
 
-abbrev FitsPart : ℕ → Result (Part Parts) StepRefused → Type 0
+abbrev pub FitsPart : ℕ → Result (Part Parts) StepRefused → Type 0
 FitsPart most (Err why) = Unit {0}
 FitsPart most (Ok part) = Fits most part.value
 
@@ -210,7 +210,7 @@ closed_at (Some s) most number other said p is on hits fits =
     subst (λ (b : Bool). Fits most (after_turned p.turn_of (close_if b (turning_of s p)) p)) (sym hits)
     (lost_fits most drop_cause.LinkClosed s p is fits.quiet (out_on most other said s p is on fits.within))
 
-closed_on : (how : Dialling) (hit : Bool) (most number : ℕ) (p : Parts) → p.dialling ≡ how → is_on number how ≡ hit → Fits most p → Fits most (close_by hit number p)
+pub closed_on : (how : Dialling) (hit : Bool) (most number : ℕ) (p : Parts) → p.dialling ≡ how → is_on number how ≡ hit → Fits most p → Fits most (close_by hit number p)
 closed_on how false most number p on is fits = without_fits most number p fits
 closed_on dialling.Nothing true most number p on is fits = absurd (let x = is in cc)
 closed_on (dialling.Waits turn frames) true most number p on is fits = absurd (let x = is in cc)
@@ -224,7 +224,7 @@ failed_at (Some s) most turn frames p is on fits =
     subst (λ (turned : _). Fits most (after_turned p.turn_of turned p)) (sym (ap (λ (how : Dialling). no_dial (record (turning_of s p) { dialling = how })) on))
     (lost_fits most drop_cause.DialFailed s p is fits.quiet (out_waits most turn frames s p is on fits.within))
 
-failed : (how : Dialling) (most : ℕ) (p : Parts) → p.dialling ≡ how → Fits most p → Fits most (fail_dial (is_waiting how) p)
+pub failed : (how : Dialling) (most : ℕ) (p : Parts) → p.dialling ≡ how → Fits most p → Fits most (fail_dial (is_waiting how) p)
 failed dialling.Nothing most p on fits = fits
 failed (dialling.On other said) most p on fits = fits
 failed (dialling.Waits turn frames) most p on fits = failed_at (slice_get p.work.queues.requesters p.turn_of) most turn frames p refl on fits
@@ -253,7 +253,7 @@ bound_at (Some s) most number turn frames p is on fits =
       within = omega (arith, fits.within, made_more p.work.work.actions bind, weight, kept, ap (λ (all : List Requester). waiting_weight all) (same_set requesters p.turn_of s is));
     })
 
-answered : (how : Dialling) (most number : ℕ) (p : Parts) → p.dialling ≡ how → Fits most p → Fits most (answer_dial (is_waiting how) number p)
+pub answered : (how : Dialling) (most number : ℕ) (p : Parts) → p.dialling ≡ how → Fits most p → Fits most (answer_dial (is_waiting how) number p)
 answered dialling.Nothing most number p on fits = fits
 answered (dialling.On other said) most number p on fits = fits
 answered (dialling.Waits turn frames) most number p on fits =
@@ -319,7 +319,7 @@ next_how dialling.Nothing trusts most now p left on fits = begun_at (first_waiti
 next_how (dialling.Waits turn frames) trusts most now p left on fits = fits
 next_how (dialling.On number said) trusts most now p left on fits = fits
 
-next_fits : (trusts : List Trust) (most now : ℕ) (p : Parts) (left : List (List ℕ)) → Fits most p → FitsPart most (next_turn trusts now p left)
+pub next_fits : (trusts : List Trust) (most now : ℕ) (p : Parts) (left : List (List ℕ)) → Fits most p → FitsPart most (next_turn trusts now p left)
 next_fits trusts most now p left fits = next_how p.dialling trusts most now p left refl fits
 
 -- ---- the step

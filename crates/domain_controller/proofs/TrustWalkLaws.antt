@@ -330,9 +330,9 @@ of_going : IsOfGoing IsOfTurn
 of_going = record { sends = λ link bytes. record { text = λ text. refl; told = refl }; dials = λ peer. record { text = λ text. refl; told = refl } }
 
 -- beside the actions nothing of what is kept of computers changes
-record Acts (before after : TrustWork) : Type 0 where
-  computers : after.work.computers ≡ before.work.computers
-  adds : AddsTo IsOfTurn before.work.actions after.work.actions
+pub record Acts (before after : TrustWork) : Type 0 where
+  pub computers : after.work.computers ≡ before.work.computers
+  pub adds : AddsTo IsOfTurn before.work.actions after.work.actions
 
 reply_acts : (line : Option Line) (answer : Reply) (work : Work) → (reply_if line answer work).computers ≡ work.computers × AddsTo IsOfTurn work.actions (reply_if line answer work).actions
 reply_acts None answer work = (refl, adds_none IsOfTurn work.actions)
@@ -370,7 +370,7 @@ ended_acts None trust w = record { computers = refl; adds = adds_none IsOfTurn w
 ended_acts (Some ended) trust w =
     both_act w (close_ended ended.closes w) (end_turn ended.how trust (close_ended ended.closes w)) (closed_acts ended.closes w) (end_acts ended.how trust (close_ended ended.closes w))
 
-abbrev Turns : (Turning → Turned) → Type 0
+abbrev pub Turns : (Turning → Turned) → Type 0
 Turns happens = (turning : Turning) → Goes turning.actions (happens turning).0.actions
 
 turned_acts : (trust : ℕ) (turned : Turned) (parts : Parts) → Goes parts.work.work.actions turned.0.actions → Acts parts.work (after_turned trust turned parts).work
@@ -378,7 +378,7 @@ turned_acts trust turned parts adds =
     both_act parts.work (turned_work trust turned.0 parts.work) (after_turned trust turned parts).work (record { computers = refl; adds = going_adds IsOfTurn of_going parts.work.work.actions turned.0.actions adds })
     (ended_acts turned.1 trust (turned_work trust turned.0 parts.work))
 
-turn_acts : (found : Option Requester) (happens : Turning → Turned) (parts : Parts) → Turns happens → Acts parts.work (turn_at found happens parts).work
+pub turn_acts : (found : Option Requester) (happens : Turning → Turned) (parts : Parts) → Turns happens → Acts parts.work (turn_at found happens parts).work
 turn_acts None happens parts turns = record { computers = refl; adds = adds_none IsOfTurn parts.work.work.actions }
 turn_acts (Some channel) happens parts turns = turned_acts parts.turn_of (happens (turning_of channel parts)) parts (turns (turning_of channel parts))
 

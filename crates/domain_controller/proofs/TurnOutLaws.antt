@@ -433,7 +433,7 @@ step_stands None s what now left stands = stands
 step_stands (Some running) s what now left stands =
     taken_stands (event_and_turn s.table.trusts what s.name now s.table (parts_of running s.trusting) left) s left
     (turn_behind (by_trust_event what s.name now s.table (parts_of running s.trusting) left) s.table.trusts now
-    (event_stands what s.name now s.table (parts_of running s.trusting) left stands))
+    (event_stands what s.name now s.table (parts_of running s.trusting) left (record { outs = stands.outs; inside = stands.inside })))
 
 first_none : (table : AccountTable) (name : List ℕ) (trusts : List Trust) →
     outs (map (λ (trust : Trust). fresh_requester (trust_caller table name trust)) trusts)

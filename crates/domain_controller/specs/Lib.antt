@@ -6,6 +6,11 @@ pub mod Laws
 pub mod Lines
 pub mod Machine
 pub mod ReadBack
+pub mod SealHearing
+pub mod SealLaws
+pub mod SealServing
+pub mod SealStep
+pub mod Sealing
 pub mod Sessions
 pub mod State
 pub mod Step

@@ -1,6 +1,6 @@
 -- Steps of a controller that trusts other domains in which no call comes for a trusted domain: it answers what it hears
 -- itself (this project's own choice).
-use Rattle.std.specs.Prelude.{ℕ, ◌≡◌, ◌+◌, ◌≤◌, ◌==◌, ◌⊎◌, Bool, true, false, List, [], ◌∷◌}
+use Rattle.std.specs.Prelude.{ℕ, ◌≡◌, ◌+◌, ◌≤◌, ◌==◌, ◌⊎◌, Bool, true, false, List, [], ◌∷◌, None}
 use Rattle.account_table.specs.AccountTable.{AccountTable}
 use Rattle.outside.specs.Machine.{spent_step}
 use Rattle.outside.specs.declared.action.Action.{Action}
@@ -43,11 +43,12 @@ told_trusts (what ∷ actions) = trusts_in what + told_trusts actions
 
 -- ---- a controller that waits for no other one's answer
 
--- nobody waits at an end that asks, no logon is among those that were asked, and no turn is out
+-- nobody waits at an end that asks, no logon is among those that were asked, no turn is out, and it can't seal
 pub record NoneIsAsked (t : Trusting) : Type 0 where
   pub nobody : NobodyWaits t.queues.requesters
   pub none : t.queues.forwarded ≡ []
   pub idle : t.dialling ≡ dialling.Nothing
+  pub unsealing : t.sealing ≡ None
 
 -- The step is that of a controller that trusts no domain, or it tells of a call for a trusted domain, or it draws more
 -- challenges than are left.

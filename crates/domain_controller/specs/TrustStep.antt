@@ -218,8 +218,10 @@ parts_of running trusting = record {
   dialling = trusting.dialling;
 }
 
+-- nothing is kept to seal here
 abbrev pub trusting_after : Parts → Trusting
-trusting_after parts = record { queues = parts.work.queues; turn_of = parts.turn_of; dialling = parts.dialling }
+trusting_after parts =
+    record { queues = parts.work.queues; turn_of = parts.turn_of; dialling = parts.dialling; sealing = None }
 
 abbrev pub trust_state_after : State → TrustParts → State
 trust_state_after s p = record s {

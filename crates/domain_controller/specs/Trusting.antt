@@ -1,6 +1,6 @@
 -- What a controller keeps of the logons that it asks of the controllers of trusted domains (MS-NRPC 3.1.4, 3.5.4: it is
 -- the client there; this project's own choice but for what is named). Trusts are numbered from 0, in the table's order.
-use Rattle.std.specs.Prelude.{ℕ, ◌==◌, ◌&&◌, Bool, List, [], ◌++◌, map, codes}
+use Rattle.std.specs.Prelude.{ℕ, ◌==◌, ◌&&◌, Bool, List, [], ◌++◌, map, codes, None}
 use Rattle.channel_keys.specs.ChannelTypes.{trusted_domain_channel}
 use Rattle.account_table.specs.AccountTable.{AccountTable}
 use Rattle.account_table.specs.declared.account.Trust.{Trust}
@@ -25,7 +25,7 @@ abbrev pub no_queues : Queues
 no_queues = record { requesters = []; forwarded = [] }
 
 abbrev pub no_trusting : Trusting
-no_trusting = record { queues = no_queues; turn_of = 0; dialling = dialling.Nothing }
+no_trusting = record { queues = no_queues; turn_of = 0; dialling = dialling.Nothing; sealing = None }
 
 -- ---- at first
 
@@ -51,4 +51,5 @@ first_trusting table name = record {
   queues = record { requesters = fresh_requesters table name; forwarded = [] };
   turn_of = 0;
   dialling = dialling.Nothing;
+  sealing = None;
 }

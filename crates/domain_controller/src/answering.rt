@@ -108,7 +108,7 @@ fn answer_call<Q: Chances>(
 }
 
 /// Answers NetrServerReqChallenge. The queues stay as they are.
-fn challenge_with(
+pub(crate) fn challenge_with(
     alloc: Global,
     table: &Table,
     changes: &TableChanges,
@@ -150,7 +150,7 @@ fn authenticate_with(
 
 /// Answers a call on a secure channel, or lets its logon wait for the controller of a trusted domain.
 #[tactic(auto, using(crate::proofs::TrustEventLaws::handing))]
-fn judge_with(
+pub(crate) fn judge_with(
     alloc: Global,
     table: &Table,
     changes: &mut TableChanges,

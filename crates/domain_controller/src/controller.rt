@@ -1,18 +1,21 @@
 //! The controller.
 
-ghost use Rattle.std.specs.Prelude.{◌≡◌, ◌≤◌, ◌+◌, ◌↔◌, OnErr, ◌++◌, [], length, IfOk, OnOk, Err, IsTrue, false, true};
+ghost use Rattle.std.specs.Prelude.{◌≡◌, ◌≤◌, ◌+◌, ◌↔◌, OnErr, [], length, IfOk, OnOk, Err, IsTrue, None, Some, false, true};
 ghost use Rattle.account_table.specs.Changes.{DifferInStates, with_changes};
 ghost use Rattle.outside.specs.Drawing.{DrawsSome};
 ghost use Rattle.outside.specs.Machine.{AnswersBy, StepsBy};
 ghost use Rattle.end_links.specs.Bounds.{AreShortSends, units_at};
 ghost use Rattle.end_loop.specs.Acts.{is_made, most_made_by};
 ghost use Rattle.domain_controller.specs.Holding.{held_limit};
+ghost use Rattle.domain_controller.specs.SealStep.{asked_in, first_seal_state, holds_sealed, seal_pending_in, seal_step_of, seal_step_on, without_sealing};
 ghost use Rattle.domain_controller.specs.Step.{first_state, halted, is_stopped, step_of};
 ghost use Rattle.domain_controller.specs.Trusting.{no_trusting};
 ghost use Rattle.domain_controller.specs.TrustStep.{first_trust_state, at_parts, event_and_turn, parts_of, trust_halted, trust_held_of, trust_pending_in, trusting_after, trust_step_of, trust_want_of};
 
 use crate::lines::line_of;
 use crate::links::answer_event;
+use crate::seal_step::{put_sealing, seal_and_commit, take_sealing};
+use crate::sealed::{Sealing, is_sealed, no_sealing};
 use crate::state::Running;
 use crate::trusting::{Parts, TrustWork, Trusting, first_trusting, no_trusting};
 use crate::turning::next_turn;
@@ -74,6 +77,16 @@ impl Controller {
         Controller::make(alloc, table, name, trusting)
     }
 
+    /// A controller as `with_trusts` makes it, which can seal too: it grants secure RPC, and a channel with that seals
+    /// (MS-NRPC 3.1.4.2, 3.3).
+    pub fn with_sealing(alloc: Global, table: Table, name: Name) -> Result<Controller, NoMemory>
+        ensures { IfOk result (λ controller. controller ≡ first_seal_state table name) }
+    {
+        let trusting = first_trusting(alloc, &table, &name)?;
+        let trusting = put_sealing(trusting, no_sealing(alloc));
+        Controller::make(alloc, table, name, trusting)
+    }
+
     /// A controller that has no links, with what it keeps of logons that it asks of others.
     fn make(
         alloc: Global,
@@ -103,8 +116,117 @@ impl Controller {
     ///
     /// `Spent` where the step draws more challenges than were left, and `Memory` where no memory was found: after both
     /// the controller has stopped, and answers `Stopped` for ever.
-    #[tactic(auto, using(crate::proofs::TrustStepLaws::alone))]
+    #[tactic(auto, using(crate::proofs::SealChoiceLaws::choosing))]
     pub fn step<Q: Chances>(
+        &mut self,
+        alloc: Global,
+        event: &Event,
+        now: u64,
+        chances: &mut Q,
+    ) -> Result<Actions, StepRefused>
+        // The actions, the state and the challenges drawn are the machine's.
+        ensures answer { StepsBy result
+            (seal_step_of self.old event.now now (Q.drawing chances.old).left)
+            (trust_halted self.old) self.new (Q.drawing chances.old) (Q.drawing chances.new) }
+        // One that can't seal steps as if none could, and stays one.
+        ensures plain { self.old.trusting.sealing ≡ None → StepsBy result
+            (trust_step_of self.old event.now now (Q.drawing chances.old).left)
+            (trust_halted self.old) self.new (Q.drawing chances.old) (Q.drawing chances.new) }
+        ensures stays_plain { self.old.trusting.sealing ≡ None → self.new.trusting.sealing ≡ None }
+        // It answers `Stopped` exactly where it had stopped, and a step that isn't taken stops it.
+        ensures stopped { (result ≡ Err StepRefused.Stopped) ↔ IsTrue (is_stopped self.old) }
+        ensures stops { OnErr result (self.new ≡ trust_halted self.old) }
+        ensures goes_on { OnOk result (is_stopped self.new ≡ false) }
+        // One that can ask nobody steps as one that trusts no domain, and can ask nobody then.
+        ensures alone { self.old.trusting ≡ no_trusting → StepsBy result
+            (step_of self.old event.now now (Q.drawing chances.old).left)
+            (halted self.old) self.new (Q.drawing chances.old) (Q.drawing chances.new) }
+        ensures asks_nobody { self.old.trusting ≡ no_trusting → self.new.trusting ≡ no_trusting }
+        // It does nothing then where a link was closed, and no turn draws a challenge.
+        ensures quiet { self.old.trusting ≡ no_trusting →
+            IfOk result (λ actions. is_made event.now ≡ true → actions ≡ []) }
+        ensures few_alone { self.old.trusting ≡ no_trusting → length (Q.drawing chances.old).left
+            ≤ length (Q.drawing chances.new).left + units_at event.now }
+        // Of the accounts it changes counts of bad passwords and hashes alone.
+        ensures states { DifferInStates self.old.table self.new.table }
+        // Events that a failed send or a dial makes come to an end.
+        ensures settles { IfOk result (λ actions. IsTrue (is_made event.now) →
+            most_made_by actions + seal_pending_in self.new ≤ seal_pending_in self.old) }
+        // At most one challenge is drawn for each unit that the event can end, and one more for the turn that starts,
+        // whatever the result; no send is long.
+        ensures few { length (Q.drawing chances.old).left
+            ≤ length (Q.drawing chances.new).left + units_at event.now + 1 }
+        ensures short { IfOk result (λ actions. AreShortSends actions) }
+    {
+        match self.take_sealing() {
+            Some(sealing) => self.step_sealing(alloc, sealing, event, now, chances),
+            None => self.step_plain(alloc, event, now, chances),
+        }
+    }
+
+    /// What it keeps to seal is taken out. It takes no memory.
+    fn take_sealing(&mut self) -> Option<Sealing>
+        ensures taken { result ≡ self.old.trusting.sealing }
+        ensures left { self.new ≡ without_sealing self.old }
+        ensures none { result ≡ None → self.new ≡ self.old }
+        // One that has stopped keeps nothing to seal.
+        ensures stopped { is_stopped self.old ≡ true → result ≡ None }
+    {
+        take_sealing(&mut self.trusting)
+    }
+
+    /// The step of one that can seal, of which what it keeps to seal was taken out.
+    #[tactic(auto, using(crate::proofs::SealStepLaws::stepping, crate::proofs::ChangeLaws::differing))]
+    fn step_sealing<Q: Chances>(
+        &mut self,
+        alloc: Global,
+        sealing: Sealing,
+        event: &Event,
+        now: u64,
+        chances: &mut Q,
+    ) -> Result<Actions, StepRefused>
+        ensures answer { StepsBy result (seal_step_on self.old.running sealing self.old
+            event.now now (Q.drawing chances.old).left)
+            (trust_halted self.old) self.new (Q.drawing chances.old) (Q.drawing chances.new) }
+        ensures stopped { (result ≡ Err StepRefused.Stopped) ↔ IsTrue (is_stopped self.old) }
+        ensures stops { OnErr result (self.new ≡ trust_halted self.old) }
+        ensures goes_on { OnOk result (is_stopped self.new ≡ false) }
+        ensures states { DifferInStates self.old.table self.new.table }
+        ensures settles { IfOk result (λ actions. IsTrue (is_made event.now) →
+            most_made_by actions + seal_pending_in self.new
+            ≤ trust_pending_in self.old + asked_in (Some sealing)) }
+        ensures few { length (Q.drawing chances.old).left
+            ≤ length (Q.drawing chances.new).left + units_at event.now + 1 }
+        ensures short { IfOk result (λ actions. AreShortSends actions) }
+    {
+        let Some(running) = self.running.take() else {
+            return Err(StepRefused::Stopped);
+        };
+        let trusting = mem::replace(&mut self.trusting, no_trusting(alloc));
+        let parts = all_parts(alloc, running, trusting);
+        match seal_and_commit(
+            alloc,
+            &mut self.table,
+            &self.name,
+            now,
+            event,
+            parts,
+            sealing,
+            chances,
+        ) {
+            Ok((parts, sealing)) => {
+                let (actions, running, trusting) = keep_apart(parts);
+                self.running = Some(running);
+                self.trusting = put_sealing(trusting, sealing);
+                Ok(actions.into_actions())
+            }
+            Err(why) => Err(why),
+        }
+    }
+
+    /// The step of one that can't seal.
+    #[tactic(auto, using(crate::proofs::TrustStepLaws::alone))]
+    fn step_plain<Q: Chances>(
         &mut self,
         alloc: Global,
         event: &Event,
@@ -196,6 +318,19 @@ impl Controller {
             }
             Err(why) => Err(why),
         }
+    }
+
+    /// Whether the link of that number is open, and sealed. It takes no memory.
+    pub fn holds_sealed(&self, link: u32) -> bool
+        ensures { result ≡ holds_sealed self.now link }
+    {
+        let Some(running) = &self.running else {
+            return false;
+        };
+        let Some(sealing) = &self.trusting.sealing else {
+            return false;
+        };
+        running.links.get(link).is_some() && is_sealed(link, sealing)
     }
 
     /// The link that it waits for: that of the turn. It takes no memory.
@@ -313,6 +448,7 @@ fn all_parts(alloc: Global, running: Running, trusting: Trusting) -> Parts
         queues,
         turn_of,
         dialling,
+        ..
     } = trusting;
     Parts {
         work: TrustWork {
@@ -349,19 +485,20 @@ fn keep_apart(parts: Parts) -> (ShortActions, Running, Trusting)
         queues,
         turn_of,
         dialling,
+        sealing: None,
     };
     (actions, running, trusting)
 }
 
 impl End for Controller {
+    ghost use Rattle.domain_controller.specs.SealStep.{seal_machine, seal_pending_in};
     ghost use Rattle.domain_controller.specs.Step.{is_stopped};
-    ghost use Rattle.domain_controller.specs.TrustStep.{trust_machine, trust_pending_in};
 
-    ghost machine = { trust_machine };
+    ghost machine = { seal_machine };
 
     ghost is_stopped = { λ s. is_stopped s };
 
-    ghost pending = { λ s. trust_pending_in s };
+    ghost pending = { λ s. seal_pending_in s };
 
     fn step<Q: Chances>(
         &mut self,

@@ -22,7 +22,7 @@ use wire_base::{List, NoMemory};
 const MOST_BYTES: usize = 57_000;
 
 /// Whether the logon's texts and responses have few enough bytes. It takes no memory.
-fn fits_on(info: &NetworkInfo) -> bool
+pub(crate) fn fits_on(info: &NetworkInfo) -> bool
     ensures value { result ≡ fits_on info.now }
     ensures writable { result ≡ true → CanWriteNetworkInfo info.now }
 {
@@ -92,7 +92,7 @@ pub(crate) fn forward(
 
 /// The requester of that trust is asked: the place that the logon has there, or None where as many wait as may.
 #[tactic(auto, using(crate::proofs::ForwardLaws::asking))]
-fn ask_trust(
+pub(crate) fn ask_trust(
     info: NetworkInfo,
     trust: usize,
     requesters: List<PlainChannel>,
@@ -112,7 +112,7 @@ fn ask_trust(
 }
 
 /// The logon waits at that place, which is told.
-fn wait_at(
+pub(crate) fn wait_at(
     place: u32,
     trust: usize,
     call: ForwardedCall,
@@ -184,7 +184,7 @@ fn find_call(calls: &[((usize, u32), ForwardedCall)], trust: usize, place: u32) 
 }
 
 /// Whether it is that place at that trust.
-fn is_place(at: &(usize, u32), trust: usize, place: u32) -> bool
+pub(crate) fn is_place(at: &(usize, u32), trust: usize, place: u32) -> bool
     ensures { result ≡ same_place (trust, place) at.now }
 {
     trust == at.0 && place == at.1
@@ -209,7 +209,7 @@ fn take_call(
 }
 
 /// The logon of that place has its verdict; nothing where there is none.
-fn answer_place(
+pub(crate) fn answer_place(
     alloc: Global,
     trust: usize,
     place: u32,
@@ -260,7 +260,10 @@ fn end_turn(
 }
 
 /// The link of the turn is closed, where it is still open.
-fn close_ended(closes: Option<(u32, CloseCause)>, work: TrustWork) -> Result<TrustWork, NoMemory>
+pub(crate) fn close_ended(
+    closes: Option<(u32, CloseCause)>,
+    work: TrustWork,
+) -> Result<TrustWork, NoMemory>
     ensures { IfOk result (λ w. w ≡ close_ended closes work) }
 {
     let Some((link, cause)) = closes else {

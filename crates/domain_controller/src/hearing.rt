@@ -65,7 +65,7 @@ pub(crate) fn hear(alloc: Global, link: u32, bytes: &[u8], talk: Talk) -> Result
 }
 
 /// What a unit comes to on a link that isn't bound.
-fn hear_fresh(alloc: Global, unit: Unit, joiner: Joiner) -> Result<Heard, NoMemory>
+pub(crate) fn hear_fresh(alloc: Global, unit: Unit, joiner: Joiner) -> Result<Heard, NoMemory>
     requires { ContextsFit unit.body }
     ensures value { IfOk result (λ heard.
         heard ≡ hear_fresh unit.body unit.trailer unit.call joiner) }
@@ -87,7 +87,7 @@ fn hear_fresh(alloc: Global, unit: Unit, joiner: Joiner) -> Result<Heard, NoMemo
 }
 
 /// A bind is answered by a bind_ack, and the link is bound by it.
-fn hear_bind(
+pub(crate) fn hear_bind(
     alloc: Global,
     call: u32,
     receive: u16,
@@ -105,7 +105,7 @@ fn hear_bind(
 }
 
 /// A bind with a trailer is answered by a bind_nak.
-fn hear_sealed_bind(alloc: Global, call: u32, joiner: Joiner) -> Result<Heard, NoMemory>
+pub(crate) fn hear_sealed_bind(alloc: Global, call: u32, joiner: Joiner) -> Result<Heard, NoMemory>
     ensures value { IfOk result (λ heard. heard ≡ hear_sealed_bind call joiner) }
     ensures can { IfOk result CanAnswer }
 {
@@ -114,7 +114,12 @@ fn hear_sealed_bind(alloc: Global, call: u32, joiner: Joiner) -> Result<Heard, N
 }
 
 /// A request on a link that isn't bound is answered by a fault.
-fn hear_unbound(alloc: Global, call: u32, context: u16, joiner: Joiner) -> Result<Heard, NoMemory>
+pub(crate) fn hear_unbound(
+    alloc: Global,
+    call: u32,
+    context: u16,
+    joiner: Joiner,
+) -> Result<Heard, NoMemory>
     ensures value { IfOk result (λ heard. heard ≡ hear_unbound call context joiner) }
     ensures can { IfOk result CanAnswer }
 {
@@ -123,7 +128,7 @@ fn hear_unbound(alloc: Global, call: u32, context: u16, joiner: Joiner) -> Resul
 }
 
 /// What is said on a bound link.
-fn bound_talk(joiner: Joiner, binding: Binding) -> Talk
+pub(crate) fn bound_talk(joiner: Joiner, binding: Binding) -> Talk
     ensures { result ≡ bound_talk joiner binding }
 {
     Talk {
@@ -143,7 +148,7 @@ fn fresh_talk(joiner: Joiner) -> Talk
 }
 
 /// What a unit comes to on a bound link.
-fn hear_bound(
+pub(crate) fn hear_bound(
     alloc: Global,
     link: u32,
     unit: &UnitView,

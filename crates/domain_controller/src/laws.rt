@@ -3,6 +3,7 @@
 ghost use Rattle.domain_controller.specs.Keeping.{HashesAreSet, KeepsSecrets};
 ghost use Rattle.domain_controller.specs.Laws.{ClosesNothing, AnswersUnits, KeepsOthers, KeptHaveKinds, CountsByVerdict};
 ghost use Rattle.domain_controller.specs.ReadBack.{RepliesAreReadBack};
+ghost use Rattle.domain_controller.specs.SealLaws.{BadAuthenticationByRules, NoChannelByLink, PlainControllersStay};
 ghost use Rattle.domain_controller.specs.Sessions.{HashesStayUnset, SessionsFollowCalls};
 ghost use Rattle.domain_controller.specs.TrustLaws.{AnswersOnce, AnswersOpenLinks, ClosesNone, ForwardsByTrust, LinksAreApart, OneTurnIsOut, StepsAlone};
 ghost use Rattle.domain_controller.specs.TrustActions.{ActsInOrder};
@@ -103,10 +104,11 @@ pub fn what_asks_nobody_steps_alone()
     ensures { StepsAlone }
 {}
 
-/// While no logon waits for another controller's answer, a step of a controller that trusts other domains is that of
-/// one which trusts none, unless it tells of a call for a trusted domain, or draws more challenges than are left. It
-/// tells of one where a logon is handed on, and where it passes with STATUS_NO_LOGON_SERVERS, since nobody can be asked
-/// for it. At first no logon waits so, and a step that is the other's leaves what is kept of those that are asked.
+/// While no logon waits for another controller's answer, a step of a controller that trusts other domains and can't
+/// seal is that of one which trusts none, unless it tells of a call for a trusted domain, or draws more challenges
+/// than are left. It tells of one where a logon is handed on, and where it passes with STATUS_NO_LOGON_SERVERS, since
+/// nobody can be asked for it. At first no logon waits so, and a step that is the other's leaves what is kept of those
+/// that are asked.
 #[tactic(auto, using(crate::proofs::TrustHereLaws::answers_here))]
 pub fn what_is_not_handed_on_is_answered_here()
     ensures { AnswersHere }
@@ -204,4 +206,26 @@ pub fn what_fits_is_heard_whole()
 #[tactic(auto, using(crate::proofs::TrustWholeLaws::trusts_send_whole))]
 pub fn what_trusts_send_is_whole()
     ensures { TrustsSendWhole }
+{}
+
+/// A controller that can't seal steps as one of which nothing is ever sealed, and can't seal afterwards.
+#[tactic(auto, using(crate::proofs::PlainLaws::plain_controllers_stay))]
+pub fn plain_controllers_stay_so()
+    ensures { PlainControllersStay }
+{}
+
+/// A call on a secure channel finds none where its computer's channel seals and the link isn't that channel's; and on a
+/// sealed link where it names another computer, or where that link's channel was replaced. It is told so, whatever it
+/// asks, and no channel moves.
+#[tactic(auto, using(crate::proofs::SealRuleLaws::no_channel))]
+pub fn calls_find_their_channel()
+    ensures { NoChannelByLink }
+{}
+
+/// A request on a sealed link closes it for BadAuthentication exactly where it has no trailer of Netlogon at the level
+/// at which stubs are sealed with a value of 32 bytes, where the link's channel was replaced, where its operation opens
+/// a channel, or where the channel's end refuses it.
+#[tactic(auto, using(crate::proofs::SealRuleLaws::by_rules))]
+pub fn sealed_links_close_by_rules()
+    ensures { BadAuthenticationByRules }
 {}

@@ -10,9 +10,18 @@ mod hearing;
 pub mod laws;
 mod lines;
 mod links;
+mod seal_answering;
+mod seal_forwarding;
+mod seal_hearing;
+mod seal_links;
+mod seal_serving;
+mod seal_step;
+mod seal_turning;
+mod sealed;
 mod serving;
 mod state;
 mod trusting;
 mod turning;
+mod verdicts;
 
 pub use controller::Controller;

@@ -64,7 +64,7 @@ pub(crate) fn answer_event<Q: Chances>(
 }
 
 /// An accepted link of that number is open no more, and its logons have no line. It takes no memory.
-fn drop_link(link: u32, parts: Parts) -> Parts
+pub(crate) fn drop_link(link: u32, parts: Parts) -> Parts
     ensures { result ≡ without_link link parts }
 {
     let Parts {
@@ -94,7 +94,7 @@ fn close_link(alloc: Global, link: u32, parts: Parts) -> Result<Parts, NoMemory>
 }
 
 /// A link opens, where fewer than 256 are open; else it is closed.
-fn open_link(alloc: Global, link: u32, parts: Parts) -> Result<Parts, NoMemory>
+pub(crate) fn open_link(alloc: Global, link: u32, parts: Parts) -> Result<Parts, NoMemory>
     ensures { IfOk result (λ after. after ≡ open_number link parts) }
 {
     let Parts {
@@ -247,7 +247,11 @@ fn serve_link<Q: Chances>(
 }
 
 /// A link is put back, where it stays open; else its logons have no line.
-fn put_open(number: u32, still: Option<Link<Talk>>, parts: Parts) -> Result<Parts, NoMemory>
+pub(crate) fn put_open(
+    number: u32,
+    still: Option<Link<Talk>>,
+    parts: Parts,
+) -> Result<Parts, NoMemory>
     requires { length parts.links < 256 }
     ensures { IfOk result (λ after. after ≡ put_open still number parts) }
 {

@@ -4,6 +4,7 @@ ghost use Rattle.std.specs.Prelude.{◌≡◌, ◌≤◌, IfOk, length};
 ghost use Rattle.domain_controller.specs.Trusting.{account_there, first_trusting, fresh_requesters, no_trusting, trust_caller};
 ghost use Rattle.channel_client.specs.Machine.{fresh_requester};
 
+use crate::sealed::Sealing;
 use crate::state::Talk;
 use account_table::{Table, Trust};
 use channel_client::PlainChannel;
@@ -28,12 +29,14 @@ pub struct Queues {
 }
 
 /// What a controller keeps of logons that it asks of others (this project's own choice): the queues, and the turn that
-/// is out, with the number of the trust whose turn it is, which says nothing where none is out, and its link.
+/// is out, with the number of the trust whose turn it is, which says nothing where none is out, and its link. Beside it
+/// is what is kept to seal, where this controller can seal.
 #[derive(Drop)]
 pub struct Trusting {
     pub queues: Queues,
     pub turn_of: usize,
     pub dialling: Dialling,
+    pub sealing: Option<Sealing>,
 }
 
 /// What answers calls at a controller, and the queues beside it (this project's own choice).
@@ -64,6 +67,7 @@ pub(crate) fn no_trusting(alloc: Global) -> Trusting
         },
         turn_of: 0,
         dialling: Dialling::Nothing,
+        sealing: None,
     }
 }
 
@@ -83,6 +87,7 @@ pub(crate) fn first_trusting(
         },
         turn_of: 0,
         dialling: Dialling::Nothing,
+        sealing: None,
     })
 }
 

@@ -33,7 +33,7 @@ pub struct Beside {
 }
 
 /// Whether there is a requester of that number. It takes no memory.
-fn has_requester(parts: &Parts, trust: usize) -> bool
+pub(crate) fn has_requester(parts: &Parts, trust: usize) -> bool
     ensures { result ≡ nat_lt trust (length parts.now.work.queues.requesters) }
 {
     trust < parts.work.queues.requesters.len()
@@ -41,7 +41,7 @@ fn has_requester(parts: &Parts, trust: usize) -> bool
 
 /// The turn of the channel of that trust, and what the controller has beside it. It takes no memory.
 #[tactic(auto, using(crate::proofs::ForwardLaws::apart))]
-fn apart(parts: Parts, trust: usize) -> (Turning, Beside)
+pub(crate) fn apart(parts: Parts, trust: usize) -> (Turning, Beside)
     requires { trust < length parts.work.queues.requesters }
     ensures whose { slice_get parts.work.queues.requesters trust ≡ Some result.0.channel }
     ensures turning { result.0 ≡ turning_of result.0.channel parts }
@@ -77,7 +77,7 @@ fn apart(parts: Parts, trust: usize) -> (Turning, Beside)
 }
 
 /// The channel is at its place again, and what follows of its turn is done, where it ended.
-fn put_back(
+pub(crate) fn put_back(
     alloc: Global,
     trust: usize,
     turning: Turning,

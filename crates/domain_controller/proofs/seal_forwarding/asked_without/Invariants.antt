@@ -1,0 +1,7 @@
+-- Those so far are without their lines on the link, and the others as they were.
+use Rattle.std.proofs.Common.{◌≡◌, ◌++◌, take, drop}
+use Rattle.domain_controller.specs.Sealing.{asked_without}
+use Rattle.domain_controller.proofs.seal_forwarding.asked_without.Given as goal
+
+abbrev pub invariant-loop-entry : goal.invariant-loop-entry
+invariant-loop-entry l = l.entry-items ≡ asked_without l.number (take l.entry-index l.fn.asked) ++ drop l.entry-index l.fn.asked
