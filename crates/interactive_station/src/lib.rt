@@ -15,7 +15,9 @@ mod state;
 mod station;
 mod working;
 
-pub use laws::{a_station_draws_once, a_station_moves_in_order, an_outcome_stays};
+pub use laws::{
+    a_station_draws_once, a_station_loses_by_its_events, a_station_moves_in_order, an_outcome_stays,
+};
 pub use outcome::{NoStation, StationOutcome};
 pub use plan::StationPlan;
 pub use station::Station;

@@ -1,5 +1,6 @@
 //! How a client's logon ends.
 
+use outside::DropCause;
 use wire_base::Units;
 
 /// The outcome of a client (this project's own choice).
@@ -33,6 +34,8 @@ pub enum RefusedCause {
     WeakOffer,
     /// A fault of this status (C706 12.6.4.7).
     Fault(u32),
+    /// A domain controller refused a workstation's logon or logoff, with this NTSTATUS (MS-ERREF 2.3).
+    Status(u32),
 }
 
 /// Why no answer came.
@@ -59,4 +62,6 @@ pub enum PeerFault {
     BadSeal,
     /// A response doesn't say what was asked.
     BadReply,
+    /// A domain controller denied a workstation its channel or a call on it, or answered it wrongly, for this cause.
+    Station(DropCause),
 }
