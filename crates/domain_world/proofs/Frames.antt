@@ -1,5 +1,6 @@
 -- How a fact is carried through all moves of a run.
 pub mod AloneFrameLaws
+pub mod AloneNoteLaws
 pub mod AloneStepLaws
 pub mod BagFrameLaws
 pub mod BagStepLaws
@@ -16,4 +17,5 @@ pub mod MemberFrameLaws
 pub mod MoveFrameLaws
 pub mod MoveKeepLaws
 pub mod StepFrameLaws
+pub mod TrustingFrameLaws
 pub mod TurnFrameLaws

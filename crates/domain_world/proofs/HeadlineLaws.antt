@@ -30,7 +30,7 @@ use Rattle.domain_world.proofs.Completeness.SuccessLaws.{each_succeeds}
 use Rattle.domain_world.proofs.Moves.MarkedLaws.{each_marked}
 use Rattle.domain_world.proofs.Moves.DrawnRunLaws.{draws_are_blocks, draws_differ}
 use Rattle.domain_world.proofs.Judgements.AloneLaws.{tells_of_calls}
-use Rattle.domain_world.proofs.Judgements.GrantLaws.{each_status, grants_who_may}
+use Rattle.domain_world.proofs.Judgements.GrantLaws.{each_status}
 use Rattle.domain_world.proofs.Judgements.Openings.OpeningAnswerLaws.{replies_to_openings}
 use Rattle.domain_world.proofs.Judgements.Openings.OpeningReplyLaws.{replies_answer_openings}
 use Rattle.domain_world.proofs.Judgements.Openings.OpeningRunLaws.{openings_in_order}
@@ -38,7 +38,8 @@ use Rattle.domain_world.proofs.Judgements.ReplayLaws.{replays_by_sum}
 use Rattle.domain_world.proofs.Judgements.ReplyLaws.{replies_carry}
 use Rattle.domain_world.proofs.Judgements.SessionLaws.{grants_by_hash, sessions_follow}
 use Rattle.domain_world.proofs.Judgements.TableLaws.{tables_follow}
-use Rattle.domain_world.proofs.Judgements.ToldLaws.{passes_the_next}
+use Rattle.domain_world.proofs.Judgements.TrustGrantLaws.{grants_who_may}
+use Rattle.domain_world.proofs.Judgements.TrustToldLaws.{passes_the_next}
 use Rattle.domain_world.proofs.Judgements.UnclashedLaws.{passes_unclashed}
 use Rattle.domain_world.proofs.Judgements.UserHashLaws.{users_stay}
 use Rattle.domain_world.proofs.Messages.CallMessageLaws.{members_ask_for_messages, sends_ask_for_messages}
@@ -54,18 +55,11 @@ use Rattle.domain_world.proofs.Unforwarded.CarryLaws.{carries_over}
 -- of a plan that hands nothing on
 proved_alone : (plan : Plan) (moves : List Move) → HandsNothingOn plan → IsProvedAlone plan moves
 proved_alone plan moves nobody = record {
-  openings = openings_in_order plan moves nobody;
   opened = replies_answer_openings plan moves nobody;
   opened_by = λ schedule calm. replies_to_openings plan moves nobody schedule calm;
   numbers = λ schedule. schedules_number plan moves nobody schedule;
-  credentials = passes_the_next plan moves nobody;
   alone = tells_of_calls plan moves nobody;
-  replays = replays_by_sum plan moves nobody;
-  grants = grants_who_may plan moves nobody (users_stay plan moves nobody);
-  let_on = grants_by_hash plan moves nobody;
   statuses = each_status plan moves nobody;
-  tables = tables_follow plan moves nobody;
-  sessions = sessions_follow plan moves nobody;
   replies = replies_carry plan moves nobody;
   answered = λ schedule calm. replies_answer plan moves nobody schedule calm;
   names = λ schedule calm. runs_heard.names plan moves nobody (units_heard plan moves nobody schedule) (draws_differ plan moves) calm;
@@ -89,6 +83,7 @@ proved_alone plan moves nobody = record {
   opened_marks = openings_marked plan moves nobody;
   complete = each_succeeds plan moves nobody;
   one_by_one = none_clashes plan moves nobody;
+  never_apart = λ schedule clear. never_apart plan moves nobody schedule clear;
 }
 
 -- of each run in which calls are judged by the controllers that hear them
@@ -102,19 +97,19 @@ all_proved plan moves = record {
   messages = messages_own plan moves (draws_differ plan moves);
   responses = short_responses plan moves (draws_differ plan moves) (draws_are_blocks plan moves);
   apart = messages_apart plan moves;
-  openings = λ alone. (judged_alone plan moves alone).openings;
+  openings = openings_in_order plan moves;
   opened = λ alone. (judged_alone plan moves alone).opened;
   opened_by = λ alone. (judged_alone plan moves alone).opened_by;
   numbers = λ alone. (judged_alone plan moves alone).numbers;
-  credentials = λ alone. (judged_alone plan moves alone).credentials;
+  credentials = passes_the_next plan moves;
   alone = λ alone. (judged_alone plan moves alone).alone;
-  replays = λ alone. (judged_alone plan moves alone).replays;
+  replays = replays_by_sum plan moves;
   unclashed = passes_unclashed plan moves;
-  grants = λ alone. (judged_alone plan moves alone).grants;
-  let_on = λ alone. (judged_alone plan moves alone).let_on;
+  grants = grants_who_may plan moves (users_stay plan moves);
+  let_on = grants_by_hash plan moves;
   statuses = λ alone. (judged_alone plan moves alone).statuses;
-  tables = λ alone. (judged_alone plan moves alone).tables;
-  sessions = λ alone. (judged_alone plan moves alone).sessions;
+  tables = tables_follow plan moves;
+  sessions = sessions_follow plan moves;
   replies = λ alone. (judged_alone plan moves alone).replies;
   answered = λ alone. (judged_alone plan moves alone).answered;
   kept = members_ask plan moves;
@@ -146,5 +141,5 @@ all_proved plan moves = record {
   opened_marks = λ alone. (judged_alone plan moves alone).opened_marks;
   complete = λ alone. (judged_alone plan moves alone).complete;
   one_by_one = λ alone. (judged_alone plan moves alone).one_by_one;
-  never_apart = λ nobody schedule clear. never_apart plan moves nobody schedule clear;
+  never_apart = λ alone. (judged_alone plan moves alone).never_apart;
 }

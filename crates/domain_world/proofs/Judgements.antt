@@ -16,5 +16,7 @@ pub mod SessionRunLaws
 pub mod SessionStepLaws
 pub mod TableLaws
 pub mod ToldLaws
+pub mod TrustGrantLaws
+pub mod TrustToldLaws
 pub mod UnclashedLaws
 pub mod UserHashLaws

@@ -13,3 +13,4 @@ pub mod OpenMadeLaws
 pub mod PlacedLaws
 pub mod PlainFormLaws
 pub mod RequesterLaws
+pub mod TrustNoBytesLaws

@@ -1,4 +1,5 @@
 -- Runs in which no call comes for a trusted domain.
+pub mod ApartSeenLaws
 pub mod CarryLaws
 pub mod ErasedBookLaws
 pub mod ErasedLaws

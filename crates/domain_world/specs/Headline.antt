@@ -2,7 +2,6 @@
 use Rattle.std.specs.Prelude.{◌≡◌, List, [], ◌++◌, false}
 use Rattle.world_moves.specs.declared.moves.Move.{Move}
 use Rattle.world_moves.specs.declared.plan.Plan.{Plan}
-use Rattle.world_moves.specs.Alone.{HandsNothingOn}
 use Rattle.world_moves.specs.Forms.{IsSchedule}
 use Rattle.world_moves.specs.Unforwarded.{IsJudgedAlone}
 use Rattle.world_moves.specs.World.{World, first_world, run}
@@ -42,8 +41,8 @@ use Rattle.domain_world.specs.Past.{past}
 --
 -- A field with the premise `IsJudgedAlone` is of runs in which each call is judged by the controller that hears it: the
 -- plan's controllers aren't to hand logons on, or its tables trust no domain, or no call of the run comes for a trusted
--- domain. Of other runs it isn't claimed yet: what is written down of a controller (`ControllerNotes`) is what one does
--- that hands nothing on.
+-- domain. Of other runs it isn't claimed yet. What is written down of a controller is read off its own step, whether it
+-- hands logons on or not (`TrustNotes`), so that what it passes, grants and keeps is claimed of every run.
 pub record Proved (plan : Plan) (moves : List Move) : Type 0 where
   -- challenges, and the messages that are made for them
   pub challenges : ChallengesServeOnce (past plan moves)
@@ -51,22 +50,22 @@ pub record Proved (plan : Plan) (moves : List Move) : Type 0 where
   pub responses : ShortResponsesServeOnce (past plan moves)
   pub apart : MessagesAreApart (past plan moves)
   -- which channels controllers accept and keep, and by which replies
-  pub openings : IsJudgedAlone plan moves → OpeningsAreInOrder (past plan moves)
+  pub openings : OpeningsAreInOrder (past plan moves)
   pub opened : IsJudgedAlone plan moves → RepliesAnswerOpenings (past plan moves)
   -- each reply that accepts an opening is to one of its channel, with its number, accepted at the step that sent it
   pub opened_by : IsJudgedAlone plan moves → IsSchedule plan moves → (past plan moves).book.clash ≡ false → RepliesAreToOpenings (past plan moves)
   -- openings and calls on a channel have different numbers
   pub numbers : IsJudgedAlone plan moves → IsSchedule plan moves → RequestsHaveNumbers (past plan moves)
   -- what controllers judge, grant and answer
-  pub credentials : IsJudgedAlone plan moves → PassesTheNextCredential (past plan moves)
+  pub credentials : PassesTheNextCredential (past plan moves)
   pub alone : IsJudgedAlone plan moves → TellsOfCallsAlone (past plan moves)
-  pub replays : IsJudgedAlone plan moves → ReplaysBySum (past plan moves)
+  pub replays : ReplaysBySum (past plan moves)
   pub unclashed : PassesAreUnclashed (past plan moves)
-  pub grants : IsJudgedAlone plan moves → GrantsWhoMayLogOn (past plan moves)
-  pub let_on : IsJudgedAlone plan moves → GrantsWhoseHashIsStored (past plan moves)
+  pub grants : GrantsWhoMayLogOn (past plan moves)
+  pub let_on : GrantsWhoseHashIsStored (past plan moves)
   pub statuses : IsJudgedAlone plan moves → StatusesAreTold (past plan moves)
-  pub tables : IsJudgedAlone plan moves → TablesFollowVerdicts (past plan moves)
-  pub sessions : IsJudgedAlone plan moves → SessionsFollow (past plan moves) (renewals moves (first_world plan) [])
+  pub tables : TablesFollowVerdicts (past plan moves)
+  pub sessions : SessionsFollow (past plan moves) (renewals moves (first_world plan) [])
   pub replies : IsJudgedAlone plan moves → RepliesCarryTheirJudgement (past plan moves)
   pub answered : IsJudgedAlone plan moves → IsSchedule plan moves → (past plan moves).book.clash ≡ false → RepliesAnswerCalls (past plan moves)
   -- what members ask, and whom they let in
@@ -115,7 +114,7 @@ pub record Proved (plan : Plan) (moves : List Move) : Type 0 where
   pub complete : IsJudgedAlone plan moves → EachSucceeds (past plan moves) moves
   pub one_by_one : IsJudgedAlone plan moves → NoneClashes (past plan moves) moves
   -- Where no call from outside set a secret, no loss and no restart leaves a member and its controller apart.
-  pub never_apart : HandsNothingOn plan → IsSchedule plan moves → IsClear (past plan moves).book → MembersAreNeverApart (past plan moves)
+  pub never_apart : IsJudgedAlone plan moves → IsSchedule plan moves → IsClear (past plan moves).book → MembersAreNeverApart (past plan moves)
 
 -- What is claimed of each schedule: a plan of which a world can be made, with the forms of its types, and at most
 -- 100,000 moves that it can make.

@@ -16,10 +16,11 @@ use Rattle.member_server.specs.declared.state.Running.{Running as MemberRunning}
 use Rattle.channel_turns.specs.declared.state.TurnTalk.{TurnTalk}
 use Rattle.channel_events.specs.Marks.{Calling, Mark, Plain}
 use Rattle.step_notes.specs.ClientNotes.{made_note, units_of_client}
-use Rattle.step_notes.specs.ControllerNotes.{Answered, Where, answer_on, units_of_controller}
+use Rattle.step_notes.specs.ControllerNotes.{Answered, Where}
 use Rattle.step_notes.specs.Marking.{answered_marks, clashes, turn_marks}
 use Rattle.step_notes.specs.MemberNotes.{LinkAt, TurnNote, challenge_note, link_of_place, link_units, message_note, taken_link, turn_in, turn_note, turn_units}
 use Rattle.step_notes.specs.Records.{Book, CallTaken, ChannelAccepted, ChannelTurn, InUnit, JudgementTold, Judging, MessageTaken, OfMember, OutcomeTold, Outside, RequesterId, Sent, Source, blank, unit_in}
+use Rattle.step_notes.specs.TrustNotes.{trust_answers_of}
 use Rattle.world_moves.specs.declared.bag.BagUnit.{BagUnit}
 use Rattle.world_moves.specs.declared.links.EndId.{EndId}
 use Rattle.world_moves.specs.declared.links.EndId.TheVariants.{Controller, Member, Client}
@@ -204,48 +205,53 @@ controller_asked (OfMember member) s = controller_of member s
 -- ---- bytes come at an end
 
 -- after how many moves, where they came from, on which link, in which direction
-pub record Coming : Type 0 where
+pub record Delivery : Type 0 where
   pub at : ℕ
   pub source : Source
   pub link : ℕ
   pub back : Bool
 
-abbrev pub at_controller : ℕ → ControllerState → Coming → State → Where
+abbrev pub at_controller : ℕ → ControllerState → Delivery → State → Where
 at_controller controller c w s = record { at = w.at; controller = controller; source = w.source; name = c.name; moment = s.moment }
 
-abbrev pub answers_of : ℕ → ControllerState → Coming → List ℕ → State → List Answered
+-- by its own machine, whether it hands logons on or not
+abbrev pub answers_of : ℕ → ControllerState → Delivery → List ℕ → State → List Answered
 answers_of controller c w piece s =
-    map (answer_on w.link (at_controller controller c w s)) (units_of_controller c w.link piece s.moment s.chances.left)
+    trust_answers_of w.link (at_controller controller c w s) c piece s.moment s.chances.left
 
-abbrev pub note_controller : Option ControllerState → ℕ → Coming → List ℕ → State → State → Book → Book
+-- what is written down of the units that it served
+abbrev pub note_answers : List Answered → Delivery → State → State → Book → Book
+note_answers answers w s after b =
+    with_marks w.at w.link true (drop (length s.bag) after.bag) (answered_marks answers)
+    (with_answers answers (unit_in w.source) (numbers_on w.link true s.bag after.bag) b)
+
+abbrev pub note_controller : Option ControllerState → ℕ → Delivery → List ℕ → State → State → Book → Book
 note_controller None controller w piece s after b = b
-note_controller (Some c) controller w piece s after b =
-    with_marks w.at w.link true (drop (length s.bag) after.bag) (answered_marks (answers_of controller c w piece s))
-    (with_answers (answers_of controller c w piece s) (unit_in w.source) (numbers_on w.link true s.bag after.bag) b)
+note_controller (Some c) controller w piece s after b = note_answers (answers_of controller c w piece s) w s after b
 
-abbrev pub at_member : ℕ → Coming → State → LinkAt
+abbrev pub at_member : ℕ → Delivery → State → LinkAt
 at_member member w s =
     record { at = w.at; member = member; link = w.link; drawn = length s.chances.drawn; left = length s.chances.left }
 
-abbrev pub note_messages : ℕ → MemberState → Coming → List ℕ → State → Book → Book
+abbrev pub note_messages : ℕ → MemberState → Delivery → List ℕ → State → Book → Book
 note_messages member m w piece s b = record b {
   challenges = b.challenges ++ flat_map (challenge_note (at_member member w s)) (link_units m w.link piece s.moment s.chances.left);
   taken = b.taken ++ flat_map (taken_link (at_member member w s)) (link_units m w.link piece s.moment s.chances.left);
   messages = b.messages ++ flat_map (message_note (at_member member w s)) (link_units m w.link piece s.moment s.chances.left);
 }
 
-abbrev pub note_requests : ℕ → MemberState → Coming → List ℕ → State → State → Book → Book
+abbrev pub note_requests : ℕ → MemberState → Delivery → List ℕ → State → State → Book → Book
 note_requests member m w piece s after b =
     with_marks w.at w.link false (drop (length s.bag) after.bag)
     (turn_marks (map (turn_note (controller_of member s)) (turn_units m w.link piece s.moment s.chances.left)))
     (with_taken (OfMember member) w.at (unit_in w.source) (map (turn_note (controller_of member s)) (turn_units m w.link piece s.moment s.chances.left))
     (note_turns (controller_of member s) (turn_units m w.link piece s.moment s.chances.left) (unit_in w.source) (numbers_on w.link false s.bag after.bag) b))
 
-abbrev pub note_member : Option MemberState → ℕ → Coming → List ℕ → State → State → Book → Book
+abbrev pub note_member : Option MemberState → ℕ → Delivery → List ℕ → State → State → Book → Book
 note_member None member w piece s after b = b
 note_member (Some m) member w piece s after b = note_requests member m w piece s after (note_messages member m w piece s b)
 
-abbrev pub note_client : Option ClientState → ℕ → Coming → List ℕ → State → Book → Book
+abbrev pub note_client : Option ClientState → ℕ → Delivery → List ℕ → State → Book → Book
 note_client None client w piece s b = b
 note_client (Some c) client w piece s b = record b {
   made = b.made
@@ -253,17 +259,17 @@ note_client (Some c) client w piece s b = record b {
       (units_of_client c w.link piece s.moment s.chances.left);
 }
 
-abbrev pub note_at : Option EndId → Coming → List ℕ → State → State → Book → Book
+abbrev pub note_at : Option EndId → Delivery → List ℕ → State → State → Book → Book
 note_at None w piece s after b = b
 note_at (Some (Controller at)) w piece s after b = note_controller (slice_get s.ends.controllers at) at w piece s after b
 note_at (Some (Member at)) w piece s after b = note_member (slice_get s.ends.members at) at w piece s after b
 note_at (Some (Client at)) w piece s after b = note_client (slice_get s.ends.clients at) at w piece s b
 
 -- a piece comes: what it comes to at the end that hears it
-abbrev pub note_piece : Coming → List ℕ → State → State → Book → Book
+abbrev pub note_piece : Delivery → List ℕ → State → State → Book → Book
 note_piece w piece s after b = note_at (hearer_of w.back (lookup same_number w.link s.open_links)) w piece s after b
 
-abbrev pub note_pieces : Coming → List (List ℕ) → State → Book → Book
+abbrev pub note_pieces : Delivery → List (List ℕ) → State → Book → Book
 note_pieces w [] s b = b
 note_pieces w (piece ∷ pieces) s b =
     note_pieces w pieces (piece_comes w.back w.link piece s).state

@@ -1,28 +1,24 @@
 -- What is claimed of runs in which no call comes for a trusted domain, whatever the plan (this project's own choice).
-use Rattle.std.specs.Prelude.{◌≡◌, false, List, []}
+use Rattle.std.specs.Prelude.{◌≡◌, false, List}
 use Rattle.world_moves.specs.declared.moves.Move.{Move}
 use Rattle.world_moves.specs.declared.plan.Plan.{Plan}
 use Rattle.world_moves.specs.Forms.{IsSchedule}
 use Rattle.world_moves.specs.Unforwarded.{IsUnforwarded, alone_plan}
-use Rattle.world_moves.specs.World.{first_world}
 use Rattle.domain_world.specs.Accepting.Answered.{CallsAskForMessages}
 use Rattle.domain_world.specs.Accepting.Carried.{MarkedUnitsAreWhole}
 use Rattle.domain_world.specs.Accepting.Sequences.{RepliesAnswerCalls, TurnsAreCalled}
 use Rattle.domain_world.specs.Claims.Completeness.{EachSucceeds}
 use Rattle.domain_world.specs.Claims.Counts.{EachCallRaisesOnce}
-use Rattle.domain_world.specs.Claims.Grants.{GrantsWhoMayLogOn, GrantsWhoseHashIsStored}
 use Rattle.domain_world.specs.Claims.MarkedUnits.{AnswersHaveCalls, CallsAreMarked, RepliesAreMarked}
 use Rattle.domain_world.specs.Claims.Names.{LetsInByName}
+use Rattle.domain_world.specs.Claims.NeverApart.{MembersAreNeverApart}
 use Rattle.domain_world.specs.Claims.OneByOne.{NoneClashes}
 use Rattle.domain_world.specs.Claims.OpeningReplies.{OpeningsAreMarked, RepliesAnswerOpenings, RepliesAreToOpenings}
-use Rattle.domain_world.specs.Claims.Openings.{OpeningsAreInOrder}
 use Rattle.domain_world.specs.Claims.Replies.{RepliesCarryTheirJudgement}
 use Rattle.domain_world.specs.Claims.RequestNumbers.{RequestsHaveNumbers}
-use Rattle.domain_world.specs.Claims.Sessions.{SessionsFollow, renewals}
 use Rattle.domain_world.specs.Claims.SharedSequences.{OneTurnIsOut, SequencesAreOwn, SequencesAreShared}
 use Rattle.domain_world.specs.Claims.Statuses.{StatusesAreTold}
-use Rattle.domain_world.specs.Claims.Tables.{TablesFollowVerdicts}
-use Rattle.domain_world.specs.Claims.{AcceptsAllGranted, AcceptsOnlyGranted, IsClear, KeysAgree, PassesTheNextCredential, ReplaysBySum, ShortResponsesLetInOnce, TellsOfCallsAlone}
+use Rattle.domain_world.specs.Claims.{AcceptsAllGranted, AcceptsOnlyGranted, IsClear, KeysAgree, ShortResponsesLetInOnce, TellsOfCallsAlone}
 use Rattle.domain_world.specs.Past.{past}
 
 -- What is written down of such a run is what is written down of the run of the plan whose controllers ask nobody.
@@ -32,18 +28,11 @@ BooksAlone = (plan : Plan) (moves : List Move) → IsUnforwarded plan moves → 
 -- What is proved of runs in which each call is judged by the controller that hears it. The rest of what is proved is of
 -- every run (`Proved`).
 pub record IsProvedAlone (plan : Plan) (moves : List Move) : Type 0 where
-  pub openings : OpeningsAreInOrder (past plan moves)
   pub opened : RepliesAnswerOpenings (past plan moves)
   pub opened_by : IsSchedule plan moves → (past plan moves).book.clash ≡ false → RepliesAreToOpenings (past plan moves)
   pub numbers : IsSchedule plan moves → RequestsHaveNumbers (past plan moves)
-  pub credentials : PassesTheNextCredential (past plan moves)
   pub alone : TellsOfCallsAlone (past plan moves)
-  pub replays : ReplaysBySum (past plan moves)
-  pub grants : GrantsWhoMayLogOn (past plan moves)
-  pub let_on : GrantsWhoseHashIsStored (past plan moves)
   pub statuses : StatusesAreTold (past plan moves)
-  pub tables : TablesFollowVerdicts (past plan moves)
-  pub sessions : SessionsFollow (past plan moves) (renewals moves (first_world plan) [])
   pub replies : RepliesCarryTheirJudgement (past plan moves)
   pub answered : IsSchedule plan moves → (past plan moves).book.clash ≡ false → RepliesAnswerCalls (past plan moves)
   pub names : IsSchedule plan moves → (past plan moves).book.clash ≡ false → LetsInByName (past plan moves)
@@ -64,6 +53,7 @@ pub record IsProvedAlone (plan : Plan) (moves : List Move) : Type 0 where
   pub opened_marks : IsSchedule plan moves → OpeningsAreMarked (past plan moves)
   pub complete : EachSucceeds (past plan moves) moves
   pub one_by_one : NoneClashes (past plan moves) moves
+  pub never_apart : IsSchedule plan moves → IsClear (past plan moves).book → MembersAreNeverApart (past plan moves)
 
 -- It holds of a run in which no call comes for a trusted domain, where it holds of the run of the plan whose
 -- controllers ask nobody.

@@ -49,13 +49,12 @@ pub fn members_try_their_secrets()
     ensures { (plan : Plan) (moves : List Move) → MembersTryTheirSecrets (past plan moves) }
 {}
 
-/// In every run of a plan that hands nothing on the hash of each account of a controller is the one that a
-/// NetrServerPasswordSet set last which passed there (MS-NRPC 3.5.4.4.6), or that of the plan. A call sets what its
-/// bytes show under the key of its channel, for the machine's account that it names.
+/// In every run the hash of each account of a controller is the one that a NetrServerPasswordSet set last which passed
+/// there (MS-NRPC 3.5.4.4.6), or that of the plan. A call sets what its bytes show under the key of its channel, for
+/// the machine's account that it names.
 #[tactic(auto, using(crate::proofs::Judgements::HashLaws::hashes_follow))]
 pub fn hashes_follow_sets()
-    ensures { (plan : Plan) (moves : List Move) → HandsNothingOn plan →
-        HashesFollowSets (past plan moves) }
+    ensures { (plan : Plan) (moves : List Move) → HashesFollowSets (past plan moves) }
 {}
 
 /// The controller of a member has its computer's account at every state of a run of a plan that hands nothing on. Where
@@ -66,11 +65,9 @@ pub fn happenings_leave_no_two_apart()
     ensures { NeverApartByHappenings }
 {}
 
-/// In every run of a plan that hands nothing on what a controller keeps for a computer is what it accepted last for
-/// it, among all that were accepted.
+/// In every run what a controller keeps for a computer is what it accepted last for it, among all that were accepted.
 pub fn kept_channels_are_last()
-    ensures { (plan : Plan) (moves : List Move) → HandsNothingOn plan →
-        KeptAreLast (past plan moves) }
+    ensures { (plan : Plan) (moves : List Move) → KeptAreLast (past plan moves) }
 {}
 
 /// In every schedule without a clash each opening that was accepted, and came in a unit of the bag, was made in one,

@@ -4,7 +4,7 @@ use Rattle.std.proofs.Common.{◌≡◌, ℕ, ◌≤◌, Bool, true, false, refl
 use Rattle.account_table.specs.AccountTable.{AccountTable}
 use Rattle.account_table.specs.declared.account.Account.{Account}
 use Rattle.logon_runs.specs.Scenes.LinkScenes.{Meeting}
-use Rattle.logon_runs.specs.Runs.{Asked, sam_for, message_for, hidden}
+use Rattle.logon_runs.specs.Runs.{ClientAnswer, sam_for, message_for, hidden}
 use Rattle.std.proofs.Common.{ap, ◌∙◌}
 use Rattle.std.specs.Prelude.{◌&&◌}
 use Rattle.ntlm_flags.specs.Flags.{has_flag, negotiate_extended_sessionsecurity}
@@ -62,7 +62,7 @@ name_short domain account is_domain is_account = omega (arith, length-append dom
 
 -- ---- the member's key and session
 
-key_so : (g : Meeting) (a : Asked) (o : SecureChannelState) (table : AccountTable) (name : List ℕ) (account : Account) (moment : ℕ) → AreDraws a.one a.two a.three →
+key_so : (g : Meeting) (a : ClientAnswer) (o : SecureChannelState) (table : AccountTable) (name : List ℕ) (account : Account) (moment : ℕ) → AreDraws a.one a.two a.three →
     (TravelsAsZeros (key_of_channel o) (base_key g.task (message_for g a)) → ⊥) →
     (on_for g a o (sam_for g a table name account moment)).key ≡ (answer_for g.plan g.task a.challenge a.then_now (drawn_of a.one a.two a.three)).key
 key_so g a o table name account moment draws arrives =

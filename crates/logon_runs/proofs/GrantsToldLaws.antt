@@ -25,11 +25,11 @@ use Rattle.logon_steps.specs.MemoCalls.{ReplyGoes, RequestGoes}
 use Rattle.logon_steps.specs.Turning.{IsTurnReply}
 use Rattle.logon_steps.proofs.MemoCallLaws.{memo_calls_go}
 use Rattle.logon_runs.specs.Grants.{CanBeTold}
-use Rattle.logon_runs.specs.Phases.{Coming, Fits, IsKnown, Third, TurnAt, WhoAsked, key_at, own, scene_of, terms_at, turn_before, turn_on}
+use Rattle.logon_runs.specs.Phases.{Arrival, Fits, IsKnown, Third, TurnAt, WhoAsked, key_at, own, scene_of, terms_at, turn_before, turn_on}
 use Rattle.logon_runs.specs.Phases.{Granted}
-use Rattle.logon_runs.specs.Runs.{Asked, hidden, message_for, on_for, sam_for}
+use Rattle.logon_runs.specs.Runs.{ClientAnswer, hidden, message_for, on_for, sam_for}
 use Rattle.logon_runs.specs.Scenes.Scene.{Scene, Shows}
-use Rattle.logon_runs.specs.Scenes.TurnScenes.{Turn, unit_back, with_accounts}
+use Rattle.logon_runs.specs.Scenes.TurnScenes.{TurnScene, unit_back, with_accounts}
 use Rattle.logon_runs.proofs.GrantLaws.{grants_are_told}
 use Rattle.logon_runs.proofs.RunLaws.{between_still}
 use Rattle.logon_runs.proofs.Scenes.TwoLinkLaws.{turns_have_links}
@@ -49,7 +49,7 @@ use Rattle.member_server.specs.declared.state.Logon.{Logon}
 use Rattle.logon_runs.specs.Scenes.Scene.{HasFirst}
 use Rattle.world_moves.specs.declared.bag.BagUnit.{BagUnit}
 use Rattle.world_moves.specs.declared.links.EndId.TheVariants.{Member}
-use Rattle.world_moves.specs.Acting.{Heard, done, perform_all}
+use Rattle.world_moves.specs.Acting.{AfterHearing, done, perform_all}
 use Rattle.world_moves.specs.Moving.{settle}
 use Rattle.logon_steps.specs.Answers.{logon_for}
 use Rattle.logon_steps.specs.Calling.{TravelsAsZeros}
@@ -98,13 +98,13 @@ member_gives s v unit later after_state left actions shows first stepped =
     let s1 : State = settle comes.number s in
     record {
       state = _;
-      is = comes.given ∙ ap (λ (h : Heard). (done (Member v.at_member) h).given)
+      is = comes.given ∙ ap (λ (h : AfterHearing). (done (Member v.at_member) h).given)
           (waiting_comes.member s1 v.at_member v.member after_state (event.Bytes unit.link unit.bytes) left actions shows.member
           (ap₂ (λ (now : ℕ) (l : List (List ℕ)). member_step_of v.member (event.Bytes unit.link unit.bytes) now l) shows.moment shows.left ∙ stepped
           ∙ ap (λ (l : List (List ℕ)). whole_step l left actions after_state) (sym shows.left)));
     }
 
-tells_so : (p : Coming) (s : State) (a : Asked) (who : WhoAsked p a) (v : TurnAt) (o c : SecureChannelState) (timestamp judged_at : ℕ) (accounts : AccountTable) (left : List (List ℕ))
+tells_so : (p : Arrival) (s : State) (a : ClientAnswer) (who : WhoAsked p a) (v : TurnAt) (o c : SecureChannelState) (timestamp judged_at : ℕ) (accounts : AccountTable) (left : List (List ℕ))
     (moment : ℕ) → IsKnown p → Fits p (Granted a who v o c timestamp judged_at accounts) → (TravelsAsZeros (key_of_channel o) (base_key p.meeting.task (message_for (own p) a)) → ⊥) →
     Shows s (scene_of p (Granted a who v o c timestamp judged_at accounts) left moment) → TellsIn p s a v
 tells_so p s a who v o c timestamp judged_at accounts left moment known fits arrives shows =
@@ -121,8 +121,8 @@ tells_so p s a who v o c timestamp judged_at accounts left moment known fits arr
     let now_shows : Shows s (granted_scene p a sending v o c timestamp judged_at accounts left moment) =
     subst (λ (sent_so : Sending). Shows s (granted_scene p a sent_so v o c timestamp judged_at accounts left moment)) same shows in
     let how : Standing = standing.Open (after_call o timestamp) in
-    let before : Turn = turn_before p a again.later (again.sent ∷ []) v in
-    let out : Turn = with_accounts accounts (turn_on p a again.later (again.sent ∷ []) v (Third o c timestamp)) in
+    let before : TurnScene = turn_before p a again.later (again.sent ∷ []) v in
+    let out : TurnScene = with_accounts accounts (turn_on p a again.later (again.sent ∷ []) v (Third o c timestamp)) in
     let name_told : List ℕ = name_in shown in
     let back : ReplyGoes 2 p.meeting.task.level 2 (written_who_reply name_told) again.next again.later =
     memo_calls_go.reply 2 p.meeting.task.level 2 (written_who_reply name_told) again.later again.next (omega arith) (omega arith)

@@ -35,7 +35,7 @@ use Rattle.world_moves.proofs.RangeLaws.{table_in_range}
 use Rattle.logon_steps.specs.Knowing.{StandsLater}
 use Rattle.logon_steps.proofs.KnowingLaws.{computers_are_known}
 use Rattle.logon_runs.specs.Scenes.Others.{OthersStay}
-use Rattle.logon_runs.specs.Phases.{Coming}
+use Rattle.logon_runs.specs.Phases.{Arrival}
 use Rattle.logon_runs.specs.Rests.{AtRest, CanBeGranted, CanCome, ClientRests, ControllerRests, HasBegun, HasCome, HasOwnComputer, HasOwnName, LogonsComeToRest, channel_account, coming_at, three_of}
 use Rattle.logon_runs.specs.Runs.{StandsInStep}
 use Rattle.logon_runs.specs.Failing.TurnedAway.{HasEnded, Settled, settled_in}
@@ -140,7 +140,7 @@ three_for plan client member controller can = record {
 }
 
 -- the channel stands in step, or there is none
-stands_by : (plan : Plan) (p : Coming) (how : Standing) → p.meeting.how ≡ how → IsOwn plan p → MayStand plan p p.computers how → (p.meeting.how ≡ standing.Nothing) ⊎ StandsInStep p.meeting p.computers
+stands_by : (plan : Plan) (p : Arrival) (how : Standing) → p.meeting.how ≡ how → IsOwn plan p → MayStand plan p p.computers how → (p.meeting.how ≡ standing.Nothing) ⊎ StandsInStep p.meeting p.computers
 stands_by plan p standing.Nothing is is_own stands = inl is
 stands_by plan p (standing.Half one other) is is_own stands = absurd stands
 stands_by plan p (standing.Open o) is is_own stands =
@@ -153,7 +153,7 @@ comes_so plan s rest client member controller can account number is forms accoun
     let three : AreThree plan client member controller = three_for plan client member controller can in
     let secret : KnowsComputer (coming_from plan s rest client member controller three account account) =
     knows_computer plan s rest client member controller three account account can.computer in
-    let coming : Coming = coming_at plan s rest client member controller can account secret.machine in
+    let coming : Arrival = coming_at plan s rest client member controller can account secret.machine in
     let able : IsAble plan coming = able_so plan s rest client member controller three account secret.machine is forms in
     let lr : ClientRests s client can.task = rest.clients client can.task can.is_task in
     let is_own : IsOwn plan coming = record { member = can.member_plan; planned = can.is_member_plan; named = own_name plan member can.member_plan controller can.computer } in
@@ -207,7 +207,7 @@ begins_so plan s rest client member controller can number is forms chosen =
 
 -- ---- a logon is over
 
-may_stand : (plan : Plan) (p : Coming) (e : Settled) (how : Standing) → e.how ≡ how → (e.how ≡ standing.Nothing) ⊎ StandsInStep (settled_in p e) e.computers → MayStand plan p e.computers how
+may_stand : (plan : Plan) (p : Arrival) (e : Settled) (how : Standing) → e.how ≡ how → (e.how ≡ standing.Nothing) ⊎ StandsInStep (settled_in p e) e.computers → MayStand plan p e.computers how
 may_stand plan p e standing.Nothing is stands = tt
 may_stand plan p e (standing.Half one other) is (inl none) = absurd (half_not one other (sym is ∙ none))
 may_stand plan p e (standing.Half one other) is (inr step_so) = absurd (half_not_open one other step_so.member (sym is ∙ step_so.stands))
@@ -222,7 +222,7 @@ may_stand plan p e (standing.Open o) is (inr step_so) = λ is_own.
 ends_so : (plan : Plan) (s : State) (rest : AtRest plan s) (client member controller : ℕ) (can : CanCome plan client member controller) (account machine : Account) (after : State) →
     OthersStay (three_of client member controller) s after → after.client_plans ≡ s.client_plans → HasEnded (coming_at plan s rest client member controller can account machine) after → AtRest plan after
 ends_so plan s rest client member controller can account machine after others plans over =
-    let p : Coming = coming_at plan s rest client member controller can account machine in
+    let p : Arrival = coming_at plan s rest client member controller can account machine in
     rests_again plan s rest client member controller (three_for plan client member controller can) account machine after (inl can.computer.reaches) others
     (record {
       outcome = over.outcome;

@@ -47,9 +47,9 @@ use Rattle.logon_steps.proofs.CallingLaws.{calls_can_go}
 use Rattle.logon_steps.proofs.ControllerTurnLaws.{controllers_step}
 use Rattle.logon_steps.proofs.GrantingLaws.{logons_are_granted}
 use Rattle.logon_runs.specs.Scenes.LinkScenes.{Meeting, its_link}
-use Rattle.logon_runs.specs.Runs.{Asked, TurnsRun, connects, goes, hidden, info_asked, meets, message_for, sam_for, starts, with_moved}
+use Rattle.logon_runs.specs.Runs.{ClientAnswer, TurnsRun, connects, goes, hidden, info_asked, meets, message_for, sam_for, starts, with_moved}
 use Rattle.logon_runs.specs.Scenes.AskScenes.{turn_of, with_talk}
-use Rattle.logon_runs.specs.Scenes.TurnScenes.{IsBetween, Turn, next_turn, with_accounts}
+use Rattle.logon_runs.specs.Scenes.TurnScenes.{IsBetween, TurnScene, next_turn, with_accounts}
 use Rattle.logon_runs.specs.Scenes.Staying.{HasSameEnds}
 use Rattle.logon_runs.proofs.Scenes.AskSceneLaws.{logons_are_seen}
 use Rattle.logon_runs.proofs.Scenes.StayingLaws.{both_same, connects_same, goes_same, reach_still, starts_same}
@@ -65,7 +65,7 @@ timestamp_below now = omega arith
 
 -- what the controller makes of the call: the logon passes and is granted, and the account's count of bad passwords is 0
 -- afterwards
-pub grants_so : (g : Meeting) (a : Asked) (o c : SecureChannelState) (table : AccountTable) (name : List ℕ) (account : Account) (computers : Computers)
+pub grants_so : (g : Meeting) (a : ClientAnswer) (o c : SecureChannelState) (table : AccountTable) (name : List ℕ) (account : Account) (computers : Computers)
     (link number moment : ℕ) (left : List (List ℕ)) → number < 2 ^ 32 → HasShortCaller g.caller → HasShortInfo (info_asked g a) →
     lookup same_name g.caller.computer computers.channels ≡ Some c → IsInStep o c → CanLogOn g.task → HasUnits g.task → AreDraws a.one a.two a.three →
     account_in table.accounts g.task.user ≡ Some account → account.hash ≡ g.task.hash → MayLogOn table (info_told g.task) moment →
@@ -90,7 +90,7 @@ grants_so g a o c table name account computers link number moment left below cal
     (controller_at (cleared table g.task.user) name later (turn_link link))) (logons_are_granted.reply o stamp sam)
 
 -- the link of a turn is open still where the controller's accounts are others
-pub between_still : (t : Turn) (accounts : AccountTable) → IsBetween t → IsBetween (with_accounts accounts t)
+pub between_still : (t : TurnScene) (accounts : AccountTable) → IsBetween t → IsBetween (with_accounts accounts t)
 between_still t accounts between = record { route = between.route; opened = between.opened }
 
 pub twice_same : (s : State) → HasSameEnds s (goes (goes s))
@@ -109,10 +109,10 @@ turns_run = record {
       let sam : SamInfo = sam_for g a table name account moment in
       let how : Standing = standing.Open (after_call o stamp) in
       let call : Call = logon_call g.caller o stamp (info_asked g a) in
-      let t : Turn = turn_of g waits (info_of (message_for g a) (flags_agreed g.task) a.challenge) (logon_for g.link g.task a.challenge (message_for g a))
+      let t : TurnScene = turn_of g waits (info_of (message_for g a) (flags_agreed g.task) a.challenge) (logon_for g.link g.task a.challenge (message_for g a))
       (asked_talk (bound_for g.task) g.place []) table name in
-      let held : Turn = with_talk g.link (asked_talk (bound_for g.task) g.place (who.sent ∷ [])) t in
-      let turn : Turn = next_turn held (its_link g) how in
+      let held : TurnScene = with_talk g.link (asked_talk (bound_for g.task) g.place (who.sent ∷ [])) t in
+      let turn : TurnScene = next_turn held (its_link g) how in
       let later : Computers = with_moved g c stamp computers in
       let answered = grants_so g a o c table name account computers (length g.links) (after g.number) moment left is.next is.caller is.info is.channel is.in_step is.can is.units
       is.draws is.found is.hash is.may in

@@ -19,29 +19,29 @@ use Rattle.logon_steps.specs.MemberAnswers.{granting, sam_shown}
 use Rattle.logon_steps.specs.MemoCalls.{AreSessions}
 use Rattle.logon_steps.specs.Turning.{IsTurnReply}
 use Rattle.logon_runs.specs.Scenes.LinkScenes.{Meeting}
-use Rattle.logon_runs.specs.Runs.{Asked, hidden, message_for, on_for, sam_for}
+use Rattle.logon_runs.specs.Runs.{ClientAnswer, hidden, message_for, on_for, sam_for}
 
 -- the reply can be written, joined and read; the name that the member finds in it is the domain's, a backslash and the
 -- account's
-pub record CanBeTold (g : Meeting) (a : Asked) (o : SecureChannelState) (table : AccountTable) (name : List ℕ) (account : Account) (moment : ℕ) : Type 0 where
+pub record CanBeTold (g : Meeting) (a : ClientAnswer) (o : SecureChannelState) (table : AccountTable) (name : List ℕ) (account : Account) (moment : ℕ) : Type 0 where
   pub reply : IsTurnReply question.Logon (granting o (timestamp_of moment) 0 1 (hidden o (sam_for g a table name account moment)))
   pub found : name_in (sam_shown o (hidden o (sam_for g a table name account moment))) ≡ table.domain ++ 0x5C ∷ account.name
   pub short : length (name_in (sam_shown o (hidden o (sam_for g a table name account moment)))) ≤ 129
   pub units : AreUnits (name_in (sam_shown o (hidden o (sam_for g a table name account moment))))
 
 -- where units are signed, the session base key doesn't travel as zeros
-abbrev pub KeyArrives : Meeting → Asked → SecureChannelState → Type 0
+abbrev pub KeyArrives : Meeting → ClientAnswer → SecureChannelState → Type 0
 KeyArrives g a o = is_signed g.task.level ≡ true → TravelsAsZeros (key_of_channel o) (base_key g.task (message_for g a)) → ⊥
 
 pub record GrantsAreTold : Type 0 where
   -- of accounts and names in their ranges
-  pub told : (g : Meeting) (a : Asked) (o : SecureChannelState) (table : AccountTable) (name : List ℕ) (account : Account) (moment : ℕ) → IsName table.domain → InRangeSid table.sid →
+  pub told : (g : Meeting) (a : ClientAnswer) (o : SecureChannelState) (table : AccountTable) (name : List ℕ) (account : Account) (moment : ℕ) → IsName table.domain → InRangeSid table.sid →
       IsName name → InRangeAccount account → moment < 2 ^ 64 → CanBeTold g a o table name account moment
   -- the member's key is the client's, unless the session base key travels as zeros
-  pub key : (g : Meeting) (a : Asked) (o : SecureChannelState) (table : AccountTable) (name : List ℕ) (account : Account) (moment : ℕ) → AreDraws a.one a.two a.three →
+  pub key : (g : Meeting) (a : ClientAnswer) (o : SecureChannelState) (table : AccountTable) (name : List ℕ) (account : Account) (moment : ℕ) → AreDraws a.one a.two a.three →
       (TravelsAsZeros (key_of_channel o) (base_key g.task (message_for g a)) → ⊥) →
       (on_for g a o (sam_for g a table name account moment)).key ≡ (answer_for g.plan g.task a.challenge a.then_now (drawn_of a.one a.two a.three)).key
   -- the sessions of both are in step: without signatures there is none at the client
-  pub sessions : (g : Meeting) (a : Asked) (o : SecureChannelState) (table : AccountTable) (name : List ℕ) (account : Account) (moment : ℕ) → CanLogOn g.task → AreDraws a.one a.two a.three →
+  pub sessions : (g : Meeting) (a : ClientAnswer) (o : SecureChannelState) (table : AccountTable) (name : List ℕ) (account : Account) (moment : ℕ) → CanLogOn g.task → AreDraws a.one a.two a.three →
       KeyArrives g a o →
       AreSessions 1 g.task.level (terms_for g.plan g.task a.challenge a.then_now (drawn_of a.one a.two a.three)).session (on_for g a o (sam_for g a table name account moment)).session

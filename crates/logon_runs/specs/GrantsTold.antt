@@ -11,13 +11,13 @@ use Rattle.world_moves.specs.Acting.{Given}
 use Rattle.world_moves.specs.Moving.{onward}
 use Rattle.logon_steps.specs.Calling.{TravelsAsZeros}
 use Rattle.logon_steps.specs.Granting.{base_key}
-use Rattle.logon_runs.specs.Phases.{Coming, Fits, Granted, IsKnown, TurnAt, WhoAsked, key_at, own, scene_of}
-use Rattle.logon_runs.specs.Runs.{Asked, message_for}
+use Rattle.logon_runs.specs.Phases.{Arrival, Fits, Granted, IsKnown, TurnAt, WhoAsked, key_at, own, scene_of}
+use Rattle.logon_runs.specs.Runs.{ClientAnswer, message_for}
 use Rattle.logon_runs.specs.Scenes.Scene.{Shows}
 
 -- the member closes the turn's link, tells of the client's own link that he is in, with the domain, the account's name
 -- and the client's key, and answers WhoAmI
-pub record TellsIn (p : Coming) (s : State) (a : Asked) (v : TurnAt) : Type 0 where
+pub record TellsIn (p : Arrival) (s : State) (a : ClientAnswer) (v : TurnAt) : Type 0 where
   pub answer : List ℕ
   pub rest : Given
   pub are : (onward s).given
@@ -28,6 +28,6 @@ pub record TellsIn (p : Coming) (s : State) (a : Asked) (v : TurnAt) : Type 0 wh
 
 pub record GrantsTell : Type 0 where
   -- unless the session base key travels as zeros
-  pub tells : (p : Coming) (s : State) (a : Asked) (who : WhoAsked p a) (v : TurnAt) (o c : SecureChannelState) (timestamp judged_at : ℕ) (accounts : AccountTable) (left : List (List ℕ))
+  pub tells : (p : Arrival) (s : State) (a : ClientAnswer) (who : WhoAsked p a) (v : TurnAt) (o c : SecureChannelState) (timestamp judged_at : ℕ) (accounts : AccountTable) (left : List (List ℕ))
       (moment : ℕ) → IsKnown p → Fits p (Granted a who v o c timestamp judged_at accounts) → (TravelsAsZeros (key_of_channel o) (base_key p.meeting.task (message_for (own p) a)) → ⊥) →
       Shows s (scene_of p (Granted a who v o c timestamp judged_at accounts) left moment) → TellsIn p s a v

@@ -72,16 +72,16 @@ use Rattle.logon_runs.specs.Grants.{KeyArrives}
 use Rattle.logon_runs.specs.Failing.Failings.{settled_with}
 use Rattle.logon_runs.specs.Scenes.LinkScenes.{FitsGiven, given_after, its_link, joined, Meeting, meeting_scene, rest_scene, unit_down, unit_up}
 use Rattle.logon_runs.specs.Scenes.Others.{IfSo, IsStepOn, is_onward}
-use Rattle.logon_runs.specs.Runs.{Asked, StandsInStep, hidden, info_asked, message_for, sam_for}
+use Rattle.logon_runs.specs.Runs.{ClientAnswer, StandsInStep, hidden, info_asked, message_for, sam_for}
 use Rattle.logon_runs.specs.Scenes.Scene.{Scene, Shows}
 use Rattle.logon_runs.specs.Scenes.WaitingUnits.{waiting}
-use Rattle.logon_runs.specs.Scenes.TurnScenes.{Turn, next_turn, waiting_scene, turn_scene, unit_back, unit_there, with_accounts}
+use Rattle.logon_runs.specs.Scenes.TurnScenes.{TurnScene, next_turn, waiting_scene, turn_scene, unit_back, unit_there, with_accounts}
 
 -- ---- what stays
 
 -- a client that starts, its member and that member's controller, with all links of before; the controller's accounts,
 -- name and computers; the user's account and the computer's
-pub record Coming : Type 0 where
+pub record Arrival : Type 0 where
   pub meeting : Meeting
   pub table : AccountTable
   pub name : List ℕ
@@ -90,28 +90,28 @@ pub record Coming : Type 0 where
   pub machine : Account
 
 -- on the next link
-abbrev pub own : Coming → Meeting
+abbrev pub own : Arrival → Meeting
 own p = joined p.meeting p.meeting.links
 
-abbrev pub with_its_controller : Coming → Meeting → Meeting
+abbrev pub with_its_controller : Arrival → Meeting → Meeting
 with_its_controller p g = with_controller g p.table p.name p.computers
 
 -- the terms of the client's calls, its key, and WhoAmI
-abbrev pub terms_at : Coming → Asked → Terms
+abbrev pub terms_at : Arrival → ClientAnswer → Terms
 terms_at p a = terms_for p.meeting.plan p.meeting.task a.challenge a.then_now (drawn_of a.one a.two a.three)
 
-abbrev pub key_at : Coming → Asked → List ℕ
+abbrev pub key_at : Arrival → ClientAnswer → List ℕ
 key_at p a = (answer_for p.meeting.plan p.meeting.task a.challenge a.then_now (drawn_of a.one a.two a.three)).key
 
-abbrev pub WhoAsked : Coming → Asked → Type 0
+abbrev pub WhoAsked : Arrival → ClientAnswer → Type 0
 WhoAsked p a = RequestGoes 1 p.meeting.task.level 2 0 [] (terms_at p a).session (session_in (key_at p a) (flags_agreed p.meeting.task))
 
 -- the client waits for its answer, with that session
-abbrev pub waits_for : Coming → Asked → Option SessionState → ClientPhase
+abbrev pub waits_for : Arrival → ClientAnswer → Option SessionState → ClientPhase
 waits_for p a later = client_phase.Asked (with_session (terms_at p a) later) client_question.Who
 
 -- the name that it is told: the domain's, a backslash and the account's
-abbrev pub told_of : Coming → List ℕ
+abbrev pub told_of : Arrival → List ℕ
 told_of p = p.table.domain ++ 0x5C ∷ p.account.name
 
 -- ---- a turn
@@ -127,7 +127,7 @@ pub record TurnAt : Type 0 where
   pub table : AccountTable
 
 -- on the client's link, where the member keeps these secrets
-abbrev pub own_keeping : Coming → SecretsState → Meeting
+abbrev pub own_keeping : Arrival → SecretsState → Meeting
 own_keeping p secrets = settled_with secrets (own p)
 
 -- what it is for: the two calls that open the channel, the logon's own, with the timestamp of its authenticator, or the
@@ -145,13 +145,13 @@ standing_for (Third o c timestamp) = standing.Open (after_call o timestamp)
 standing_for (Fourth o c timestamp new) = standing.Open (after_call o timestamp)
 
 -- the step that its bind is for, the bytes of its call, and the step that waits for the reply
-abbrev pub step_for : Coming → Asked → Aim → Step
+abbrev pub step_for : Arrival → ClientAnswer → Aim → Step
 step_for p a (First client) = step.Bind (challenge_call p.meeting.caller client)
 step_for p a (Second client server) = step.Bind (auth_call p.meeting.caller client server)
 step_for p a (Third o c timestamp) = step.Bind (logon_call p.meeting.caller o timestamp (info_asked (own p) a))
 step_for p a (Fourth o c timestamp new) = step.Set (set_step.Bind (change_call p.meeting.caller o timestamp new))
 
-abbrev pub bytes_for : Coming → Asked → ℕ → Aim → List ℕ
+abbrev pub bytes_for : Arrival → ClientAnswer → ℕ → Aim → List ℕ
 bytes_for p a number (First client) = bytes_of_call (turn_request number (challenge_call p.meeting.caller client)) 5840
 bytes_for p a number (Second client server) = bytes_of_call (turn_request number (auth_call p.meeting.caller client server)) 5840
 bytes_for p a number (Third o c timestamp) =
@@ -165,13 +165,13 @@ reply_for (Third o c timestamp) = step.Reply question.Logon
 reply_for (Fourth o c timestamp new) = step.Set set_step.Reply
 
 -- the turn before its link is made, and on it: the client's session, and the requests that the member holds
-abbrev pub turn_before : Coming → Asked → Option SessionState → List (List ℕ) → TurnAt → Turn
+abbrev pub turn_before : Arrival → ClientAnswer → Option SessionState → List (List ℕ) → TurnAt → TurnScene
 turn_before p a later held v =
     turn_within (own_keeping p v.secrets) (waits_for p a later) (info_of (message_for (own p) a) (flags_agreed p.meeting.task) a.challenge)
     (logon_for (own p).link p.meeting.task a.challenge (message_for (own p) a)) (asked_talk (bound_for p.meeting.task) p.meeting.place held) v.table p.name
     standing.Nothing v.links (its_link (own p)) (own p).link
 
-abbrev pub turn_on : Coming → Asked → Option SessionState → List (List ℕ) → TurnAt → Aim → Turn
+abbrev pub turn_on : Arrival → ClientAnswer → Option SessionState → List (List ℕ) → TurnAt → Aim → TurnScene
 turn_on p a later held v aim = next_turn (turn_before p a later held v) (its_link (own p)) (standing_for aim)
 
 -- ---- what the logon comes to
@@ -185,7 +185,7 @@ pub record Ending : Type 0 where
   pub table : AccountTable
   pub computers : Computers
 
-abbrev pub meeting_at : Coming → Ending → Meeting
+abbrev pub meeting_at : Arrival → Ending → Meeting
 meeting_at p e = record (with_controller (own_keeping p e.secrets) e.table p.name e.computers) {
   given = given_after (own_keeping p e.secrets);
   how = standing.Open e.member;
@@ -196,36 +196,36 @@ meeting_at p e = record (with_controller (own_keeping p e.secrets) e.table p.nam
 
 -- ---- the phases
 
-pub data LogonPhase (p : Coming) : Type 0 where
+pub data LogonPhase (p : Arrival) : Type 0 where
   -- the client's dial waits, its bind, and the CHALLENGE
   Dials : LogonPhase p
   Binds : LogonPhase p
   Challenged : (challenge : List ℕ) → LogonPhase p
   -- the AUTHENTICATE waits, and WhoAmI behind it
-  Answers : (a : Asked) (who : WhoAsked p a) → LogonPhase p
+  Answers : (a : ClientAnswer) (who : WhoAsked p a) → LogonPhase p
   -- a turn's dial waits, before WhoAmI is held and once it is; then its bind, the answer, and its call
-  DialsBefore : (a : Asked) (who : WhoAsked p a) (v : TurnAt) (aim : Aim) → LogonPhase p
-  DialsHeld : (a : Asked) (who : WhoAsked p a) (v : TurnAt) (aim : Aim) → LogonPhase p
-  BindsBefore : (a : Asked) (who : WhoAsked p a) (v : TurnAt) (aim : Aim) → LogonPhase p
-  BindsHeld : (a : Asked) (who : WhoAsked p a) (v : TurnAt) (aim : Aim) → LogonPhase p
-  Acked : (a : Asked) (who : WhoAsked p a) (v : TurnAt) (aim : Aim) → LogonPhase p
-  Calls : (a : Asked) (who : WhoAsked p a) (v : TurnAt) (aim : Aim) → LogonPhase p
+  DialsBefore : (a : ClientAnswer) (who : WhoAsked p a) (v : TurnAt) (aim : Aim) → LogonPhase p
+  DialsHeld : (a : ClientAnswer) (who : WhoAsked p a) (v : TurnAt) (aim : Aim) → LogonPhase p
+  BindsBefore : (a : ClientAnswer) (who : WhoAsked p a) (v : TurnAt) (aim : Aim) → LogonPhase p
+  BindsHeld : (a : ClientAnswer) (who : WhoAsked p a) (v : TurnAt) (aim : Aim) → LogonPhase p
+  Acked : (a : ClientAnswer) (who : WhoAsked p a) (v : TurnAt) (aim : Aim) → LogonPhase p
+  Calls : (a : ClientAnswer) (who : WhoAsked p a) (v : TurnAt) (aim : Aim) → LogonPhase p
   -- the reply waits, to each of the three calls: the last was judged at that moment, and left these accounts
-  Halved : (a : Asked) (who : WhoAsked p a) (v : TurnAt) (client server : List ℕ) → LogonPhase p
-  Proved : (a : Asked) (who : WhoAsked p a) (v : TurnAt) (client server : List ℕ) → LogonPhase p
-  Granted : (a : Asked) (who : WhoAsked p a) (v : TurnAt) (o c : SecureChannelState) (timestamp judged_at : ℕ) (accounts : AccountTable) → LogonPhase p
+  Halved : (a : ClientAnswer) (who : WhoAsked p a) (v : TurnAt) (client server : List ℕ) → LogonPhase p
+  Proved : (a : ClientAnswer) (who : WhoAsked p a) (v : TurnAt) (client server : List ℕ) → LogonPhase p
+  Granted : (a : ClientAnswer) (who : WhoAsked p a) (v : TurnAt) (o c : SecureChannelState) (timestamp judged_at : ℕ) (accounts : AccountTable) → LogonPhase p
   -- the reply waits that takes the secret; these accounts have it
-  Sets : (a : Asked) (who : WhoAsked p a) (v : TurnAt) (o c : SecureChannelState) (timestamp : ℕ) (new : List ℕ) (accounts : AccountTable) → LogonPhase p
+  Sets : (a : ClientAnswer) (who : WhoAsked p a) (v : TurnAt) (o c : SecureChannelState) (timestamp : ℕ) (new : List ℕ) (accounts : AccountTable) → LogonPhase p
   -- the answer of WhoAmI waits, Echo, and its answer
-  Named : (a : Asked) (e : Ending) (on : LoggedOn) (one other : Option SessionState)
+  Named : (a : ClientAnswer) (e : Ending) (on : LoggedOn) (one other : Option SessionState)
       (back : ReplyGoes 2 p.meeting.task.level 2 (written_who_reply (told_of p)) other one) → LogonPhase p
-  Echoes : (a : Asked) (e : Ending) (on : LoggedOn) (one : Option SessionState)
+  Echoes : (a : ClientAnswer) (e : Ending) (on : LoggedOn) (one : Option SessionState)
       (asks : RequestGoes 3 p.meeting.task.level 3 1 (written_echo_request (client.echo_bytes p.meeting.task.echo)) one on.session) → LogonPhase p
-  Echoed : (a : Asked) (e : Ending) (talk : Talk) (one other : Option SessionState)
+  Echoed : (a : ClientAnswer) (e : Ending) (talk : Talk) (one other : Option SessionState)
       (back : ReplyGoes 4 p.meeting.task.level 3 (written_echo_reply (client.echo_bytes p.meeting.task.echo)) other one) → LogonPhase p
 
 -- what is seen in each, with the challenges that are left and the moment
-abbrev pub scene_of : (p : Coming) → LogonPhase p → List (List ℕ) → ℕ → Scene
+abbrev pub scene_of : (p : Arrival) → LogonPhase p → List (List ℕ) → ℕ → Scene
 scene_of p Dials left moment =
     rest_scene (with_its_controller p p.meeting) (client_at p.meeting.task client_standing.Dialling) p.meeting.links left moment
     (record { end = Client p.meeting.at_client; peer = p.meeting.task.server } ∷ [])
@@ -286,21 +286,21 @@ scene_of p (Echoed a e talk one other back) left moment =
 -- ---- what holds in each
 
 -- other computers' channels are as they were
-abbrev pub KeepsOthers : Coming → Computers → Type 0
+abbrev pub KeepsOthers : Arrival → Computers → Type 0
 KeepsOthers p computers =
     (other : List ℕ) → same_name p.meeting.caller.computer other ≡ false → lookup same_name other computers.channels ≡ lookup same_name other p.computers.channels
 
 -- the client's link is among all
-abbrev pub HasJoined : Coming → List Route → Type 0
+abbrev pub HasJoined : Arrival → List Route → Type 0
 HasJoined p links = slice_get links (own p).link ≡ Some (ToMember p.meeting.at_client p.meeting.at_member)
 
 -- what was drawn for the client's answer, and what is asked of it
-pub record IsAnswering (p : Coming) (a : Asked) : Type 0 where
+pub record IsAnswering (p : Arrival) (a : ClientAnswer) : Type 0 where
   pub draws : AreDraws a.one a.two a.three
   pub info : HasShortInfo (info_asked (own p) a)
 
 -- the member keeps the secrets with which the logon began, and its controller the accounts
-abbrev pub IsPlanned : Coming → TurnAt → Type 0
+abbrev pub IsPlanned : Arrival → TurnAt → Type 0
 IsPlanned p v = (v.secrets ≡ p.meeting.plan.secrets) × (v.table ≡ p.table)
 
 -- the account of that channel has another hash
@@ -311,11 +311,11 @@ pub record IsSetAt (caller : Caller) (table accounts : AccountTable) : Type 0 wh
   pub is : accounts ≡ with_hash place hash table
 
 -- the controller's accounts are those with which the logon began, or the member's own has another hash
-abbrev pub IsSetOrNot : Coming → AccountTable → Type 0
+abbrev pub IsSetOrNot : Arrival → AccountTable → Type 0
 IsSetOrNot p table = (table ≡ p.table) ⊎ IsSetAt p.meeting.caller p.table table
 
 -- the member is to set that secret first
-abbrev pub IsToSet : Coming → List ℕ → Type 0
+abbrev pub IsToSet : Arrival → List ℕ → Type 0
 IsToSet p new = p.meeting.plan.secrets.next ≡ Some (record { secret = new; is_tried = false })
 
 -- the account by which a caller's channel is opened, where there is one
@@ -328,11 +328,11 @@ FitsCaller table caller secrets = (machine : Account) → account_of_caller tabl
 
 -- Where the account of the member's channel had the secret that the member tried as the logon began, it has it of these
 -- accounts and secrets.
-abbrev pub FitsStill : Coming → AccountTable → SecretsState → Type 0
+abbrev pub FitsStill : Arrival → AccountTable → SecretsState → Type 0
 FitsStill p table secrets = FitsCaller p.table p.meeting.caller p.meeting.plan.secrets → FitsCaller table p.meeting.caller secrets
 
 -- what holds in each turn of the logon
-pub record IsTurning (p : Coming) (a : Asked) (v : TurnAt) : Type 0 where
+pub record IsTurning (p : Arrival) (a : ClientAnswer) (v : TurnAt) : Type 0 where
   pub answering : IsAnswering p a
   pub joined_so : HasJoined p v.links
   pub number_below : v.number < 2 ^ 32
@@ -345,7 +345,7 @@ pub record IsTurning (p : Coming) (a : Asked) (v : TurnAt) : Type 0 where
 
 -- The controller keeps what the call needs of it. The calls that open a channel are made where there was none, and the
 -- logon's own where none is next.
-abbrev pub IsAimed : Coming → TurnAt → Aim → Type 0
+abbrev pub IsAimed : Arrival → TurnAt → Aim → Type 0
 IsAimed p v (First client) = IsBlock 8 client × (p.meeting.how ≡ standing.Nothing) × IsPlanned p v
 IsAimed p v (Second client server) =
     (lookup same_name p.meeting.caller.computer v.computers.pending ≡ Some (pair_of client server)) × (p.meeting.how ≡ standing.Nothing) × IsPlanned p v
@@ -356,7 +356,7 @@ IsAimed p v (Fourth o c timestamp new) =
 
 -- the accounts differ from those of the logon's own turn in counts of bad passwords alone, and both ends of the channel
 -- are in step
-pub record IsEnding (p : Coming) (e : Ending) : Type 0 where
+pub record IsEnding (p : Arrival) (e : Ending) : Type 0 where
   pub joined_so : HasJoined p e.links
   pub number_below : e.number < 2 ^ 32
   pub one : e.secrets.next ≡ None
@@ -368,7 +368,7 @@ pub record IsEnding (p : Coming) (e : Ending) : Type 0 where
   pub stands : StandsInStep (meeting_at p e) e.computers
   pub others : KeepsOthers p e.computers
 
-abbrev pub Fits : (p : Coming) → LogonPhase p → Type 0
+abbrev pub Fits : (p : Arrival) → LogonPhase p → Type 0
 Fits p Dials = Unit {0}
 Fits p Binds = Unit {0}
 Fits p (Challenged challenge) = IsBlock 8 challenge
@@ -397,7 +397,7 @@ Fits p (Echoes a e on one asks) = IsEnding p e × (on.bound ≡ bound_for p.meet
 Fits p (Echoed a e talk one other back) = IsEnding p e
 
 -- the state is in a phase of that logon
-pub record IsUnderWay (p : Coming) (s : State) : Type 0 where
+pub record IsUnderWay (p : Arrival) (s : State) : Type 0 where
   pub phase : LogonPhase p
   pub left : List (List ℕ)
   pub moment : ℕ
@@ -405,8 +405,8 @@ pub record IsUnderWay (p : Coming) (s : State) : Type 0 where
   pub shows : Shows s (scene_of p phase left moment)
 
 -- it is over: the client is in, with its key, the name and its whole echo; no link is open, and nothing waits
-pub record IsOver (p : Coming) (s : State) : Type 0 where
-  pub asked : Asked
+pub record IsOver (p : Arrival) (s : State) : Type 0 where
+  pub asked : ClientAnswer
   pub ending : Ending
   pub left : List (List ℕ)
   pub moment : ℕ
@@ -417,7 +417,7 @@ pub record IsOver (p : Coming) (s : State) : Type 0 where
 
 -- The client and its member can go on. The controller knows the computer, has the secret by which its channel is to be
 -- opened, and keeps the channel in step where there is one.
-pub record IsKnown (p : Coming) : Type 0 where
+pub record IsKnown (p : Arrival) : Type 0 where
   pub can : CanLogOn p.meeting.task
   pub units : HasUnits p.meeting.task
   pub names : HasShortNames p.meeting.plan
@@ -435,15 +435,15 @@ pub record IsKnown (p : Coming) : Type 0 where
   pub account_so : InRangeAccount p.account
 
 -- it has the user's hash among those accounts, or those with which the logon began
-pub record HasUserIn (p : Coming) (table : AccountTable) : Type 0 where
+pub record HasUserIn (p : Arrival) (table : AccountTable) : Type 0 where
   pub found : account_in table.accounts p.meeting.task.user ≡ Some p.account
   pub hash : p.account.hash ≡ p.meeting.task.hash
 
-abbrev pub HasUser : Coming → Type 0
+abbrev pub HasUser : Arrival → Type 0
 HasUser p = HasUserIn p p.table
 
 -- the addresses are those of the member and its controller
-pub record IsReached (p : Coming) (s : State) : Type 0 where
+pub record IsReached (p : Arrival) (s : State) : Type 0 where
   pub member : end_of_peer p.meeting.task.server s.ends ≡ Some (Member p.meeting.at_member)
   pub controller : end_of_peer p.meeting.plan.controller s.ends ≡ Some (Controller p.meeting.at_controller)
 
@@ -459,27 +459,27 @@ pub record HasThree (left : List (List ℕ)) : Type 0 where
   pub third : IsBlock 8 three
 
 -- the user may log on by the accounts as they stand, and at that moment
-abbrev pub MayLogOnAt : Coming → State → Type 0
+abbrev pub MayLogOnAt : Arrival → State → Type 0
 MayLogOnAt p s = IsSomeAnd (slice_get s.ends.controllers p.meeting.at_controller) (λ (c : ControllerState). MayLogOn c.table (info_told p.meeting.task) s.moment)
 
 -- where the logon is judged at the move, the session base key doesn't travel as zeros, unless units aren't signed
-abbrev pub ArrivesAt : (p : Coming) → LogonPhase p → Move → Type 0
+abbrev pub ArrivesAt : (p : Arrival) → LogonPhase p → Move → Type 0
 ArrivesAt p (Calls a who v (Third o c timestamp)) what = IfSo (is_onward what) (KeyArrives (own p) a o)
 ArrivesAt p phase what = Unit {0}
 
 -- it is then that the user's hash is asked for, and that he may log on
-abbrev pub HasUserAt : (p : Coming) → State → LogonPhase p → Move → Type 0
+abbrev pub HasUserAt : (p : Arrival) → State → LogonPhase p → Move → Type 0
 HasUserAt p s (Calls a who v (Third o c timestamp)) what = IfSo (is_onward what) (HasUserIn p v.table × MayLogOnAt p s)
 HasUserAt p s phase what = Unit {0}
 
 -- what the moves need of the state
-pub record IsReady (p : Coming) (s : State) : Type 0 where
+pub record IsReady (p : Arrival) (s : State) : Type 0 where
   pub reached : IsReached p s
   pub draws : HasThree s.chances.left
   pub below : s.moment < 2 ^ 64
 
 -- what a state comes to at a move
-abbrev pub ComesTo : Coming → State → Type 0
+abbrev pub ComesTo : Arrival → State → Type 0
 ComesTo p s = IsUnderWay p s ⊎ IsOver p s
 
 -- How far a logon is: not judged. Then the call that opens the channel is out, with these challenges, or its reply is;
@@ -493,8 +493,8 @@ pub data Progress : Type 0 where
   IsSetting : (o : SecureChannelState) → Progress
   WasSet : (o : SecureChannelState) → Progress
   IsAsking : (o : SecureChannelState) → Progress
-  WasJudged : (a : Asked) (o : SecureChannelState) → Progress
-  WasTold : (a : Asked) → Progress
+  WasJudged : (a : ClientAnswer) (o : SecureChannelState) → Progress
+  WasTold : (a : ClientAnswer) → Progress
 
 -- once a turn's call is out, and once its reply is
 abbrev pub progress_called : Aim → Progress
@@ -503,13 +503,13 @@ progress_called (Second client server) = IsOpening client server
 progress_called (Third o c timestamp) = IsAsking o
 progress_called (Fourth o c timestamp new) = IsSetting o
 
-abbrev pub progress_answered : Asked → Aim → Progress
+abbrev pub progress_answered : ClientAnswer → Aim → Progress
 progress_answered a (First client) = NotYet
 progress_answered a (Second client server) = WasOpened client server
 progress_answered a (Third o c timestamp) = WasJudged a o
 progress_answered a (Fourth o c timestamp new) = WasSet o
 
-abbrev pub progress_of : {p : Coming} → LogonPhase p → Progress
+abbrev pub progress_of : {p : Arrival} → LogonPhase p → Progress
 progress_of (Calls a who v aim) = progress_called aim
 progress_of (Proved a who v client server) = WasOpened client server
 progress_of (Granted a who v o c timestamp judged_at accounts) = WasJudged a o
@@ -520,7 +520,7 @@ progress_of (Echoed a e talk one other back) = WasTold a
 progress_of _ = NotYet
 
 -- once a unit came, and after any move
-abbrev pub progress_onward : {p : Coming} → LogonPhase p → Progress
+abbrev pub progress_onward : {p : Arrival} → LogonPhase p → Progress
 progress_onward (Acked a who v aim) = progress_called aim
 progress_onward (Calls a who v aim) = progress_answered a aim
 progress_onward (Proved a who v client server) = NotYet
@@ -528,15 +528,15 @@ progress_onward (Granted a who v o c timestamp judged_at accounts) = WasTold a
 progress_onward (Sets a who v o c timestamp new accounts) = NotYet
 progress_onward phase = progress_of phase
 
-abbrev pub progress_if : {p : Coming} → (comes : Bool) → LogonPhase p → Progress
+abbrev pub progress_if : {p : Arrival} → (comes : Bool) → LogonPhase p → Progress
 progress_if false phase = progress_of phase
 progress_if true phase = progress_onward phase
 
-abbrev pub progress_after : {p : Coming} → Move → LogonPhase p → Progress
+abbrev pub progress_after : {p : Arrival} → Move → LogonPhase p → Progress
 progress_after what phase = progress_if (is_onward what) phase
 
 -- what a state comes to, where the logon is so far
-abbrev pub ComesSoFar : Coming → Progress → State → Type 0
+abbrev pub ComesSoFar : Arrival → Progress → State → Type 0
 ComesSoFar p far s = ((at : IsUnderWay p s) × (progress_of at.phase ≡ far)) ⊎ ((over : IsOver p s) × (WasTold over.asked ≡ far))
 
 -- at most three challenges were drawn, the first ones
@@ -547,22 +547,22 @@ pub record DrawsFew (before after : List (List ℕ)) : Type 0 where
 
 pub record PhasesGoOn : Type 0 where
   -- a client starts where nothing is open and nothing waits
-  pub begins : (p : Coming) (s : State) (number : ℕ) (before : ClientState) (left : List (List ℕ)) (moment : ℕ) →
+  pub begins : (p : Arrival) (s : State) (number : ℕ) (before : ClientState) (left : List (List ℕ)) (moment : ℕ) →
       chosen_place number (length s.ends.clients) ≡ Some p.meeting.at_client → slice_get s.client_plans p.meeting.at_client ≡ Some p.meeting.task →
       Shows s (rest_scene (with_its_controller p p.meeting) before p.meeting.links left moment []) → IsUnderWay p (start number s).state
   -- each move leads to a phase, or to the end, where the client is in
-  pub goes_on : (p : Coming) (s : State) (what : Move) → IsKnown p → IsReady p s → IsStepOn what → (at : IsUnderWay p s) → HasUserAt p s at.phase what →
+  pub goes_on : (p : Arrival) (s : State) (what : Move) → IsKnown p → IsReady p s → IsStepOn what → (at : IsUnderWay p s) → HasUserAt p s at.phase what →
       ArrivesAt p at.phase what → ComesTo p (act s what).state
   -- and so far
-  pub goes_so_far : (p : Coming) (s : State) (what : Move) → IsKnown p → IsReady p s → IsStepOn what → (at : IsUnderWay p s) → HasUserAt p s at.phase what →
+  pub goes_so_far : (p : Arrival) (s : State) (what : Move) → IsKnown p → IsReady p s → IsStepOn what → (at : IsUnderWay p s) → HasUserAt p s at.phase what →
       ArrivesAt p at.phase what → ComesSoFar p (progress_after what at.phase) (act s what).state
   -- and draws few challenges
-  pub draws : (p : Coming) (s : State) (what : Move) → IsKnown p → IsReady p s → IsStepOn what → (at : IsUnderWay p s) → HasUserAt p s at.phase what →
+  pub draws : (p : Arrival) (s : State) (what : Move) → IsKnown p → IsReady p s → IsStepOn what → (at : IsUnderWay p s) → HasUserAt p s at.phase what →
       ArrivesAt p at.phase what → DrawsFew s.chances.left (act s what).state.chances.left
   -- so it is where the user's hash was there as the logon began, since he is no machine
-  pub has_user : (p : Coming) (s : State) (at : IsUnderWay p s) (what : Move) → HasUser p → MayLogOnAt p s → HasUserAt p s at.phase what
+  pub has_user : (p : Arrival) (s : State) (at : IsUnderWay p s) (what : Move) → HasUser p → MayLogOnAt p s → HasUserAt p s at.phase what
   -- something waits in each phase
-  pub waits : (p : Coming) (s : State) → IsUnderWay p s → s.dials ≡ [] → waiting s.bag ≡ [] → ⊥
+  pub waits : (p : Arrival) (s : State) → IsUnderWay p s → s.dials ≡ [] → waiting s.bag ≡ [] → ⊥
   -- once it is over, moves change nothing of it
-  pub rests : (p : Coming) (s : State) (what : Move) → IsStepOn what → IsOver p s → IsOver p (act s what).state
-  pub rests_same : (p : Coming) (s : State) (what : Move) → IsStepOn what → (over : IsOver p s) → (later : IsOver p (act s what).state) × (later.asked ≡ over.asked)
+  pub rests : (p : Arrival) (s : State) (what : Move) → IsStepOn what → IsOver p s → IsOver p (act s what).state
+  pub rests_same : (p : Arrival) (s : State) (what : Move) → IsStepOn what → (over : IsOver p s) → (later : IsOver p (act s what).state) × (later.asked ≡ over.asked)

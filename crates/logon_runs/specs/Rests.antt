@@ -45,7 +45,7 @@ use Rattle.logon_steps.specs.Knowing.{StandsLater}
 use Rattle.logon_steps.specs.MemberTurns.{member_at, plan_with}
 use Rattle.logon_runs.specs.Scenes.LinkScenes.{Given}
 use Rattle.logon_runs.specs.Scenes.Others.{IsStepOn, OthersStay, Three}
-use Rattle.logon_runs.specs.Phases.{Coming, HasUser, IsUnderWay, IsKnown, MayLogOnAt}
+use Rattle.logon_runs.specs.Phases.{Arrival, HasUser, IsUnderWay, IsKnown, MayLogOnAt}
 use Rattle.logon_runs.specs.Failing.TurnedAway.{HasEnded}
 use Rattle.logon_runs.specs.Scenes.WaitingUnits.{waiting}
 
@@ -187,7 +187,7 @@ pub record CanBeGranted (plan : Plan) (client member controller : ℕ) : Type 0 
 
 -- what is there when it starts at rest: the ends as they stand, and the accounts of the user and of the computer as
 -- they are found by then
-abbrev pub coming_at : (plan : Plan) (s : State) → AtRest plan s → (client member controller : ℕ) → CanCome plan client member controller → Account → Account → Coming
+abbrev pub coming_at : (plan : Plan) (s : State) → AtRest plan s → (client member controller : ℕ) → CanCome plan client member controller → Account → Account → Arrival
 coming_at plan s rest client member controller can account machine =
     let work : MemberRests plan s member can.member_plan = rest.members member can.member_plan can.is_member_plan in
     let desk : ControllerRests plan s controller can.computer.table = rest.controllers controller can.computer.table can.computer.is_table in
@@ -255,7 +255,7 @@ pub record RestsStay : Type 0 where
 -- ---- a whole logon, in whichever order its moves come
 
 -- a client, its member and its controller
-abbrev pub three_in : Coming → Three
+abbrev pub three_in : Arrival → Three
 three_in p = three_of p.meeting.at_client p.meeting.at_member p.meeting.at_controller
 
 abbrev pub moved_by : List Move → State → State
@@ -268,5 +268,5 @@ pub record HasEnough (moves : ℕ) (left : List (List ℕ)) : Type 0 where
   pub blocks : AllByRecursion (λ (challenge : List ℕ). IsBlock 8 challenge) left
 
 abbrev pub coming_of : (plan : Plan) (s : State) (rest : AtRest plan s) (client member controller : ℕ) (can : CanBeGranted plan client member controller) (number : ℕ) →
-    HasBegun plan s rest client member controller can number → Coming
+    HasBegun plan s rest client member controller can number → Arrival
 coming_of plan s rest client member controller can number begun = coming_at plan s rest client member controller can.come begun.account begun.come.machine

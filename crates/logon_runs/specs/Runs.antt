@@ -44,7 +44,7 @@ use Rattle.logon_runs.specs.Scenes.LinkScenes.{FitsGiven, given_after, IsJoined,
 use Rattle.logon_runs.specs.Scenes.Scene.{Shows}
 
 -- what a client answers to its member, where it is asked so
-pub record Asked : Type 0 where
+pub record ClientAnswer : Type 0 where
   pub challenge : List ℕ
   pub one : List ℕ
   pub two : List ℕ
@@ -52,19 +52,19 @@ pub record Asked : Type 0 where
   pub then_now : ℕ
 
 -- what it answers where these are drawn
-abbrev pub asked_at : List ℕ → List ℕ → List ℕ → List ℕ → ℕ → Asked
+abbrev pub asked_at : List ℕ → List ℕ → List ℕ → List ℕ → ℕ → ClientAnswer
 asked_at challenge one two three now = record { challenge = challenge; one = one; two = two; three = three; then_now = now }
 
 -- the AUTHENTICATE
-abbrev pub message_for : Meeting → Asked → Authenticate
+abbrev pub message_for : Meeting → ClientAnswer → Authenticate
 message_for g a = (answer_for g.plan g.task a.challenge a.then_now (drawn_of a.one a.two a.three)).message
 
 -- what the member's Logon call tells of it
-abbrev pub info_asked : Meeting → Asked → NetworkInfo
+abbrev pub info_asked : Meeting → ClientAnswer → NetworkInfo
 info_asked g a = info_at g.place (info_of (message_for g a) (flags_agreed g.task) a.challenge)
 
 -- what is granted, and as it travels
-abbrev pub sam_for : Meeting → Asked → AccountTable → List ℕ → Account → ℕ → SamInfo
+abbrev pub sam_for : Meeting → ClientAnswer → AccountTable → List ℕ → Account → ℕ → SamInfo
 sam_for g a table name account now = sam_info_of table name account (base_key g.task (message_for g a)) now
 
 -- the key is hidden under the channel's
@@ -72,11 +72,11 @@ abbrev pub hidden : SecureChannelState → SamInfo → SamInfo
 hidden o sam = record sam { key = crypt_key (key_of_channel o) sam.key }
 
 -- who is in then, at the member
-abbrev pub on_for : Meeting → Asked → SecureChannelState → SamInfo → LoggedOn
+abbrev pub on_for : Meeting → ClientAnswer → SecureChannelState → SamInfo → LoggedOn
 on_for g a o sam = let_in g.task (sam_shown o (hidden o sam)) (logon_for g.link g.task a.challenge (message_for g a))
 
 -- the member's channel stands and is in step, and the controller grants the logon
-pub record IsToBeGranted (g : Meeting) (a : Asked) (o c : SecureChannelState) (table : AccountTable) (name : List ℕ) (account : Account) (computers : Computers) (moment : ℕ) : Type 0 where
+pub record IsToBeGranted (g : Meeting) (a : ClientAnswer) (o c : SecureChannelState) (table : AccountTable) (name : List ℕ) (account : Account) (computers : Computers) (moment : ℕ) : Type 0 where
   pub joined : IsJoined g
   pub can : CanLogOn g.task
   pub units : HasUnits g.task
@@ -137,7 +137,7 @@ pub record StandsInStep (g : Meeting) (computers : Computers) : Type 0 where
   pub in_step : IsInStep member controller
 
 pub record TurnsRun : Type 0 where
-  pub granted : (s : State) (g : Meeting) (a : Asked) (o c : SecureChannelState) (table : AccountTable) (name : List ℕ) (account : Account) (computers : Computers)
+  pub granted : (s : State) (g : Meeting) (a : ClientAnswer) (o c : SecureChannelState) (table : AccountTable) (name : List ℕ) (account : Account) (computers : Computers)
       (waits : ClientPhase) (left : List (List ℕ)) (moment : ℕ) → IsToBeGranted g a o c table name account computers moment →
       end_of_peer g.plan.controller s.ends ≡ Some (Controller g.at_controller) →
       let sam : SamInfo = sam_for g a table name account moment in

@@ -12,3 +12,6 @@ pub mod OpenedLaws
 pub mod ReadCallLaws
 pub mod ReplySendLaws
 pub mod ReplyStepLaws
+pub mod TrustNoteLaws
+pub mod TrustNotedLaws
+pub mod TrustedStepLaws

@@ -14,3 +14,4 @@ pub mod Records
 pub mod ReplySends
 pub mod Served
 pub mod TakenWhole
+pub mod TrustNotes

@@ -9,6 +9,7 @@ ghost use Rattle.step_notes.specs.JudgedInRange.{PassedRepliesAreRead};
 ghost use Rattle.step_notes.specs.KeptNotes.{CallsAreKept};
 ghost use Rattle.step_notes.specs.ReplySends.{RepliesAreSentAsJudged};
 ghost use Rattle.step_notes.specs.TakenWhole.{MembersTakeWhole};
+ghost use Rattle.step_notes.specs.TrustNotes.{NotesAreAlike};
 
 /// Where a controller grants a Logon call, it tells one judgement and sends one reply, which carries what the account
 /// is granted. The key in it is the session base key of the stored hash and the response, under the session key of the
@@ -105,4 +106,11 @@ pub fn controllers_hear_whole()
 #[tactic(auto, using(crate::proofs::Members::TurnHeardLaws::members_take))]
 pub fn members_take_whole()
     ensures { MembersTakeWhole }
+{}
+
+/// What is written down of a controller that may hand logons on is read off its own machine. Of one that waits for no
+/// other one's answer it is what is written down of a controller that asks nobody, where it steps as that one does.
+#[tactic(auto, using(crate::proofs::Controllers::TrustNoteLaws::notes_alike))]
+pub fn notes_are_alike()
+    ensures { NotesAreAlike }
 {}

@@ -22,7 +22,7 @@ use Rattle.world_moves.specs.declared.moves.Move.TheVariants as move
 use Rattle.world_moves.specs.declared.plan.Plan.{Plan}
 use Rattle.world_moves.specs.declared.state.State.{State}
 use Rattle.world_moves.specs.declared.state.WaitingDial.{WaitingDial}
-use Rattle.world_moves.specs.Acting.{Acted, Given, Heard, close_open, closed_at, done, forget, given_by, hear, hear_and_act, hear_and_act_if, link_closed, nothing_done, perform, perform_all, perform_all_quietly, perform_by, perform_quietly, piece_comes, pieces_come, shut_link, then_act}
+use Rattle.world_moves.specs.Acting.{Acted, Given, AfterHearing, close_open, closed_at, done, forget, given_by, hear, hear_and_act, hear_and_act_if, link_closed, nothing_done, perform, perform_all, perform_all_quietly, perform_by, perform_quietly, piece_comes, pieces_come, shut_link, then_act}
 use Rattle.world_moves.specs.Bag.{first_waiting, pieces_of}
 use Rattle.world_moves.specs.Choosing.{chosen_in, chosen_place}
 use Rattle.world_moves.specs.Counting.{add_counts, clipped, counted_of, counts_of, is_barred, is_counted, is_in, is_out, is_unanswered, judges, no_counts, tells}
@@ -150,7 +150,7 @@ all_quiet_counts end (what ∷ actions) s = all_quiet_counts end actions (perfor
 closed_right : (end : Option EndId) (link : ℕ) (s : State) → Still s.counts → Right s (closed_at end link s)
 closed_right None link s still = unchanged s s refl still
 closed_right (Some end) link s still =
-    let heard : Heard = hear end (event.Closed link) s in
+    let heard : AfterHearing = hear end (event.Closed link) s in
     record {
       counts = all_quiet_counts end heard.actions heard.state
           ∙ ap (λ all. add_counts s.counts (counts_of all)) (step_counted end (event.Closed link) s ∙ sym (given_counted end heard.actions));
@@ -176,7 +176,7 @@ all_right end (what ∷ actions) s still =
     (all_right end actions (perform end what s).state (still_after s (perform end what s) first))
 
 -- what an end gave where these were counted already, and what came of it
-done_right : (end : EndId) (heard : Heard) (s : State) → heard.state.counts ≡ add_counts s.counts (counts_of (counted_of end heard.actions)) → Right s (done end heard)
+done_right : (end : EndId) (heard : AfterHearing) (s : State) → heard.state.counts ≡ add_counts s.counts (counts_of (counted_of end heard.actions)) → Right s (done end heard)
 done_right end heard s counted =
     let own : List Action = counted_of end heard.actions in
     let later : Given = (perform_all end heard.actions heard.state).given in

@@ -21,7 +21,7 @@ use Rattle.member_server.specs.State.{State as MemberState}
 use Rattle.member_server.specs.Machine.{is_stopped as member_is_stopped, step_of as member_step_of}
 use Rattle.member_server.specs.SealStep.{SealsNothing, sealing_in}
 use Rattle.world_moves.specs.Ends.{EndStates, client_done, client_step, controller_done, controller_step, drawn_on, end_done, fresh_controller, member_done, member_step, renew_controller}
-use Rattle.world_moves.specs.Running.{CanStep}
+use Rattle.world_moves.specs.Running.{CanStep, CantSeal}
 use Rattle.world_moves.specs.declared.links.EndId.TheVariants.{Controller, Member, Client}
 
 same_drawing : (one other : Drawing) → one.seed ≡ other.seed → one.boot ≡ other.boot → one.drawn ≡ other.drawn → one.left ≡ other.left → one ≡ other
@@ -90,6 +90,10 @@ pub fresh_runs : (hands_on : Bool) (table : AccountTable) (name : List ℕ) → 
 fresh_runs false table name = refl
 fresh_runs true table name = refl
 
+pub fresh_unsealing : (hands_on : Bool) (table : AccountTable) (name : List ℕ) → CantSeal (fresh_controller hands_on table name)
+fresh_unsealing false table name = refl
+fresh_unsealing true table name = refl
+
 abbrev AllRun : List ControllerState → Type 0
 AllRun controllers = All (λ (c : ControllerState). controller_is_stopped c ≡ false) controllers
 
@@ -114,6 +118,8 @@ renewed_run hands_on gave_up controllers after members clients at lt renews can 
         running = λ goes_on. record {
           each_controller = subst AllRun (sym is)
               (All-set (λ (c : ControllerState). controller_is_stopped c ≡ false) controllers at new (fresh_runs hands_on found.0.table found.0.name) (can.running goes_on).each_controller);
+          each_unsealing = subst (λ (all : List ControllerState). All CantSeal all) (sym is)
+              (All-set CantSeal controllers at new (fresh_unsealing hands_on found.0.table found.0.name) (can.running goes_on).each_unsealing);
           each_member = (can.running goes_on).each_member;
           each_plain = (can.running goes_on).each_plain;
           each_client = (can.running goes_on).each_client;
@@ -130,6 +136,7 @@ none_run gave_up controllers none members clients is can = record {
   few = omega (arith, can.few, ap length is);
   running = λ goes_on. record {
     each_controller = subst AllRun (sym is) (All-nil (λ (c : ControllerState). controller_is_stopped c ≡ false));
+    each_unsealing = subst (λ (all : List ControllerState). All CantSeal all) (sym is) (All-nil CantSeal);
     each_member = (can.running goes_on).each_member;
     each_plain = (can.running goes_on).each_plain;
     each_client = (can.running goes_on).each_client;
@@ -151,6 +158,7 @@ member_put gave_up controllers members clients at member put is runs plain can =
   few = omega (arith, can.few, length-set members at put);
   running = λ goes_on. record {
     each_controller = (can.running goes_on).each_controller;
+    each_unsealing = (can.running goes_on).each_unsealing;
     each_member = All-set (λ (m : MemberState). member_is_stopped m ≡ false) members at put (ap (λ (m : MemberState). member_is_stopped m) is ∙ runs) (can.running goes_on).each_member;
     each_plain = All-set SealsNothing members at put (ap sealing_in is ∙ plain) (can.running goes_on).each_plain;
     each_client = (can.running goes_on).each_client;

@@ -37,7 +37,7 @@ use Rattle.world_moves.specs.declared.moves.Move.TheVariants as move
 use Rattle.world_moves.specs.declared.plan.Plan.{Plan}
 use Rattle.world_moves.specs.declared.state.State.{State}
 use Rattle.world_moves.specs.declared.state.WaitingDial.{WaitingDial}
-use Rattle.world_moves.specs.Acting.{Heard, close_open, closed_at, done, forget, hear, hear_and_act, hear_and_act_if, link_closed, perform, perform_all, perform_all_quietly, perform_by, perform_quietly, piece_comes, pieces_come, shut_link}
+use Rattle.world_moves.specs.Acting.{AfterHearing, close_open, closed_at, done, forget, hear, hear_and_act, hear_and_act_if, link_closed, perform, perform_all, perform_all_quietly, perform_by, perform_quietly, piece_comes, pieces_come, shut_link}
 use Rattle.world_moves.specs.Bag.{AreShortUnits, first_waiting, piece_limit, pieces_in, pieces_of, settle_at, settle_by, settled}
 use Rattle.world_moves.specs.Choosing.{chosen_in, chosen_place}
 use Rattle.world_moves.specs.Counting.{AreCounted, add_counts, clipped, counts_of, is_barred, is_in, is_out, is_unanswered, judges, tells}
@@ -209,7 +209,7 @@ module _ (most : ℕ) where
   all_level end [] s few = few
   all_level end (what ∷ actions) s few = all_level end actions (perform end what s).state (perform_level end what s few)
 
-  done_level : (end : EndId) (heard : Heard) → level heard.state ≤ most → level (done end heard).state ≤ most
+  done_level : (end : EndId) (heard : AfterHearing) → level heard.state ≤ most → level (done end heard).state ≤ most
   done_level end heard few = all_level end heard.actions heard.state few
 
   hears_level : (end : EndId) (what : Event) (s : State) → level s + adds_at what ≤ most → level (hear_and_act end what s).state ≤ most

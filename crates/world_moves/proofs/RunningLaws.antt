@@ -13,9 +13,9 @@ use Rattle.member_server.specs.Machine.{fresh_member, is_stopped as member_is_st
 use Rattle.member_server.specs.declared.plan.MemberPlan.{MemberPlan}
 use Rattle.member_server.specs.SealStep.{SealsNothing}
 use Rattle.world_moves.specs.Ends.{fresh_controller}
-use Rattle.world_moves.specs.Running.{AreRunning}
+use Rattle.world_moves.specs.Running.{AreRunning, CantSeal}
 use Rattle.world_moves.specs.World.{first_controllers}
-use Rattle.world_moves.proofs.EndLaws.{fresh_runs}
+use Rattle.world_moves.proofs.EndLaws.{fresh_runs, fresh_unsealing}
 
 abbrev Runs : ControllerState → Type 0
 Runs c = controller_is_stopped c ≡ false
@@ -25,6 +25,12 @@ controllers_run hands_on [] names = All-nil Runs
 controllers_run hands_on (table ∷ tables) [] = All-nil Runs
 controllers_run hands_on (table ∷ tables) (name ∷ names) =
     All-cons Runs (fresh_controller hands_on table name) (first_controllers hands_on tables names) (fresh_runs hands_on table name) (controllers_run hands_on tables names)
+
+controllers_unsealing : (hands_on : Bool) (tables : List AccountTable) (names : List (List ℕ)) → All CantSeal (first_controllers hands_on tables names)
+controllers_unsealing hands_on [] names = All-nil CantSeal
+controllers_unsealing hands_on (table ∷ tables) [] = All-nil CantSeal
+controllers_unsealing hands_on (table ∷ tables) (name ∷ names) =
+    All-cons CantSeal (fresh_controller hands_on table name) (first_controllers hands_on tables names) (fresh_unsealing hands_on table name) (controllers_unsealing hands_on tables names)
 
 members_run : (plans : List MemberPlan) → All (λ (m : MemberState). member_is_stopped m ≡ false) (map fresh_member plans)
 members_run plans = All-map (λ (m : MemberState). member_is_stopped m ≡ false) fresh_member plans (λ k d lt. refl)
@@ -39,4 +45,4 @@ pub fresh_running : (hands_on : Bool) (tables : List AccountTable) (names : List
     length (first_controllers hands_on tables names) + length (map fresh_member members) + length (map fresh_client clients) < 2 ^ 64 →
     AreRunning (first_controllers hands_on tables names) (map fresh_member members) (map fresh_client clients)
 fresh_running hands_on tables names members clients few =
-    record { each_controller = controllers_run hands_on tables names; each_member = members_run members; each_plain = members_plain members; each_client = clients_run clients; few = few }
+    record { each_controller = controllers_run hands_on tables names; each_unsealing = controllers_unsealing hands_on tables names; each_member = members_run members; each_plain = members_plain members; each_client = clients_run clients; few = few }

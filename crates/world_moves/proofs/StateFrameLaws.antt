@@ -16,7 +16,7 @@ use Rattle.world_moves.specs.declared.moves.Move.{Move}
 use Rattle.world_moves.specs.declared.moves.Move.TheVariants as move
 use Rattle.world_moves.specs.declared.state.State.{State}
 use Rattle.world_moves.specs.declared.state.WaitingDial.{WaitingDial}
-use Rattle.world_moves.specs.Acting.{Heard, close_open, closed_at, forget, hear, hear_and_act, hear_and_act_if, link_closed, perform, perform_all, perform_all_quietly, perform_by, perform_quietly, piece_comes, pieces_come, shut_link}
+use Rattle.world_moves.specs.Acting.{AfterHearing, close_open, closed_at, forget, hear, hear_and_act, hear_and_act_if, link_closed, perform, perform_all, perform_all_quietly, perform_by, perform_quietly, piece_comes, pieces_come, shut_link}
 use Rattle.world_moves.specs.Bag.{first_waiting, pieces_of}
 use Rattle.world_moves.specs.Choosing.{chosen_in, chosen_place}
 use Rattle.world_moves.specs.Ends.{acceptors_in, count_of, end_at}
@@ -62,7 +62,7 @@ module _ (Rel : StateFact) (holds : HoldsActing Rel) where
   pub closed_so : (end : Option EndId) (link : ℕ) (s : State) → Rel s (closed_at end link s).state
   closed_so None link s = holds.none s
   closed_so (Some end) link s =
-      let heard : Heard = hear end (event.Closed link) s in
+      let heard : AfterHearing = hear end (event.Closed link) s in
       holds.both s heard.state (perform_all_quietly end heard.actions heard.state) (holds.hears end (event.Closed link) s) (all_quiet end heard.actions heard.state)
 
   close_so : (there : Option OpenLink) (end : EndId) (link : ℕ) (s : State) → Rel s (close_open there end link s).state
@@ -86,7 +86,7 @@ module _ (Rel : StateFact) (holds : HoldsActing Rel) where
 
   pub hears_so : (end : EndId) (what : Event) (s : State) → Rel s (hear_and_act end what s).state
   hears_so end what s =
-      let heard : Heard = hear end what s in
+      let heard : AfterHearing = hear end what s in
       holds.both s heard.state (perform_all end heard.actions heard.state).state (holds.hears end what s) (actions_so end heard.actions heard.state)
 
   pub hears_if_so : (end : Option EndId) (what : Event) (s : State) → Rel s (hear_and_act_if end what s).state
@@ -148,7 +148,7 @@ module _ (Rel : StateFact) (holds : HoldsMoving Rel) where
   start_by_so None client s = holds.acting.none s
   start_by_so (Some plan) client s =
       let gone : State = forget (Client client) s in
-      let heard : Heard = begun client plan gone in
+      let heard : AfterHearing = begun client plan gone in
       holds.acting.both s gone (perform_all (Client client) heard.actions heard.state).state (holds.forgets (Client client) s)
       (holds.acting.both gone heard.state (perform_all (Client client) heard.actions heard.state).state (holds.begins client plan gone)
       (actions_so Rel holds.acting (Client client) heard.actions heard.state))
@@ -218,7 +218,7 @@ module _ (Rel : StateFact) (holds : HoldsMoving Rel) where
   change_so : (at : Option ℕ) (secret : List ℕ) (s : State) → Rel s (change_at at secret s).state
   change_so None secret s = holds.acting.none s
   change_so (Some at) secret s =
-      let heard : Heard = changed at secret s in
+      let heard : AfterHearing = changed at secret s in
       holds.acting.both s heard.state (perform_all (Member at) heard.actions heard.state).state (holds.changes at secret s) (actions_so Rel holds.acting (Member at) heard.actions heard.state)
 
   -- a move that takes the first dial

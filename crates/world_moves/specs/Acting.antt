@@ -40,17 +40,17 @@ given_by end actions = map (λ (what : Action). (end, what)) actions
 -- ---- an end hears something: the world with its state afterwards, and what it counted, and its actions, which aren't
 -- done yet
 
-pub record Heard : Type 0 where
+pub record AfterHearing : Type 0 where
   pub state : State
   pub actions : List Action
 
-abbrev pub heard_by : EndStep → State → Heard
+abbrev pub heard_by : EndStep → State → AfterHearing
 heard_by step s = record {
   state = record s { ends = step.ends; chances = step.chances; counts = add_counts s.counts (counts_of step.counted) };
   actions = step.actions;
 }
 
-abbrev pub hear : EndId → Event → State → Heard
+abbrev pub hear : EndId → Event → State → AfterHearing
 hear end what s = heard_by (end_step end what s.moment s.ends s.chances) s
 
 -- ---- what an action changes that closes nothing: a unit goes into the bag, a dial waits, or a text is kept
@@ -113,7 +113,7 @@ perform_all_quietly end (what ∷ actions) s = perform_all_quietly end actions (
 
 -- ---- an end hears that a link was closed: what it does then closes nothing
 
-abbrev pub done_quietly : EndId → Heard → Acted
+abbrev pub done_quietly : EndId → AfterHearing → Acted
 done_quietly end heard = record {
   state = perform_all_quietly end heard.actions heard.state;
   given = given_by end heard.actions;
@@ -158,7 +158,7 @@ perform_all end [] s = nothing_done s
 perform_all end (what ∷ actions) s = then_act (perform end what s) (λ later. perform_all end actions later)
 
 -- an end hears something, and does what it then does
-abbrev pub done : EndId → Heard → Acted
+abbrev pub done : EndId → AfterHearing → Acted
 done end heard = record {
   state = (perform_all end heard.actions heard.state).state;
   given = given_by end heard.actions ++ (perform_all end heard.actions heard.state).given;

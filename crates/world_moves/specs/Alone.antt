@@ -13,7 +13,7 @@ use Rattle.world_moves.specs.declared.links.EndId.TheVariants.{Controller, Membe
 use Rattle.world_moves.specs.declared.moves.Move.{Move}
 use Rattle.world_moves.specs.declared.plan.Plan.{Plan}
 use Rattle.world_moves.specs.declared.state.State.{State}
-use Rattle.world_moves.specs.Acting.{Heard, hear, heard_by}
+use Rattle.world_moves.specs.Acting.{AfterHearing, hear, heard_by}
 use Rattle.world_moves.specs.Ends.{EndStates, EndStep, client_step, controller_done, member_step, no_step}
 use Rattle.world_moves.specs.Moving.{act}
 use Rattle.world_moves.specs.World.{first_world}
@@ -32,7 +32,7 @@ alone_end_step (Controller at) what now ends chances =
 alone_end_step (Member at) what now ends chances = member_step (slice_get ends.members at) at what now ends chances
 alone_end_step (Client at) what now ends chances = client_step (slice_get ends.clients at) at what now ends chances
 
-abbrev pub hear_alone : EndId → Event → State → Heard
+abbrev pub hear_alone : EndId → Event → State → AfterHearing
 hear_alone end what s = heard_by (alone_end_step end what s.moment s.ends s.chances) s
 
 -- ---- controllers that ask nobody

@@ -14,7 +14,7 @@ use Rattle.world_moves.specs.declared.moves.Move.{Move}
 use Rattle.world_moves.specs.declared.moves.Move.TheVariants as move
 use Rattle.world_moves.specs.declared.state.State.{State}
 use Rattle.world_moves.specs.declared.state.WaitingDial.{WaitingDial}
-use Rattle.world_moves.specs.Acting.{Acted, Heard, closed_at, done, forget, hear_and_act, nothing_done, piece_comes, pieces_come, shut_link, then_act}
+use Rattle.world_moves.specs.Acting.{Acted, AfterHearing, closed_at, done, forget, hear_and_act, nothing_done, piece_comes, pieces_come, shut_link, then_act}
 use Rattle.world_moves.specs.Bag.{first_waiting, pieces_of, settle_at}
 use Rattle.world_moves.specs.Choosing.{chosen_in, chosen_place}
 use Rattle.world_moves.specs.Counting.{add_counts, counted_of, counts_of}
@@ -23,7 +23,7 @@ use Rattle.world_moves.specs.Links.{accepted, acceptor_of, answered, handed_link
 
 -- ---- a client starts: it is made anew from its plan, and begins
 
-abbrev pub begun : ℕ → ClientPlan → State → Heard
+abbrev pub begun : ℕ → ClientPlan → State → AfterHearing
 begun at plan s = record {
   state = record s {
     ends = with_client at (begin_of (fresh_client plan)).state s.ends;
@@ -216,10 +216,10 @@ restart number s = restart_at (chosen_place number (count_of s.ends)) s
 
 -- ---- a member begins to change its secret, and keeps its text
 
-abbrev pub changed_by : EndChange → State → Heard
+abbrev pub changed_by : EndChange → State → AfterHearing
 changed_by change s = record { state = record s { ends = change.ends }; actions = change.actions }
 
-abbrev pub changed : ℕ → List ℕ → State → Heard
+abbrev pub changed : ℕ → List ℕ → State → AfterHearing
 changed at secret s = changed_by (end_change at secret s.ends) s
 
 abbrev pub change_at : Option ℕ → List ℕ → State → Acted

@@ -11,20 +11,20 @@ use Rattle.domain_world.specs.Past.{past}
 use Rattle.domain_world.proofs.Accepting.ShortResponseLaws.{short_once}
 use Rattle.domain_world.proofs.Challenges.OwnChallengeLaws.{messages_own}
 use Rattle.domain_world.proofs.Moves.MarkedLaws.{each_marked}
-use Rattle.domain_world.proofs.Judgements.GrantLaws.{grants_who_may}
+use Rattle.domain_world.proofs.Judgements.TrustGrantLaws.{grants_who_may}
 use Rattle.domain_world.proofs.Judgements.UserHashLaws.{users_stay}
 use Rattle.domain_world.proofs.Judgements.ReplayLaws.{replays_by_sum}
 use Rattle.domain_world.proofs.Judgements.ReplyLaws.{replies_carry}
-use Rattle.domain_world.proofs.Judgements.ToldLaws.{passes_the_next}
+use Rattle.domain_world.proofs.Judgements.TrustToldLaws.{passes_the_next}
 
 pub short_responses : (plan : Plan) (moves : List Move) → DrawsDiffer (past plan moves).world → DrawsAreBlocks (past plan moves).world → ShortResponsesServeOnce (past plan moves)
 short_responses plan moves differ blocks = short_once (past plan moves) (messages_own plan moves differ) blocks
 
 pub is_proved : (plan : Plan) (moves : List Move) → HandsNothingOn plan → DrawsDiffer (past plan moves).world → IsProved (past plan moves)
 is_proved plan moves nobody differ = record {
-  credentials = passes_the_next plan moves nobody;
-  replays = replays_by_sum plan moves nobody;
-  grants = grants_who_may plan moves nobody (users_stay plan moves nobody);
+  credentials = passes_the_next plan moves;
+  replays = replays_by_sum plan moves;
+  grants = grants_who_may plan moves (users_stay plan moves);
   replies = replies_carry plan moves nobody;
   own = messages_own plan moves differ;
   marked = each_marked plan moves;

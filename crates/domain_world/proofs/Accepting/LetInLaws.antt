@@ -37,18 +37,18 @@ use Rattle.world_moves.specs.declared.links.Route.TheVariants.{ToController}
 use Rattle.world_moves.specs.declared.moves.Move.{Move}
 use Rattle.world_moves.specs.declared.plan.Plan.{Plan}
 use Rattle.world_moves.specs.declared.state.State.{State}
-use Rattle.world_moves.specs.Acting.{Given, Heard, given_by, hear, heard_by, hear_and_act}
+use Rattle.world_moves.specs.Acting.{Given, AfterHearing, given_by, hear, heard_by, hear_and_act}
 use Rattle.world_moves.specs.Counting.{is_in}
 use Rattle.world_moves.specs.Ends.{EndStep, actions_by, client_step, controller_step, member_step, no_step}
 use Rattle.world_moves.specs.Links.{acceptor_of}
 use Rattle.world_moves.specs.Moving.{begun, with_link}
 use Rattle.world_moves.specs.World.{World, first_world}
 use Rattle.domain_world.specs.Claims.LetIn.{IsLetInBy, LetsInWhoAsked}
-use Rattle.domain_world.specs.Past.{Coming, at_member, note_at, note_client, note_controller, note_member, note_messages, note_turns, numbers_on, past, told_by, told_in, Past, controller_asked}
+use Rattle.domain_world.specs.Past.{Delivery, at_member, note_at, note_client, note_controller, note_member, note_messages, note_turns, numbers_on, past, told_by, told_in, Past, controller_asked}
 use Rattle.step_notes.proofs.Members.KeptLogonLaws.{HasFor, IfDialled, IsFor, KeptIn, bytes_keep, each_found, kept_so, one_before}
 use Rattle.step_notes.proofs.Members.TurnAnswerLaws.{HasAnswer, link_answers, none_whole}
 use Rattle.step_notes.proofs.Members.UnservedLaws.{LinksIn, bytes_took, took_known}
-use Rattle.domain_world.proofs.Accepting.LetInStepLaws.{change_silent, changed_keeps, IfLetIn, IsAcceptedBy, IsDialledBy, Keeps, KeepsIn, Meets, NotLate, OfLetIn, calm_meets, end_silent, given_append, given_so, hear_keeps, last_accepted, link_made, member_put, messages_so, nobody_so, others_tell, renewed_keeps, side_meets, step_told}
+use Rattle.domain_world.proofs.Accepting.LetInStepLaws.{change_silent, changed_keeps, IfLetIn, IsAcceptedBy, IsDialledBy, LetInKeeps, KeepsIn, Meets, NotLate, OfLetIn, calm_meets, end_silent, given_append, given_so, hear_keeps, last_accepted, link_made, member_put, messages_so, nobody_so, others_tell, renewed_keeps, side_meets, step_told}
 use Rattle.domain_world.proofs.Moves.ComingLaws.{CameFrom}
 use Rattle.domain_world.proofs.Messages.MessageNoteLaws.{AreCarried, IsAnsweredFor, for_stable, let_in_stable, notes_grow, turns_answer}
 use Rattle.domain_world.proofs.Frames.TurnFrameLaws.{turns_told}
@@ -66,7 +66,7 @@ abbrev pub IsCarried : Option ℕ → List Route → ℕ → Type 0
 IsCarried None links link = (member : ℕ) → IsDialledBy links member link → ⊥
 IsCarried (Some unit) links link = Unit {0}
 
-carried_from : (source : Source) (s : State) (w : Coming) (piece : List ℕ) → CameFrom source s w piece → IsCarried (unit_in source) s.links w.link
+carried_from : (source : Source) (s : State) (w : Delivery) (piece : List ℕ) → CameFrom source s w piece → IsCarried (unit_in source) s.links w.link
 carried_from Outside s w piece came = λ member dialled. came member dialled.controller dialled.at
 carried_from (InUnit number) s w piece came = tt
 
@@ -197,13 +197,13 @@ abbrev pub AreKnown : List MessageTaken → List OutcomeTold → Type 0
 AreKnown messages all = AllByRecursion (λ (told : OutcomeTold). is_in told.outcome ≡ true → IsLetIn messages told) all
 
 -- the late fact of a move: of the link on which bytes come
-abbrev pub Late : Option Coming → List Route → ℕ → Type 0
+abbrev pub Late : Option Delivery → List Route → ℕ → Type 0
 Late None links member = ⊥
 Late (Some w) links member = IsLate w.link links member
 
 -- The logons that members keep are those of messages, and who is let in is so by a message, before this move and in it.
-pub record IsKept (at : ℕ) (on : Option Coming) (ends : Ends) (given : Given) (b : Book) : Type 0 where
-  pub keeps : Keeps (Late on) at b.messages ends.ends.members ends.links
+pub record IsKept (at : ℕ) (on : Option Delivery) (ends : Ends) (given : Given) (b : Book) : Type 0 where
+  pub keeps : LetInKeeps (Late on) at b.messages ends.ends.members ends.links
   pub known : AreKnown b.messages b.told
   pub let_in : OfLetIn (IsKnown at b.messages) given
 
@@ -234,14 +234,14 @@ later_for X Y most member place logon message is = record {
 }
 
 -- the move is over: nothing of it is late in the next one
-later_keeps : (X Y : List Route → ℕ → Type 0) (at : ℕ) (messages : List MessageTaken) (members : List MemberState) (links : List Route) → Keeps X at messages members links →
-    Keeps Y (at + 1) messages members links
+later_keeps : (X Y : List Route → ℕ → Type 0) (at : ℕ) (messages : List MessageTaken) (members : List MemberState) (links : List Route) → LetInKeeps X at messages members links →
+    LetInKeeps Y (at + 1) messages members links
 later_keeps X Y at messages members links kept =
     messages_so X Y at (at + 1) messages messages members links
     (λ k place logon one. one_weaker (IsFor (X links k) at k place logon) (IsFor (Y links k) (at + 1) k place logon) messages (later_for (X links k) (Y links k) at k place logon) one) kept
 
 -- an end has heard what is no bytes
-calm_goes : (at : ℕ) (on : Option Coming) (end : EndId) (what : Event) (s : State) (given : Given) (b : Book) → IsNoBytes what → Meets end s.links what →
+calm_goes : (at : ℕ) (on : Option Delivery) (end : EndId) (what : Event) (s : State) (given : Given) (b : Book) → IsNoBytes what → Meets end s.links what →
     IsKept at on (ends_in s) given b → IsKept at on (ends_in (hear end what s).state) (given ++ given_by end (hear end what s).actions) b
 calm_goes at on end what s given b none meets kept = record {
   keeps = hear_keeps (Late on) at b.messages end what s meets kept.keeps;
@@ -251,7 +251,7 @@ calm_goes at on end what s given b none meets kept = record {
 }
 
 -- an end has heard bytes
-heard_goes : (w : Coming) (b later : Book) (s : State) (given : Given) (end : EndId) (heard : Heard) → IsKept w.at (Some w) (ends_in s) given b →
+heard_goes : (w : Delivery) (b later : Book) (s : State) (given : Given) (end : EndId) (heard : AfterHearing) → IsKept w.at (Some w) (ends_in s) given b →
     KeepsIn (IsLate w.link) w.at later.messages heard.state → OfLetIn (IsKnown w.at later.messages) (given_by end heard.actions) →
     ((told : OutcomeTold) → IsLetIn b.messages told → IsLetIn later.messages told) → later.told ≡ b.told →
     IsKept w.at (Some w) (ends_in heard.state) (given ++ given_by end heard.actions) later
@@ -263,9 +263,9 @@ heard_goes w b later s given end heard old kept known grows told = record {
       (λ member on how is. grows (record { at = w.at; member = member; link = on; outcome = how }) is) given old.let_in) known;
 }
 
-member_goes : (m : MemberState) (member : ℕ) (w : Coming) (piece : List ℕ) (s after : State) (given : Given) (b : Book) → slice_get s.ends.members member ≡ Some m →
+member_goes : (m : MemberState) (member : ℕ) (w : Delivery) (piece : List ℕ) (s after : State) (given : Given) (b : Book) → slice_get s.ends.members member ≡ Some m →
     IsCarried (unit_in w.source) s.links w.link → IsKept w.at (Some w) (ends_in s) given b →
-    let heard : Heard = heard_by (member_step (Some m) member (event.Bytes w.link piece) s.moment s.ends s.chances) s in
+    let heard : AfterHearing = heard_by (member_step (Some m) member (event.Bytes w.link piece) s.moment s.ends s.chances) s in
     IsKept w.at (Some w) (ends_in heard.state) (given ++ given_by (Member member) heard.actions) (note_member (Some m) member w piece s after b)
 member_goes m member w piece s after given b is carries kept =
     let new : MemberState = (step_of m (event.Bytes w.link piece) s.moment s.chances.left).state in
@@ -298,8 +298,8 @@ member_goes m member w piece s after given b is carries kept =
     notes_grow (IsLetInBy told) (let_in_stable told) controller units (unit_in w.source) numbers first all (one_before (IsLetInBy told) b.messages more known))
     (turns_told (OfMember member) w units s after first)
 
-end_goes : (end : EndId) (w : Coming) (piece : List ℕ) (s after : State) (given : Given) (b : Book) → IsCarried (unit_in w.source) s.links w.link → IsKept w.at (Some w) (ends_in s) given b →
-    let heard : Heard = hear end (event.Bytes w.link piece) s in IsKept w.at (Some w) (ends_in heard.state) (given ++ given_by end heard.actions) (note_at (Some end) w piece s after b)
+end_goes : (end : EndId) (w : Delivery) (piece : List ℕ) (s after : State) (given : Given) (b : Book) → IsCarried (unit_in w.source) s.links w.link → IsKept w.at (Some w) (ends_in s) given b →
+    let heard : AfterHearing = hear end (event.Bytes w.link piece) s in IsKept w.at (Some w) (ends_in heard.state) (given ++ given_by end heard.actions) (note_at (Some end) w piece s after b)
 end_goes end w piece s after given b carries kept =
     noted_by (λ (one : EndId) (step : EndStep) (now : Book). IsKept w.at (Some w) (ends_in (heard_by step s).state) (given ++ given_by one step.actions) now) w piece s after b
     (λ one. heard_goes w b b s given one (heard_by (no_step s.ends s.chances) s) kept kept.keeps tt (λ told known. known) refl)
@@ -347,7 +347,7 @@ fresh_kept [] Kept fresh k m there = absurd cc
 fresh_kept (plan ∷ plans) Kept fresh zero m there = let is : fresh_member plan ≡ m = cc in subst (λ (x : MemberState). Kept x.running) is (fresh plan)
 fresh_kept (plan ∷ plans) Kept fresh (suc k) m there = fresh_kept plans Kept fresh k m there
 
-first_kept : (plan : Plan) (on : Option Coming) → IsKept 0 on (ends_in (first_world plan).state) [] blank
+first_kept : (plan : Plan) (on : Option Delivery) → IsKept 0 on (ends_in (first_world plan).state) [] blank
 first_kept plan on = record {
   keeps = record {
     each = λ k m there. fresh_kept plan.members (λ r. KeptIn (HasFor (Late on [] k) 0 k []) (λ number. IsDialledBy [] k number) r) (λ one. (tt, tt)) k m there;

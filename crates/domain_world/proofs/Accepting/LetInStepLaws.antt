@@ -127,17 +127,17 @@ NotLate links member = ⊥
 
 -- Each logon that a member keeps is that of a message that it took, before so many moves or late; it dialled the link
 -- of its turn, and accepted those whose challenge hasn't served.
-pub record Keeps (Late : List Route → ℕ → Type 0) (most : ℕ) (messages : List MessageTaken) (members : List MemberState) (links : List Route) : Type 0 where
+pub record LetInKeeps (Late : List Route → ℕ → Type 0) (most : ℕ) (messages : List MessageTaken) (members : List MemberState) (links : List Route) : Type 0 where
   pub each : (k : ℕ) (m : MemberState) → slice_get members k ≡ Some m → KeptIn (HasFor (Late links k) most k messages) (λ number. IsDialledBy links k number) m.running
   pub accepts : (k : ℕ) (m : MemberState) → slice_get members k ≡ Some m → LinksIn (λ number p. IsAcceptedBy links k number) m.running
 
 abbrev pub KeepsIn : (List Route → ℕ → Type 0) → ℕ → List MessageTaken → State → Type 0
-KeepsIn Late most messages s = Keeps Late most messages s.ends.members s.links
+KeepsIn Late most messages s = LetInKeeps Late most messages s.ends.members s.links
 
 -- a member is changed
 pub member_put : (Late : List Route → ℕ → Type 0) (most : ℕ) (messages : List MessageTaken) (members : List MemberState) (links : List Route) (at : ℕ) (new : MemberState) →
-    Keeps Late most messages members links → KeptIn (HasFor (Late links at) most at messages) (λ number. IsDialledBy links at number) new.running →
-    LinksIn (λ number p. IsAcceptedBy links at number) new.running → Keeps Late most messages (slice_set members at new) links
+    LetInKeeps Late most messages members links → KeptIn (HasFor (Late links at) most at messages) (λ number. IsDialledBy links at number) new.running →
+    LinksIn (λ number p. IsAcceptedBy links at number) new.running → LetInKeeps Late most messages (slice_set members at new) links
 member_put Late most messages members links at new kept known accepted = record {
   each = λ k m there. elim (set_cases members at k new m there) [
     | inl here ↦
@@ -154,8 +154,8 @@ member_put Late most messages members links at new kept known accepted = record 
 }
 
 -- a link is made
-pub link_made : (most : ℕ) (messages : List MessageTaken) (members : List MemberState) (links : List Route) (route : Route) → Keeps NotLate most messages members links →
-    Keeps NotLate most messages members (links ++ route ∷ [])
+pub link_made : (most : ℕ) (messages : List MessageTaken) (members : List MemberState) (links : List Route) (route : Route) → LetInKeeps NotLate most messages members links →
+    LetInKeeps NotLate most messages members (links ++ route ∷ [])
 link_made most messages members links route kept = record {
   each = λ k m there.
       kept_so (HasFor ⊥ most k messages) (HasFor ⊥ most k messages) (λ number. IsDialledBy links k number) (λ number. IsDialledBy (links ++ route ∷ []) k number) (λ place logon one. one)
@@ -169,8 +169,8 @@ link_made most messages members links route kept = record {
 
 -- more is written down, or more moves are made
 pub messages_so : (Late More : List Route → ℕ → Type 0) (most later : ℕ) (messages more : List MessageTaken) (members : List MemberState) (links : List Route) →
-    ((k place : ℕ) (logon : Logon) → HasFor (Late links k) most k messages place logon → HasFor (More links k) later k more place logon) → Keeps Late most messages members links →
-    Keeps More later more members links
+    ((k place : ℕ) (logon : Logon) → HasFor (Late links k) most k messages place logon → HasFor (More links k) later k more place logon) → LetInKeeps Late most messages members links →
+    LetInKeeps More later more members links
 messages_so Late More most later messages more members links so kept = record {
   each = λ k m there.
       kept_so (HasFor (Late links k) most k messages) (HasFor (More links k) later k more) (λ number. IsDialledBy links k number) (λ number. IsDialledBy links k number) (so k)
@@ -189,7 +189,7 @@ Meets end links what = IfMember (MeetsMember links what) end
 pub hear_keeps : (Late : List Route → ℕ → Type 0) (most : ℕ) (messages : List MessageTaken) (end : EndId) (what : Event) (s : State) → Meets end s.links what → KeepsIn Late most messages s →
     KeepsIn Late most messages (hear end what s).state
 hear_keeps Late most messages end what s meets kept =
-    members_by what s.moment s.ends s.chances (λ (one : EndId) (members : List MemberState). IfMember (MeetsMember s.links what) one → Keeps Late most messages members s.links) (λ one its. kept)
+    members_by what s.moment s.ends s.chances (λ (one : EndId) (members : List MemberState). IfMember (MeetsMember s.links what) one → LetInKeeps Late most messages members s.links) (λ one its. kept)
     (λ at m is its.
     member_put Late most messages s.ends.members s.links at (step_of m what s.moment s.chances.left).state kept
     (step_keeps (HasFor (Late s.links at) most at messages) (λ number. IsDialledBy s.links at number) what m s.moment s.chances.left (its at refl).0 (kept.each at m is))
@@ -219,7 +219,7 @@ side_meets end links link side at is = (dialled_by links link at side.route side
 
 pub renewed_keeps : (Late : List Route → ℕ → Type 0) (most : ℕ) (messages : List MessageTaken) (end : EndId) (s : State) → KeepsIn Late most messages s → KeepsIn Late most messages (renewed end s)
 renewed_keeps Late most messages end s kept =
-    renew_by (λ (one : EndId) (ends : EndStates). Keeps Late most messages ends.members s.links) s (λ one. kept) (λ at c is. kept)
+    renew_by (λ (one : EndId) (ends : EndStates). LetInKeeps Late most messages ends.members s.links) s (λ one. kept) (λ at c is. kept)
     (λ at plan is. member_put Late most messages s.ends.members s.links at (fresh_member plan) kept (tt, tt) tt) (λ at plan is. kept) end
 
 -- ---- a member begins to change its secret
@@ -227,7 +227,7 @@ renewed_keeps Late most messages end s kept =
 pub changed_keeps : (Late : List Route → ℕ → Type 0) (most : ℕ) (messages : List MessageTaken) (at : ℕ) (secret : List ℕ) (s : State) → KeepsIn Late most messages s →
     KeepsIn Late most messages (changed at secret s).state
 changed_keeps Late most messages at secret s kept =
-    by_change (λ (ends : EndStates) (actions : List Action). Keeps Late most messages ends.members s.links) at secret s.ends kept
+    by_change (λ (ends : EndStates) (actions : List Action). LetInKeeps Late most messages ends.members s.links) at secret s.ends kept
     (λ running is none.
     member_put Late most messages s.ends.members s.links at (member_begun secret running) kept (kept.each at (record { running = Some running }) is)
     (kept.accepts at (record { running = Some running }) is))

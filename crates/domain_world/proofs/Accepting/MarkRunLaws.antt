@@ -32,7 +32,7 @@ use Rattle.world_moves.specs.declared.links.EndId.TheVariants.{Client, Controlle
 use Rattle.world_moves.specs.declared.links.Route.{Route}
 use Rattle.world_moves.specs.declared.plan.Plan.{Plan}
 use Rattle.world_moves.specs.declared.state.State.{State}
-use Rattle.world_moves.specs.Acting.{Given, Heard, done, heard_by}
+use Rattle.world_moves.specs.Acting.{Given, AfterHearing, done, heard_by}
 use Rattle.world_moves.specs.Ends.{EndStates, EndStep, member_step}
 use Rattle.world_moves.specs.Links.{acceptor_of, is_own, kind_of}
 use Rattle.world_moves.specs.MemberPlans.{AreAlikeButSecrets}
@@ -43,8 +43,9 @@ use Rattle.domain_world.specs.Claims.{IsLinkOf}
 use Rattle.domain_world.specs.Claims.MarkedUnits.{AnswersHaveCalls, CallsAreMarked, IsMarkedAsCall, IsMarkedAsReply, RepliesAreMarked}
 use Rattle.domain_world.specs.Claims.OpeningReplies.{IsMarkedAsOpened, OpeningsAreMarked}
 use Rattle.domain_world.specs.Claims.OwnChallenges.{HasOwnChallenge}
-use Rattle.domain_world.specs.Past.{Coming, Past, accepted_of, answers_of, at_controller, at_member, judged_of, marks_of, note_at, note_client, note_controller, note_given, note_member, note_messages, numbers_on, past, sent_at, controller_asked}
+use Rattle.domain_world.specs.Past.{Delivery, Past, accepted_of, at_controller, at_member, judged_of, marks_of, note_client, note_given, note_member, note_messages, numbers_on, past, sent_at, controller_asked}
 use Rattle.domain_world.specs.Schedules.{OfSchedules}
+use Rattle.domain_world.proofs.Frames.AloneNoteLaws.{alone_answers as answers_of, note_alone as note_at, note_controller_alone as note_controller}
 use Rattle.domain_world.proofs.Frames.AloneStepLaws.{act_alone as hear_and_act, renewed_alone as renewed}
 use Rattle.domain_world.proofs.Accepting.AnsweredLaws.{StandsFor, channel_there}
 use Rattle.domain_world.proofs.Accepting.Heard.JudgedRunLaws.{judged_first, judged_keeps}
@@ -66,7 +67,7 @@ use Rattle.domain_world.proofs.Frames.EndNoteLaws.{accepted_so, acted_by, judged
 use Rattle.domain_world.proofs.Moves.FrontLaws.{controller_front, controller_way}
 use Rattle.domain_world.proofs.Moves.MarkNumberLaws.{AtNumbers, IsGiven, IsMarkedAs, IsMarkedAt, given_at, given_marked, marks_numbered, numbers_enough, numbers_so}
 use Rattle.domain_world.proofs.Moves.OpenMadeLaws.{IsAtSide}
-use Rattle.domain_world.proofs.Frames.StepFrameLaws.{AnyAction, BothFacts, BothFine, HasHeard, HoldsAfterRun, Keeps, RunFact, WhileFew, all_any, join, run_keeps, while_few, with_side}
+use Rattle.domain_world.proofs.Frames.StepFrameLaws.{AnyAction, BothFacts, BothFine, HasHeard, HoldsAfterRun, StepKeeps, RunFact, WhileFew, all_any, join, run_keeps, while_few, with_side}
 use Rattle.domain_world.proofs.Frames.TurnFrameLaws.{turns_sent}
 use Rattle.domain_world.proofs.Judgements.JudgedLaws.{judged_rightly, onto_hold}
 use Rattle.domain_world.proofs.Judgements.Openings.OpeningMarkLaws.{HasAnswer, accepts_so, all_answered, answer_so, onto_all}
@@ -163,8 +164,8 @@ accepted_more links route k link it = record { route = it.route; at = got_append
 
 -- ---- bytes come at a controller
 
-module _ (plan : Plan) (c : ControllerState) (at : ℕ) (w : Coming) (piece : List ℕ) (s : State) (b : Book) where
-  abbrev desk_heard : Heard
+module _ (plan : Plan) (c : ControllerState) (at : ℕ) (w : Delivery) (piece : List ℕ) (s : State) (b : Book) where
+  abbrev desk_heard : AfterHearing
   desk_heard = heard_by (controller_step (Some c) at (event.Bytes w.link piece) s.moment s.ends s.chances) s
 
   controller_stands : (after : State) → after ≡ (done (Controller at) desk_heard).state → IsAtSide s.links w.link w.back (Controller at) → CameFrom w.source s w piece → AreOwn s.bag →
@@ -205,7 +206,7 @@ logons_accepted links messages k place logon accepted has =
     let found = one_found (IsOf k place logon) (λ (message : MessageTaken). IsAcceptedBy links message.member message.link) messages accepted has in
     subst (λ (link : ℕ). IsAcceptedBy links k link) found.1.link (subst (λ (j : ℕ). IsAcceptedBy links j found.0.link) found.1.same_member found.2)
 
-module _ (plan : Plan) (m : MemberState) (at : ℕ) (w : Coming) (piece : List ℕ) (s after : State) (b : Book) (n : ℕ) (side : MarkSide n s b) (there : slice_get s.ends.members at ≡ Some m)
+module _ (plan : Plan) (m : MemberState) (at : ℕ) (w : Delivery) (piece : List ℕ) (s after : State) (b : Book) (n : ℕ) (side : MarkSide n s b) (there : slice_get s.ends.members at ≡ Some m)
     (plans : AreAlikeButSecrets plan.members s.member_plans) (same : SameEnds (first_world plan).state.ends s.ends) where
   abbrev IsOwnLink : ℕ → Type 0
   IsOwnLink link = IsAcceptedBy s.links at link
@@ -264,7 +265,7 @@ module _ (plan : Plan) (m : MemberState) (at : ℕ) (w : Coming) (piece : List �
 -- ---- through all moves
 
 module _ (plan : Plan) where
-  end_stands : (n : ℕ) (end : EndId) (w : Coming) (piece : List ℕ) (s : State) (b : Book) → MarkSide n s b → AreAlikeButSecrets plan.members s.member_plans → SameEnds (first_world plan).state.ends s.ends →
+  end_stands : (n : ℕ) (end : EndId) (w : Delivery) (piece : List ℕ) (s : State) (b : Book) → MarkSide n s b → AreAlikeButSecrets plan.members s.member_plans → SameEnds (first_world plan).state.ends s.ends →
       IsAtSide s.links w.link w.back end → CameFrom w.source s w piece → (IsServer end → length b.sent ≡ length s.bag) → MarksStand plan s.links b →
       MarksStand plan s.links (note_at (Some end) w piece s (hear_and_act end (event.Bytes w.link piece) s).state b)
   end_stands n end w piece s b side plans same here came even stand =
@@ -294,7 +295,7 @@ module _ (plan : Plan) where
     fine = all_any (begun client own s).actions;
   }
 
-  marks_keep : Keeps MarksRestOn (MarksHold plan) AnyAction
+  marks_keep : StepKeeps MarksRestOn (MarksHold plan) AnyAction
   marks_keep = record {
     calm = λ n end what s given b calm side holds. quietly n end what s given b holds;
     dialled = λ n end link s given b here side holds. quietly n end (event.Dialled link) s given b holds;

@@ -47,7 +47,8 @@ use Rattle.wire_base.proofs.ListLaws.{no_some, some_is}
 use Rattle.world_moves.specs.declared.state.State.{State}
 use Rattle.domain_world.specs.Accepting.Runs.{IsOfMember}
 use Rattle.domain_world.specs.Claims.Openings.{IsLastAccepted}
-use Rattle.domain_world.specs.Past.{Coming, answers_of, at_controller}
+use Rattle.domain_world.specs.Past.{Delivery, at_controller}
+use Rattle.domain_world.proofs.Frames.AloneNoteLaws.{alone_answers as answers_of}
 use Rattle.domain_world.proofs.Accepting.Heard.JudgedUnitLaws.{IsWholeCarried}
 use Rattle.domain_world.proofs.Quiet.QuietListenLaws.{ListensWell, WellUnlessStopped, entries_found}
 use Rattle.domain_world.proofs.Quiet.QuietStepLaws.{IsMade}
@@ -231,7 +232,7 @@ module _ (w : Where) (link : ℕ) (name : List ℕ) (now : ℕ) (unit : RpcUnit)
 
 -- ---- a step of a controller
 
-module _ (c : ControllerState) (at : ℕ) (w : Coming) (piece : List ℕ) (s : State) (number : ℕ) (is : IsWholeCarried s number w piece) (accepted : List ChannelAccepted) where
+module _ (c : ControllerState) (at : ℕ) (w : Delivery) (piece : List ℕ) (s : State) (number : ℕ) (is : IsWholeCarried s number w piece) (accepted : List ChannelAccepted) where
   abbrev its : Where
   its = at_controller at c w s
 

@@ -22,7 +22,6 @@ use Rattle.domain_world.proofs.Accepting.MarkRunLaws.{openings_marked}
 use Rattle.domain_world.proofs.Judgements.Openings.OpeningAnswerLaws.{replies_to_openings}
 use Rattle.domain_world.proofs.Judgements.Openings.OpeningRunLaws.{openings_in_order}
 use Rattle.domain_world.proofs.Calls.CallHoldsLaws.{mark_there, marks_in}
-use Rattle.world_moves.specs.Alone.{HandsNothingOn}
 
 -- ---- what is kept
 
@@ -68,9 +67,9 @@ module _ (controller : ℕ) (computer : List ℕ) where
   last_so (first ∷ older) one channel last same =
       by_first (is_opened_for controller computer first) first one older channel refl last same (λ is. last_so older one channel is same)
 
-pub kept_last : (plan : Plan) (moves : List Move) → HandsNothingOn plan → KeptAreLast (past plan moves)
-kept_last plan moves nobody controller computer channel keeps =
-    let last : IsLastAccepted controller computer channel (past plan moves).book.accepted = (openings_in_order plan moves nobody).last controller computer channel keeps in
+pub kept_last : (plan : Plan) (moves : List Move) → KeptAreLast (past plan moves)
+kept_last plan moves controller computer channel keeps =
+    let last : IsLastAccepted controller computer channel (past plan moves).book.accepted = (openings_in_order plan moves).last controller computer channel keeps in
     last_so controller computer (past plan moves).book.accepted last.one channel last.last last.same
 
 -- ---- what was made

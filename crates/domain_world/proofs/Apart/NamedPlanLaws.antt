@@ -44,7 +44,7 @@ use Rattle.domain_world.proofs.Accepting.Turns.TurnQuietLaws.{change_same, hear_
 use Rattle.domain_world.proofs.Messages.MessageOnceLaws.{set_cases}
 use Rattle.domain_world.proofs.Moves.MarkPlaceLaws.{got_map}
 use Rattle.domain_world.proofs.Moves.MemberPlanLaws.{found_but_secret}
-use Rattle.domain_world.proofs.Frames.StepFrameLaws.{AnyAction, HasHeard, Keeps, NoFact, RunFact, all_any}
+use Rattle.domain_world.proofs.Frames.StepFrameLaws.{AnyAction, HasHeard, StepKeeps, NoFact, RunFact, all_any}
 use Rattle.world_moves.specs.Alone.{hear_alone as hear}
 use Rattle.domain_world.proofs.Frames.AloneStepLaws.{alone_by as step_by, renew_alone_by as renew_by, renewed_alone as renewed}
 
@@ -185,7 +185,7 @@ module _ (plan : Plan) where
       (λ running is none.
       put_named plan.members s.ends.members at (member_begun secret running) (λ own there. named at (record { running = Some running }) own is there) named)
 
-  pub names_keep : Keeps NoFact (NamesFact plan) AnyAction
+  pub names_keep : StepKeeps NoFact (NamesFact plan) AnyAction
   names_keep = record {
     calm = λ n end what s given b calm none stands. heard_stands n end what s given b b stands;
     dialled = λ n end link s given b at none stands. heard_stands n end (event.Dialled link) s given b b stands;

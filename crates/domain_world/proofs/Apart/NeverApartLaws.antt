@@ -18,7 +18,7 @@ use Rattle.world_moves.specs.Alone.{HandsNothingOn}
 use Rattle.world_moves.specs.Forms.{IsSchedule}
 use Rattle.domain_world.specs.Claims.{IsClear}
 use Rattle.domain_world.specs.Claims.NeverApart.{BeginsAlike, HasItsAccount, MembersAreNeverApart, has_foreign_set}
-use Rattle.domain_world.specs.Past.{Coming, note_member, past}
+use Rattle.domain_world.specs.Past.{Delivery, note_member, past}
 use Rattle.domain_world.specs.Accepting.SeenSteps.{Differ}
 use Rattle.domain_world.proofs.Accepting.Heard.MarkWholeLaws.{MarksFit, marks_fit}
 use Rattle.domain_world.proofs.Apart.HappeningLaws.{account_there}
@@ -36,7 +36,7 @@ use Rattle.domain_world.proofs.Apart.TogetherRunLaws.{hash_of_run, its_place, it
 use Rattle.domain_world.proofs.Apart.TogetherSetLaws.{set_fits}
 use Rattle.domain_world.proofs.Apart.TogetherStayLaws.{basis_of}
 use Rattle.domain_world.proofs.Apart.TogetherTakenLaws.{controller_knows}
-use Rattle.domain_world.proofs.Apart.TogetherTurnLaws.{Stands}
+use Rattle.domain_world.proofs.Apart.TogetherTurnLaws.{TurnStands}
 use Rattle.domain_world.proofs.Apart.ToldRunLaws.{schedules_tell}
 use Rattle.domain_world.proofs.Moves.ComingLaws.{CameFrom}
 use Rattle.domain_world.proofs.Frames.MoveKeepLaws.{MoveFact, coming}
@@ -69,13 +69,13 @@ module _ (plan : Plan) (moves : List Move) (nobody : HandsNothingOn plan) (sched
   More = Beside plan member begins place asks
 
   -- where the step at a unit is taken
-  module _ (n : ℕ) (w : Coming) (piece : List ℕ) (s after : State) (given : Given) (b : Book) (running : Running) (whole : IsWhole w.link piece running)
+  module _ (n : ℕ) (w : Delivery) (piece : List ℕ) (s after : State) (given : Given) (b : Book) (running : Running) (whole : IsWhole w.link piece running)
       (there : slice_get s.ends.members member ≡ Some (record { running = Some running })) (here : IsAtSide s.links w.link w.back (Member member))
       (came : CameFrom w.source s w piece) (even : length b.sent ≡ length s.bag) (help : HasHelp pair n [] s given b) (known : More n (coming w) s given b)
       (few : n + 1 ≤ most_steps) (differ : Differ s.chances.drawn) (behind : IsBehindMember member (record { running = Some running }) w piece s after)
       (to : LeadsTo bag last after.bag (note_member (Some (record { running = Some running })) member w piece s after b)) where
     left_by : (part : Result (Part DialWork) StepRefused) → event_part running (event.Bytes w.link piece) s.moment s.chances.left ≡ part →
-        Stands (basis_of pair (views_at s.member_plans s.ends) b) (marks_in b.sent) s.chances.drawn (2 * n) running.logons.channel running.logons.plan.secrets →
+        TurnStands (basis_of pair (views_at s.member_plans s.ends) b) (marks_in b.sent) s.chances.drawn (2 * n) running.logons.channel running.logons.plan.secrets →
         KnownIf part (LeftKnown pair n w piece s after b running whole)
     left_by (Err why) is stands = tt
     left_by (Ok part) is stands = record {

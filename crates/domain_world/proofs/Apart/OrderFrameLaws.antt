@@ -32,7 +32,8 @@ use Rattle.domain_world.specs.Accepting.Carried.{IsWholeUnit}
 use Rattle.domain_world.specs.Accepting.Runs.{IsQuiet, IsQuietTurn}
 use Rattle.domain_world.specs.Accepting.SeenSteps.{Differ, requests_after}
 use Rattle.domain_world.specs.Claims.OrderedSteps.{SuitsIfTaken}
-use Rattle.domain_world.specs.Past.{Coming, controller_asked, marks_of, note_at, note_client, note_controller, note_given, note_member, note_messages, sent_at}
+use Rattle.domain_world.specs.Past.{Delivery, controller_asked, marks_of, note_client, note_given, note_member, note_messages, sent_at}
+use Rattle.domain_world.proofs.Frames.AloneNoteLaws.{note_alone as note_at, note_controller_alone as note_controller}
 use Rattle.domain_world.proofs.Accepting.LetInStepLaws.{IsDialledBy, Meets, MeetsMember}
 use Rattle.domain_world.proofs.Apart.OrderStayLaws.{order_anew, order_changes, order_clients, order_controllers, order_member, order_other, order_sent, order_steps}
 use Rattle.domain_world.proofs.Apart.OrderToldLaws.{Told, asked, client_earlier, controller_earlier, controller_order, given_earlier, member_earlier, told_before}
@@ -66,7 +67,7 @@ OrderKept base n s given b = n ≤ most_steps → Differ s.chances.drawn → Tol
 -- What a member takes in one whole unit suits the order: it may rest on a fact beside what is known of calls.
 abbrev pub AllSuit : Asker → RunFact → Type 0
 AllSuit base More =
-    (n at : ℕ) (w : Coming) (piece : List ℕ) (s after : State) (given : Given) (b : Book) (running : Running) (whole : IsWhole w.link piece running) →
+    (n at : ℕ) (w : Delivery) (piece : List ℕ) (s after : State) (given : Given) (b : Book) (running : Running) (whole : IsWhole w.link piece running) →
     slice_get s.ends.members at ≡ Some (record { running = Some running }) → IsAtSide s.links w.link w.back (Member at) → CameFrom w.source s w piece →
     length b.sent ≡ length s.bag → CallsHold n s.member_plans s.ends s.chances.drawn s.links b.sent b.messages → More n s given b → Told (note_member (Some (record { running = Some running })) at w piece s after b) →
     InOrder (requests_at n s.member_plans s.ends s.chances.drawn b.sent) (asked base b.accepted) →
@@ -114,7 +115,7 @@ module _ (base : Asker) where
 
   -- ---- bytes come at a member
 
-  module _ (n : ℕ) (m : MemberState) (at : ℕ) (w : Coming) (piece : List ℕ) (s after : State) (given : Given) (b : Book) (is : slice_get s.ends.members at ≡ Some m) where
+  module _ (n : ℕ) (m : MemberState) (at : ℕ) (w : Delivery) (piece : List ℕ) (s after : State) (given : Given) (b : Book) (is : slice_get s.ends.members at ≡ Some m) where
     abbrev now : Book
     now = note_member (Some m) at w piece s after b
 
@@ -155,7 +156,7 @@ module _ (base : Asker) where
         differ (kept (omega (arith, few)) before) (order (omega (arith, few)) before (told_before b now (member_earlier m at w piece s after b) told)))))
 
   -- one whole unit is taken on the link of its turn
-  module _ (n at : ℕ) (w : Coming) (piece : List ℕ) (s after : State) (given : Given) (b : Book) (running : Running) (whole : IsWhole w.link piece running)
+  module _ (n at : ℕ) (w : Delivery) (piece : List ℕ) (s after : State) (given : Given) (b : Book) (running : Running) (whole : IsWhole w.link piece running)
       (is : slice_get s.ends.members at ≡ Some (record { running = Some running })) where
     abbrev own_marks : List Mark
     own_marks = marks_of w.link false (drop (length s.bag) after.bag) (asked_marks (OfMember at) s (turn_units (record { running = Some running }) w.link piece s.moment s.chances.left))
@@ -194,7 +195,7 @@ module _ (base : Asker) where
   -- ---- bytes come
 
   module _ (More : RunFact) (suits : AllSuit base More) where
-    member_comes : (n : ℕ) (m : MemberState) (at : ℕ) (w : Coming) (piece : List ℕ) (s after : State) (given : Given) (b : Book) → slice_get s.ends.members at ≡ Some m →
+    member_comes : (n : ℕ) (m : MemberState) (at : ℕ) (w : Delivery) (piece : List ℕ) (s after : State) (given : Given) (b : Book) → slice_get s.ends.members at ≡ Some m →
         IsAtSide s.links w.link w.back (Member at) → CameFrom w.source s w piece → length b.sent ≡ length s.bag → OrderSide More n s given b → OrderKept base n s given b →
         OrderSo base (n + 1) s (member_step (Some m) at (event.Bytes w.link piece) s.moment s.ends s.chances) (note_member (Some m) at w piece s after b)
     member_comes n m at w piece s after given b is here came even side order = λ few differ told.
@@ -214,7 +215,7 @@ module _ (base : Asker) where
               (whole_order n at w piece s after given b on.running whole (is ∙ ap (λ (x : MemberState). Some x) same) More suits here came even side.1 side.2 order) few differ told
         ]
 
-    pub comes_order : (n : ℕ) (end : EndId) (w : Coming) (piece : List ℕ) (s : State) (given : Given) (b : Book) → IsAtSide s.links w.link w.back end → CameFrom w.source s w piece → (IsServer end → length b.sent ≡ length s.bag) →
+    pub comes_order : (n : ℕ) (end : EndId) (w : Delivery) (piece : List ℕ) (s : State) (given : Given) (b : Book) → IsAtSide s.links w.link w.back end → CameFrom w.source s w piece → (IsServer end → length b.sent ≡ length s.bag) →
         OrderSide More n s given b → OrderKept base n s given b →
         OrderKept base (n + 1) (hear end (event.Bytes w.link piece) s).state given (note_at (Some end) w piece s (hear_and_act end (event.Bytes w.link piece) s).state b)
     comes_order n end w piece s given b here came even side order =

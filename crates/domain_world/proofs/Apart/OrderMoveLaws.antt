@@ -30,7 +30,7 @@ use Rattle.world_moves.proofs.KeptLaws.{plans_alike}
 use Rattle.domain_world.specs.Accepting.Answered.{IsItsWay}
 use Rattle.domain_world.specs.Claims.OpeningReplies.{IsReplyOfOpening}
 use Rattle.domain_world.specs.Claims.AcceptedOpenings.{AsksAlone, MembersOpenInOrder}
-use Rattle.domain_world.specs.Past.{Coming, past}
+use Rattle.domain_world.specs.Past.{Delivery, past}
 use Rattle.domain_world.specs.Schedules.{OfSchedules}
 use Rattle.domain_world.proofs.Accepting.Heard.JudgedRunLaws.{judged_first, judged_keeps}
 use Rattle.domain_world.proofs.Accepting.Heard.JudgedUnitLaws.{IsCarriedCall, IsJudgedWell, JudgedFact}
@@ -49,7 +49,7 @@ use Rattle.domain_world.proofs.Frames.EndNoteLaws.{acceptings_of}
 use Rattle.domain_world.proofs.Frames.FrameLaws.{OfSide}
 use Rattle.domain_world.proofs.Moves.MarkPlaceLaws.{got_beside, got_map}
 use Rattle.domain_world.proofs.Frames.MoveFrameLaws.{HoldsAfterMoves}
-use Rattle.domain_world.proofs.Frames.StepFrameLaws.{ActionFact, AnyAction, BothFacts, BothFine, Keeps, NoFact, OfSteps, RunFact, join, steps_keep, with_side}
+use Rattle.domain_world.proofs.Frames.StepFrameLaws.{ActionFact, AnyAction, BothFacts, BothFine, StepKeeps, NoFact, OfSteps, RunFact, join, steps_keep, with_side}
 use Rattle.domain_world.proofs.Judgements.Openings.OpeningReplyLaws.{NothingElse, nothing_else, opened_stay}
 use Rattle.domain_world.proofs.Calls.CallFrameLaws.{CallsKept, QuietSide, calls_keep, first_calls}
 use Rattle.domain_world.proofs.Calls.CallHoldsLaws.{link_more, mark_there, marks_in, requests_at}
@@ -98,7 +98,7 @@ StepSide plan = BothFacts (BothFacts (BothFacts QuietFact CallsKept) JudgedFact)
 abbrev StepFine : ActionFact
 StepFine = BothFine (BothFine (BothFine QuietAction AnyAction) AnyAction) AnyAction
 
-step_side : (plan : Plan) → Keeps NoFact (StepSide plan) StepFine
+step_side : (plan : Plan) → StepKeeps NoFact (StepSide plan) StepFine
 step_side plan =
     join (BothFacts (BothFacts QuietFact CallsKept) JudgedFact) (NamesFact plan) (BothFine (BothFine QuietAction AnyAction) AnyAction) AnyAction
     (join (BothFacts QuietFact CallsKept) JudgedFact (BothFine QuietAction AnyAction) AnyAction
@@ -129,7 +129,7 @@ module _ (plan : Plan) (base : Asker) (alone : AsksAlone plan base.who base.comp
   pub has_plan : (s : State) → NamesStand plan s → (k : ℕ) (m : MemberState) → slice_get s.ends.members k ≡ Some m → (own : MemberPlan) × (slice_get plan.members k ≡ Some own)
   has_plan s names k m there = got_beside s.ends.members plan.members k m (sym names.ends.members ∙ length-map plan.members fresh_member) there
 
-  pub suits_known : (n : ℕ) (w : Coming) (s : State) (given : Given) (b : Book) → Known plan n (coming w) s given b → SuitSide base n s given b
+  pub suits_known : (n : ℕ) (w : Delivery) (s : State) (given : Given) (b : Book) → Known plan n (coming w) s given b → SuitSide base n s given b
   suits_known n w s given b known even = record {
     opened = λ k one there. (known.0.1.each k one there).holds.0;
     ways = λ k unit one there noted.
@@ -189,7 +189,7 @@ module _ (plan : Plan) (base : Asker) (alone : AsksAlone plan base.who base.comp
       (stay_in_order ℕ).first (requests_at 0 plan.members (first_world plan).state.ends (first_world plan).state.chances.drawn []) base.who base.controller base.computer (λ unit number timestamp c there. got_nothing unit _ there)
       (λ i v c seen stands. none_stands i (slice_get (map fresh_member plan.members) i) _ v c refl seen stands)
 
-  pub known_first : (moves : List Move) → IsSchedule plan moves → (on : Option Coming) → Known plan 0 (started 0 on) (first_world plan).state [] blank
+  pub known_first : (moves : List Move) → IsSchedule plan moves → (on : Option Delivery) → Known plan 0 (started 0 on) (first_world plan).state [] blank
   known_first moves schedule on = (
     first_marked acceptings_of NothingElse IsUnit nothing_else (new_marked acceptings_of NothingElse IsUnit units_stay) plan on tt,
     ((((quiet_first plan schedule.start schedule.forms, first_calls plan), judged_first), first_names plan), tt),

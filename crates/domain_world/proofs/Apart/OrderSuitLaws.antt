@@ -36,7 +36,7 @@ use Rattle.domain_world.specs.Accepting.Answered.{IsItsWay}
 use Rattle.domain_world.specs.Claims.AcceptedOpenings.{accepted_in, is_in_unit}
 use Rattle.domain_world.specs.Claims.OpeningReplies.{IsAcceptedIn as IsAcceptedReply, IsReplyOfOpening}
 use Rattle.domain_world.specs.Claims.OrderedSteps.{Suits, SuitsIfTaken}
-use Rattle.domain_world.specs.Past.{Coming, controller_asked, note_member, note_messages, note_turns}
+use Rattle.domain_world.specs.Past.{Delivery, controller_asked, note_member, note_messages, note_turns}
 use Rattle.domain_world.proofs.Accepting.LetInStepLaws.{IsDialledBy}
 use Rattle.domain_world.proofs.Accepting.Turns.TurnNotedLaws.{IsMadeFor, turn_noted, unclashed}
 use Rattle.domain_world.proofs.Accepting.Turns.TurnSideLaws.{comes_back}
@@ -119,7 +119,7 @@ its_or_elsewhere false a at c is others =
 
 -- ---- a unit is taken
 
-module _ (base : Asker) (n at : ℕ) (w : Coming) (piece : List ℕ) (s after : State) (b : Book) (running : Running) (whole : IsWhole w.link piece running)
+module _ (base : Asker) (n at : ℕ) (w : Delivery) (piece : List ℕ) (s after : State) (b : Book) (running : Running) (whole : IsWhole w.link piece running)
     (there : slice_get s.ends.members at ≡ Some (record { running = Some running })) (known : SuitsKnown base s b) (told : Told b)
     (order : InOrder (requests_at n s.member_plans s.ends s.chances.drawn b.sent) (asked base b.accepted))
     (own : MemberHolds s.links b.sent b.messages (controller_asked (OfMember at) s) at (Some running)) where

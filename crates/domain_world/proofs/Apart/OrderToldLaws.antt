@@ -27,7 +27,8 @@ use Rattle.world_moves.specs.Ends.{EndStep}
 use Rattle.domain_world.specs.Accepting.Answered.{IsItsWay}
 use Rattle.domain_world.specs.Claims.AcceptedOpenings.{accepted_in, is_in_unit}
 use Rattle.domain_world.specs.Claims.Openings.{IsUnused}
-use Rattle.domain_world.specs.Past.{Coming, accepted_of, is_sent_on, judged_of, with_reply, answers_of, any_clash, at_controller, at_member, first_of, later_of, marks_of, note_client, note_controller, note_given, note_member, note_messages, numbers_on, onto, replied_with, sent_at}
+use Rattle.domain_world.specs.Past.{Delivery, accepted_of, is_sent_on, judged_of, with_reply, any_clash, at_controller, at_member, first_of, later_of, marks_of, note_client, note_given, note_member, note_messages, numbers_on, onto, replied_with, sent_at}
+use Rattle.domain_world.proofs.Frames.AloneNoteLaws.{alone_answers as answers_of, note_controller_alone as note_controller}
 use Rattle.domain_world.proofs.Accepting.Turns.TurnNotedLaws.{or_false}
 use Rattle.domain_world.proofs.Accepting.Turns.TurnSideLaws.{turns_clash}
 use Rattle.domain_world.proofs.Apart.OrderStayLaws.{order_controllers, order_sent}
@@ -169,7 +170,7 @@ same_earlier b = record {
   messages = sym (append-nil (links_in b.messages));
 }
 
-pub client_earlier : (c : ClientState) (at : ℕ) (w : Coming) (piece : List ℕ) (s : State) (b : Book) → IsEarlier b (note_client (Some c) at w piece s b)
+pub client_earlier : (c : ClientState) (at : ℕ) (w : Delivery) (piece : List ℕ) (s : State) (b : Book) → IsEarlier b (note_client (Some c) at w piece s b)
 client_earlier c at w piece s b = record {
   clash = λ none. none;
   items = [];
@@ -218,7 +219,7 @@ numbers_from : (link : ℕ) (back : Bool) (before after : List BagUnit) → AreF
 numbers_from link back before after i n there =
     let place = place_in (is_sent_on link back) (drop (length before) after) (length before) i n there in omega (arith, place.is)
 
-pub controller_earlier : (c : ControllerState) (at : ℕ) (w : Coming) (piece : List ℕ) (s after : State) (b : Book) → length b.sent ≡ length s.bag →
+pub controller_earlier : (c : ControllerState) (at : ℕ) (w : Delivery) (piece : List ℕ) (s after : State) (b : Book) → length b.sent ≡ length s.bag →
     IsEarlier b (note_controller (Some c) at w piece s after b)
 controller_earlier c at w piece s after b even = record {
   clash = λ none. (or_false b.clash (any_clash (answers_of at c w piece s) (unit_in w.source) b.sent) none).0;
@@ -235,7 +236,7 @@ controller_earlier c at w piece s after b even = record {
   messages = sym (append-nil (links_in b.messages));
 }
 
-pub member_earlier : (m : MemberState) (at : ℕ) (w : Coming) (piece : List ℕ) (s after : State) (b : Book) → IsEarlier b (note_member (Some m) at w piece s after b)
+pub member_earlier : (m : MemberState) (at : ℕ) (w : Delivery) (piece : List ℕ) (s after : State) (b : Book) → IsEarlier b (note_member (Some m) at w piece s after b)
 member_earlier m at w piece s after b = record {
   clash = turns_clash (OfMember at) w (turn_units m w.link piece s.moment s.chances.left) s after (note_messages at m w piece s b);
   items = [];
@@ -292,7 +293,7 @@ item_made marks one (InUnit n) is came there opens =
     let opened : IsOpeningOf at.0 one.channel = opens n at.0 is at.1 in
     record { unit = n; named = opened.named; number = opened.number; there = at.1 ∙ ap (λ (m : Mark). Some m) opened.is; same = opened.same }
 
-module _ (base : Asker) (n : ℕ) (c : ControllerState) (at : ℕ) (w : Coming) (piece : List ℕ) (s after : State) (b : Book) where
+module _ (base : Asker) (n : ℕ) (c : ControllerState) (at : ℕ) (w : Delivery) (piece : List ℕ) (s after : State) (b : Book) where
   abbrev now : Book
   now = note_controller (Some c) at w piece s after b
 

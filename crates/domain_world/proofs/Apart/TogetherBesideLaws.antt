@@ -10,7 +10,7 @@ use Rattle.world_moves.specs.Acting.{Given}
 use Rattle.world_moves.specs.Forms.{IsSchedule}
 use Rattle.world_moves.specs.World.{first_world}
 use Rattle.domain_world.specs.Claims.NeverApart.{BeginsAlike}
-use Rattle.domain_world.specs.Past.{Coming}
+use Rattle.domain_world.specs.Past.{Delivery}
 use Rattle.domain_world.proofs.Accepting.Turns.TurnRunLaws.{TurnAction, TurnSide, side_first, side_keeps as turns_keep_on}
 use Rattle.domain_world.proofs.Apart.TogetherRunLaws.{Beneath, beneath_keep, first_beneath}
 use Rattle.domain_world.proofs.Frames.ControllerFrameLaws.{AmongControllers, controllers_written}
@@ -20,7 +20,7 @@ use Rattle.domain_world.proofs.Frames.MoveKeepLaws.{Both, KeepsMoves, MoveFact, 
 use Rattle.domain_world.proofs.Frames.StepFrameLaws.{AnyAction, BothFacts, BothFine, KeepsWith, NoFact, OfSteps, join_with, steps_keep}
 use Rattle.domain_world.proofs.Judgements.GrantLaws.{ByPlan, first_stands as first_by_plan, stand_on as by_plan_on}
 use Rattle.domain_world.proofs.Judgements.Openings.OpeningRunLaws.{Follows, first_follows, follow_on}
-use Rattle.domain_world.proofs.Judgements.TableLaws.{Stands, first_stands, stand_on}
+use Rattle.domain_world.proofs.Judgements.TableLaws.{TablesStand, first_stands, stand_on}
 use Rattle.domain_world.proofs.Sequences.DialWalkLaws.{OfDials, dials_keep}
 use Rattle.domain_world.proofs.Sequences.Own.OwnCarryLaws.{first_own}
 use Rattle.domain_world.proofs.Sequences.Own.OwnFrameLaws.{TurnsKnown}
@@ -38,7 +38,7 @@ OwnSteps plan = OfSteps (BothFacts (TurnSide plan) (OwnHolds plan)) (BothFine Tu
 
 -- the accounts of controllers, by what was judged and by the plan
 abbrev pub Tables : Plan → MoveFact
-Tables plan = OfSide judgings_of (AmongControllers judgings_of (Stands plan) (stand_on plan)) (controllers_written judgings_of (Stands plan) (stand_on plan))
+Tables plan = OfSide judgings_of (AmongControllers judgings_of (TablesStand plan) (stand_on plan)) (controllers_written judgings_of (TablesStand plan) (stand_on plan))
 
 abbrev pub ByPlans : Plan → MoveFact
 ByPlans plan = OfSide judgings_of (AmongControllers judgings_of (ByPlan plan) (by_plan_on plan)) (controllers_written judgings_of (ByPlan plan) (by_plan_on plan))
@@ -72,7 +72,7 @@ module _ (plan : Plan) (member : ℕ) (begins : BeginsAlike plan member) (place 
   with_tables =
       join_moves (Unit {0}) (Both (Both Base Dials) (OwnSteps plan)) (Tables plan) with_own
       (beside (Unit {0}) (Both (Both Base Dials) (OwnSteps plan)) (Tables plan)
-      (side_keeps judgings_of (AmongControllers judgings_of (Stands plan) (stand_on plan)) (controllers_written judgings_of (Stands plan) (stand_on plan)) (Unit {0})))
+      (side_keeps judgings_of (AmongControllers judgings_of (TablesStand plan) (stand_on plan)) (controllers_written judgings_of (TablesStand plan) (stand_on plan)) (Unit {0})))
 
   with_plans : KeepsMoves (Unit {0}) NoSide (Both (Both (Both (Both Base Dials) (OwnSteps plan)) (Tables plan)) (ByPlans plan))
   with_plans =
@@ -89,7 +89,7 @@ module _ (plan : Plan) (member : ℕ) (begins : BeginsAlike plan member) (place 
   pub beside_has : (n : ℕ) (q : Progress) (s : State) (given : Given) (b : Book) → Beside n q s given b → Base n q s given b
   beside_has n q s given b all = all.0.0.0.0.0
 
-  pub first_beside : (moves : List Move) → IsSchedule plan moves → AreSecrets begins.own.secrets → (on : Option Coming) → Beside 0 (started 0 on) (first_world plan).state [] blank
+  pub first_beside : (moves : List Move) → IsSchedule plan moves → AreSecrets begins.own.secrets → (on : Option Delivery) → Beside 0 (started 0 on) (first_world plan).state [] blank
   first_beside moves schedule are on = (
     ((((first_beneath plan member begins place asks moves schedule are on, first_known plan), ((side_first plan moves schedule, first_own plan), tt)), first_stands plan), first_by_plan plan),
     first_follows plan,

@@ -21,12 +21,12 @@ use Rattle.world_moves.specs.declared.links.EndId.TheVariants.{Member}
 use Rattle.world_moves.specs.declared.links.Route.TheVariants.{ToController}
 use Rattle.world_moves.specs.declared.plan.Plan.{Plan}
 use Rattle.world_moves.specs.declared.state.State.{State}
-use Rattle.world_moves.specs.Acting.{Given, Heard, heard_by}
+use Rattle.world_moves.specs.Acting.{Given, AfterHearing, heard_by}
 use Rattle.world_moves.specs.Ends.{member_step}
 use Rattle.world_moves.proofs.LinkFrameLaws.{actions_stay}
 use Rattle.domain_world.specs.Accepting.Carried.{IsWholeUnit}
 use Rattle.domain_world.specs.Claims.NeverApart.{BeginsAlike}
-use Rattle.domain_world.specs.Past.{Coming, controller_asked, marks_of, note_member}
+use Rattle.domain_world.specs.Past.{Delivery, controller_asked, marks_of, note_member}
 use Rattle.domain_world.proofs.Accepting.CarriedLaws.{one_whole}
 use Rattle.domain_world.proofs.Accepting.LetInStepLaws.{IsDialledBy}
 use Rattle.domain_world.proofs.Accepting.Heard.BoundOpeningLaws.{AsksSo, one_asks_so}
@@ -64,7 +64,7 @@ by_called b marks more c secrets drawn uses (Some place) asks = asks
 plain_or : (channel : ChannelIdentity) (number timestamp : ℕ) → Calling channel number timestamp ≡ Plain → ⊥
 plain_or channel number timestamp is = let never = is in cc
 
-module _ (p : Pairing) (bag : List BagUnit) (last : Book) (fits : MarksFit bag last) (is_asked : (n : ℕ) → p.asks n ≡ asks_in bag last fits n) (w : Coming) (piece : List ℕ) (s : State) (b : Book)
+module _ (p : Pairing) (bag : List BagUnit) (last : Book) (fits : MarksFit bag last) (is_asked : (n : ℕ) → p.asks n ≡ asks_in bag last fits n) (w : Delivery) (piece : List ℕ) (s : State) (b : Book)
     (running : Running) (whole : IsWhole w.link piece running) (there : slice_get s.ends.members p.who ≡ Some (record { running = Some running })) (came : CameFrom w.source s w piece)
     (even : length b.sent ≡ length s.bag) (quiet : QuietState s) (asks : AsksSo (record { running = Some running })) (are : AreSecrets running.logons.plan.secrets)
     (tries : TriesSecrets running.logons.channel running.logons.plan.secrets) where
@@ -80,7 +80,7 @@ module _ (p : Pairing) (bag : List BagUnit) (last : Book) (fits : MarksFit bag l
   abbrev after : State
   after = stepped (Member p.who) (member_step (Some m) p.who (event.Bytes w.link piece) s.moment s.ends s.chances) s
 
-  abbrev heard : Heard
+  abbrev heard : AfterHearing
   heard = heard_by (member_step (Some m) p.who (event.Bytes w.link piece) s.moment s.ends s.chances) s
 
   -- the secret that the call sets, if it sets one
@@ -157,7 +157,7 @@ module _ (plan : Plan) (member : ℕ) (begins : BeginsAlike plan member) (place 
   abbrev pair : Pairing
   pair = pairing_of plan member begins place (asks_in bag last fits)
 
-  pub carries_so : (n : ℕ) (w : Coming) (piece : List ℕ) (s later : State) (given : Given) (b : Book) (running : Running) (whole : IsWhole w.link piece running) →
+  pub carries_so : (n : ℕ) (w : Delivery) (piece : List ℕ) (s later : State) (given : Given) (b : Book) (running : Running) (whole : IsWhole w.link piece running) →
       slice_get s.ends.members member ≡ Some (record { running = Some running }) → CameFrom w.source s w piece → length b.sent ≡ length s.bag → HasHelp pair n [] s given b →
       Beneath plan member begins place (asks_in bag last fits) n (coming w) s given b → IsBehindMember member (record { running = Some running }) w piece s later →
       LeadsTo bag last later.bag (note_member (Some (record { running = Some running })) member w piece s later b) →

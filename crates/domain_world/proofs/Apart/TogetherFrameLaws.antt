@@ -45,7 +45,8 @@ use Rattle.world_moves.proofs.EndKindLaws.{IfMember}
 use Rattle.domain_world.specs.Accepting.Answered.{IsItsWay}
 use Rattle.domain_world.specs.Accepting.SeenSteps.{Differ, HearsNone, NoRequests, PlacedBy}
 use Rattle.domain_world.specs.Claims.OrderedSteps.{AreBefore, SuitsIfTaken}
-use Rattle.domain_world.specs.Past.{Coming, accepted_of, answers_of, at_controller, judged_of, numbers_on, controller_asked, controller_of_plan, marks_of, note_controller, note_member, note_messages, onto, sent_at}
+use Rattle.domain_world.specs.Past.{Delivery, accepted_of, at_controller, judged_of, numbers_on, controller_asked, controller_of_plan, marks_of, note_member, note_messages, onto, sent_at}
+use Rattle.domain_world.proofs.Frames.AloneNoteLaws.{alone_answers as answers_of, note_controller_alone as note_controller}
 use Rattle.domain_world.proofs.Accepting.LetInStepLaws.{IsDialledBy, Meets, MeetsMember}
 use Rattle.domain_world.proofs.Apart.KeptTextLaws.{KeepsSo}
 use Rattle.domain_world.proofs.Apart.OrderFrameLaws.{OrderKept}
@@ -57,7 +58,7 @@ use Rattle.domain_world.proofs.Apart.TogetherBookLaws.{AllJudgedSo, HasHash, Pai
 use Rattle.domain_world.proofs.Apart.TogetherMemberLaws.{KnownIf, TakenKnown, TiesIf, alone_calls, nobody, other_ties, stops, whole_ties}
 use Rattle.domain_world.proofs.Apart.TogetherStayLaws.{CallsElsewhere, TiesHold, TogetherSo, basis_by, basis_of, begun_ties, marked_elsewhere, other_gives, own_gives, rebooked, seed_fresh, seeded, unseen, with_views}
 use Rattle.domain_world.proofs.Apart.TogetherTakeLaws.{CallsWere, Ties, marked, own_seen, seen_own, waits_on}
-use Rattle.domain_world.proofs.Apart.TogetherTurnLaws.{Stands}
+use Rattle.domain_world.proofs.Apart.TogetherTurnLaws.{TurnStands}
 use Rattle.domain_world.proofs.Messages.MessageOnceLaws.{set_cases}
 use Rattle.domain_world.proofs.Moves.ComingLaws.{CameFrom}
 use Rattle.domain_world.proofs.Frames.EndNoteLaws.{accepted_so, judged_so}
@@ -136,7 +137,7 @@ module _ (p : Pairing) where
 
     pub stands_at : (running : Running) → slice_get s.ends.members p.who ≡ Some (record { running = Some running }) →
         Ties (basis_of p unseen b) (marks_in b.sent) running.logons.channel running.logons.plan.secrets →
-        Stands (basis_of p (views_at s.member_plans s.ends) b) (marks_in b.sent) s.chances.drawn (2 * n) running.logons.channel running.logons.plan.secrets
+        TurnStands (basis_of p (views_at s.member_plans s.ends) b) (marks_in b.sent) s.chances.drawn (2 * n) running.logons.channel running.logons.plan.secrets
     stands_at running is ties = record {
       apart = stands_before r p.who p.controller (asked base b.accepted) running (before_step running is);
       order = order_before r p.who p.controller (asked base b.accepted) running (before_step running is);
@@ -245,7 +246,7 @@ module _ (p : Pairing) where
 
   -- ---- bytes come at another member
 
-  pub other_comes : (n : ℕ) (m : MemberState) (at : ℕ) (w : Coming) (piece : List ℕ) (rest given : Given) (s after : State) (b : Book) → at ≢ p.who → n ≤ most_steps → Differ s.chances.drawn →
+  pub other_comes : (n : ℕ) (m : MemberState) (at : ℕ) (w : Delivery) (piece : List ℕ) (rest given : Given) (s after : State) (b : Book) → at ≢ p.who → n ≤ most_steps → Differ s.chances.drawn →
       CallsElsewhere (basis_of p unseen b) (marks_in (note_member (Some m) at w piece s after b).sent) (marks_in b.sent) → HasHelp p n rest s given b → TogetherSo p rest s.member_plans s.ends.members b →
       TogetherSo p (given_by (Member at) (member_step (Some m) at (event.Bytes w.link piece) s.moment s.ends s.chances).actions ++ rest) s.member_plans
       (member_step (Some m) at (event.Bytes w.link piece) s.moment s.ends s.chances).ends.members (note_member (Some m) at w piece s after b)
@@ -271,11 +272,11 @@ module _ (p : Pairing) where
       (marked (basis_of p unseen b) (marks_in b.sent) (marks_in now.sent) running.logons.channel running.logons.plan.secrets were ties)
 
   -- the marks that are written down
-  abbrev pub marks_of_step : ℕ → MemberState → Coming → List ℕ → State → State → List Mark
+  abbrev pub marks_of_step : ℕ → MemberState → Delivery → List ℕ → State → State → List Mark
   marks_of_step at m w piece s after =
       marks_of w.link false (drop (length s.bag) after.bag) (asked_marks (OfMember at) s (turn_units m w.link piece s.moment s.chances.left))
 
-  pub noted_marks : (at : ℕ) (m : MemberState) (w : Coming) (piece : List ℕ) (s after : State) (b : Book) →
+  pub noted_marks : (at : ℕ) (m : MemberState) (w : Delivery) (piece : List ℕ) (s after : State) (b : Book) →
       marks_in (note_member (Some m) at w piece s after b).sent ≡ marks_in b.sent ++ marks_of_step at m w piece s after
   noted_marks at m w piece s after b =
       ap (λ (old : List Sent). marks_in (old ++ map (sent_at w.at) (marks_of_step at m w piece s after)))
@@ -284,7 +285,7 @@ module _ (p : Pairing) where
       ∙ ap (λ (marks : List Mark). marks_in b.sent ++ marks) (marks_sent w.at (marks_of_step at m w piece s after))
 
   -- on another link than that of its turn none is a request
-  pub elsewhere_marks : (at : ℕ) (m : MemberState) (w : Coming) (piece : List ℕ) (s after : State) (b : Book) → IsOther m.running w.link →
+  pub elsewhere_marks : (at : ℕ) (m : MemberState) (w : Delivery) (piece : List ℕ) (s after : State) (b : Book) → IsOther m.running w.link →
       CallsWere (marks_in (note_member (Some m) at w piece s after b).sent) (marks_in b.sent)
   elsewhere_marks at m w piece s after b other =
       let none : turn_units m w.link piece s.moment s.chances.left ≡ [] =
@@ -296,7 +297,7 @@ module _ (p : Pairing) where
       (subst (λ (served : List (ServedUnit AtTurn TurnTalk)). CallsWere (marks_in b.sent ++ marks_of w.link false new (asked_marks (OfMember at) s served)) (marks_in b.sent)) (sym none)
       (calls_before (marks_in b.sent) (marks_of w.link false new []) (none_marked w.link false new)))
 
-  pub own_elsewhere : (n : ℕ) (m : MemberState) (w : Coming) (piece : List ℕ) (rest given : Given) (s after : State) (b : Book) → IsOther m.running w.link → HasHelp p n rest s given b →
+  pub own_elsewhere : (n : ℕ) (m : MemberState) (w : Delivery) (piece : List ℕ) (rest given : Given) (s after : State) (b : Book) → IsOther m.running w.link → HasHelp p n rest s given b →
       n + 1 ≤ most_steps → Differ (s.chances.drawn ++ (step_of m (event.Bytes w.link piece) s.moment s.chances.left).drawn) → Told b → slice_get s.ends.members p.who ≡ Some m →
       TiesHold p rest s.member_plans b m.running →
       TiesHold p (given_by (Member p.who) (actions_by (step_of m (event.Bytes w.link piece) s.moment s.chances.left).answer) ++ rest) s.member_plans
@@ -308,14 +309,14 @@ module _ (p : Pairing) where
       (own_other n rest given s b m.running (event.Bytes w.link piece) help few differ told is (other_none m.running w.link piece other) ties)
 
   -- one whole unit is taken on it: what is to be known of what the member takes
-  abbrev pub OwnKnown : (n : ℕ) (w : Coming) (piece : List ℕ) (s after : State) (b : Book) (running : Running) → IsWhole w.link piece running → Type 0
+  abbrev pub OwnKnown : (n : ℕ) (w : Delivery) (piece : List ℕ) (s after : State) (b : Book) (running : Running) → IsWhole w.link piece running → Type 0
   OwnKnown n w piece s after b running whole =
-      Stands (basis_of p (views_at s.member_plans s.ends) b) (marks_in b.sent) s.chances.drawn (2 * n) running.logons.channel running.logons.plan.secrets →
+      TurnStands (basis_of p (views_at s.member_plans s.ends) b) (marks_in b.sent) s.chances.drawn (2 * n) running.logons.channel running.logons.plan.secrets →
       KnownIf (event_part running (event.Bytes w.link piece) s.moment s.chances.left)
       (TakenKnown (basis_of p (views_at s.member_plans s.ends) b) (marks_in b.sent) (marks_of_step p.who (record { running = Some running }) w piece s after) running.logons.channel
       running.logons.plan.secrets s.chances.drawn (2 * n) whole.unit)
 
-  pub own_whole : (n : ℕ) (w : Coming) (piece : List ℕ) (rest given : Given) (s after : State) (b : Book) (running : Running) (whole : IsWhole w.link piece running) →
+  pub own_whole : (n : ℕ) (w : Delivery) (piece : List ℕ) (rest given : Given) (s after : State) (b : Book) (running : Running) (whole : IsWhole w.link piece running) →
       IsAtSide s.links w.link w.back (Member p.who) → CameFrom w.source s w piece → length b.sent ≡ length s.bag → OwnKnown n w piece s after b running whole → SuitSide base n s given b →
       HasHelp p n rest s given b → n + 1 ≤ most_steps → Differ (s.chances.drawn ++ (step_of (record { running = Some running }) (event.Bytes w.link piece) s.moment s.chances.left).drawn) →
       Told (note_member (Some (record { running = Some running })) p.who w piece s after b) → slice_get s.ends.members p.who ≡ Some (record { running = Some running }) →
@@ -363,7 +364,7 @@ module _ (p : Pairing) where
     asked = t.asked;
   }
 
-  module _ (n at : ℕ) (c : ControllerState) (w : Coming) (piece : List ℕ) (s after : State) (b : Book) where
+  module _ (n at : ℕ) (c : ControllerState) (w : Delivery) (piece : List ℕ) (s after : State) (b : Book) where
     abbrev pub noted : Book
     noted = note_controller (Some c) at w piece s after b
 

@@ -40,7 +40,7 @@ use Rattle.domain_world.specs.Accepting.SeenSteps.{Differ, PlacedBy}
 use Rattle.domain_world.specs.Claims.OrderedSteps.{Suits, SuitsIfTaken}
 use Rattle.domain_world.proofs.Apart.StepOrderLaws.{order_with, taken_order}
 use Rattle.domain_world.proofs.Apart.TogetherTakeLaws.{Basis, CallsWere, CarriesAsks, SetHeard, TakeFits, Ties, secrets_by, takes, with_held}
-use Rattle.domain_world.proofs.Apart.TogetherTurnLaws.{Stands, TiesThen, asker_of, other_event, then_next, whole_event}
+use Rattle.domain_world.proofs.Apart.TogetherTurnLaws.{TurnStands, TiesThen, asker_of, other_event, then_next, whole_event}
 use Rattle.domain_world.proofs.Calls.LooserLaws.{calls_before}
 use Rattle.domain_world.proofs.Calls.StepApartLaws.{StandsApart, seen_with, taken_so}
 
@@ -123,7 +123,7 @@ module _ (b : Basis) where
 
   -- no whole unit comes on the link of the turn
   pub other_ties : (marks : List Mark) (drawn : List (List ℕ)) (uses : ℕ) (few : uses + 2 < 2 ^ 32) (running : Running) (what : Event) (now : ℕ) (left : List (List ℕ)) (kept : SecretsState) →
-      heard_in what running.dialling ≡ [] → KeepsHeld running.logons.plan.secrets kept → Stands b marks drawn uses running.logons.channel running.logons.plan.secrets →
+      heard_in what running.dialling ≡ [] → KeepsHeld running.logons.plan.secrets kept → TurnStands b marks drawn uses running.logons.channel running.logons.plan.secrets →
       Differ (drawn ++ (step_of (record { running = Some running }) what now left).drawn) →
       TiesIf b marks (step_of (record { running = Some running }) what now left).state.running kept
   other_ties marks drawn uses few running what now left kept none keeps stands differ =
@@ -146,8 +146,8 @@ module _ (b : Basis) where
 
     -- the unit was taken
     stands_after : (part : Part DialWork) → PlacedBy (Ok part) (taking_note (Some (take_of c unit)) b.controller c) more → Suits (asker_of b) b.who (effect_of_take b.controller c unit) →
-        TakenKnown b marks more c secrets drawn uses unit → Stands b marks drawn uses c secrets →
-        Stands b (marks ++ more) drawn (uses + 1) (take_of c unit).state (secrets_by (end_of (take_of c unit).taken) secrets)
+        TakenKnown b marks more c secrets drawn uses unit → TurnStands b marks drawn uses c secrets →
+        TurnStands b (marks ++ more) drawn (uses + 1) (take_of c unit).state (secrets_by (end_of (take_of c unit).taken) secrets)
     stands_after part placed suits known stands =
         let after : StandsApart b.views b.who b.controller (take_of c unit).state (marks ++ more) drawn (uses + 1) =
         taken_so b.views b.who b.controller c unit marks more drawn uses (omega (arith, few)) placed stands.apart in
@@ -162,7 +162,7 @@ module _ (b : Basis) where
 
     whole_by : (part : Result (Part DialWork) StepRefused) → event_part running what now left ≡ part → (kept : SecretsState) →
         PlacedBy part (taking_note (Some (take_of c unit)) b.controller c) more → SuitsIfTaken part (asker_of b) b.who (effect_of_take b.controller c unit) →
-        KnownIf part (TakenKnown b marks more c secrets drawn uses unit) → KeepsHeld secrets kept → Stands b marks drawn uses c secrets →
+        KnownIf part (TakenKnown b marks more c secrets drawn uses unit) → KeepsHeld secrets kept → TurnStands b marks drawn uses c secrets →
         Differ (drawn ++ (step_by actions_in state_in halted_state left part).drawn) → TiesIf b (marks ++ more) (step_by actions_in state_in halted_state left part).state.running kept
     whole_by (Err why) is kept placed suits known keeps stands differ =
         alone_calls b marks (marks ++ more) kept (calls_before marks more placed) (stops b marks c secrets kept keeps stands.ties)
@@ -175,7 +175,7 @@ module _ (b : Basis) where
 
     pub whole_ties : (kept : SecretsState) → PlacedBy (event_part running what now left) (taking_note (Some (take_of c unit)) b.controller c) more →
         SuitsIfTaken (event_part running what now left) (asker_of b) b.who (effect_of_take b.controller c unit) →
-        KnownIf (event_part running what now left) (TakenKnown b marks more c secrets drawn uses unit) → KeepsHeld secrets kept → Stands b marks drawn uses c secrets →
+        KnownIf (event_part running what now left) (TakenKnown b marks more c secrets drawn uses unit) → KeepsHeld secrets kept → TurnStands b marks drawn uses c secrets →
         Differ (drawn ++ (step_of (record { running = Some running }) what now left).drawn) →
         TiesIf b (marks ++ more) (step_of (record { running = Some running }) what now left).state.running kept
     whole_ties kept placed suits known keeps stands differ = whole_by (event_part running what now left) refl kept placed suits known keeps stands differ

@@ -29,7 +29,8 @@ use Rattle.world_moves.specs.Moving.{settle, with_link}
 use Rattle.domain_world.specs.Accepting.Carried.{IsWholeUnit}
 use Rattle.domain_world.specs.Accepting.Runs.{IsQuiet, IsQuietTurn}
 use Rattle.domain_world.specs.Accepting.SeenSteps.{Differ}
-use Rattle.domain_world.specs.Past.{Coming, note_at, note_client, note_controller, note_given, note_member, sent_at}
+use Rattle.domain_world.specs.Past.{Delivery, note_client, note_given, note_member, sent_at}
+use Rattle.domain_world.proofs.Frames.AloneNoteLaws.{note_alone as note_at, note_controller_alone as note_controller}
 use Rattle.domain_world.proofs.Accepting.LetInStepLaws.{IsDialledBy, Meets, calm_meets, last_accepted, side_meets}
 use Rattle.domain_world.proofs.Accepting.Turns.TurnQuietLaws.{action_still}
 use Rattle.domain_world.proofs.Apart.KeptTextLaws.{acts_so}
@@ -64,10 +65,10 @@ still_at None s t still = still
 still_at (Some after) s t still = kept_same after.bag
 
 -- the state once all is done that such an end does at a piece
-abbrev pub IsBehindMember : ℕ → MemberState → Coming → List ℕ → State → State → Type 0
+abbrev pub IsBehindMember : ℕ → MemberState → Delivery → List ℕ → State → State → Type 0
 IsBehindMember at m w piece s after = after ≡ stepped (Member at) (member_step (Some m) at (event.Bytes w.link piece) s.moment s.ends s.chances) s
 
-abbrev pub IsBehindController : ℕ → ControllerState → Coming → List ℕ → State → State → Type 0
+abbrev pub IsBehindController : ℕ → ControllerState → Delivery → List ℕ → State → State → Type 0
 IsBehindController at c w piece s after = after ≡ stepped (Controller at) (controller_step (Some c) at (event.Bytes w.link piece) s.moment s.ends s.chances) s
 
 -- What is known of later books, by which more is known of each step. It was known of each earlier one.
@@ -78,16 +79,16 @@ pub record IsKnown (Knows : List BagUnit → Book → Type 0) : Type 0 where
 module _ (p : Pairing) (Knows : List BagUnit → Book → Type 0) (More : MoveFact) where
   -- what is to be known of each step
   pub record AllFit : Type 0 where
-    pub controllers : (n at : ℕ) (c : ControllerState) (w : Coming) (piece : List ℕ) (s after : State) (given : Given) (b : Book) → slice_get s.ends.controllers at ≡ Some c →
+    pub controllers : (n at : ℕ) (c : ControllerState) (w : Delivery) (piece : List ℕ) (s after : State) (given : Given) (b : Book) → slice_get s.ends.controllers at ≡ Some c →
         IsAtSide s.links w.link w.back (Controller at) → CameFrom w.source s w piece → length b.sent ≡ length s.bag → HasHelp p n [] s given b → More n (coming w) s given b → n + 1 ≤ most_steps →
         Differ s.chances.drawn → IsBehindController at c w piece s after → Knows after.bag (note_controller (Some c) at w piece s after b) → ControllerKnown p n at c w piece s after b
-    pub members : (n : ℕ) (w : Coming) (piece : List ℕ) (s after : State) (given : Given) (b : Book) (running : Running) (whole : IsWhole w.link piece running) →
+    pub members : (n : ℕ) (w : Delivery) (piece : List ℕ) (s after : State) (given : Given) (b : Book) (running : Running) (whole : IsWhole w.link piece running) →
         slice_get s.ends.members p.who ≡ Some (record { running = Some running }) → IsAtSide s.links w.link w.back (Member p.who) → CameFrom w.source s w piece → length b.sent ≡ length s.bag →
         HasHelp p n [] s given b → More n (coming w) s given b → n + 1 ≤ most_steps → Differ s.chances.drawn → IsBehindMember p.who (record { running = Some running }) w piece s after →
         Knows after.bag (note_member (Some (record { running = Some running })) p.who w piece s after b) → OwnKnown p n w piece s after b running whole
-    pub suits : (n : ℕ) (w : Coming) (s : State) (given : Given) (b : Book) → More n (coming w) s given b → SuitSide (asker_for p) n s given b
+    pub suits : (n : ℕ) (w : Delivery) (s : State) (given : Given) (b : Book) → More n (coming w) s given b → SuitSide (asker_for p) n s given b
     -- another member calls in its own name
-    pub others : (n at : ℕ) (m : MemberState) (w : Coming) (piece : List ℕ) (s after : State) (given : Given) (b : Book) → at ≢ p.who → slice_get s.ends.members at ≡ Some m →
+    pub others : (n at : ℕ) (m : MemberState) (w : Delivery) (piece : List ℕ) (s after : State) (given : Given) (b : Book) → at ≢ p.who → slice_get s.ends.members at ≡ Some m →
         IsAtSide s.links w.link w.back (Member at) → CameFrom w.source s w piece → length b.sent ≡ length s.bag → HasHelp p n [] s given b → More n (coming w) s given b → n + 1 ≤ most_steps →
         Differ s.chances.drawn → CallsElsewhere (basis_of p unseen b) (marks_in (note_member (Some m) at w piece s after b).sent) (marks_in b.sent)
 
@@ -143,7 +144,7 @@ module _ (p : Pairing) (Knows : List BagUnit → Book → Type 0) (More : MoveFa
     abbrev after_of : EndId → EndStep → State → State
     after_of end step s = stepped end step s
 
-    own_steps : (n : ℕ) (m : MemberState) (w : Coming) (piece : List ℕ) (s after : State) (given : Given) (b : Book) → slice_get s.ends.members p.who ≡ Some m →
+    own_steps : (n : ℕ) (m : MemberState) (w : Delivery) (piece : List ℕ) (s after : State) (given : Given) (b : Book) → slice_get s.ends.members p.who ≡ Some m →
         IsAtSide s.links w.link w.back (Member p.who) → CameFrom w.source s w piece → length b.sent ≡ length s.bag → IsQuiet s → HasHelp p n [] s given b → More n (coming w) s given b →
         n + 1 ≤ most_steps → Differ (s.chances.drawn ++ (step_of m (event.Bytes w.link piece) s.moment s.chances.left).drawn) → Differ s.chances.drawn →
         IsBehindMember p.who m w piece s after → Knows after.bag (note_member (Some m) p.who w piece s after b) → TiesHold p [] s.member_plans b m.running →
@@ -174,7 +175,7 @@ module _ (p : Pairing) (Knows : List BagUnit → Book → Type 0) (More : MoveFa
               is differ behind knows ties
         ]
 
-    own_comes : (n at : ℕ) → at ≡ p.who → (m : MemberState) (w : Coming) (piece : List ℕ) (s after : State) (given : Given) (b : Book) → slice_get s.ends.members at ≡ Some m →
+    own_comes : (n at : ℕ) → at ≡ p.who → (m : MemberState) (w : Delivery) (piece : List ℕ) (s after : State) (given : Given) (b : Book) → slice_get s.ends.members at ≡ Some m →
         IsAtSide s.links w.link w.back (Member at) → CameFrom w.source s w piece → length b.sent ≡ length s.bag → StillHas s.bag after.bag → IsQuiet s → HasHelp p n [] s given b →
         More n (coming w) s given b → n + 1 ≤ most_steps → Differ (s.chances.drawn ++ (step_of m (event.Bytes w.link piece) s.moment s.chances.left).drawn) → Differ s.chances.drawn →
         TogetherSo p [] s.member_plans s.ends.members b → IsBehindMember at m w piece s after → Knows after.bag (note_member (Some m) at w piece s after b) →
@@ -190,7 +191,7 @@ module _ (p : Pairing) (Knows : List BagUnit → Book → Type 0) (More : MoveFa
         (λ st its found ties. own_steps n m w piece s after given b there side came even quiet help more few differ before behind knows (was m there)) (λ r apart found ties. absurd (apart refl)) help.there)
         is here behind knows
 
-    member_comes : (n at : ℕ) (m : MemberState) (w : Coming) (piece : List ℕ) (s after : State) (given : Given) (b : Book) → slice_get s.ends.members at ≡ Some m → IsAtSide s.links w.link w.back (Member at) →
+    member_comes : (n at : ℕ) (m : MemberState) (w : Delivery) (piece : List ℕ) (s after : State) (given : Given) (b : Book) → slice_get s.ends.members at ≡ Some m → IsAtSide s.links w.link w.back (Member at) →
         CameFrom w.source s w piece → length b.sent ≡ length s.bag → StillHas s.bag after.bag → IsQuiet s → HasHelp p n [] s given b → More n (coming w) s given b → TogetherKept n (coming w) s given b →
         IsBehindMember at m w piece s after → ComesSo n s (Member at) (member_step (Some m) at (event.Bytes w.link piece) s.moment s.ends s.chances) after (note_member (Some m) at w piece s after b)
     member_comes n at m w piece s after given b is here came even still quiet help more together behind few differ knows =
@@ -207,7 +208,7 @@ module _ (p : Pairing) (Knows : List BagUnit → Book → Type 0) (More : MoveFa
               other_comes p n m at w piece [] given s after b apart (omega (arith, few)) before (fits.others n at m w piece s after given b apart is here came even help more few before) help was
         ]
 
-    comes_kept : (n : ℕ) (end : EndId) (w : Coming) (piece : List ℕ) (s : State) (given : Given) (b : Book) → IsAtSide s.links w.link w.back end → CameFrom w.source s w piece →
+    comes_kept : (n : ℕ) (end : EndId) (w : Delivery) (piece : List ℕ) (s : State) (given : Given) (b : Book) → IsAtSide s.links w.link w.back end → CameFrom w.source s w piece →
         (IsServer end → length b.sent ≡ length s.bag) → IsQuiet s → HasHelp p n [] s given b → More n (coming w) s given b → TogetherKept n (coming w) s given b →
         let after : State = (hear_and_act end (event.Bytes w.link piece) s).state in
         ComesSo n s end (end_step end (event.Bytes w.link piece) s.moment s.ends s.chances) after (note_at (Some end) w piece s after b)
@@ -248,7 +249,7 @@ module _ (p : Pairing) (Knows : List BagUnit → Book → Type 0) (More : MoveFa
         together few (subst (λ (c : Drawing). Differ c.drawn) chances differ) (known.before (bag_at q.to s) (bag_at q.to t) b b (still_at q.to s t still) (same_earlier b) knows) in
         subst (λ (e : EndStates). TogetherSo p q.rest t.member_plans e.members b) (sym ends) (subst (λ (all : List MemberPlan). TogetherSo p q.rest all s.ends.members b) (sym plans) old)
 
-    over_kept : (n at : ℕ) (on next : Option Coming) (s : State) (given : Given) (b : Book) → TogetherKept n (started at on) s given b →
+    over_kept : (n at : ℕ) (on next : Option Delivery) (s : State) (given : Given) (b : Book) → TogetherKept n (started at on) s given b →
         TogetherKept n (started (at + 1) next) s [] (note_given at given s b)
     over_kept n at on next s given b together few differ knows st there =
         let count : ℕ = length s.bag - length b.sent in

@@ -31,7 +31,7 @@ use Rattle.domain_world.specs.Accepting.Carried.{IsWholeUnit}
 use Rattle.domain_world.specs.Accepting.Runs.{IsQuiet, IsQuietTurn}
 use Rattle.domain_world.specs.Accepting.SeenSteps.{Differ, IfPlaced, Placed, PlacedBy}
 use Rattle.domain_world.specs.Claims.NeverApart.{BeginsAlike}
-use Rattle.domain_world.specs.Past.{Coming, controller_asked, note_member}
+use Rattle.domain_world.specs.Past.{Delivery, controller_asked, note_member}
 use Rattle.domain_world.proofs.Accepting.LetInStepLaws.{IsDialledBy}
 use Rattle.domain_world.proofs.Quiet.QuietRunLaws.{is_quiet}
 use Rattle.domain_world.proofs.Apart.NamedPlanLaws.{NamesStand}
@@ -105,7 +105,7 @@ module _ (plan : Plan) (member : ℕ) (begins : BeginsAlike plan member) (place 
       let named : running.logons.plan.computer ≡ own.0.computer = names.named at (record { running = Some running }) own.0 is own.1 in
       asks_alone plan member begins at own.0 own.1 apart (subst (λ (one : List ℕ). SameName one begins.own.computer) (its ∙ named) same)
 
-  whole_elsewhere : (n at : ℕ) (running : Running) (w : Coming) (piece : List ℕ) (s after : State) (b : Book) (whole : IsWhole w.link piece running) → at ≢ member →
+  whole_elsewhere : (n at : ℕ) (running : Running) (w : Delivery) (piece : List ℕ) (s after : State) (b : Book) (whole : IsWhole w.link piece running) → at ≢ member →
       slice_get s.ends.members at ≡ Some (record { running = Some running }) → NamesStand plan s →
       MemberHolds s.links b.sent b.messages (controller_asked (OfMember at) s) at (Some running) →
       CallsElsewhere (basis_of p unseen b) (marks_in (note_member (Some (record { running = Some running })) at w piece s after b).sent) (marks_in b.sent)
@@ -123,7 +123,7 @@ module _ (plan : Plan) (member : ℕ) (begins : BeginsAlike plan member) (place 
       (placed_part its (turn n at w piece s after b running whole) whole.unit (event_part running (event.Bytes w.link piece) s.moment s.chances.left) w.link (drop (length s.bag) after.bag) s.chances.left
       (served n at w piece s after b running whole) (units_whole n at w piece s after b running whole)))
 
-  pub others_fit : (n at : ℕ) (m : MemberState) (w : Coming) (piece : List ℕ) (s after : State) (given : Given) (b : Book) → at ≢ member → slice_get s.ends.members at ≡ Some m →
+  pub others_fit : (n at : ℕ) (m : MemberState) (w : Delivery) (piece : List ℕ) (s after : State) (given : Given) (b : Book) → at ≢ member → slice_get s.ends.members at ≡ Some m →
       IsAtSide s.links w.link w.back (Member at) → CameFrom w.source s w piece → length b.sent ≡ length s.bag → HasHelp p n [] s given b →
       Beneath plan member begins place asks n (coming w) s given b → n + 1 ≤ most_steps → Differ s.chances.drawn →
       CallsElsewhere (basis_of p unseen b) (marks_in (note_member (Some m) at w piece s after b).sent) (marks_in b.sent)

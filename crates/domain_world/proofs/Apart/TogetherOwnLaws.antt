@@ -17,7 +17,7 @@ use Rattle.world_moves.specs.declared.bag.BagUnit.{BagUnit}
 use Rattle.world_moves.specs.declared.state.State.{State}
 use Rattle.world_moves.specs.Acting.{Given}
 use Rattle.domain_world.specs.Accepting.SeenSteps.{Differ}
-use Rattle.domain_world.specs.Past.{Coming}
+use Rattle.domain_world.specs.Past.{Delivery}
 use Rattle.domain_world.proofs.Accepting.Heard.JudgedUnitLaws.{IsCarriedCall, IsJudgedWell}
 use Rattle.domain_world.proofs.Apart.OrderToldLaws.{within}
 use Rattle.domain_world.proofs.Apart.TogetherBookLaws.{Pairing, is_taken, taken_units, units_if}
@@ -25,7 +25,7 @@ use Rattle.domain_world.proofs.Apart.TogetherFrameLaws.{HasHelp, OwnKnown, marks
 use Rattle.domain_world.proofs.Apart.TogetherMemberLaws.{KnownIf, SetFits}
 use Rattle.domain_world.proofs.Apart.TogetherStayLaws.{basis_of}
 use Rattle.domain_world.proofs.Apart.TogetherTakeLaws.{CarriesAsks}
-use Rattle.domain_world.proofs.Apart.TogetherTurnLaws.{Stands}
+use Rattle.domain_world.proofs.Apart.TogetherTurnLaws.{TurnStands}
 use Rattle.domain_world.proofs.Moves.MarkPlaceLaws.{got_beside}
 use Rattle.domain_world.proofs.Calls.CallComesLaws.{IsWhole}
 use Rattle.domain_world.proofs.Calls.CallHoldsLaws.{mark_there, marks_in, views_at}
@@ -59,7 +59,7 @@ taken_below s b controller place n even well is =
 -- ---- a unit that is taken
 
 -- what is left to be known of it
-pub record LeftKnown (p : Pairing) (n : ℕ) (w : Coming) (piece : List ℕ) (s after : State) (b : Book) (running : Running) (whole : IsWhole w.link piece running) : Type 0 where
+pub record LeftKnown (p : Pairing) (n : ℕ) (w : Delivery) (piece : List ℕ) (s after : State) (b : Book) (running : Running) (whole : IsWhole w.link piece running) : Type 0 where
   -- what its call sets
   pub carries : CarriesAsks (basis_of p (views_at s.member_plans s.ends) b) (marks_in b.sent) (marks_of_step p p.who (record { running = Some running }) w piece s after) running.logons.channel
       running.logons.plan.secrets s.chances.drawn (2 * n) (taking_note (Some (take_of running.logons.channel whole.unit)) p.controller running.logons.channel).called
@@ -70,10 +70,10 @@ known_if : (part : Result (Part DialWork) StepRefused) (A B : Type 0) → (A →
 known_if (Err why) A B so known = tt
 known_if (Ok part) A B so known = so known
 
-pub own_known : (p : Pairing) (n : ℕ) (w : Coming) (piece : List ℕ) (s after : State) (given : Given) (b : Book) (running : Running) (whole : IsWhole w.link piece running) →
+pub own_known : (p : Pairing) (n : ℕ) (w : Delivery) (piece : List ℕ) (s after : State) (given : Given) (b : Book) (running : Running) (whole : IsWhole w.link piece running) →
     slice_get s.ends.members p.who ≡ Some (record { running = Some running }) → length b.sent ≡ length s.bag → HasHelp p n [] s given b → AllByRecursion (IsJudgedWell s.bag) b.judged → n + 1 ≤ most_steps →
     Differ s.chances.drawn →
-    (Stands (basis_of p (views_at s.member_plans s.ends) b) (marks_in b.sent) s.chances.drawn (2 * n) running.logons.channel running.logons.plan.secrets →
+    (TurnStands (basis_of p (views_at s.member_plans s.ends) b) (marks_in b.sent) s.chances.drawn (2 * n) running.logons.channel running.logons.plan.secrets →
     KnownIf (event_part running (event.Bytes w.link piece) s.moment s.chances.left) (LeftKnown p n w piece s after b running whole)) → OwnKnown p n w piece s after b running whole
 own_known p n w piece s after given b running whole is even help well few differ left stands =
     known_if (event_part running (event.Bytes w.link piece) s.moment s.chances.left) (LeftKnown p n w piece s after b running whole) _

@@ -38,7 +38,7 @@ use Rattle.world_moves.specs.World.{first_ends, first_world}
 use Rattle.domain_world.specs.Claims.AcceptedOpenings.{AsksAlone}
 use Rattle.domain_world.specs.Claims.Hashes.{hash_after, hash_at}
 use Rattle.domain_world.specs.Claims.NeverApart.{BeginsAlike, HasItsAccount, IsAmong, IsNeverApart}
-use Rattle.domain_world.specs.Past.{Coming, controller_number, controller_of_plan, past}
+use Rattle.domain_world.specs.Past.{Delivery, controller_number, controller_of_plan, past}
 use Rattle.domain_world.proofs.Quiet.QuietRunLaws.{bytes_handed, has_bytes, is_quiet}
 use Rattle.domain_world.proofs.Apart.HappeningLaws.{alike_place}
 use Rattle.domain_world.proofs.Apart.KeptTextLaws.{Kept, first_keeps, kept_keeps, secrets_in}
@@ -149,7 +149,7 @@ hash_of_run plan moves nobody member begins has =
     (sym last.found ∙ alike_place (machine_name begins.own.computer) begins.table.accounts has.state.table.accounts differ.accounts ∙ first.found) in
     let hash : Option (List ℕ) → Type 0 = λ found. found ≡ hash_after (hash_at begins.table first.place) begins.controller first.place (past plan moves).book.judged in
     let now : hash_at has.state.table first.place ≡ hash_after (hash_at begins.table first.place) begins.controller first.place (past plan moves).book.judged =
-    hashes_follow plan moves nobody begins.controller has.state begins.table begins.is_table has.at first.place in
+    hashes_follow plan moves begins.controller has.state begins.table begins.is_table has.at first.place in
     let old : hash_at begins.table first.place ≡ Some begins.secret = ap (option_map (λ (a : Account). a.hash)) first.there ∙ ap (λ (h : List ℕ). Some h) begins.hash in
     let new : hash_at has.state.table first.place ≡ Some has.account.hash =
     ap (λ (k : ℕ). hash_at has.state.table k) (sym same) ∙ ap (option_map (λ (a : Account). a.hash)) last.there in
@@ -216,7 +216,7 @@ module _ (plan : Plan) (member : ℕ) (begins : BeginsAlike plan member) (place 
             subst (λ (one : List ℕ). SameName one begins.own.computer) (sym (ap (λ (x : Caller). x.computer) own.asks.caller ∙ name)) refl;
       }
 
-  pub suits_beneath : (n : ℕ) (w : Coming) (s : State) (given : Given) (b : Book) → Beneath n (coming w) s given b → SuitSide (asker_for p) n s given b
+  pub suits_beneath : (n : ℕ) (w : Delivery) (s : State) (given : Given) (b : Book) → Beneath n (coming w) s given b → SuitSide (asker_for p) n s given b
   suits_beneath n w s given b known = suits_known plan (asker_for p) (asks_alone plan member begins) n w s given b known.0.0.0
 
   -- ---- a run
@@ -247,7 +247,7 @@ module _ (plan : Plan) (member : ℕ) (begins : BeginsAlike plan member) (place 
       (seed_alike member s.member_plans running.logons.plan own is (seeded member [] s.member_plans s.ends.members running there help.texts)) _ ties.together.among
 
   -- at first
-  pub first_beneath : (moves : List Move) → IsSchedule plan moves → AreSecrets begins.own.secrets → (on : Option Coming) → Beneath 0 (started 0 on) (first_world plan).state [] blank
+  pub first_beneath : (moves : List Move) → IsSchedule plan moves → AreSecrets begins.own.secrets → (on : Option Delivery) → Beneath 0 (started 0 on) (first_world plan).state [] blank
   first_beneath moves schedule are on = (
     (
       ((known_first plan (asker_for p) (asks_alone plan member begins) moves schedule on), order_first plan (asker_for p) (asks_alone plan member begins)),
@@ -269,13 +269,13 @@ module _ (plan : Plan) (member : ℕ) (begins : BeginsAlike plan member) (place 
     all_keep : KeepsMoves (Unit {0}) NoSide (Both More Together)
     all_keep = join_moves (Unit {0}) More Together more_keep (sided (TogetherSide p Knows More) More Together side_of (together_moves p Knows More known fits))
 
-    run_together : (moves : List Move) → HandsNothingOn plan → IsSchedule plan moves → ((on : Option Coming) → More 0 (started 0 on) (first_world plan).state [] blank) →
+    run_together : (moves : List Move) → HandsNothingOn plan → IsSchedule plan moves → ((on : Option Delivery) → More 0 (started 0 on) (first_world plan).state [] blank) →
         HoldsAfterMoves (Unit {0}) (Both More Together) plan moves
     run_together moves nobody schedule first =
         moves_keep_alone (Unit {0}) (Both More Together) all_keep plan moves nobody (λ unit. has_bytes plan moves nobody schedule) (λ on. (first on, λ few differ knows. first_together))
 
     -- the hash is among the secrets that it holds, and among those that it kept
-    pub never_apart_so : (moves : List Move) → HandsNothingOn plan → IsSchedule plan moves → ((on : Option Coming) → More 0 (started 0 on) (first_world plan).state [] blank) →
+    pub never_apart_so : (moves : List Move) → HandsNothingOn plan → IsSchedule plan moves → ((on : Option Delivery) → More 0 (started 0 on) (first_world plan).state [] blank) →
         (has : HasItsAccount (past plan moves) member begins) → has.account.hash ≡ hash_now begins.secret begins.controller place (past plan moves).book.judged →
         Knows (past plan moves).world.state.bag (past plan moves).book → IsNeverApart (past plan moves) member begins
     never_apart_so moves nobody schedule first has hash knows =

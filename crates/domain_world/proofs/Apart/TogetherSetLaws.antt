@@ -80,7 +80,7 @@ use Rattle.world_moves.specs.declared.links.Route.TheVariants.{ToController}
 use Rattle.world_moves.specs.declared.moves.Move.{Move}
 use Rattle.world_moves.specs.declared.plan.Plan.{Plan}
 use Rattle.world_moves.specs.declared.state.State.{State}
-use Rattle.world_moves.specs.Acting.{Given, Heard, heard_by}
+use Rattle.world_moves.specs.Acting.{Given, AfterHearing, heard_by}
 use Rattle.world_moves.specs.Alone.{HandsNothingOn}
 use Rattle.world_moves.specs.Ends.{EndStep, member_step}
 use Rattle.world_moves.specs.Forms.{IsSchedule, IsTable}
@@ -93,7 +93,7 @@ use Rattle.domain_world.specs.Accepting.Runs.{IsQuiet}
 use Rattle.domain_world.specs.Accepting.SeenSteps.{Differ}
 use Rattle.domain_world.specs.Claims.{IsClear}
 use Rattle.domain_world.specs.Claims.NeverApart.{BeginsAlike}
-use Rattle.domain_world.specs.Past.{Coming, Past, note_member, past, plain_form}
+use Rattle.domain_world.specs.Past.{Delivery, Past, note_member, past, plain_form}
 use Rattle.domain_world.proofs.Accepting.AnsweredLaws.{IsMade, made_for, passed_of}
 use Rattle.domain_world.proofs.Accepting.Heard.JudgedRunLaws.{judged_stand}
 use Rattle.domain_world.proofs.Accepting.Heard.JudgedUnitLaws.{IsCarriedCall, IsJudgedWell}
@@ -256,7 +256,7 @@ took_one controller place reply unit (j ∷ earlier) one = elim one [
 -- what an end does leaves the units of the bag
 pub still_stepped : (end : EndId) (what : EndStep) (s : State) → StillHas s.bag (stepped end what s).bag
 still_stepped end what s =
-    let heard : Heard = heard_by what s in
+    let heard : AfterHearing = heard_by what s in
     let more : IsMore s.links s.bag (stepped end what s).links (stepped end what s).bag =
     actions_stay (MoreOf s.links s.bag) (goes_on s.links s.bag) end heard.actions heard.state (no_more s.links s.bag) in
     λ number one there.
@@ -286,7 +286,7 @@ module _ (plan : Plan) (moves : List Move) (nobody : HandsNothingOn plan) (sched
   abbrev pub pair : Pairing
   pair = pairing_of plan member begins place (asks_in bag last fits)
 
-  abbrev pub Known : ℕ → Coming → State → Given → Book → Type 0
+  abbrev pub Known : ℕ → Delivery → State → Given → Book → Type 0
   Known n w s given b = Beside plan member begins place (asks_in bag last fits) n (coming w) s given b
 
   -- its controller's table has each name once
@@ -300,7 +300,7 @@ module _ (plan : Plan) (moves : List Move) (nobody : HandsNothingOn plan) (sched
       let table : by.0.planned ≡ begins.table = some_is by.0.planned begins.table (sym by.0.is ∙ ap (slice_get plan.tables) own ∙ begins.is_table) in
       subst (λ (t : AccountTable). DifferInStates t j.table) table by.0.states
 
-  module _ (n : ℕ) (w : Coming) (piece : List ℕ) (s after : State) (given : Given) (b : Book) (running : Running) (whole : IsWhole w.link piece running)
+  module _ (n : ℕ) (w : Delivery) (piece : List ℕ) (s after : State) (given : Given) (b : Book) (running : Running) (whole : IsWhole w.link piece running)
       (there : slice_get s.ends.members member ≡ Some (record { running = Some running })) (here : IsAtSide s.links w.link w.back (Member member)) (came : CameFrom w.source s w piece)
       (even : length b.sent ≡ length s.bag) (help : HasHelp pair n [] s given b) (known : Known n w s given b) (few : n + 1 ≤ most_steps) (differ : Differ s.chances.drawn)
       (behind : IsBehindMember member (record { running = Some running }) w piece s after) (to : LeadsTo bag last after.bag (note_member (Some (record { running = Some running })) member w piece s after b)) where

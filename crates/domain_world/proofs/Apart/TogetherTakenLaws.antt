@@ -59,7 +59,8 @@ use Rattle.domain_world.specs.Claims.Hashes.{hash_after, hash_at}
 use Rattle.domain_world.specs.Claims.NeverApart.{BeginsAlike, has_foreign_set}
 use Rattle.domain_world.specs.Claims.Openings.{IsLastAccepted, is_opened_for, last_accepted, newer_if}
 use Rattle.domain_world.specs.Claims.Tables.{accounts_after}
-use Rattle.domain_world.specs.Past.{Coming, accepted_of, answers_of, at_controller, controller_of_plan, first_of, judged_of, later_of, note_controller, numbers_on, onto, past, replied_with}
+use Rattle.domain_world.specs.Past.{Delivery, accepted_of, at_controller, controller_of_plan, first_of, judged_of, later_of, numbers_on, onto, past, replied_with}
+use Rattle.domain_world.proofs.Frames.AloneNoteLaws.{alone_answers as answers_of, note_controller_alone as note_controller}
 use Rattle.domain_world.proofs.Accepting.AnsweredLaws.{StandsFor, channel_there}
 use Rattle.domain_world.proofs.Accepting.CarriedLaws.{IsRequested, called}
 use Rattle.domain_world.proofs.Accepting.Heard.JudgedRunLaws.{judged_stand}
@@ -130,7 +131,7 @@ served_there w link (unit ∷ units) all = (
   served_there w link units all.1,
 )
 
-judged_there : (at : ℕ) (c : ControllerState) (w : Coming) (piece : List ℕ) (s : State) (numbers : List ℕ) → AllByRecursion (CameThere (at_controller at c w s)) (judged_of (answers_of at c w piece s) numbers)
+judged_there : (at : ℕ) (c : ControllerState) (w : Delivery) (piece : List ℕ) (s : State) (numbers : List ℕ) → AllByRecursion (CameThere (at_controller at c w s)) (judged_of (answers_of at c w piece s) numbers)
 judged_there at c w piece s numbers =
     let units : List (ServedUnit Desk Talk) = units_of_controller c w.link piece s.moment s.chances.left in
     judged_hold (CameThere (at_controller at c w s)) (λ j number is. is) (answers_of at c w piece s) numbers
@@ -232,7 +233,7 @@ module _ (plan : Plan) (moves : List Move) (nobody : HandsNothingOn plan) (sched
             j.number there passed came refl;
       })
 
-  module _ (n at : ℕ) (c : ControllerState) (w : Coming) (piece : List ℕ) (s after : State) (given : Given) (b : Book) (is : slice_get s.ends.controllers at ≡ Some c)
+  module _ (n at : ℕ) (c : ControllerState) (w : Delivery) (piece : List ℕ) (s after : State) (given : Given) (b : Book) (is : slice_get s.ends.controllers at ≡ Some c)
       (here : IsAtSide s.links w.link w.back (Controller at)) (came : CameFrom w.source s w piece) (even : length b.sent ≡ length s.bag) (help : HasHelp its_pair n [] s given b)
       (known : Known plan moves nobody schedule clear member begins n w s given b) (few : n + 1 ≤ most_steps) (differ : Differ s.chances.drawn) (behind : IsBehindController at c w piece s after)
       (to : LeadsTo bag last after.bag (note_controller (Some c) at w piece s after b)) where

@@ -66,7 +66,7 @@ abbrev pub asker_of : Basis → Asker
 asker_of b = record { who = b.who; controller = b.controller; computer = b.computer; accepted = b.accepted }
 
 -- calls are apart, what was accepted is in order, and the requester and its controller are together
-pub record Stands (b : Basis) (marks : List Mark) (drawn : List (List ℕ)) (uses : ℕ) (c : Requester) (secrets : SecretsState) : Type 0 where
+pub record TurnStands (b : Basis) (marks : List Mark) (drawn : List (List ℕ)) (uses : ℕ) (c : Requester) (secrets : SecretsState) : Type 0 where
   pub apart : StandsApart b.views b.who b.controller c marks drawn uses
   pub order : OrderAt b.views b.who b.controller (asker_of b) c marks
   pub ties : Ties b marks c secrets
@@ -80,7 +80,7 @@ begin_waits (standing.Half client server) next caller info timestamp challenge n
 begin_waits (standing.Open o) None caller info timestamp challenge number stands marks = refl
 begin_waits (standing.Open o) (Some secret) caller info timestamp challenge number stands marks = refl
 
-module _ (b : Basis) (marks : List Mark) (c : Requester) (secrets : SecretsState) (drawn : List (List ℕ)) (uses : ℕ) (few : uses + 2 < 2 ^ 32) (stands : Stands b marks drawn uses c secrets) where
+module _ (b : Basis) (marks : List Mark) (c : Requester) (secrets : SecretsState) (drawn : List (List ℕ)) (uses : ℕ) (few : uses + 2 < 2 ^ 32) (stands : TurnStands b marks drawn uses c secrets) where
   abbrev u : View
   u = view_of b.controller c
 
@@ -152,20 +152,20 @@ module _ (b : Basis) (marks : List Mark) (c : Requester) (secrets : SecretsState
 
 module _ (b : Basis) (marks : List Mark) (drawn : List (List ℕ)) (uses : ℕ) (few : uses + 2 < 2 ^ 32) where
   abbrev OfLogons : Logons → Type 0
-  OfLogons l = Stands b marks drawn uses l.channel l.plan.secrets
+  OfLogons l = TurnStands b marks drawn uses l.channel l.plan.secrets
 
   abbrev OfWork : Work → Type 0
   OfWork w = OfLogons w.logons
 
-  asks_more : (c : Requester) (info : NetworkInfo) (secrets : SecretsState) → Stands b marks drawn uses c secrets → Stands b marks drawn uses (ask_of c info).state secrets
+  asks_more : (c : Requester) (info : NetworkInfo) (secrets : SecretsState) → TurnStands b marks drawn uses c secrets → TurnStands b marks drawn uses (ask_of c info).state secrets
   asks_more c info secrets stands = record {
     apart = calmly b.views b.who b.controller (Asks info ∷ []) c marks drawn uses (tt, tt) few stands.apart;
     order = calmly_order b.views b.who b.controller (asker_of b) (Asks info ∷ []) c marks drawn uses (tt, tt) few stands.apart stands.order;
     ties = asks b marks c info secrets stands.ties;
   }
 
-  loses_it : (c : Requester) (secrets later : SecretsState) → ((secret : List ℕ) → HoldsSecret secret secrets → HoldsSecret secret later) → Stands b marks drawn uses c secrets →
-      Stands b marks drawn uses (lose_of c).state later
+  loses_it : (c : Requester) (secrets later : SecretsState) → ((secret : List ℕ) → HoldsSecret secret secrets → HoldsSecret secret later) → TurnStands b marks drawn uses c secrets →
+      TurnStands b marks drawn uses (lose_of c).state later
   loses_it c secrets later keeps stands = record {
     apart = calmly b.views b.who b.controller (Loses ∷ []) c marks drawn uses (tt, tt) few stands.apart;
     order = calmly_order b.views b.who b.controller (asker_of b) (Loses ∷ []) c marks drawn uses (tt, tt) few stands.apart stands.order;
@@ -240,20 +240,20 @@ module _ (b : Basis) (marks : List Mark) (drawn : List (List ℕ)) (uses : ℕ) 
   other_event running what left none stands = event_keeps (Before what) After what (event_stands what) running.dialling (work_of running) left (none, stands)
 
   -- a unit was taken
-  after_taken : (t : Taken) (at : AtTurn) → Stands b marks drawn uses at.work.logons.channel (secrets_by (end_of t) at.work.logons.plan.secrets) → OfWork (do_taken t None at).0.work
+  after_taken : (t : Taken) (at : AtTurn) → TurnStands b marks drawn uses at.work.logons.channel (secrets_by (end_of t) at.work.logons.plan.secrets) → OfWork (do_taken t None at).0.work
   after_taken t at stands =
       taken_by t None (turn_work at) (λ served. OfWork (after_turn_served served at).0.work) (record {
-        skips = λ right is. subst (λ (end : Option TurnEnd). Stands b marks drawn uses at.work.logons.channel (secrets_by end at.work.logons.plan.secrets)) (ap end_of is) stands;
-        sends = λ right frames is. subst (λ (end : Option TurnEnd). Stands b marks drawn uses at.work.logons.channel (secrets_by end at.work.logons.plan.secrets)) (ap end_of is) stands;
+        skips = λ right is. subst (λ (end : Option TurnEnd). TurnStands b marks drawn uses at.work.logons.channel (secrets_by end at.work.logons.plan.secrets)) (ap end_of is) stands;
+        sends = λ right frames is. subst (λ (end : Option TurnEnd). TurnStands b marks drawn uses at.work.logons.channel (secrets_by end at.work.logons.plan.secrets)) (ap end_of is) stands;
         ends = λ how is.
             turn_ends how (tell_at (keep_ended how at.work) (action.Close at.link close.CallDone))
-            (subst (λ (end : Option TurnEnd). Stands b marks drawn uses at.work.logons.channel (secrets_by end at.work.logons.plan.secrets)) is stands);
+            (subst (λ (end : Option TurnEnd). TurnStands b marks drawn uses at.work.logons.channel (secrets_by end at.work.logons.plan.secrets)) is stands);
       })
 
   -- where one does
   pub whole_event : (running : Running) (number : ℕ) (said : LinkState TurnTalk) (bytes : List ℕ) (frames : List RpcUnit) (unit : RpcUnit) (left : List (List ℕ)) →
       running.dialling ≡ dialling.On number said → said.rest ≡ [] → said.talk.joiner ≡ None → IsHeard bytes frames unit →
-      Stands b marks drawn uses (take_of running.logons.channel unit).state (secrets_by (end_of (take_of running.logons.channel unit).taken) running.logons.plan.secrets) →
+      TurnStands b marks drawn uses (take_of running.logons.channel unit).state (secrets_by (end_of (take_of running.logons.channel unit).taken) running.logons.plan.secrets) →
       PartHolds After (by_event (event.Bytes number bytes) running.dialling (work_of running) left)
   whole_event running number said bytes frames unit left on rest none heard stands =
       let w : Work = work_of running in
@@ -271,7 +271,7 @@ module _ (b : Basis) (marks : List Mark) (drawn : List (List ℕ)) (uses : ℕ) 
     TiesThen how w after = Differ (drawn ++ draws_between left after) → Ties b marks w.logons.channel w.logons.plan.secrets
 
     -- its secrets are given to the channel
-    given_stands : (w : Work) (rest : List (List ℕ)) → OfWork w → Stands b marks (drawn ++ rest) uses (given_channel w) w.logons.plan.secrets
+    given_stands : (w : Work) (rest : List (List ℕ)) → OfWork w → TurnStands b marks (drawn ++ rest) uses (given_channel w) w.logons.plan.secrets
     given_stands w rest stands =
         let more : StandsApart b.views b.who b.controller w.logons.channel marks (drawn ++ rest) uses =
         drawn_more b.views b.who b.controller w.logons.channel marks drawn rest uses uses (omega arith) stands.apart in

@@ -42,7 +42,8 @@ use Rattle.world_moves.specs.Ends.{EndStep, actions_by, member_step}
 use Rattle.world_moves.specs.Alone.{alone_controller_step as controller_step}
 use Rattle.domain_world.specs.Accepting.SeenSteps.{HearsNone, IsPlaced, NoRequests, requests_after}
 use Rattle.domain_world.specs.Accepting.Answered.{IsItsWay}
-use Rattle.domain_world.specs.Past.{Coming, answers_of, at_controller, at_member, first_of, marks_of, note_controller, note_messages, numbers_on, sent_at, controller_asked}
+use Rattle.domain_world.specs.Past.{Delivery, at_controller, at_member, first_of, marks_of, note_messages, numbers_on, sent_at, controller_asked}
+use Rattle.domain_world.proofs.Frames.AloneNoteLaws.{alone_answers as answers_of, note_controller_alone as note_controller}
 use Rattle.domain_world.proofs.Accepting.LetInStepLaws.{IsAcceptedBy, IsDialledBy}
 use Rattle.domain_world.proofs.Accepting.Turns.TurnNotedLaws.{units_new}
 use Rattle.domain_world.proofs.Calls.AnsweredCallLaws.{AreCalled, IsCalledOn, answer_called, called_more, calls_go_out, noted_called}
@@ -78,7 +79,7 @@ pub no_requests_sent : (at : ℕ) (marks : List Mark) → NoRequests marks → N
 no_requests_sent at marks none = subst (λ (all : List Mark). NoRequests all) (sym (marks_sent at marks)) none
 
 -- none of what a controller sends is a request
-pub controller_comes : (n : ℕ) (c : ControllerState) (at : ℕ) (w : Coming) (piece : List ℕ) (s after : State) (b : Book) → KeptIn n s b →
+pub controller_comes : (n : ℕ) (c : ControllerState) (at : ℕ) (w : Delivery) (piece : List ℕ) (s after : State) (b : Book) → KeptIn n s b →
     KeptAfter (n + 1) s (controller_step (Some c) at (event.Bytes w.link piece) s.moment s.ends s.chances) (note_controller (Some c) at w piece s after b)
 controller_comes n c at w piece s after b kept few differ =
     let step : EndStep = controller_step (Some c) at (event.Bytes w.link piece) s.moment s.ends s.chances in
@@ -142,7 +143,7 @@ pub record IsWhole (link : ℕ) (piece : List ℕ) (running : Running) : Type 0 
   pub unit : RpcUnit
   pub heard : IsHeard piece frames unit
 
-module _ (n at : ℕ) (w : Coming) (piece : List ℕ) (s after : State) (b : Book) where
+module _ (n at : ℕ) (w : Delivery) (piece : List ℕ) (s after : State) (b : Book) where
   -- which member it is, on which link
   abbrev pub here : LinkAt
   here = at_member at w s

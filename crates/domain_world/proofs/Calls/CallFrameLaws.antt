@@ -46,8 +46,9 @@ use Rattle.world_moves.proofs.EndKindLaws.{IfMember}
 use Rattle.domain_world.specs.Accepting.SeenSteps.{NoRequests}
 use Rattle.domain_world.specs.Accepting.Carried.{IsWholeUnit}
 use Rattle.domain_world.specs.Accepting.Runs.{AskedIsOut, BagIsWhole, IsOut, IsQuiet, IsQuietTurn, RunsStandSo, Shows}
-use Rattle.domain_world.specs.Past.{Coming, Past, note_at, note_given, note_member, past, sent_at, controller_asked}
+use Rattle.domain_world.specs.Past.{Delivery, Past, note_given, note_member, past, sent_at, controller_asked}
 use Rattle.domain_world.specs.Schedules.{OfSchedules}
+use Rattle.domain_world.proofs.Frames.AloneNoteLaws.{note_alone as note_at}
 use Rattle.domain_world.proofs.Moves.OpenMadeLaws.{on_side}
 use Rattle.domain_world.proofs.Frames.AloneStepLaws.{act_alone as hear_and_act, alone_by as step_by, renew_alone_by as renew_by, renewed_alone as renewed}
 use Rattle.domain_world.proofs.Accepting.LetInStepLaws.{IsDialledBy, Meets, MeetsMember, calm_meets, last_accepted, side_meets}
@@ -57,7 +58,7 @@ use Rattle.domain_world.proofs.Accepting.RunBeginLaws.{first_apart}
 use Rattle.domain_world.proofs.Frames.BagFrameLaws.{IsServer}
 use Rattle.domain_world.proofs.Moves.ComingLaws.{CameFrom, CameInUnit, IsPieceOf, came_in_unit}
 use Rattle.domain_world.proofs.Moves.MarkPlaceLaws.{got_map}
-use Rattle.domain_world.proofs.Frames.StepFrameLaws.{AnyAction, ActionFact, BothFacts, BothFine, HoldsAfterRun, Keeps, NoFact, RunFact, join, run_keeps, with_side}
+use Rattle.domain_world.proofs.Frames.StepFrameLaws.{AnyAction, ActionFact, BothFacts, BothFine, HoldsAfterRun, StepKeeps, NoFact, RunFact, join, run_keeps, with_side}
 use Rattle.domain_world.proofs.Moves.DrawnRunLaws.{draws_differ}
 use Rattle.domain_world.proofs.Calls.AnsweredCallLaws.{AreCalled}
 use Rattle.domain_world.proofs.Calls.CallComesLaws.{IsWhole, KeptAfter, KeptIn, controller_comes, other_comes, whole_comes}
@@ -73,7 +74,7 @@ use Rattle.world_moves.proofs.KeptLaws.{plans_alike}
 
 -- ---- a unit that comes on the link of a turn is whole, and comes in one piece
 
-pub came_whole : (source : Source) (s : State) (w : Coming) (piece : List ℕ) (at : ℕ) → CameFrom source s w piece → IsDialledBy s.links at w.link → BagIsWhole s → IsWholeUnit piece
+pub came_whole : (source : Source) (s : State) (w : Delivery) (piece : List ℕ) (at : ℕ) → CameFrom source s w piece → IsDialledBy s.links at w.link → BagIsWhole s → IsWholeUnit piece
 came_whole source s w piece at from dialled whole =
     let in_unit : CameInUnit source s w piece = came_in_unit source s w piece at dialled.controller from dialled.at in
     let came : IsPieceOf s in_unit.number w piece = in_unit.piece_of in
@@ -143,10 +144,10 @@ hears_so n end what s b meets kept =
 -- ---- bytes come
 
 -- once a member acted
-abbrev member_after : MemberState → ℕ → Coming → List ℕ → State → State
+abbrev member_after : MemberState → ℕ → Delivery → List ℕ → State → State
 member_after m at w piece s = stepped (Member at) (member_step (Some m) at (event.Bytes w.link piece) s.moment s.ends s.chances) s
 
-member_comes : (n : ℕ) (m : MemberState) (at : ℕ) (w : Coming) (piece : List ℕ) (s : State) (b : Book) → slice_get s.ends.members at ≡ Some m → IsQuiet s →
+member_comes : (n : ℕ) (m : MemberState) (at : ℕ) (w : Delivery) (piece : List ℕ) (s : State) (b : Book) → slice_get s.ends.members at ≡ Some m → IsQuiet s →
     CameFrom w.source s w piece → length b.sent ≡ length s.bag → KeptIn n s b →
     KeptAfter (n + 1) s (member_step (Some m) at (event.Bytes w.link piece) s.moment s.ends s.chances) (note_member (Some m) at w piece s (member_after m at w piece s) b)
 member_comes n m at w piece s b is quiet came even kept = λ few differ.
@@ -168,7 +169,7 @@ member_comes n m at w piece s b is quiet came even kept = λ few differ.
           few differ
     ]
 
-comes_so : (n : ℕ) (end : EndId) (w : Coming) (piece : List ℕ) (s : State) (b : Book) → CameFrom w.source s w piece → (IsServer end → length b.sent ≡ length s.bag) → IsQuiet s → KeptIn n s b →
+comes_so : (n : ℕ) (end : EndId) (w : Delivery) (piece : List ℕ) (s : State) (b : Book) → CameFrom w.source s w piece → (IsServer end → length b.sent ≡ length s.bag) → IsQuiet s → KeptIn n s b →
     KeptIn (n + 1) (hear end (event.Bytes w.link piece) s).state (note_at (Some end) w piece s (hear_and_act end (event.Bytes w.link piece) s).state b)
 comes_so n end w piece s b came even quiet kept =
     acted_by (λ (one : EndId) (step : EndStep) (after : State) (now : Book). (IsServer one → length b.sent ≡ length s.bag) → KeptAfter (n + 1) s step now) w piece s b
@@ -198,7 +199,7 @@ over_so n at given s b kept = λ few differ.
     sent_more n s.member_plans s.ends s.chances.drawn s.links b.sent (replicate count (sent_at at Plain)) b.messages (plain_calls at count) (kept few differ)
 
 -- through each step and each single change
-pub calls_keep : Keeps QuietSide CallsKept AnyAction
+pub calls_keep : StepKeeps QuietSide CallsKept AnyAction
 calls_keep = record {
   calm = λ n end what s given b calm quiet kept. record {
     holds = hears_so n end what s b (calm_meets end s.links what calm) kept;
@@ -301,11 +302,11 @@ calls_stand plan moves steps kept few schedule differ =
 -- ---- with what keeps the ends quiet
 
 -- so a schedule whose draws differ stands as it is to, where any fact is kept by which its ends are quiet
-pub stand_so : (Quiet : RunFact) (Fine : ActionFact) → ((n : ℕ) (s : State) (given : Given) (b : Book) → Quiet n s given b → IsQuiet s) → Keeps NoFact Quiet Fine →
+pub stand_so : (Quiet : RunFact) (Fine : ActionFact) → ((n : ℕ) (s : State) (given : Given) (b : Book) → Quiet n s given b → IsQuiet s) → StepKeeps NoFact Quiet Fine →
     (plan : Plan) (moves : List Move) → HandsNothingOn plan → Quiet 0 (first_world plan).state [] blank → HasBytes plan moves → IsSchedule plan moves →
     DrawsDiffer (past plan moves).world → RunsStandSo plan moves
 stand_so Quiet Fine so keeps plan moves nobody first bytes schedule differ =
-    let both : Keeps NoFact (BothFacts Quiet CallsKept) (BothFine Fine AnyAction) =
+    let both : StepKeeps NoFact (BothFacts Quiet CallsKept) (BothFine Fine AnyAction) =
     join Quiet CallsKept Fine AnyAction keeps (with_side QuietSide Quiet CallsKept AnyAction so calls_keep) in
     let after : HoldsAfterRun (BothFacts Quiet CallsKept) plan moves =
     run_keeps (BothFacts Quiet CallsKept) (BothFine Fine AnyAction) both plan moves nobody bytes (first, first_calls plan) in
@@ -327,7 +328,7 @@ schedules_stand plan moves nobody schedule differ =
 -- and where the answer of a message was taken, there is a call on its link
 pub schedules_called : OfSchedules (λ plan moves. AreCalled (past plan moves).book.messages)
 schedules_called plan moves nobody schedule =
-    let both : Keeps NoFact (BothFacts QuietFact CallsKept) (BothFine QuietAction AnyAction) =
+    let both : StepKeeps NoFact (BothFacts QuietFact CallsKept) (BothFine QuietAction AnyAction) =
     join QuietFact CallsKept QuietAction AnyAction quiet_keeps (with_side QuietSide QuietFact CallsKept AnyAction (λ n s given b quiet. is_quiet s quiet) calls_keep) in
     let after : HoldsAfterRun (BothFacts QuietFact CallsKept) plan moves =
     run_keeps (BothFacts QuietFact CallsKept) (BothFine QuietAction AnyAction) both plan moves nobody (has_bytes plan moves nobody schedule) (quiet_first plan schedule.start schedule.forms, first_calls plan) in

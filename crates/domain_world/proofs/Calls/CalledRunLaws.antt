@@ -31,7 +31,7 @@ use Rattle.domain_world.proofs.Quiet.QuietStepLaws.{MemberIsQuiet, QuietAction, 
 use Rattle.domain_world.proofs.Quiet.QuietTurnLaws.{IfOn}
 use Rattle.domain_world.proofs.Messages.MessageApartLaws.{messages_apart}
 use Rattle.domain_world.proofs.Frames.BagStepLaws.{run_fits}
-use Rattle.domain_world.proofs.Frames.StepFrameLaws.{ActionFact, Keeps, NoFact, RunFact}
+use Rattle.domain_world.proofs.Frames.StepFrameLaws.{ActionFact, StepKeeps, NoFact, RunFact}
 use Rattle.domain_world.proofs.Calls.CalledUnitLaws.{CallSide, CalledIn, IsAskedOn, IsCallAt, IsGood, called_keep}
 use Rattle.domain_world.proofs.Messages.OwnMessageLaws.{EachKept, all_fresh, kept_written}
 use Rattle.domain_world.proofs.Moves.PlacedLaws.{HasBytes}
@@ -74,7 +74,7 @@ all_own (message ∷ messages) apart = (
 -- ---- a run
 
 -- in every run
-pub messages_called : (Holds : RunFact) (Fine : ActionFact) → Keeps NoFact Holds Fine → ((n : ℕ) (s : State) (given : Given) (b : Book) → Holds n s given b → CallSide s) →
+pub messages_called : (Holds : RunFact) (Fine : ActionFact) → StepKeeps NoFact Holds Fine → ((n : ℕ) (s : State) (given : Given) (b : Book) → Holds n s given b → CallSide s) →
     (plan : Plan) (moves : List Move) → HandsNothingOn plan → HasBytes plan moves → Holds 0 (first_world plan).state [] blank → MessagesAreCalled (past plan moves)
 messages_called Holds Fine keeps gives plan moves nobody has holds =
     let messages : List MessageTaken = (past plan moves).book.messages in

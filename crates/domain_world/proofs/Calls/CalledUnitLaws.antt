@@ -45,18 +45,19 @@ use Rattle.world_moves.specs.declared.links.EndId.TheVariants.{Member}
 use Rattle.world_moves.specs.declared.links.Route.{Route}
 use Rattle.world_moves.specs.declared.links.Route.TheVariants.{ToController}
 use Rattle.world_moves.specs.declared.state.State.{State}
-use Rattle.world_moves.specs.Acting.{Given, Heard, done, heard_by, perform_all, perform_quietly, unit_on}
+use Rattle.world_moves.specs.Acting.{Given, AfterHearing, done, heard_by, perform_all, perform_quietly, unit_on}
 use Rattle.world_moves.specs.Choosing.{places_from}
 use Rattle.world_moves.specs.Ends.{EndStep, actions_by, member_step}
 use Rattle.world_moves.specs.Links.{is_accepted_by, is_own, kind_of}
 use Rattle.world_moves.specs.Alone.{hear_alone}
 use Rattle.domain_world.specs.Claims.{info_asked}
-use Rattle.domain_world.specs.Past.{Coming, at_member, change_if, change_message, first_of, is_sent_on, later_of, note_at, note_client, note_controller, note_member, note_messages, note_turn, note_turns, numbers_on, with_answer, with_call, controller_asked}
+use Rattle.domain_world.specs.Past.{Delivery, at_member, change_if, change_message, first_of, is_sent_on, later_of, note_client, note_member, note_messages, note_turn, note_turns, numbers_on, with_answer, with_call, controller_asked}
 use Rattle.wire_base.proofs.ListLaws.{all_weaker, got_append, got_last, no_some, one_weaker, some_is}
 use Rattle.step_notes.proofs.Members.KeptLogonLaws.{IfDialled, OfEach, each_found, each_so}
 use Rattle.step_notes.proofs.Members.RequestOrderLaws.{requests_first}
 use Rattle.world_moves.proofs.LinkFrameLaws.{actions_stay}
 use Rattle.world_moves.proofs.QuietLaws.{sent_goes}
+use Rattle.domain_world.proofs.Frames.AloneNoteLaws.{note_alone as note_at, note_controller_alone as note_controller}
 use Rattle.domain_world.proofs.Frames.AloneStepLaws.{act_alone as hear_and_act}
 use Rattle.domain_world.proofs.Accepting.LetInLaws.{none_if_taken}
 use Rattle.domain_world.proofs.Accepting.LetInStepLaws.{IsDialledBy}
@@ -319,8 +320,8 @@ asked_call link logon number message is = record { on = is.on; info = is.info }
 asked_answer : (link : ℕ) (logon : LogonCall) (number : Option ℕ) (message : MessageTaken) → IsAskedOn link logon message → IsAskedOn link logon (with_answer number message)
 asked_answer link logon number message is = record { on = is.on; info = is.info }
 
-module _ (m : MemberState) (at : ℕ) (w : Coming) (piece : List ℕ) (s : State) (b : Book) where
-  abbrev member_heard : Heard
+module _ (m : MemberState) (at : ℕ) (w : Delivery) (piece : List ℕ) (s : State) (b : Book) where
+  abbrev member_heard : AfterHearing
   member_heard = heard_by (member_step (Some m) at (event.Bytes w.link piece) s.moment s.ends s.chances) s
 
   abbrev member_after : State
@@ -380,12 +381,12 @@ still_called old bag b still called =
 same_called : (bag : List BagUnit) (b now : Book) → now.messages ≡ b.messages → CalledIn bag b → CalledIn bag now
 same_called bag b now same called = subst (λ (messages : List MessageTaken). AllGood (IsCallAt bag messages) messages) (sym same) called
 
-pub heard_still : (end : EndId) (w : Coming) (piece : List ℕ) (s : State) → StillHas s.bag (hear_and_act end (event.Bytes w.link piece) s).state.bag
+pub heard_still : (end : EndId) (w : Delivery) (piece : List ℕ) (s : State) → StillHas s.bag (hear_and_act end (event.Bytes w.link piece) s).state.bag
 heard_still end w piece s =
-    let heard : Heard = hear_alone end (event.Bytes w.link piece) s in
+    let heard : AfterHearing = hear_alone end (event.Bytes w.link piece) s in
     actions_stay (StillIn s.bag) (kept_sent s.bag) end heard.actions heard.state (kept_same s.bag)
 
-end_called : (end : EndId) (w : Coming) (piece : List ℕ) (s : State) (b : Book) → CallSide s → HoldsIn (EachKept b.messages) s → CalledIn s.bag b →
+end_called : (end : EndId) (w : Delivery) (piece : List ℕ) (s : State) (b : Book) → CallSide s → HoldsIn (EachKept b.messages) s → CalledIn s.bag b →
     CalledIn (hear_and_act end (event.Bytes w.link piece) s).state.bag (note_at (Some end) w piece s (hear_and_act end (event.Bytes w.link piece) s).state b)
 end_called end w piece s b side kept called =
     let after : State = (hear_and_act end (event.Bytes w.link piece) s).state in

@@ -17,6 +17,9 @@ use Rattle.channel_client.specs.declared.state.Standing.{Standing}
 use Rattle.channel_client.specs.declared.state.Standing.TheVariants as standing
 use Rattle.channel_client.specs.declared.state.Step.{Step}
 use Rattle.channel_client.specs.declared.state.Step.TheVariants as step
+use Rattle.outside.specs.declared.action.Judged.{Judged}
+use Rattle.outside.specs.declared.action.Judged.TheVariants as judged
+use Rattle.domain_controller.specs.Forwarding.{TrustDesk, base_desk}
 use Rattle.domain_controller.specs.Hearing.{hear}
 use Rattle.domain_controller.specs.Machine.{Desk}
 use Rattle.domain_controller.specs.declared.hearing.Heard.{Heard}
@@ -33,6 +36,7 @@ use Rattle.step_notes.specs.MemberNotes.{asked_note, taken_note, taking_at, taki
 use Rattle.step_notes.specs.Records.{Book, Judging, OfMember, RequesterId, Sent, computer_named, unit_in}
 use Rattle.controller_calls.specs.declared.calls.ControllerCall.{ControllerCall}
 use Rattle.step_notes.specs.Served.{work_after}
+use Rattle.step_notes.specs.TrustNotes.{base_after, trust_answer_on, trust_heard_answer, trust_judging_by, trust_units_of}
 use Rattle.world_moves.specs.declared.bag.BagUnit.{BagUnit}
 use Rattle.world_moves.specs.declared.moves.Move.{Move}
 use Rattle.world_moves.specs.declared.plan.Plan.{Plan}
@@ -40,14 +44,14 @@ use Rattle.world_moves.specs.declared.state.State.{State}
 use Rattle.world_moves.specs.declared.links.EndId.{EndId}
 use Rattle.world_moves.specs.declared.links.EndId.TheVariants.{Controller, Member, Client}
 use Rattle.world_moves.specs.declared.links.Route.{Route}
-use Rattle.world_moves.specs.Acting.{Heard as EndHeard, hear_and_act, heard_by}
+use Rattle.world_moves.specs.Acting.{AfterHearing, hear_and_act, heard_by}
 use Rattle.world_moves.specs.Bag.{settle_at}
 use Rattle.world_moves.specs.Ends.{EndStep, client_step, controller_step, member_step}
 use Rattle.domain_world.specs.Accepting.Answered.{IsItsWay, MarksHaveTheirWay}
-use Rattle.domain_world.specs.Past.{Coming, at_controller, controller_asked, is_sent_on, marks_by, marks_of, note_at, note_given, note_messages, past, sent_at}
+use Rattle.domain_world.specs.Past.{Delivery, answers_of, at_controller, controller_asked, is_sent_on, marks_by, marks_of, note_at, note_given, note_messages, past, sent_at}
 use Rattle.wire_base.proofs.ListLaws.{got_nothing, some_is}
 use Rattle.world_moves.proofs.LinkFrameLaws.{StaysOnLinks, actions_stay, quiet_stays}
-use Rattle.domain_world.proofs.Frames.BagFrameLaws.{IsMarked, IsOfUnit, IsServer, MarksStay, OfEachUnit, UnitFact, bag_at, controller_marks, each_more, marked_more, member_marks, others_marked, settled_each}
+use Rattle.domain_world.proofs.Frames.BagFrameLaws.{IsMarked, IsOfUnit, IsServer, MarksStay, OfEachUnit, UnitFact, bag_at, each_more, marked_more, member_marks, others_marked, settled_each}
 use Rattle.domain_world.proofs.Frames.FrameLaws.{Fact}
 use Rattle.domain_world.proofs.Frames.EveryStepLaws.{every_acted, stepped}
 use Rattle.domain_world.proofs.Moves.MarkPlaceLaws.{settled_length}
@@ -124,6 +128,23 @@ heard_way (heard.Answer bytes talk) w before after = tt
 heard_way (heard.Waits talk) w before after = tt
 heard_way (heard.Asked line c talk) w before after = call_way c line w before after
 
+-- the same of a controller that may hand logons on
+by_way_of : (how : Option Judged) (j : Judging) → IsReply (trust_judging_by how j).mark
+by_way_of None j = judging_way false j
+by_way_of (Some (judged.Passed status)) j = judging_way true j
+by_way_of (Some judged.Forwarded) j = tt
+by_way_of (Some (judged.Answered status)) j = judging_way false j
+by_way_of (Some judged.Barred) j = judging_way false j
+by_way_of (Some judged.NoChannel) j = judging_way false j
+
+trust_heard_way : (what : Heard) (w : Where) (before : Desk) (after : Option Desk) → IsReply (trust_heard_answer what w before after).mark
+trust_heard_way (heard.Close cause) w before after = tt
+trust_heard_way (heard.Answer bytes talk) w before after = tt
+trust_heard_way (heard.Waits talk) w before after = tt
+trust_heard_way (heard.Asked line (call.Challenge c) talk) w before after = tt
+trust_heard_way (heard.Asked line (call.Authenticate c) talk) w before after = opening_way (opened_by w.controller c before) w line.call
+trust_heard_way (heard.Asked line (call.Judged c) talk) w before after = by_way_of (judging_of w line c before after).how (judging_of w line c before after)
+
 pub if_marked : (P : Mark → Type 0) (sends : Bool) (mark : Mark) (more : List Mark) → P mark → AllByRecursion P more → AllByRecursion P (mark_if sends mark ++ more)
 if_marked P false mark more is each = each
 if_marked P true mark more is each = (is, each)
@@ -133,6 +154,12 @@ answers_way link w [] = tt
 answers_way link w (unit ∷ units) =
     if_marked IsReply (answer_on link w unit).sends (answer_on link w unit).mark (answered_marks (map (answer_on link w) units))
     (heard_way (hear link unit.bytes unit.talk) w unit.work (work_after unit.part)) (answers_way link w units)
+
+trust_answers_way : (link : ℕ) (w : Where) (units : List (ServedUnit TrustDesk Talk)) → AllByRecursion IsReply (answered_marks (map (trust_answer_on link w) units))
+trust_answers_way link w [] = tt
+trust_answers_way link w (unit ∷ units) =
+    if_marked IsReply (trust_answer_on link w unit).sends (trust_answer_on link w unit).mark (answered_marks (map (trust_answer_on link w) units))
+    (trust_heard_way (hear link unit.bytes unit.talk) w (base_desk unit.work) (base_after (work_after unit.part))) (trust_answers_way link w units)
 
 pub turns_way : (who : RequesterId) (s : State) (units : List (ServedUnit AtTurn TurnTalk)) → AllByRecursion IsRequest (asked_marks who s units)
 turns_way who s [] = tt
@@ -190,22 +217,22 @@ abbrev AreTheirWay : List BagUnit → List Sent → Type 0
 AreTheirWay bag sent = OfEachUnit OfUnit tt bag sent
 
 -- where bytes come, each unit has its mark, unless a client is at that side of the link
-abbrev AllOn : Option Coming → List Route → List BagUnit → List Sent → Type 0
+abbrev AllOn : Option Delivery → List Route → List BagUnit → List Sent → Type 0
 AllOn None links bag sent = Unit {0}
 AllOn (Some w) links bag sent = (end : EndId) → IsOnSide links w.link w.back end → IsServer end → length sent ≡ length bag
 
-record GoTheirWay (on : Option Coming) (to : Option State) (links : List Route) (bag : List BagUnit) (sent : List Sent) : Type 0 where
+record GoTheirWay (on : Option Delivery) (to : Option State) (links : List Route) (bag : List BagUnit) (sent : List Sent) : Type 0 where
   each : AreTheirWay (bag_at to bag) sent
   all : AllOn on links (bag_at to bag) sent
 
 abbrev Ways : MoveFact
 Ways n p s given b = GoTheirWay p.on p.to s.links s.bag b.sent
 
-all_on : (on : Option Coming) (links : List Route) (bag : List BagUnit) (sent : List Sent) → length sent ≡ length bag → AllOn on links bag sent
+all_on : (on : Option Delivery) (links : List Route) (bag : List BagUnit) (sent : List Sent) → length sent ≡ length bag → AllOn on links bag sent
 all_on None links bag sent all = tt
 all_on (Some w) links bag sent all = λ end there server. all
 
-all_settled : (on : Option Coming) (number : ℕ) (links : List Route) (bag : List BagUnit) (sent : List Sent) → AllOn on links bag sent → AllOn on links (settle_at number bag) sent
+all_settled : (on : Option Delivery) (number : ℕ) (links : List Route) (bag : List BagUnit) (sent : List Sent) → AllOn on links bag sent → AllOn on links (settle_at number bag) sent
 all_settled None number links bag sent all = tt
 all_settled (Some w) number links bag sent all = λ end there server. all end there server ∙ sym (settled_length number bag)
 
@@ -216,7 +243,7 @@ record Adds (end : EndId) (step : EndStep) (s : State) : Type 0 where
 
 end_adds : (end : EndId) (step : EndStep) (s : State) → Adds end step s
 end_adds end step s =
-    let heard : EndHeard = heard_by step s in
+    let heard : AfterHearing = heard_by step s in
     let more : IsMore s.links s.bag (stepped end step s).links (stepped end step s).bag =
     actions_stay (MoreOf s.links s.bag) (goes_on s.links s.bag) end heard.actions heard.state (no_more s.links s.bag) in
     record { units = more.units; is = more.is }
@@ -232,15 +259,15 @@ server_ways end step s sent link back marks at each ways all =
     marked_more OfUnit tt tt s (stepped end step s).bag sent link back marks at adds.units adds.is (λ number unit one there mark way. way)
     (units_way back link adds.units marks each) (record { each = ways; all = all })
 
-end_ways : (end : EndId) (w : Coming) (piece : List ℕ) (s : State) (b : Book) → AreTheirWay s.bag b.sent → (IsServer end → length b.sent ≡ length s.bag) →
+end_ways : (end : EndId) (w : Delivery) (piece : List ℕ) (s : State) (b : Book) → AreTheirWay s.bag b.sent → (IsServer end → length b.sent ≡ length s.bag) →
     let after : State = (hear_and_act end (event.Bytes w.link piece) s).state in EndWay end after (note_at (Some end) w piece s after b)
 end_ways end w piece s b each all =
     every_acted (λ (one : EndId) (step : EndStep) (after : State) (now : Book). (IsServer one → length b.sent ≡ length s.bag) → EndWay one after now) w piece s b
     (λ one even. (each, even))
     (λ at c is even.
     let step : EndStep = controller_step (Some c) at (event.Bytes w.link piece) s.moment s.ends s.chances in
-    let marked = server_ways (Controller at) step s b.sent w.link true (controller_marks at c w piece s) w.at
-    (answers_way w.link (at_controller at c w s) (units_of_controller c w.link piece s.moment s.chances.left)) each (even refl) in (marked.each, (λ server. marked.all)))
+    let marked = server_ways (Controller at) step s b.sent w.link true (answered_marks (answers_of at c w piece s)) w.at
+    (trust_answers_way w.link (at_controller at c w s) (trust_units_of c w.link piece s.moment s.chances.left)) each (even refl) in (marked.each, (λ server. marked.all)))
     (λ at m is even.
     let step : EndStep = member_step (Some m) at (event.Bytes w.link piece) s.moment s.ends s.chances in
     let after : State = stepped (Member at) step s in
@@ -266,7 +293,7 @@ one_end one other links link back first second =
     let both : Some one ≡ Some other = sym first.side ∙ ap (λ (r : Route). side_of back r) route ∙ second.side in cc
 
 -- a unit more
-sends_on : (sent : List Sent) (on : Option Coming) (to : Option State) → AtWork on to → StaysOnLinks (λ links map bag. GoTheirWay on to links bag sent)
+sends_on : (sent : List Sent) (on : Option Delivery) (to : Option State) → AtWork on to → StaysOnLinks (λ links map bag. GoTheirWay on to links bag sent)
 sends_on sent None None work = record {
   sends = λ unit links map bag is ways. record {
     each = each_more OfUnit tt tt bag (unit ∷ []) (bag ++ unit ∷ []) sent refl (λ number here one there mark way. way) ways.each;
@@ -312,7 +339,7 @@ ways_keep = record {
       record { each = marked.each; all = all_on next s.links s.bag (note_given at given s b).sent marked.all };
 }
 
-first_ways : (on : Option Coming) → GoTheirWay on None [] [] []
+first_ways : (on : Option Delivery) → GoTheirWay on None [] [] []
 first_ways on = record { each = λ number one there. absurd (got_nothing number one there); all = all_on on [] [] [] refl }
 
 -- in every run

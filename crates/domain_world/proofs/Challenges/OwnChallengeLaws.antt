@@ -34,7 +34,7 @@ use Rattle.world_moves.specs.Links.{acceptor_of}
 use Rattle.world_moves.specs.World.{first_world}
 use Rattle.domain_world.specs.Claims.{IsUnusedChallenge}
 use Rattle.domain_world.specs.Claims.OwnChallenges.{HasOwnChallenge, MessagesHaveOwnChallenges}
-use Rattle.domain_world.specs.Past.{Coming, Past, at_member, change_if, change_message, note_member, note_messages, note_turn, past, with_answer, with_call}
+use Rattle.domain_world.specs.Past.{Delivery, Past, at_member, change_if, change_message, note_member, note_messages, note_turn, past, with_answer, with_call}
 use Rattle.wire_base.proofs.ListLaws.{all_weaker, got_append, got_behind, one_before, one_behind}
 use Rattle.step_notes.proofs.Members.UnservedLaws.{LinksIn, Opens, in_so, step_known}
 use Rattle.domain_world.proofs.Messages.MessageOnceLaws.{each_put, fresh_links, messages_once, quiet_opens}
@@ -233,7 +233,7 @@ apart_more old (one ∷ []) drawn few apart drew late =
 apart_more old (one ∷ other ∷ more) drawn few apart drew late = absurd few
 
 -- a member hears bytes: what it sent and took is written down
-messages_heard : (m : MemberState) (at : ℕ) (w : Coming) (piece : List ℕ) (s : State) (b : Book) → slice_get s.ends.members at ≡ Some m → AreOwn (notes_of b) s.ends.members s.chances.drawn s.links →
+messages_heard : (m : MemberState) (at : ℕ) (w : Delivery) (piece : List ℕ) (s : State) (b : Book) → slice_get s.ends.members at ≡ Some m → AreOwn (notes_of b) s.ends.members s.chances.drawn s.links →
     AreOwn (notes_of (note_messages at m w piece s b)) (slice_set s.ends.members at (step_of m (event.Bytes w.link piece) s.moment s.chances.left).state)
     (s.chances.drawn ++ (step_of m (event.Bytes w.link piece) s.moment s.chances.left).drawn) s.links
 messages_heard m at w piece s b is kept =
@@ -270,7 +270,7 @@ messages_heard m at w piece s b is kept =
           own.0);
     }
 
-member_heard : (m : MemberState) (at : ℕ) (w : Coming) (piece : List ℕ) (s after : State) (b : Book) → slice_get s.ends.members at ≡ Some m →
+member_heard : (m : MemberState) (at : ℕ) (w : Delivery) (piece : List ℕ) (s after : State) (b : Book) → slice_get s.ends.members at ≡ Some m →
     AreOwn (notes_of b) s.ends.members s.chances.drawn s.links →
     AreOwn (notes_of (note_member (Some m) at w piece s after b)) (slice_set s.ends.members at (step_of m (event.Bytes w.link piece) s.moment s.chances.left).state)
     (s.chances.drawn ++ (step_of m (event.Bytes w.link piece) s.moment s.chances.left).drawn) s.links
@@ -286,7 +286,7 @@ member_heard m at w piece s after b is kept =
 
 owns_on : KeepsMembers notes_of Owns
 owns_on = record {
-  of = record { controllers = λ c at w piece s after b. refl; clients = λ c at w piece s b. refl };
+  of = record { controllers = λ answers w s after b. refl; clients = λ c at w piece s b. refl };
   given = λ at given after b. refl;
   draws = λ notes members chances later links on kept.
       subst (λ (drawn : List (List ℕ)). AreOwn notes members drawn links) (sym on.is) (own_drew notes members chances.drawn on.more links kept);

@@ -23,7 +23,7 @@ use Rattle.logon_runs.specs.OtherKeys.GrantRests.{judged_rest}
 use Rattle.logon_runs.specs.Failing.TurnedAway.{settled_in}
 use Rattle.logon_runs.specs.FirstLogon.ExampleLogon.{ann}
 use Rattle.logon_runs.specs.OtherKeys.LetIn.{Asks, Hears, LetInPhase, let_in_scene, GoesOn}
-use Rattle.logon_runs.specs.Phases.{Coming, Dials, DrawsFew, HasThree, Progress, scene_of}
+use Rattle.logon_runs.specs.Phases.{Arrival, Dials, DrawsFew, HasThree, Progress, scene_of}
 use Rattle.logon_runs.specs.Rests.{AtRest, HasEnough}
 use Rattle.logon_runs.specs.Scenes.Scene.{Shows}
 use Rattle.logon_runs.specs.Scenes.LinkScenes.{Meeting}
@@ -60,28 +60,28 @@ use Rattle.world_moves.specs.Alone.{HandsNothingOn}
 -- ---- how far a logon is
 
 -- what is known of it from its start on
-record IsMet (plan : Plan) (p : Coming) : Type 0 where
+record IsMet (plan : Plan) (p : Arrival) : Type 0 where
   able : IsAble plan p
   heard : IsHeard plan p (first_world plan).state
   planned : IsPlanned plan p (first_world plan).state
   own : IsThere plan p → IsOwn plan p
 
 -- it is in a phase, or over; its client is let in; or its dial reaches nobody. No credential clashed
-data Stage (plan : Plan) (p : Coming) (s : State) (b : Book) : Type 0 where
+data Stage (plan : Plan) (p : Arrival) (s : State) (b : Book) : Type 0 where
   Goes : IsMet plan p → (at : IsAnywhere plan p s) → IsClearFor p (progress_in at.phase) s b → Stage plan p s b
   Over : IsDone plan p s → IsClean s b → Stage plan p s b
   Links : (g : Meeting) (left : List (List ℕ)) → GoesOn g left s → IsClean s b → Stage plan p s b
   Calls : route_to (Client p.meeting.at_client) (end_of_peer p.meeting.task.server (first_ends plan)) ≡ None → (left : List (List ℕ)) (moment : ℕ) →
       Shows s (scene_of p Dials left moment) ⊎ Shows s (unanswered p left moment) → IsClean s b → Stage plan p s b
 
-stage_clean : (plan : Plan) (p : Coming) (s : State) (b : Book) → Stage plan p s b → IsClean s b
+stage_clean : (plan : Plan) (p : Arrival) (s : State) (b : Book) → Stage plan p s b → IsClean s b
 stage_clean plan p s b (Goes met at clear) = clear.clean
 stage_clean plan p s b (Over done clean) = clean
 stage_clean plan p s b (Links g left on clean) = clean
 stage_clean plan p s b (Calls nobody left moment shows clean) = clean
 
 -- a move leads to another, and draws few challenges
-record StageThen (plan : Plan) (p : Coming) (s after : State) (b : Book) : Type 0 where
+record StageThen (plan : Plan) (p : Arrival) (s after : State) (b : Book) : Type 0 where
   stage : Stage plan p after b
   few : DrawsFew s.chances.left after.chances.left
 
@@ -93,15 +93,15 @@ left_of : (g : Meeting) (left : List (List ℕ)) (s : State) → GoesOn g left s
 left_of g left s (inl on) = on.shows.left ∙ scene_left g on.phase left on.moment
 left_of g left s (inr over) = over.shows.left
 
-dial_left : (p : Coming) (left : List (List ℕ)) (moment : ℕ) (s : State) → Shows s (scene_of p Dials left moment) ⊎ Shows s (unanswered p left moment) → s.chances.left ≡ left
+dial_left : (p : Arrival) (left : List (List ℕ)) (moment : ℕ) (s : State) → Shows s (scene_of p Dials left moment) ⊎ Shows s (unanswered p left moment) → s.chances.left ≡ left
 dial_left p left moment s (inl shows) = shows.left
 dial_left p left moment s (inr shows) = shows.left
 
-dial_waits : (p : Coming) (left : List (List ℕ)) (moment : ℕ) (s : State) → Shows s (scene_of p Dials left moment) ⊎ Shows s (unanswered p left moment) → waiting s.bag ≡ []
+dial_waits : (p : Arrival) (left : List (List ℕ)) (moment : ℕ) (s : State) → Shows s (scene_of p Dials left moment) ⊎ Shows s (unanswered p left moment) → waiting s.bag ≡ []
 dial_waits p left moment s (inl shows) = shows.units
 dial_waits p left moment s (inr shows) = shows.units
 
-module _ (plan : Plan) (p : Coming) (w : World) (b : Book) (same : HasSameEnds (first_world plan).state w.state) where
+module _ (plan : Plan) (p : Arrival) (w : World) (b : Book) (same : HasSameEnds (first_world plan).state w.state) where
   abbrev Then : Move → Type 0
   Then what = StageThen plan p w.state (act w.state what).state (note w what b)
 
@@ -200,7 +200,7 @@ module _ (plan : Plan) (p : Coming) (w : World) (b : Book) (same : HasSameEnds (
 module _ (plan : Plan) (is : IsPlan plan) (forms : HasForms plan) (servers : HasServers plan) (bk : Book) where
   -- a client goes on
   record Going (moves : List Move) (w : World) (b : Book) : Type 0 where
-    p : Coming
+    p : Arrival
     stage : Stage plan p w.state b
     enough : HasEnough (length moves) w.state.chances.left
     rested : State
@@ -208,19 +208,19 @@ module _ (plan : Plan) (is : IsPlan plan) (forms : HasForms plan) (servers : Has
     started : Started plan (length moves) rested client w.state
 
   -- the world rests, or a client goes on; no credential clashed
-  abbrev Stands : List Move → World → Book → Type 0
-  Stands moves w b = (Resting plan (length moves) w.state × IsClean w.state b) ⊎ Going moves w b
+  abbrev StandsClear : List Move → World → Book → Type 0
+  StandsClear moves w b = (Resting plan (length moves) w.state × IsClean w.state b) ⊎ Going moves w b
 
-  stands_clean : (moves : List Move) (w : World) (b : Book) → Stands moves w b → IsClean w.state b
+  stands_clean : (moves : List Move) (w : World) (b : Book) → StandsClear moves w b → IsClean w.state b
   stands_clean moves w b (inl resting) = resting.1
   stands_clean moves w b (inr going) = stage_clean plan going.p w.state b going.stage
 
-  stands_quiet : (moves : List Move) (w : World) (b : Book) → IsQuiet w → Stands moves w b → Resting plan (length moves) w.state
+  stands_quiet : (moves : List Move) (w : World) (b : Book) → IsQuiet w → StandsClear moves w b → Resting plan (length moves) w.state
   stands_quiet moves w b quiet (inl resting) = resting.0
   stands_quiet moves w b quiet (inr going) = rests_then plan (length moves) going.rested going.client w going.started quiet
 
   -- any logon, where none is under way
-  step_stands : (what : Move) (moves : List Move) (w : World) (b : Book) → IsStepOn what → Along plan (what ∷ moves) w → Stands (what ∷ moves) w b → Stands moves (happens w what) (note w what b)
+  step_stands : (what : Move) (moves : List Move) (w : World) (b : Book) → IsStepOn what → Along plan (what ∷ moves) w → StandsClear (what ∷ moves) w b → StandsClear moves (happens w what) (note w what b)
   step_stands what moves w b steps along (inr g) =
       let three : HasThree w.state.chances.left = three_from w.state.chances.left g.enough.blocks (omega (arith, g.enough.many)) in
       let next : StageThen plan g.p w.state (act w.state what).state (note w what b) = stage_then plan g.p w b along.same what steps three along.below g.stage in
@@ -241,7 +241,7 @@ module _ (plan : Plan) (is : IsPlan plan) (forms : HasForms plan) (servers : Has
   -- ---- a client starts
 
   record Begun (s : State) (b : Book) : Type 0 where
-    p : Coming
+    p : Arrival
     stage : Stage plan p s b
 
   module _ (number client : ℕ) (w : World) (b : Book) (rest : AtRest plan w.state) (task : ClientPlan) (is_task : slice_get plan.clients client ≡ Some task) (own : HasOwnMember plan client)
@@ -253,7 +253,7 @@ module _ (plan : Plan) (is : IsPlan plan) (forms : HasForms plan) (servers : Has
         end_of_peer task.server (first_ends plan) ≡ Some (Member member) → IsReachedOrNot plan member work controller → BeginsAt
     begins_there member controller work table is_work is_table to_member reaches =
         let three : AreThree plan client member controller = record { task = task; is_task = is_task; member_plan = work; is_member_plan = is_work; table = table; is_table = is_table } in
-        let p : Coming = coming_from plan w.state rest client member controller three ann ann in
+        let p : Arrival = coming_from plan w.state rest client member controller three ann ann in
         record {
           p = p;
           stage = Goes
@@ -294,7 +294,7 @@ module _ (plan : Plan) (is : IsPlan plan) (forms : HasForms plan) (servers : Has
 
   abbrev ClearFrom : List Move → World → Book → Type 0
   ClearFrom moves w b =
-      Along plan moves w → AllByRecursion (HasOwnMember plan) (started_in moves (length plan.clients)) → bk ≡ book moves w b → Stands moves w b → bk.clash ≡ false
+      Along plan moves w → AllByRecursion (HasOwnMember plan) (started_in moves (length plan.clients)) → bk ≡ book moves w b → StandsClear moves w b → bk.clash ≡ false
 
   clear_starts : (number : ℕ) (moves : List Move) (w : World) (b : Book) → ClearFrom moves (happens w (move.Start number)) (note w (move.Start number) b) → ClearFrom (move.Start number ∷ moves) w b
   clear_starts number moves w b then_on along owns is_book stands =

@@ -29,7 +29,7 @@ use Rattle.world_moves.specs.declared.moves.Move.{Move}
 use Rattle.world_moves.specs.declared.plan.Plan.{Plan}
 use Rattle.world_moves.specs.declared.state.State.{State}
 use Rattle.world_moves.specs.declared.state.WaitingDial.{WaitingDial}
-use Rattle.world_moves.specs.Acting.{Given, Heard, close_open, dials_of_action, forget, hear, hear_and_act, is_of_other, link_closed, perform, perform_all, perform_by, units_of_action}
+use Rattle.world_moves.specs.Acting.{Given, AfterHearing, close_open, dials_of_action, forget, hear, hear_and_act, is_of_other, link_closed, perform, perform_all, perform_by, units_of_action}
 use Rattle.world_moves.specs.Bag.{first_waiting, pieces_of}
 use Rattle.world_moves.specs.Forms.{IsSchedule}
 use Rattle.world_moves.specs.Links.{OpenMap, acceptor_of, forget_end}
@@ -44,7 +44,8 @@ use Rattle.logon_runs.proofs.Scenes.StepOnLaws.{by_step}
 use Rattle.wire_base.proofs.ListLaws.{got_nothing, some_is}
 use Rattle.world_moves.specs.Choosing.{chosen_place}
 use Rattle.world_moves.specs.Alone.{HandsNothingOn, hear_alone}
-use Rattle.domain_world.specs.Past.{Coming, book, controller_asked, note, note_at, note_member, past}
+use Rattle.domain_world.specs.Past.{Delivery, book, controller_asked, note, note_member, past}
+use Rattle.domain_world.proofs.Frames.AloneNoteLaws.{note_alone as note_at}
 use Rattle.domain_world.proofs.Frames.AloneStepLaws.{act_alone}
 use Rattle.domain_world.proofs.Accepting.LetInStepLaws.{IsDialledBy}
 use Rattle.domain_world.proofs.Quiet.QuietRunLaws.{has_bytes, quiet_first, quiet_keeps}
@@ -56,7 +57,7 @@ use Rattle.domain_world.proofs.Completeness.RestingLaws.{Along, along_next}
 use Rattle.domain_world.proofs.Clear.NotedLaws.{AreOwn, client_fine, member_fine}
 use Rattle.domain_world.proofs.Clear.PhaseClearLaws.{IsClean, rest_clean, start_clean}
 use Rattle.domain_world.proofs.Moves.OpenMadeLaws.{IsAtSide, side_of}
-use Rattle.domain_world.proofs.Frames.StepFrameLaws.{AnyAction, BothFacts, BothFine, HasHeard, HoldsAfterRun, Keeps, RunFact, all_any, join, run_keeps}
+use Rattle.domain_world.proofs.Frames.StepFrameLaws.{AnyAction, BothFacts, BothFine, HasHeard, HoldsAfterRun, StepKeeps, RunFact, all_any, join, run_keeps}
 
 -- ---- while each link leads from a client to a member
 
@@ -110,23 +111,23 @@ no_units : (links : List Route) (k : ℕ) (m : MemberState) (number now : ℕ) (
 no_units links k m number now piece left all quiet =
     either_way (λ (units : List (ServedUnit AtTurn TurnTalk)). units ≡ []) _ (turn_units_in m.running number piece left) refl (no_units_in links k m.running number piece left all quiet)
 
-member_clear : (found : Option MemberState) (at : ℕ) (w : Coming) (piece : List ℕ) (s after : State) (b : Book) → slice_get s.ends.members at ≡ found → AreToMembers s.links → QuietState s →
+member_clear : (found : Option MemberState) (at : ℕ) (w : Delivery) (piece : List ℕ) (s after : State) (b : Book) → slice_get s.ends.members at ≡ found → AreToMembers s.links → QuietState s →
     b.clash ≡ false → (note_member found at w piece s after b).clash ≡ false
 member_clear None at w piece s after b is all quiet apart = apart
 member_clear (Some m) at w piece s after b is all quiet apart =
     (member_fine m at (controller_asked (OfMember at) s) w piece s after (length b.judged) b refl apart (omega arith)
     (subst (AreOwn (controller_asked (OfMember at) s) (unit_in w.source) b.sent) (sym (no_units s.links at m w.link s.moment piece s.chances.left all (quiet.members at m is))) tt)).apart
 
-comes_clear : (end : EndId) (w : Coming) (piece : List ℕ) (s after : State) (b : Book) → IsAtSide s.links w.link w.back end → AreToMembers s.links → QuietState s → b.clash ≡ false →
+comes_clear : (end : EndId) (w : Delivery) (piece : List ℕ) (s after : State) (b : Book) → IsAtSide s.links w.link w.back end → AreToMembers s.links → QuietState s → b.clash ≡ false →
     (note_at (Some end) w piece s after b).clash ≡ false
 comes_clear (Controller at) w piece s after b side all quiet apart = absurd (no_controller w.back side.route at (one_of s.links w.link side.route all side.made) side.side)
 comes_clear (Member at) w piece s after b side all quiet apart = member_clear (slice_get s.ends.members at) at w piece s after b refl all quiet apart
 comes_clear (Client at) w piece s after b side all quiet apart = (client_fine (slice_get s.ends.clients at) at w piece s b).0 ∙ apart
 
-so_heard : (n : ℕ) (end : EndId) (heard : Heard) (given : Given) (b : Book) → (AreToMembers heard.state.links → b.clash ≡ false) → HasHeard ClearFact AnyAction (n + 1) end heard given b
+so_heard : (n : ℕ) (end : EndId) (heard : AfterHearing) (given : Given) (b : Book) → (AreToMembers heard.state.links → b.clash ≡ false) → HasHeard ClearFact AnyAction (n + 1) end heard given b
 so_heard n end heard given b clear = record { holds = clear; fine = all_any heard.actions }
 
-clear_keeps : Keeps QuietFact ClearFact AnyAction
+clear_keeps : StepKeeps QuietFact ClearFact AnyAction
 clear_keeps = record {
   calm = λ n end what s given b calm quiet clear. so_heard n end (hear_alone end what s) given b clear;
   dialled = λ n end link s given b side quiet clear. so_heard n end (hear_alone end (event.Dialled link) s) given b clear;
@@ -206,7 +207,7 @@ onward_stays (Some number) s all = own_stays (slice_get s.bag number) number s a
 start_by_stays : (plan : Option ClientPlan) (at : ℕ) (s : State) → AreToMembers s.links → AreToMembers (start_by plan at s).state.links
 start_by_stays None at s all = all
 start_by_stays (Some plan) at s all =
-    let heard : Heard = begun at plan (forget (Client at) s) in
+    let heard : AfterHearing = begun at plan (forget (Client at) s) in
     actions_so StaysToMembers acting (Client at) heard.actions heard.state all
 
 start_stays : (at : Option ℕ) (s : State) → AreToMembers s.links → AreToMembers (start_at at s).state.links
@@ -322,7 +323,7 @@ hears_bare end what s is bare =
 start_by_bare : (plan : Option ClientPlan) (at : ℕ) (s : State) → IsBare s → IsBare (start_by plan at s).state
 start_by_bare None at s bare = bare
 start_by_bare (Some plan) at s bare =
-    let heard : Heard = begun at plan (forget (Client at) s) in
+    let heard : AfterHearing = begun at plan (forget (Client at) s) in
     all_bare (Client at) heard.actions heard.state tt
     (record {
       links = bare.links;

@@ -22,7 +22,8 @@ use Rattle.world_moves.specs.Acting.{Given}
 use Rattle.world_moves.specs.Bag.{first_waiting}
 use Rattle.world_moves.specs.Moving.{act}
 use Rattle.world_moves.specs.World.{World}
-use Rattle.domain_world.specs.Past.{Coming, answers_of, any_clash, book, judged_of, marks_of, note, note_client, note_controller, note_given, note_member, note_messages, note_turn, note_turns, numbers_on, onto, sent_at, controller_asked}
+use Rattle.domain_world.specs.Past.{Delivery, any_clash, book, judged_of, marks_of, note, note_client, note_given, note_member, note_messages, note_turn, note_turns, numbers_on, onto, sent_at, controller_asked}
+use Rattle.domain_world.proofs.Frames.AloneNoteLaws.{alone_answers as answers_of, note_controller_alone as note_controller}
 use Rattle.domain_world.proofs.Moves.ComingLaws.{act_still}
 use Rattle.domain_world.proofs.Moves.MarkPlaceLaws.{no_longer}
 
@@ -86,7 +87,7 @@ given_fine k given after count b apart few marked = record {
 
 -- ---- at a client
 
-pub client_fine : (found : Option ClientState) (at : ℕ) (w : Coming) (piece : List ℕ) (s : State) (b : Book) →
+pub client_fine : (found : Option ClientState) (at : ℕ) (w : Delivery) (piece : List ℕ) (s : State) (b : Book) →
     ((note_client found at w piece s b).clash ≡ b.clash) × ((note_client found at w piece s b).judged ≡ b.judged) × ((note_client found at w piece s b).sent ≡ b.sent)
 client_fine None at w piece s b = (refl, refl, refl)
 client_fine (Some c) at w piece s b = (refl, refl, refl)
@@ -114,7 +115,7 @@ pub record Written (k link : ℕ) (back : Bool) (s after : State) (count : ℕ) 
   pub sent : now.sent ≡ b.sent ++ map (sent_at k) (marks_of link back (drop (length s.bag) after.bag) marks)
 
 -- that controller is asked
-pub member_fine : (m : MemberState) (at controller : ℕ) (w : Coming) (piece : List ℕ) (s after : State) (count : ℕ) (b : Book) → controller_asked (OfMember at) s ≡ controller → b.clash ≡ false →
+pub member_fine : (m : MemberState) (at controller : ℕ) (w : Delivery) (piece : List ℕ) (s after : State) (count : ℕ) (b : Book) → controller_asked (OfMember at) s ≡ controller → b.clash ≡ false →
     length b.judged ≤ count → AreOwn controller (unit_in w.source) b.sent (turn_units m w.link piece s.moment s.chances.left) →
     Written w.at w.link false s after count (turn_marks (map (turn_note controller) (turn_units m w.link piece s.moment s.chances.left))) b (note_member (Some m) at w piece s after b)
 member_fine m at controller w piece s after count b asked apart few own =
@@ -133,7 +134,7 @@ length_onto : {T : Type 0} (items older : List T) → length (onto items older) 
 length_onto [] older = omega arith
 length_onto (item ∷ items) older = omega (arith, length_onto items (item ∷ older))
 
-pub controller_fine : (c : ControllerState) (at : ℕ) (w : Coming) (piece : List ℕ) (s after : State) (count total : ℕ) (b : Book) → b.clash ≡ false → length b.judged ≤ count →
+pub controller_fine : (c : ControllerState) (at : ℕ) (w : Delivery) (piece : List ℕ) (s after : State) (count total : ℕ) (b : Book) → b.clash ≡ false → length b.judged ≤ count →
     any_clash (answers_of at c w piece s) (unit_in w.source) b.sent ≡ false → length (judged_of (answers_of at c w piece s) (numbers_on w.link true s.bag after.bag)) + count ≤ total →
     Written w.at w.link true s after total (answered_marks (answers_of at c w piece s)) b (note_controller (Some c) at w piece s after b)
 controller_fine c at w piece s after count total b apart few own judged = record {

@@ -75,11 +75,11 @@ use Rattle.logon_steps.proofs.SetTurnLaws.{controllers_set, set_asked, set_comes
 use Rattle.logon_steps.proofs.MeetingLaws.{ack_sends, bind_sends}
 use Rattle.logon_steps.proofs.TurningLaws.{unit_comes}
 use Rattle.logon_runs.specs.Scenes.LinkScenes.{its_link, unit_down, unit_up, Meeting}
-use Rattle.logon_runs.specs.Scenes.TurnScenes.{IsBetween, Turn, with_accounts, turn_scene, unit_back}
+use Rattle.logon_runs.specs.Scenes.TurnScenes.{IsBetween, TurnScene, with_accounts, turn_scene, unit_back}
 use Rattle.logon_runs.specs.Scenes.Others.{IsStepOn}
 use Rattle.logon_runs.specs.Scenes.WaitingUnits.{waiting}
-use Rattle.logon_runs.specs.Phases.{IsPlanned as IsPlannedTurn, Aim, Coming, First, Fourth, HasThree, IsAsking, IsOpening, IsSetting, LogonPhase, NotYet, Progress, progress_answered, progress_onward, Second, Third, TurnAt, WasJudged, WasOpened, WasSet, WasTold, WhoAsked, own, progress_called, progress_of, scene_of, standing_for, step_for, turn_before, turn_on, with_its_controller, Acked, Answers, Binds, BindsBefore, BindsHeld, Calls, Challenged, Dials, DialsBefore, DialsHeld, Echoed, Echoes, Granted, Halved, Named, Proved, Sets, IsAnswering}
-use Rattle.logon_runs.specs.Runs.{Asked, goes, info_asked, message_for}
+use Rattle.logon_runs.specs.Phases.{IsPlanned as IsPlannedTurn, Aim, Arrival, First, Fourth, HasThree, IsAsking, IsOpening, IsSetting, LogonPhase, NotYet, Progress, progress_answered, progress_onward, Second, Third, TurnAt, WasJudged, WasOpened, WasSet, WasTold, WhoAsked, own, progress_called, progress_of, scene_of, standing_for, step_for, turn_before, turn_on, with_its_controller, Acked, Answers, Binds, BindsBefore, BindsHeld, Calls, Challenged, Dials, DialsBefore, DialsHeld, Echoed, Echoes, Granted, Halved, Named, Proved, Sets, IsAnswering}
+use Rattle.logon_runs.specs.Runs.{ClientAnswer, goes, info_asked, message_for}
 use Rattle.logon_runs.specs.Scenes.Scene.{Shows}
 use Rattle.logon_runs.proofs.Phases.PhaseStartLaws.{left_so}
 use Rattle.logon_runs.proofs.Phases.PhaseTurnLaws.{HasPlace, of_table, place_found}
@@ -139,7 +139,7 @@ pub clean_of : (s : State) (count : ℕ) (b : Book) → Fine s count b → IsCle
 clean_of s count b fine = record { apart = fine.apart; marked = fine.marked }
 
 -- the channel that is opened, and the one that stands
-abbrev pub half_of : Coming → List ℕ → List ℕ → ChannelIdentity
+abbrev pub half_of : Arrival → List ℕ → List ℕ → ChannelIdentity
 half_of p client server = record {
   controller = p.meeting.at_controller;
   computer = p.meeting.caller.computer;
@@ -149,16 +149,16 @@ half_of p client server = record {
   flags = offered_flags;
 }
 
-abbrev pub open_of : Coming → SecureChannelState → ChannelIdentity
+abbrev pub open_of : Arrival → SecureChannelState → ChannelIdentity
 open_of p o = channel_of p.meeting.at_controller p.meeting.caller.computer o
 
 -- the controller has no account for the call that opens the member's channel
-abbrev pub HasNone : Coming → List ℕ → List ℕ → Type 0
+abbrev pub HasNone : Arrival → List ℕ → List ℕ → Type 0
 HasNone p client server = account_for p.table (auth_value p.meeting.caller client server) ≡ None
 
 -- the unit that waits was made for that channel, where a call or its reply is out; a refusal to open one was made for
 -- none
-abbrev pub WaitsFor : Coming → Progress → State → Book → Type 0
+abbrev pub WaitsFor : Arrival → Progress → State → Book → Type 0
 WaitsFor p NotYet s b = Unit {0}
 WaitsFor p (IsOpening client server) s b = Waits s (Some (half_of p client server)) b
 WaitsFor p (WasOpened client server) s b = Waits s (Some (half_of p client server)) b ⊎ HasNone p client server
@@ -168,7 +168,7 @@ WaitsFor p (IsAsking o) s b = Waits s (Some (open_of p o)) b
 WaitsFor p (WasJudged a o) s b = Waits s (Some (open_of p o)) b
 WaitsFor p (WasTold a) s b = Unit {0}
 
-pub record IsClearFor (p : Coming) (far : Progress) (s : State) (b : Book) : Type 0 where
+pub record IsClearFor (p : Arrival) (far : Progress) (s : State) (b : Book) : Type 0 where
   pub clean : IsClean s b
   pub waits : WaitsFor p far s b
 
@@ -183,7 +183,7 @@ actions_in (Ok actions) = actions
 actions_in (Err why) = []
 
 -- the member's plan is that of the world, but for the secret, and names the controller where it reaches one
-pub record IsPlanned (plan : Plan) (p : Coming) (s : State) : Type 0 where
+pub record IsPlanned (plan : Plan) (p : Arrival) (s : State) : Type 0 where
   pub is_plan : slice_get (map but_secret s.member_plans) p.meeting.at_member ≡ Some (but_secret p.meeting.plan)
   pub reach : IsThere plan p → end_of_peer p.meeting.plan.controller s.ends ≡ Some (Controller p.meeting.at_controller)
 
@@ -211,7 +211,7 @@ idle_clean s k b clean none =
     (subst (λ (one : Book). Fine (goes s) (length b.judged) (note_given k (onward s).given (goes s) one)) (sym (ap (λ (found : Option ℕ). note_onward found k s b) (waiting_comes.none s.bag none)))
     (given_fine k (onward s).given (goes s) (length b.judged) b clean.apart (omega arith) (omega (arith, clean.marked, grows s move.Onward))))
 
-module _ (plan : Plan) (p : Coming) (s : State) (k : ℕ) (b : Book) (able : IsAble plan p) (planned : IsPlanned plan p s) (own_so : IsThere plan p → IsOwn plan p) (clean : IsClean s b) (left : List (List ℕ))
+module _ (plan : Plan) (p : Arrival) (s : State) (k : ℕ) (b : Book) (able : IsAble plan p) (planned : IsPlanned plan p s) (own_so : IsThere plan p → IsOwn plan p) (clean : IsClean s b) (left : List (List ℕ))
     (moment : ℕ) where
   abbrev now : Book
   now = note (world_at k s) move.Onward b
@@ -225,7 +225,7 @@ module _ (plan : Plan) (p : Coming) (s : State) (k : ℕ) (b : Book) (able : IsA
   fine : Fine s count b
   fine = fine_of s b clean
 
-  names_of : (t : Turn) → t.at_member ≡ p.meeting.at_member → t.at_controller ≡ p.meeting.at_controller → but_secret t.plan ≡ but_secret p.meeting.plan → IsThere plan p → Names s t
+  names_of : (t : TurnScene) → t.at_member ≡ p.meeting.at_member → t.at_controller ≡ p.meeting.at_controller → but_secret t.plan ≡ but_secret p.meeting.plan → IsThere plan p → Names s t
   names_of t member controller own_plan there = record {
     plan = subst (λ (at : ℕ). slice_get (map but_secret s.member_plans) at ≡ Some (but_secret t.plan)) (sym member) (planned.is_plan ∙ ap (λ (one : MemberPlan). Some one) (sym own_plan));
     reach = subst (λ (at : ℕ). end_of_peer t.plan.controller s.ends ≡ Some (Controller at)) (sym controller)
@@ -252,7 +252,7 @@ module _ (plan : Plan) (p : Coming) (s : State) (k : ℕ) (b : Book) (able : IsA
         waits = tt;
       }
 
-  module _ (a : Asked) (who : WhoAsked p a) where
+  module _ (a : ClientAnswer) (who : WhoAsked p a) where
     answers_clear : IsAnswering p a → Shows s (scene_of p (Answers a who) left moment) → After NotYet
     answers_clear fits shows = record {
       clean = clean_of (goes s) count now
@@ -264,7 +264,7 @@ module _ (plan : Plan) (p : Coming) (s : State) (k : ℕ) (b : Book) (able : IsA
     }
 
     module _ (v : TurnAt) where
-      abbrev t_on : Aim → Turn
+      abbrev t_on : Aim → TurnScene
       t_on aim = turn_on p a who.later (who.sent ∷ []) v aim
 
       between_on : (aim : Aim) → IsTurningBy plan p a v → IsBetween (t_on aim)
@@ -287,8 +287,8 @@ module _ (plan : Plan) (p : Coming) (s : State) (k : ℕ) (b : Book) (able : IsA
 
       held_clear : (aim : Aim) → IsTurningBy plan p a v → Shows s (scene_of p (BindsBefore a who v aim) left moment) → After NotYet
       held_clear aim is shows =
-          let before : Turn = turn_before p a who.later [] v in
-          let t : Turn = turn_on p a who.later [] v aim in
+          let before : TurnScene = turn_before p a who.later [] v in
+          let t : TurnScene = turn_on p a who.later [] v aim in
           record {
             clean = clean_of (goes s) count now
                 (quiet_leads s _ (unit_up (own p) who.sent) _ count shows
@@ -315,12 +315,12 @@ module _ (plan : Plan) (p : Coming) (s : State) (k : ℕ) (b : Book) (able : IsA
       -- the call goes out
       acked_clear : (aim : Aim) → IsTurningBy plan p a v → MayAim plan p v aim → IsThere plan p → Shows s (scene_of p (Acked a who v aim) left moment) → After (progress_called aim)
       acked_clear (First client) is aimed there shows =
-          let t : Turn = t_on (First client) in
+          let t : TurnScene = t_on (First client) in
           let f : FineAnd (goes s) count None now =
           ack_leads s t v.next v.number (requester.challenge_call p.meeting.caller client) v.computers left moment count Plain None (between_on (First client) is) is.number_below (names_of t refl refl refl there) refl shows k b fine in
           record { clean = clean_of (goes s) count now f.fine; waits = tt }
       acked_clear (Second client server) is aimed there shows =
-          let t : Turn = t_on (Second client server) in
+          let t : TurnScene = t_on (Second client server) in
           let asks : Requester = channel_in_turn t v.next v.number (step.Bind (requester.auth_call p.meeting.caller client server)) in
           let f : FineAnd (goes s) count (Some (half_of p client server)) now =
           ack_leads s t v.next v.number (requester.auth_call p.meeting.caller client server) v.computers left moment count
@@ -328,14 +328,14 @@ module _ (plan : Plan) (p : Coming) (s : State) (k : ℕ) (b : Book) (able : IsA
           (names_of t refl refl refl there) refl shows k b fine in
           record { clean = clean_of (goes s) count now f.fine; waits = f.waits }
       acked_clear (Third o c timestamp) is aimed there shows =
-          let t : Turn = t_on (Third o c timestamp) in
+          let t : TurnScene = t_on (Third o c timestamp) in
           let asks : Requester = channel_in_turn t v.next v.number (step.Bind (requester.logon_call p.meeting.caller o timestamp (info_asked (own p) a))) in
           let f : FineAnd (goes s) count (Some (open_of p o)) now =
           ack_leads s t v.next v.number (requester.logon_call p.meeting.caller o timestamp (info_asked (own p) a)) v.computers left moment count (Calling (open_of p o) asks.next_call timestamp) (Some t.place)
           (between_on (Third o c timestamp) is) is.number_below (names_of t refl refl refl there) refl shows k b fine in
           record { clean = clean_of (goes s) count now f.fine; waits = f.waits }
       acked_clear (Fourth o c timestamp new) is aimed there shows =
-          let t : Turn = t_on (Fourth o c timestamp new) in
+          let t : TurnScene = t_on (Fourth o c timestamp new) in
           let call : SetCall = requester.change_call p.meeting.caller o timestamp new in
           let asks : Requester = channel_in_turn t v.next v.number (step.Set (set_step.Bind call)) in
           let f : FineAnd (goes s) count (Some (open_of p o)) now =
@@ -347,7 +347,7 @@ module _ (plan : Plan) (p : Coming) (s : State) (k : ℕ) (b : Book) (able : IsA
       module _ (is : IsTurningBy plan p a v) (there : IsThere plan p) where
         first_clear : (client : List ℕ) → HasThree s.chances.left → MayAim plan p v (First client) → Shows s (scene_of p (Calls a who v (First client)) left moment) → After NotYet
         first_clear client three aimed shows =
-            let t : Turn = t_on (First client) in
+            let t : TurnScene = t_on (First client) in
             let more : List (List ℕ) = three.two ∷ three.three ∷ three.more in
             let can : IsTurnCall (requester.challenge_call p.meeting.caller client) = calls_can_go.challenge p.meeting.caller client able.caller aimed.0 in
             let told : ToldChallenge v.table p.name v.computers (length v.links) moment v.next p.meeting.caller client three.one more =
@@ -365,7 +365,7 @@ module _ (plan : Plan) (p : Coming) (s : State) (k : ℕ) (b : Book) (able : IsA
         granted_clear : (client server : List ℕ) (machine : Account) → account_for p.table (auth_value p.meeting.caller client server) ≡ Some machine → MayAim plan p v (Second client server) →
             Waits s (Some (half_of p client server)) b → Shows s (scene_of p (Calls a who v (Second client server)) left moment) → After (WasOpened client server)
         granted_clear client server machine found aimed waits shows =
-            let t : Turn = t_on (Second client server) in
+            let t : TurnScene = t_on (Second client server) in
             let call : Call = requester.auth_call p.meeting.caller client server in
             let r : Reply = reply.Authenticate (record { credential = requester.server_credential p.meeting.caller.secret client server; flags = offered_flags; status = 0 }) in
             let can : IsTurnCall call = calls_can_go.authenticate p.meeting.caller client server able.caller in
@@ -396,7 +396,7 @@ module _ (plan : Plan) (p : Coming) (s : State) (k : ℕ) (b : Book) (able : IsA
         -- it is refused, where there is none
         denied_clear : (client server : List ℕ) → HasNone p client server → IsPlannedTurn p v → Shows s (scene_of p (Calls a who v (Second client server)) left moment) → After (WasOpened client server)
         denied_clear client server none is_planned shows =
-            let t : Turn = t_on (Second client server) in
+            let t : TurnScene = t_on (Second client server) in
             let call : Call = requester.auth_call p.meeting.caller client server in
             let can : IsTurnCall call = calls_can_go.authenticate p.meeting.caller client server able.caller in
             let told : ToldProof v.table p.name v.computers (length v.links) moment v.next p.meeting.caller client server left =
@@ -421,7 +421,7 @@ module _ (plan : Plan) (p : Coming) (s : State) (k : ℕ) (b : Book) (able : IsA
         third_clear : (o c : SecureChannelState) (timestamp : ℕ) → MayAim plan p v (Third o c timestamp) → Waits s (Some (open_of p o)) b →
             Shows s (scene_of p (Calls a who v (Third o c timestamp)) left moment) → After (WasJudged a o)
         third_clear o c timestamp aimed waits shows =
-            let t : Turn = t_on (Third o c timestamp) in
+            let t : TurnScene = t_on (Third o c timestamp) in
             let call : Call = requester.logon_call p.meeting.caller o timestamp (info_asked (own p) a) in
             let found : Verdict = verdict_of v.table p.name (info_asked (own p) a) moment in
             let r : Reply = passed_reply (key_of_channel o) (return_of (key_of_channel o) o.seed timestamp) found in
@@ -456,7 +456,7 @@ module _ (plan : Plan) (p : Coming) (s : State) (k : ℕ) (b : Book) (able : IsA
         fourth_clear : (o c : SecureChannelState) (timestamp : ℕ) (new : List ℕ) → MayAim plan p v (Fourth o c timestamp new) → Waits s (Some (open_of p o)) b →
             Shows s (scene_of p (Calls a who v (Fourth o c timestamp new)) left moment) → After (WasSet o)
         fourth_clear o c timestamp new aimed waits shows =
-            let t : Turn = t_on (Fourth o c timestamp new) in
+            let t : TurnScene = t_on (Fourth o c timestamp new) in
             let call : SetCall = requester.change_call p.meeting.caller o timestamp new in
             let heard : ControllerCall = controller_call.Judged (Set call) in
             let can : IsSetTurn call = set_units_go.call p.meeting.caller o timestamp new able.caller aimed.0 in
@@ -505,7 +505,7 @@ module _ (plan : Plan) (p : Coming) (s : State) (k : ℕ) (b : Book) (able : IsA
             Shows s (turn_scene (with_accounts accounts (t_on aim)) (after v.next) v.next (step.Reply q) v.computers (turn_link (length v.links))
             (unit_back (with_accounts accounts (t_on aim)) (reply_bytes v.next r) ∷ []) left moment) → IsClean (goes s) now
         taken_clean aim accounts q r goes_so own shows =
-            let t : Turn = with_accounts accounts (t_on aim) in
+            let t : TurnScene = with_accounts accounts (t_on aim) in
             clean_of (goes s) count now
             (reply_leads s t (after v.next) v.next q r v.computers left moment count (between_still (t_on aim) accounts (between_on aim is)) is.next_below goes_so (names_of t refl refl refl there) shows k b fine
             own)
@@ -525,7 +525,7 @@ module _ (plan : Plan) (p : Coming) (s : State) (k : ℕ) (b : Book) (able : IsA
         set_clean : (o c : SecureChannelState) (timestamp : ℕ) (new : List ℕ) (accounts : AccountTable) (r : SetReply) → InRangeSetReply r → Waits s (Some (open_of p o)) b →
             Shows s (any_scene p (Setting a who v o c timestamp new accounts r) left moment) → IsClean (goes s) now
         set_clean o c timestamp new accounts r goes_so waits shows =
-            let t : Turn = with_accounts accounts (t_on (Fourth o c timestamp new)) in
+            let t : TurnScene = with_accounts accounts (t_on (Fourth o c timestamp new)) in
             clean_of (goes s) count now
             (responses_lead s t (after v.next) v.next (step.Set set_step.Reply) (set_response v.next r) v.computers left moment count
             (between_still (t_on (Fourth o c timestamp new)) accounts (between_on (Fourth o c timestamp new) is)) (set_reply_sends v.next r is.next_below goes_so)
@@ -624,7 +624,7 @@ kept_so s after b more then_b same grown channel waits = record {
   made = waits.made;
 }
 
-waits_kept : (p : Coming) (far : Progress) (s after : State) (b : Book) (more : List Sent) (then_b : Book) → after.bag ≡ s.bag → then_b.sent ≡ b.sent ++ more → WaitsFor p far s b → WaitsFor p far after then_b
+waits_kept : (p : Arrival) (far : Progress) (s after : State) (b : Book) (more : List Sent) (then_b : Book) → after.bag ≡ s.bag → then_b.sent ≡ b.sent ++ more → WaitsFor p far s b → WaitsFor p far after then_b
 waits_kept p NotYet s after b more then_b same grown waits = tt
 waits_kept p (IsOpening client server) s after b more then_b same grown waits = kept_so s after b more then_b same grown _ waits
 waits_kept p (WasOpened client server) s after b more then_b same grown waits = elim waits [
@@ -650,7 +650,7 @@ module _ (s : State) (k : ℕ) (b : Book) (clean : IsClean s b) where
       clean_of (tick more s) (length b.judged) (note (world_at k s) (move.Tick more) b)
       (given_fine k [] (tick more s) (length b.judged) b clean.apart (omega arith) (omega (arith, clean.marked)))
 
-module _ (p : Coming) (s : State) (k : ℕ) (b : Book) (clean : IsClean s b) where
+module _ (p : Arrival) (s : State) (k : ℕ) (b : Book) (clean : IsClean s b) where
   abbrev Connected : Progress → Type 0
   Connected far = IsClearFor p far (act s move.Connect).state (note (world_at k s) move.Connect b)
 
@@ -667,7 +667,7 @@ module _ (p : Coming) (s : State) (k : ℕ) (b : Book) (clean : IsClean s b) whe
   }
 
 -- a dial is answered, or reaches nobody
-module _ (plan : Plan) (p : Coming) (s : State) (k : ℕ) (b : Book) (clean : IsClean s b) (left : List (List ℕ)) (moment : ℕ) where
+module _ (plan : Plan) (p : Arrival) (s : State) (k : ℕ) (b : Book) (clean : IsClean s b) (left : List (List ℕ)) (moment : ℕ) where
   no_wait : Connected p s k b clean NotYet
   no_wait = record { clean = connect_clean s k b clean; waits = tt }
 

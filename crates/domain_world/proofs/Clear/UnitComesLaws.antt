@@ -29,6 +29,7 @@ use Rattle.channel_events.specs.Marks.{Mark}
 use Rattle.domain_controller.specs.Hearing.{first_talk, served_call}
 use Rattle.domain_controller.specs.Machine.{Desk}
 use Rattle.domain_controller.specs.State.{State as ControllerState}
+use Rattle.domain_controller.specs.Trusting.{no_trusting}
 use Rattle.domain_controller.specs.Step.{first_desk, step_of as controller_step_of}
 use Rattle.controller_calls.specs.declared.calls.ControllerCall.{ControllerCall}
 use Rattle.controller_calls.specs.declared.state.Computers.{Computers}
@@ -48,13 +49,13 @@ use Rattle.world_moves.specs.declared.links.Route.{Route}
 use Rattle.world_moves.specs.declared.links.Route.TheVariants.{ToController}
 use Rattle.world_moves.specs.declared.moves.Move.TheVariants as move
 use Rattle.world_moves.specs.declared.state.State.{State}
-use Rattle.world_moves.specs.Acting.{Heard, done, sent_if, unit_on}
+use Rattle.world_moves.specs.Acting.{AfterHearing, done, sent_if, unit_on}
 use Rattle.world_moves.specs.Bag.{first_waiting}
 use Rattle.world_moves.specs.Ends.{EndStates}
 use Rattle.world_moves.specs.Links.{OpenMap}
 use Rattle.world_moves.specs.MemberPlans.{but_secret}
 use Rattle.world_moves.specs.Moving.{connect, end_of_peer, settle, start}
-use Rattle.domain_world.specs.Past.{Coming, answers_of, any_clash, at_controller, controller_number, controller_of_plan, is_sent_on, judged_of, note, note_at, note_client, note_controller, note_member, numbers_on, onto, controller_asked}
+use Rattle.domain_world.specs.Past.{Delivery, any_clash, at_controller, controller_number, controller_of_plan, is_sent_on, judged_of, note, note_answers, note_at, note_client, note_controller, note_member, numbers_on, onto, controller_asked}
 use Rattle.logon_steps.specs.ControllerTurns.{controller_at, one_link, turn_link}
 use Rattle.logon_steps.specs.MemberLinks.{one_link as client_link}
 use Rattle.logon_steps.specs.MemberTurns.{logons_keeping, member_at, on_turn}
@@ -68,7 +69,7 @@ use Rattle.logon_steps.proofs.TurningLaws.{ComesAtOnce, request_comes, response_
 use Rattle.logon_runs.specs.Runs.{connects, goes}
 use Rattle.logon_runs.specs.Scenes.LinkScenes.{Meeting, meeting_scene, resting, unit_up}
 use Rattle.logon_runs.specs.Scenes.Scene.{HasFirst, Scene, Shows}
-use Rattle.logon_runs.specs.Scenes.TurnScenes.{IsBetween, Turn, dial_scene, turn_scene, unit_back, unit_there, waiting_scene}
+use Rattle.logon_runs.specs.Scenes.TurnScenes.{IsBetween, TurnScene, dial_scene, turn_scene, unit_back, unit_there, waiting_scene}
 use Rattle.logon_runs.specs.Scenes.WaitingUnits.{after_hearing, with_controller_at, with_member_at}
 use Rattle.logon_runs.proofs.Scenes.LinkSceneLaws.{heard_up}
 use Rattle.logon_runs.proofs.Scenes.TurnSceneLaws.{heard_back, heard_there}
@@ -76,6 +77,7 @@ use Rattle.logon_runs.proofs.Scenes.WaitingLaws.{waiting_comes}
 use Rattle.domain_world.proofs.Completeness.HeardOnceLaws.{ComeTo, IsHeardAs, answer_by, bind_answers, heard_answers, turn_hears}
 use Rattle.domain_world.proofs.Clear.NotedLaws.{AreOwn, Fine, Leads, Waits, Written, client_fine, controller_fine, given_fine, grows, member_fine, world_at}
 use Rattle.domain_world.proofs.Completeness.UnitNotedLaws.{Came, comes_so, coming, state_then}
+use Rattle.domain_world.proofs.Frames.AloneNoteLaws.{alone_answers as answers_of, answers_alike, note_controller_alone}
 use Rattle.domain_world.proofs.Moves.MemberPlanLaws.{controller_but_secret}
 use Rattle.domain_world.proofs.Clear.NotedOnLaws.{came_fine, onward_waits, written_few}
 use Rattle.domain_world.proofs.Clear.TakenOnceLaws.{asks_notes, own_notes, response_own, rests_quiet, waits_quiet}
@@ -97,15 +99,17 @@ pub record HasWritten (s : State) (unit : BagUnit) (later : List BagUnit) (end :
   pub fine : Fine (goes s) count (note (world_at k s) move.Onward b)
 
 controller_comes : (s : State) (unit : BagUnit) (later : List BagUnit) (at : ℕ) (came : Came s unit later (Controller at)) (c : ControllerState) → slice_get s.ends.controllers at ≡ Some c →
-    (k count total : ℕ) (b : Book) → Fine s count b → any_clash (answers_of at c (coming k came.number unit) unit.bytes (settle came.number s)) (Some came.number) b.sent ≡ false →
+    c.trusting ≡ no_trusting → (k count total : ℕ) (b : Book) → Fine s count b → any_clash (answers_of at c (coming k came.number unit) unit.bytes (settle came.number s)) (Some came.number) b.sent ≡ false →
     ((numbers : List ℕ) → length (judged_of (answers_of at c (coming k came.number unit) unit.bytes (settle came.number s)) numbers) + count ≤ total) →
     HasWritten s unit later (Controller at) came k unit.link true total (answered_marks (answers_of at c (coming k came.number unit) unit.bytes (settle came.number s))) b
-controller_comes s unit later at came c found k count total b fine own judged =
+controller_comes s unit later at came c found nobody k count total b fine own judged =
     let s1 : State = settle came.number s in
-    let w : Coming = coming k came.number unit in
+    let w : Delivery = coming k came.number unit in
     let after : State = state_then (Controller at) unit came.number s in
-    let now : Book = note_controller (Some c) at w unit.bytes s1 after b in
-    let is : note_at (Some (Controller at)) w unit.bytes s1 after b ≡ now = ap (λ (f : Option ControllerState). note_controller f at w unit.bytes s1 after b) found in
+    let now : Book = note_controller_alone (Some c) at w unit.bytes s1 after b in
+    let is : note_at (Some (Controller at)) w unit.bytes s1 after b ≡ now =
+    ap (λ (f : Option ControllerState). note_controller f at w unit.bytes s1 after b) found
+    ∙ ap (λ (answers : List Answered). note_answers answers w s1 after b) (answers_alike at c w unit.bytes s1 nobody) in
     let written : Written k unit.link true s1 after total (answered_marks (answers_of at c w unit.bytes s1)) b now =
     controller_fine c at w unit.bytes s1 after count total b fine.apart fine.few own (judged (numbers_on unit.link true s1.bag after.bag)) in
     record {
@@ -122,7 +126,7 @@ member_comes : (s : State) (unit : BagUnit) (later : List BagUnit) (at : ℕ) (c
     HasWritten s unit later (Member at) came k unit.link false count (turn_marks (map (turn_note controller) (turn_units m unit.link unit.bytes s.moment s.chances.left))) b
 member_comes s unit later at came m found controller asked k count b fine own =
     let s1 : State = settle came.number s in
-    let w : Coming = coming k came.number unit in
+    let w : Delivery = coming k came.number unit in
     let after : State = state_then (Member at) unit came.number s in
     let now : Book = note_member (Some m) at w unit.bytes s1 after b in
     let marks : List Mark = turn_marks (map (turn_note controller) (turn_units m unit.link unit.bytes s.moment s.chances.left)) in
@@ -138,7 +142,7 @@ member_comes s unit later at came m found controller asked k count b fine own =
 pub client_comes : (s : State) (unit : BagUnit) (later : List BagUnit) (at count : ℕ) → Came s unit later (Client at) → Leads s move.Onward (Fine s count) (Fine (goes s) count)
 client_comes s unit later at count came k b fine =
     let s1 : State = settle came.number s in
-    let w : Coming = coming k came.number unit in
+    let w : Delivery = coming k came.number unit in
     let now : Book = note_client (slice_get s.ends.clients at) at w unit.bytes s1 b in
     let same_so = client_fine (slice_get s.ends.clients at) at w unit.bytes s1 b in
     came_fine s unit later (Client at) came k count b now refl (same_so.0 ∙ fine.apart) (omega (arith, fine.few, ap (λ (judged : _). length judged) same_so.1))
@@ -165,15 +169,15 @@ bag_text end ends left link member controller text how bytes s made =
     ∙ ap (λ (bag : List BagUnit). (bag ++ []) ++ unit_on (ToController member controller) end link bytes ∷ []) (append-nil s.bag)
     ∙ ap (λ (bag : List BagUnit). bag ++ unit_on (ToController member controller) end link bytes ∷ []) (append-nil s.bag)
 
-on_there : (t : Turn) (bytes : List ℕ) → is_sent_on t.link false (unit_on (ToController t.at_member t.at_controller) (Member t.at_member) t.link bytes) ≡ true
+on_there : (t : TurnScene) (bytes : List ℕ) → is_sent_on t.link false (unit_on (ToController t.at_member t.at_controller) (Member t.at_member) t.link bytes) ≡ true
 on_there t bytes = ap (λ (here : Bool). here && true) (same t.link)
 
-on_back : (t : Turn) (bytes : List ℕ) → is_sent_on t.link true (unit_on (ToController t.at_member t.at_controller) (Controller t.at_controller) t.link bytes) ≡ true
+on_back : (t : TurnScene) (bytes : List ℕ) → is_sent_on t.link true (unit_on (ToController t.at_member t.at_controller) (Controller t.at_controller) t.link bytes) ≡ true
 on_back t bytes = ap₂ (λ (here back : Bool). here && back) (same t.link) (same t.at_controller)
 
 -- ---- the bind
 
-pub bind_leads : (s : State) (t : Turn) (next number : ℕ) (what : Step) (computers : Computers) (left : List (List ℕ)) (moment count : ℕ) → IsBetween t → number < 2 ^ 32 →
+pub bind_leads : (s : State) (t : TurnScene) (next number : ℕ) (what : Step) (computers : Computers) (left : List (List ℕ)) (moment count : ℕ) → IsBetween t → number < 2 ^ 32 →
     Shows s (turn_scene t next number what computers (one_link t.link first_talk) (unit_there t (written (bind_of netlogon_syntax number)) ∷ []) left moment) →
     Leads s move.Onward (Fine s count) (Fine (goes s) count)
 bind_leads s t next number what computers left moment count between below shows k b fine =
@@ -182,30 +186,30 @@ bind_leads s t next number what computers left moment count between below shows 
     let c : ControllerState = controller_at t.table t.name computers (one_link t.link first_talk) in
     let came : Came s unit [] (Controller t.at_controller) =
     comes_so s _ unit [] (Controller t.at_controller) shows (heard_there t bytes next number what computers (one_link t.link first_talk) left moment between (unit_comes (bind_of netlogon_syntax number) (turn_bind_sends number below))) in
-    let w : Coming = coming k came.number unit in
+    let w : Delivery = coming k came.number unit in
     let answers : answers_of t.at_controller c w bytes (settle came.number s) ≡ plain ∷ [] =
     ap₂ (λ (now : ℕ) (l : List (List ℕ)). map (answer_on t.link (at_controller t.at_controller c w s)) (units_of_controller c t.link bytes now l)) shows.moment shows.left
     ∙ bind_answers t.table t.name computers t.link moment number (at_controller t.at_controller c w s) left _ below
     (ap (λ (stepped : Stepped ControllerState). stepped.answer) (controllers_step.bound t.table t.name computers t.link moment number left below)) in
-    (controller_comes s unit [] t.at_controller came c shows.controller k count count b fine
+    (controller_comes s unit [] t.at_controller came c shows.controller refl k count count b fine
     (ap (λ (all : List Answered). any_clash all (Some came.number) b.sent) answers)
     (λ numbers. omega (arith, ap (λ (all : List Answered). length (judged_of all numbers)) answers))).fine
 
 -- ---- the answer to it
 
 -- the member's plan, but for the secret, names the controller
-pub record Names (s : State) (t : Turn) : Type 0 where
+pub record Names (s : State) (t : TurnScene) : Type 0 where
   pub plan : slice_get (map but_secret s.member_plans) t.at_member ≡ Some (but_secret t.plan)
   pub reach : end_of_peer t.plan.controller s.ends ≡ Some (Controller t.at_controller)
 
-pub named_so : (s : State) (t : Turn) → Names s t → controller_asked (OfMember t.at_member) s ≡ t.at_controller
+pub named_so : (s : State) (t : TurnScene) → Names s t → controller_asked (OfMember t.at_member) s ≡ t.at_controller
 named_so s t names =
     sym (controller_but_secret s.member_plans t.at_member s.ends)
     ∙ ap (λ (plan : _). controller_of_plan plan s.ends) names.plan
     ∙ ap (λ (end : Option EndId). controller_number end (length s.ends.controllers)) names.reach
 
 -- what the turn's channel is
-abbrev pub channel_in_turn : Turn → ℕ → ℕ → Step → Requester
+abbrev pub channel_in_turn : TurnScene → ℕ → ℕ → Step → Requester
 channel_in_turn t next number what = (logons_keeping t.plan t.caller t.how t.info t.place next number what t.asked).channel
 
 -- fine, and a unit that was made for that channel waits
@@ -214,7 +218,7 @@ pub record FineAnd (s : State) (count : ℕ) (channel : Option ChannelIdentity) 
   pub waits : Waits s channel b
 
 -- whichever call then goes out, with that mark
-pub asks_lead : (s : State) (t : Turn) (next number : ℕ) (what reply : Step) (frames : List (List ℕ)) (sent : List ℕ) (computers : Computers) (left : List (List ℕ)) (moment count : ℕ) (mark : Mark) (called : Option ℕ) →
+pub asks_lead : (s : State) (t : TurnScene) (next number : ℕ) (what reply : Step) (frames : List (List ℕ)) (sent : List ℕ) (computers : Computers) (left : List (List ℕ)) (moment count : ℕ) (mark : Mark) (called : Option ℕ) →
     IsBetween t → number < 2 ^ 32 → Names s t →
     take_of (channel_in_turn t next number what) (turn_ack number) ≡ record { taken = taken.Next tt frames; state = wait_for (channel_in_turn t next number what) t.place reply } →
     member_step_of (member_at (logons_keeping t.plan t.caller t.how t.info t.place next number what t.asked) t.accepted (on_turn t.link)) (event.Bytes t.link (written (turn_ack number))) moment left
@@ -246,7 +250,7 @@ asks_lead s t next number what reply frames sent computers left moment count mar
     (ap₂ (λ (now : ℕ) (l : List (List ℕ)). member_step_of m (event.Bytes t.link bytes) now l) shows.moment shows.left
     ∙ steps
     ∙ ap (λ (l : List (List ℕ)). whole_step l l sends later) (sym shows.left)) in
-    let bag = ap (λ (h : Heard). (done end h).state.bag) heard
+    let bag = ap (λ (h : AfterHearing). (done end h).state.bag) heard
     ∙ bag_sent end (with_member_at t.at_member later s1.ends) s.chances.left t.link t.at_member t.at_controller sent s1
     (ap (λ (links : List Route). slice_get links t.link) shows.links ∙ between.route) in
     record {
@@ -256,7 +260,7 @@ asks_lead s t next number what reply frames sent computers left moment count mar
           bag refl (on_there t sent);
     }
 
-pub ack_leads : (s : State) (t : Turn) (next number : ℕ) (c : Call) (computers : Computers) (left : List (List ℕ)) (moment count : ℕ) (mark : Mark) (called : Option ℕ) → IsBetween t → number < 2 ^ 32 → Names s t →
+pub ack_leads : (s : State) (t : TurnScene) (next number : ℕ) (c : Call) (computers : Computers) (left : List (List ℕ)) (moment count : ℕ) (mark : Mark) (called : Option ℕ) → IsBetween t → number < 2 ^ 32 → Names s t →
     asked_note (Some (step.Reply (question_of c))) t.how t.at_controller (channel_in_turn t next number (step.Bind c)) (wait_for (channel_in_turn t next number (step.Bind c)) t.place (step.Reply (question_of c))) ≡ request_note mark called →
     Shows s (turn_scene t next number (step.Bind c) computers (turn_link t.link) (unit_back t (written (turn_ack number)) ∷ []) left moment) →
     Leads s move.Onward (Fine s count) (FineAnd (goes s) count (mark_channel mark))
@@ -265,7 +269,7 @@ ack_leads s t next number c computers left moment count mark called between belo
     (turns_go_through.takes.ack (channel_in_turn t next number (step.Bind c)) number t.place c)
     (turns_step.bound t.plan t.caller t.how t.info t.place next number t.link moment c t.asked t.accepted left below) note_is shows
 
-pub set_ack_leads : (s : State) (t : Turn) (next number : ℕ) (c : SetCall) (computers : Computers) (left : List (List ℕ)) (moment count : ℕ) (mark : Mark) (called : Option ℕ) → IsBetween t → number < 2 ^ 32 → Names s t →
+pub set_ack_leads : (s : State) (t : TurnScene) (next number : ℕ) (c : SetCall) (computers : Computers) (left : List (List ℕ)) (moment count : ℕ) (mark : Mark) (called : Option ℕ) → IsBetween t → number < 2 ^ 32 → Names s t →
     asked_note (Some (step.Set set_step.Reply)) t.how t.at_controller (channel_in_turn t next number (step.Set (set_step.Bind c)))
     (wait_for (channel_in_turn t next number (step.Set (set_step.Bind c))) t.place (step.Set set_step.Reply)) ≡ request_note mark called →
     Shows s (turn_scene t next number (step.Set (set_step.Bind c)) computers (turn_link t.link) (unit_back t (written (turn_ack number)) ∷ []) left moment) →
@@ -278,35 +282,35 @@ set_ack_leads s t next number c computers left moment count mark called between 
 -- ---- the call
 
 -- where the controller hears that, and its desk then
-abbrev pub where_by : State → Turn → List ℕ → Computers → ℕ → ℕ → Where
+abbrev pub where_by : State → TurnScene → List ℕ → Computers → ℕ → ℕ → Where
 where_by s t bytes computers k unit = at_controller t.at_controller (controller_at t.table t.name computers (turn_link t.link)) (coming k unit (unit_there t bytes)) s
 
-abbrev pub where_in_turn : State → Turn → ℕ → Call → Computers → ℕ → ℕ → Where
+abbrev pub where_in_turn : State → TurnScene → ℕ → Call → Computers → ℕ → ℕ → Where
 where_in_turn s t number c computers k unit = where_by s t (bytes_of_call (turn_request number c) 5840) computers k unit
 
-abbrev pub desk_in_turn : Turn → Computers → Desk
+abbrev pub desk_in_turn : TurnScene → Computers → Desk
 desk_in_turn t computers = first_desk t.table (record { computers = computers; links = turn_link t.link })
 
 -- what the controller makes of it
-abbrev pub answer_to : State → Turn → ℕ → RpcUnit → ControllerCall → Computers → ℕ → ℕ → List (List ℕ) → ℕ → Answered
+abbrev pub answer_to : State → TurnScene → ℕ → RpcUnit → ControllerCall → Computers → ℕ → ℕ → List (List ℕ) → ℕ → Answered
 answer_to s t number request c computers k unit left moment =
     answer_by t.name moment t.link number c (where_by s t (bytes_of_call request 5840) computers k unit) (desk_in_turn t computers) left
 
-abbrev pub answer_in_turn : State → Turn → ℕ → Call → Computers → ℕ → ℕ → List (List ℕ) → ℕ → Answered
+abbrev pub answer_in_turn : State → TurnScene → ℕ → Call → Computers → ℕ → ℕ → List (List ℕ) → ℕ → Answered
 answer_in_turn s t number c computers k unit left moment = answer_to s t number (turn_request number c) (served_call c) computers k unit left moment
 
-pub record CalledBy (s : State) (t : Turn) (number : ℕ) (request : RpcUnit) (c : ControllerCall) (computers : Computers) (k total : ℕ) (left : List (List ℕ)) (moment : ℕ) (b : Book) : Type 0 where
+pub record CalledBy (s : State) (t : TurnScene) (number : ℕ) (request : RpcUnit) (c : ControllerCall) (computers : Computers) (k total : ℕ) (left : List (List ℕ)) (moment : ℕ) (b : Book) : Type 0 where
   pub came : Came s (unit_there t (bytes_of_call request 5840)) [] (Controller t.at_controller)
   pub has : HasWritten s (unit_there t (bytes_of_call request 5840)) [] (Controller t.at_controller) came k t.link true total
       (answered_marks (answer_to s t number request c computers k came.number left moment ∷ [])) b
   pub numbers : List ℕ
   pub judged : (note (world_at k s) move.Onward b).judged ≡ onto (judged_of (answer_to s t number request c computers k came.number left moment ∷ []) numbers) b.judged
 
-abbrev pub Called : (s : State) (t : Turn) (number : ℕ) (c : Call) (computers : Computers) (k total : ℕ) (left : List (List ℕ)) (moment : ℕ) (b : Book) → Type 0
+abbrev pub Called : (s : State) (t : TurnScene) (number : ℕ) (c : Call) (computers : Computers) (k total : ℕ) (left : List (List ℕ)) (moment : ℕ) (b : Book) → Type 0
 Called s t number c computers k total left moment b = CalledBy s t number (turn_request number c) (served_call c) computers k total left moment b
 
 -- whichever call it is
-module _ (s : State) (t : Turn) (next number : ℕ) (what : Step) (request : RpcUnit) (c : ControllerCall) (computers : Computers) (left rest : List (List ℕ)) (moment : ℕ) (between : IsBetween t)
+module _ (s : State) (t : TurnScene) (next number : ℕ) (what : Step) (request : RpcUnit) (c : ControllerCall) (computers : Computers) (left rest : List (List ℕ)) (moment : ℕ) (between : IsBetween t)
     (shows : Shows s (turn_scene t next number what computers (turn_link t.link) (unit_there t (bytes_of_call request 5840) ∷ []) left moment)) where
   abbrev call_bytes : List ℕ
   call_bytes = bytes_of_call request 5840
@@ -323,7 +327,7 @@ module _ (s : State) (t : Turn) (next number : ℕ) (what : Step) (request : Rpc
       let unit : BagUnit = unit_there t call_bytes in
       let came : Came s unit [] (Controller t.at_controller) =
       comes_so s _ unit [] (Controller t.at_controller) shows (heard_there t call_bytes next number what computers (turn_link t.link) left moment between comes) in
-      let w : Coming = coming k came.number unit in
+      let w : Delivery = coming k came.number unit in
       let s1 : State = settle came.number s in
       let later : State = state_then (Controller t.at_controller) unit came.number s in
       let numbers : List ℕ = numbers_on t.link true s1.bag later.bag in
@@ -334,14 +338,15 @@ module _ (s : State) (t : Turn) (next number : ℕ) (what : Step) (request : Rpc
       (sym (ap₂ (λ (now : ℕ) (l : List (List ℕ)). map (answer_on t.link (at_controller t.at_controller call_at w s)) (units_of_controller call_at t.link call_bytes now l)) shows.moment shows.left))
       (heard_answers t.name moment t.link number request c (at_controller t.at_controller call_at w s) hears t.table computers left actions
       (ap (λ (stepped : Stepped ControllerState). stepped.answer) steps)) in
-      let has = controller_comes s unit [] t.at_controller came call_at shows.controller k count total b fine
+      let has = controller_comes s unit [] t.at_controller came call_at shows.controller refl k count total b fine
       (to.clash (Some came.number) b.sent ∙ ap (λ (here : Bool). here || false) (own came.number came.first))
       (λ numbers. omega (arith, judged came.number numbers, ap (λ (all : _). length all) (to.judged numbers))) in
       record {
         came = came;
         has = subst (λ (marks : List Mark). HasWritten s unit [] (Controller t.at_controller) came k t.link true total marks b) to.marks has;
         numbers = numbers;
-        judged = ap (λ (one : Book). one.judged) (came.noted k b ∙ ap (λ (f : Option ControllerState). note_controller f t.at_controller w call_bytes s1 later b) shows.controller)
+        judged = ap (λ (one : Book). one.judged) (came.noted k b ∙ ap (λ (f : Option ControllerState). note_controller f t.at_controller w call_bytes s1 later b) shows.controller
+            ∙ ap (λ (all : List Answered). note_answers all w s1 later b) (answers_alike t.at_controller call_at w call_bytes s1 refl))
             ∙ ap (λ (js : List Judging). onto js b.judged) (to.judged numbers);
       }
 
@@ -350,7 +355,7 @@ module _ (s : State) (t : Turn) (next number : ℕ) (what : Step) (request : Rpc
       (state_then (Controller t.at_controller) (unit_there t call_bytes) n s).bag
       ≡ (done (Controller t.at_controller) (after_hearing (with_controller_at t.at_controller after s.ends) rest actions (settle n s))).state.bag
   call_done actions after n steps =
-      ap (λ (h : Heard). (done (Controller t.at_controller) h).state.bag)
+      ap (λ (h : AfterHearing). (done (Controller t.at_controller) h).state.bag)
       (waiting_comes.controller (settle n s) t.at_controller call_at after (event.Bytes t.link call_bytes) rest actions shows.controller shows.alone
       (ap₂ (λ (now : ℕ) (l : List (List ℕ)). controller_step_of call_at (event.Bytes t.link call_bytes) now l) shows.moment shows.left ∙ steps
       ∙ ap (λ (l : List (List ℕ)). whole_step l rest actions after) (sym shows.left)))
@@ -382,7 +387,7 @@ module _ (s : State) (t : Turn) (next number : ℕ) (what : Step) (request : Rpc
       call_done (action.Keep text ∷ action.Judged how ∷ action.Send t.link bytes ∷ []) after n steps
       ∙ bag_text (Controller t.at_controller) (with_controller_at t.at_controller after s.ends) rest t.link t.at_member t.at_controller text how bytes (settle n s) route_so
 
-pub call_comes : (s : State) (t : Turn) (next number : ℕ) (what : Step) (c : Call) (computers : Computers) (left rest : List (List ℕ)) (moment count total : ℕ) (actions : List Action) (after : ControllerState) →
+pub call_comes : (s : State) (t : TurnScene) (next number : ℕ) (what : Step) (c : Call) (computers : Computers) (left rest : List (List ℕ)) (moment count total : ℕ) (actions : List Action) (after : ControllerState) →
     IsBetween t → number < 2 ^ 32 → IsTurnCall c →
     controller_step_of (controller_at t.table t.name computers (turn_link t.link)) (event.Bytes t.link (bytes_of_call (turn_request number c) 5840)) moment left ≡ whole_step left rest actions after →
     Shows s (turn_scene t next number what computers (turn_link t.link) (unit_there t (bytes_of_call (turn_request number c) 5840) ∷ []) left moment) → (k : ℕ) (b : Book) → Fine s count b →
@@ -394,7 +399,7 @@ call_comes s t next number what c computers left rest moment count total actions
     k b fine own judged
 
 -- and the reply waits then, with its mark
-pub reply_waits_by : (s : State) (t : Turn) (number : ℕ) (request : RpcUnit) (c : ControllerCall) (computers : Computers) (k count total : ℕ) (left : List (List ℕ)) (moment : ℕ) (b : Book) (bytes : List ℕ)
+pub reply_waits_by : (s : State) (t : TurnScene) (number : ℕ) (request : RpcUnit) (c : ControllerCall) (computers : Computers) (k count total : ℕ) (left : List (List ℕ)) (moment : ℕ) (b : Book) (bytes : List ℕ)
     (channel : Option ChannelIdentity) → Fine s count b → (called : CalledBy s t number request c computers k total left moment b) → (mark : Mark) →
     answered_marks (answer_to s t number request c computers k called.came.number left moment ∷ []) ≡ mark ∷ [] → mark_channel mark ≡ channel →
     (state_then (Controller t.at_controller) (unit_there t (bytes_of_call request 5840)) called.came.number s).bag
@@ -411,7 +416,7 @@ reply_waits_by s t number request c computers k count total left moment b bytes 
           bag refl (on_back t bytes));
     }
 
-pub reply_waits : (s : State) (t : Turn) (number : ℕ) (c : Call) (computers : Computers) (k count total : ℕ) (left : List (List ℕ)) (moment : ℕ) (b : Book) (bytes : List ℕ) (channel : Option ChannelIdentity) →
+pub reply_waits : (s : State) (t : TurnScene) (number : ℕ) (c : Call) (computers : Computers) (k count total : ℕ) (left : List (List ℕ)) (moment : ℕ) (b : Book) (bytes : List ℕ) (channel : Option ChannelIdentity) →
     Fine s count b → (called : Called s t number c computers k total left moment b) → (mark : Mark) → answered_marks (answer_in_turn s t number c computers k called.came.number left moment ∷ []) ≡ mark ∷ [] →
     mark_channel mark ≡ channel →
     (state_then (Controller t.at_controller) (unit_there t (bytes_of_call (turn_request number c) 5840)) called.came.number s).bag
@@ -421,7 +426,7 @@ reply_waits s t number c computers k count total left moment b bytes channel fin
     reply_waits_by s t number (turn_request number c) (served_call c) computers k count total left moment b bytes channel fine called mark marks made bag
 
 -- the bag then, by what the controller does
-pub replied_bag : (s : State) (t : Turn) (next number : ℕ) (what : Step) (c : Call) (computers : Computers) (left rest : List (List ℕ)) (moment : ℕ) (bytes : List ℕ) (after : ControllerState) (n : ℕ) → IsBetween t →
+pub replied_bag : (s : State) (t : TurnScene) (next number : ℕ) (what : Step) (c : Call) (computers : Computers) (left rest : List (List ℕ)) (moment : ℕ) (bytes : List ℕ) (after : ControllerState) (n : ℕ) → IsBetween t →
     controller_step_of (controller_at t.table t.name computers (turn_link t.link)) (event.Bytes t.link (bytes_of_call (turn_request number c) 5840)) moment left ≡ whole_step left rest (action.Send t.link bytes ∷ []) after →
     Shows s (turn_scene t next number what computers (turn_link t.link) (unit_there t (bytes_of_call (turn_request number c) 5840) ∷ []) left moment) →
     (state_then (Controller t.at_controller) (unit_there t (bytes_of_call (turn_request number c) 5840)) n s).bag
@@ -429,7 +434,7 @@ pub replied_bag : (s : State) (t : Turn) (next number : ℕ) (what : Step) (c : 
 replied_bag s t next number what c computers left rest moment bytes after n between steps shows =
     bag_replied s t next number what (turn_request number c) (served_call c) computers left rest moment between shows bytes after n steps
 
-pub judged_bag : (s : State) (t : Turn) (next number : ℕ) (what : Step) (c : Call) (computers : Computers) (left rest : List (List ℕ)) (moment : ℕ) (how : Judged) (bytes : List ℕ) (after : ControllerState) (n : ℕ) → IsBetween t →
+pub judged_bag : (s : State) (t : TurnScene) (next number : ℕ) (what : Step) (c : Call) (computers : Computers) (left rest : List (List ℕ)) (moment : ℕ) (how : Judged) (bytes : List ℕ) (after : ControllerState) (n : ℕ) → IsBetween t →
     controller_step_of (controller_at t.table t.name computers (turn_link t.link)) (event.Bytes t.link (bytes_of_call (turn_request number c) 5840)) moment left
     ≡ whole_step left rest (action.Judged how ∷ action.Send t.link bytes ∷ []) after →
     Shows s (turn_scene t next number what computers (turn_link t.link) (unit_there t (bytes_of_call (turn_request number c) 5840) ∷ []) left moment) →
@@ -440,7 +445,7 @@ judged_bag s t next number what c computers left rest moment how bytes after n b
 
 -- ---- the reply
 
-pub responses_lead : (s : State) (t : Turn) (next number : ℕ) (what : Step) (response : RpcUnit) (computers : Computers) (left : List (List ℕ)) (moment count : ℕ) → IsBetween t →
+pub responses_lead : (s : State) (t : TurnScene) (next number : ℕ) (what : Step) (response : RpcUnit) (computers : Computers) (left : List (List ℕ)) (moment count : ℕ) → IsBetween t →
     CanBeSent response 5840 → length (stub_of response.body) ≤ 65536 → ComesAtOnce (bytes_of_call response 5840) → Names s t →
     Shows s (turn_scene t next number what computers (turn_link t.link) (unit_back t (bytes_of_call response 5840) ∷ []) left moment) → (k : ℕ) (b : Book) → Fine s count b →
     ((unit : ℕ) → first_waiting s.bag ≡ Some unit →
@@ -459,7 +464,7 @@ responses_lead s t next number what response computers left moment count between
     (subst (λ (now : ℕ). AreOwn t.at_controller (Some came.number) b.sent (turn_units m t.link bytes now s.chances.left)) (sym shows.moment)
     (subst (λ (l : List (List ℕ)). AreOwn t.at_controller (Some came.number) b.sent (turn_units m t.link bytes moment l)) (sym shows.left) at_named))).fine
 
-pub reply_leads : (s : State) (t : Turn) (next number : ℕ) (q : Question) (r : Reply) (computers : Computers) (left : List (List ℕ)) (moment count : ℕ) → IsBetween t → number < 2 ^ 32 → IsTurnReply q r → Names s t →
+pub reply_leads : (s : State) (t : TurnScene) (next number : ℕ) (q : Question) (r : Reply) (computers : Computers) (left : List (List ℕ)) (moment count : ℕ) → IsBetween t → number < 2 ^ 32 → IsTurnReply q r → Names s t →
     Shows s (turn_scene t next number (step.Reply q) computers (turn_link t.link) (unit_back t (bytes_of_call (turn_response number r) 5840) ∷ []) left moment) → (k : ℕ) (b : Book) → Fine s count b →
     ((unit : ℕ) → first_waiting s.bag ≡ Some unit →
     clashes (taking_note (Some (take_of (channel_in_turn t next number (step.Reply q)) (turn_response number r))) t.at_controller (channel_in_turn t next number (step.Reply q))).checked (Some unit) b.sent ≡ false) →
@@ -484,14 +489,14 @@ meeting_leads s g how talk bytes later left moment count comes shows =
     quiet_leads s (meeting_scene g how talk (unit_up g bytes ∷ later) left moment) (unit_up g bytes) later count shows (heard_up g how talk bytes later left moment comes)
     (λ now l. rests_quiet (resting g) (client_link g.link talk) g.link now bytes l)
 
-pub waiting_leads : (s : State) (t : Turn) (opened : OpenMap) (how : Standing) (next number : ℕ) (what : Step) (computers : Computers) (unit : BagUnit) (later : List BagUnit) (left : List (List ℕ)) (moment count : ℕ) →
+pub waiting_leads : (s : State) (t : TurnScene) (opened : OpenMap) (how : Standing) (next number : ℕ) (what : Step) (computers : Computers) (unit : BagUnit) (later : List BagUnit) (left : List (List ℕ)) (moment count : ℕ) →
     Shows s (waiting_scene t opened how next number what computers (unit ∷ later) left moment) → HasFirst (waiting_scene t opened how next number what computers (unit ∷ later) left moment) unit later (Member t.at_member) →
     Leads s move.Onward (Fine s count) (Fine (goes s) count)
 waiting_leads s t opened how next number what computers unit later left moment count shows first =
     quiet_leads s (waiting_scene t opened how next number what computers (unit ∷ later) left moment) unit later count shows first
     (λ now l. waits_quiet (logons_keeping t.plan t.caller how t.info t.place next number what t.asked) t.accepted number unit.link now unit.bytes l)
 
-pub dial_leads : (s : State) (t : Turn) (opened : OpenMap) (how : Standing) (next number : ℕ) (c : Call) (computers : Computers) (unit : BagUnit) (later : List BagUnit) (left : List (List ℕ)) (moment count : ℕ) →
+pub dial_leads : (s : State) (t : TurnScene) (opened : OpenMap) (how : Standing) (next number : ℕ) (c : Call) (computers : Computers) (unit : BagUnit) (later : List BagUnit) (left : List (List ℕ)) (moment count : ℕ) →
     Shows s (dial_scene t opened how next number c computers (unit ∷ later) left moment) → HasFirst (dial_scene t opened how next number c computers (unit ∷ later) left moment) unit later (Member t.at_member) →
     Leads s move.Onward (Fine s count) (Fine (goes s) count)
 dial_leads s t opened how next number c computers unit later left moment count shows first =

@@ -9,11 +9,12 @@ use Rattle.world_moves.specs.declared.links.Route.{Route}
 use Rattle.world_moves.specs.declared.moves.Move.{Move}
 use Rattle.world_moves.specs.declared.state.State.{State}
 use Rattle.world_moves.specs.World.{World, run}
-use Rattle.domain_world.specs.Past.{Coming, answers_of, book, judged_of, note_at, numbers_on, told_in}
+use Rattle.domain_world.specs.Past.{Delivery, answers_of, book, judged_of, note_at, numbers_on, told_in}
 use Rattle.domain_world.proofs.Frames.AloneFrameLaws.{StandsAlone}
 use Rattle.domain_world.proofs.Frames.BookFrameLaws.{book_stays}
 use Rattle.domain_world.proofs.Frames.FrameLaws.{Fact, StaysWritten, later_stays}
-use Rattle.domain_world.proofs.Frames.EndNoteLaws.{book_by, bytes_told, judged_so}
+use Rattle.domain_world.proofs.Frames.EndNoteLaws.{judged_so}
+use Rattle.domain_world.proofs.Frames.EveryStepLaws.{bytes_told, every_book as book_by}
 use Rattle.domain_world.proofs.Judgements.ReplyLaws.{one_older}
 
 -- ---- one of several
@@ -28,7 +29,7 @@ told_stays P moves w b stands one =
 
 -- ---- what was judged
 
-bytes_judged : (P : Judging → Type 0) (end : EndId) (w : Coming) (piece : List ℕ) (s after : State) (b : Book) → OneOf P b.judged → OneOf P (note_at (Some end) w piece s after b).judged
+bytes_judged : (P : Judging → Type 0) (end : EndId) (w : Delivery) (piece : List ℕ) (s after : State) (b : Book) → OneOf P b.judged → OneOf P (note_at (Some end) w piece s after b).judged
 bytes_judged P end w piece s after b one =
     book_by (λ (which : EndId) (now : Book). OneOf P now.judged) w piece s after b (λ which. one)
     (λ at c is. one_older P (judged_of (answers_of at c w piece s) (numbers_on w.link true s.bag after.bag)) b.judged one)

@@ -52,15 +52,16 @@ use Rattle.logon_steps.proofs.CallingLaws.{calls_can_go}
 use Rattle.logon_steps.proofs.ControllerTurnLaws.{controllers_step}
 use Rattle.logon_steps.proofs.GrantingLaws.{logons_are_granted}
 use Rattle.logon_steps.proofs.TurningLaws.{request_comes}
-use Rattle.logon_runs.specs.Phases.{Calls, Coming as LogonComing, Fits, HasUserIn, IsAimed, IsKnown, IsTurning, MayLogOnAt, Third, TurnAt, WhoAsked, own, scene_of, standing_for, turn_before, turn_on}
-use Rattle.logon_runs.specs.Runs.{Asked, info_asked, message_for}
+use Rattle.logon_runs.specs.Phases.{Calls, Arrival, Fits, HasUserIn, IsAimed, IsKnown, IsTurning, MayLogOnAt, Third, TurnAt, WhoAsked, own, scene_of, standing_for, turn_before, turn_on}
+use Rattle.logon_runs.specs.Runs.{ClientAnswer, info_asked, message_for}
 use Rattle.logon_runs.specs.Scenes.Scene.{Shows}
-use Rattle.logon_runs.specs.Scenes.TurnScenes.{IsBetween, Turn, unit_there}
+use Rattle.logon_runs.specs.Scenes.TurnScenes.{IsBetween, TurnScene, unit_there}
 use Rattle.logon_runs.proofs.Scenes.TurnSceneLaws.{heard_there}
 use Rattle.logon_runs.proofs.Scenes.TwoLinkLaws.{turns_have_links}
 use Rattle.domain_world.specs.Claims.{TravelsAsZeros, key_bytes}
 use Rattle.domain_world.specs.Claims.Completeness.{IsMadeForClient}
-use Rattle.domain_world.specs.Past.{Coming, answers_of, at_controller, first_of, judged_of, note, note_controller, numbers_on, onto, with_reply}
+use Rattle.domain_world.specs.Past.{Delivery, at_controller, first_of, judged_of, note, note_answers, note_controller, numbers_on, onto, with_reply}
+use Rattle.domain_world.proofs.Frames.AloneNoteLaws.{alone_answers as answers_of, answers_alike}
 use Rattle.domain_world.proofs.Completeness.HeardOnceLaws.{ComeTo, controller_answers, turn_answer, turn_line}
 use Rattle.domain_world.proofs.Completeness.UnitNotedLaws.{Came, comes_so, coming, state_then}
 
@@ -80,7 +81,7 @@ newest P one j numbers older is holds =
 
 -- a network logon that is made for the client, and passed with status 0, on a key that travels as zeros where this one
 -- does
-pub record IsGrant (p : LogonComing) (key base : List ℕ) (j : Judging) : Type 0 where
+pub record IsGrant (p : Arrival) (key base : List ℕ) (j : Judging) : Type 0 where
   pub how : j.how ≡ Some (judged.Passed 0)
   pub call : LogonCall
   pub asks : j.asked ≡ Network call
@@ -98,7 +99,7 @@ logon_value caller o timestamp info = record {
   validation = level_asked;
 }
 
-module _ (p : LogonComing) (a : Asked) (v : TurnAt) (o c : SecureChannelState) (timestamp moment : ℕ) (left : List (List ℕ)) (known : IsKnown p) (user : HasUserIn p v.table) (is : IsTurning p a v)
+module _ (p : Arrival) (a : ClientAnswer) (v : TurnAt) (o c : SecureChannelState) (timestamp moment : ℕ) (left : List (List ℕ)) (known : IsKnown p) (user : HasUserIn p v.table) (is : IsTurning p a v)
     (aimed : IsAimed p v (Third o c timestamp)) (may : MayLogOn v.table (info_told p.meeting.task) moment) where
   abbrev info : NetworkInfo
   info = info_asked (own p) a
@@ -158,13 +159,13 @@ module _ (p : LogonComing) (a : Asked) (v : TurnAt) (o c : SecureChannelState) (
 
 -- ---- the move at which it is judged
 
-pub grant_noted : (p : LogonComing) (w : World) (b : Book) (a : Asked) (who : WhoAsked p a) (v : TurnAt) (o c : SecureChannelState) (timestamp : ℕ) (left : List (List ℕ)) (moment : ℕ) → IsKnown p →
+pub grant_noted : (p : Arrival) (w : World) (b : Book) (a : ClientAnswer) (who : WhoAsked p a) (v : TurnAt) (o c : SecureChannelState) (timestamp : ℕ) (left : List (List ℕ)) (moment : ℕ) → IsKnown p →
     HasUserIn p v.table → MayLogOnAt p w.state → Fits p (Calls a who v (Third o c timestamp)) → Shows w.state (scene_of p (Calls a who v (Third o c timestamp)) left moment) →
     OneOf (IsGrant p (key_of_channel o) (base_key p.meeting.task (message_for (own p) a))) (note w move.Onward b).judged
 grant_noted p w b a who v o c timestamp left moment known user may_log fits shows =
     let s : State = w.state in
     let call : Call = logon_call p.meeting.caller o timestamp (info_asked (own p) a) in
-    let t : Turn = turn_on p a who.later (who.sent ∷ []) v (Third o c timestamp) in
+    let t : TurnScene = turn_on p a who.later (who.sent ∷ []) v (Third o c timestamp) in
     let bytes : List ℕ = bytes_of_call (turn_request v.next call) 5840 in
     let unit : BagUnit = unit_there t bytes in
     let at : ℕ = p.meeting.at_controller in
@@ -177,7 +178,7 @@ grant_noted p w b a who v o c timestamp left moment known user may_log fits show
     let came : Came s unit [] (Controller at) =
     comes_so s _ unit [] (Controller at) shows
     (heard_there t bytes (after v.next) v.next (step.Reply question.Logon) v.computers (turn_link (length v.links)) left moment between (request_comes v.next call can)) in
-    let by : Coming = coming w.moves came.number unit in
+    let by : Delivery = coming w.moves came.number unit in
     let s1 : State = settle came.number s in
     let later : State = state_then (Controller at) unit came.number s in
     let where_so : Where = at_controller at there by s1 in
@@ -190,7 +191,8 @@ grant_noted p w b a who v o c timestamp left moment known user may_log fits show
     (controllers_step.judged v.table p.name v.computers (length v.links) moment v.next timestamp p.meeting.caller o c (info_asked (own p) a) left fits.0.next_below can fits.1.1 fits.1.2))) in
     let numbers : List ℕ = numbers_on unit.link true s1.bag later.bag in
     subst (λ (now : Book). OneOf (IsGrant p (key_of_channel o) (base_key p.meeting.task (message_for (own p) a))) now.judged)
-    (sym (came.noted w.moves b ∙ ap (λ (found : Option ControllerState). note_controller found at by bytes s1 later b) shows.controller))
+    (sym (came.noted w.moves b ∙ ap (λ (found : Option ControllerState). note_controller found at by bytes s1 later b) shows.controller
+    ∙ ap (λ (all : List Answered). note_answers all by s1 later b) (answers_alike at there by bytes s1 refl)))
     (subst (λ (js : List Judging). OneOf (IsGrant p (key_of_channel o) (base_key p.meeting.task (message_for (own p) a))) (onto js b.judged)) (sym (to.judged numbers))
     (newest (IsGrant p (key_of_channel o) (base_key p.meeting.task (message_for (own p) a))) one _ numbers b.judged (judging_so p a v o c timestamp moment left known user fits.0 fits.1 may where_so)
     (grant_so p a v o c timestamp moment left known user fits.0 fits.1 may where_so refl)))

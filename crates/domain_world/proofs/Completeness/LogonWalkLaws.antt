@@ -22,9 +22,9 @@ use Rattle.logon_steps.specs.ClientSteps.{client_ended}
 use Rattle.logon_runs.specs.AnyAnswer.AnyLogons.{HasServers}
 use Rattle.logon_runs.specs.Scenes.Others.{IsStepOn, is_onward}
 use Rattle.logon_runs.specs.Rests.{HasEnough}
-use Rattle.logon_runs.specs.Phases.{Aim, ArrivesAt, ComesSoFar, Coming, DrawsFew, First, Fourth, HasUser, HasUserAt, IsKnown, IsOver, IsReached, IsReady, IsUnderWay, LogonPhase, MayLogOnAt, Progress, Second, Third, TurnAt, WasTold, WhoAsked, key_at, own, progress_of, progress_onward, told_of}
+use Rattle.logon_runs.specs.Phases.{Aim, ArrivesAt, ComesSoFar, Arrival, DrawsFew, First, Fourth, HasUser, HasUserAt, IsKnown, IsOver, IsReached, IsReady, IsUnderWay, LogonPhase, MayLogOnAt, Progress, Second, Third, TurnAt, WasTold, WhoAsked, key_at, own, progress_of, progress_onward, told_of}
 use Rattle.logon_runs.specs.Phases.{Acked, Answers, Binds, BindsBefore, BindsHeld, Calls, Challenged, Dials, DialsBefore, DialsHeld, Echoed, Echoes, Granted, Halved, Named, Proved, Sets}
-use Rattle.logon_runs.specs.Runs.{Asked}
+use Rattle.logon_runs.specs.Runs.{ClientAnswer}
 use Rattle.logon_runs.specs.Grants.{KeyArrives}
 use Rattle.logon_runs.proofs.AmongLaws.{reached_so}
 use Rattle.logon_runs.proofs.EnoughLaws.{enough_after, none_drawn, three_from}
@@ -43,13 +43,13 @@ use Rattle.domain_world.proofs.Completeness.PlainLaws.{by_plain, later_starts}
 
 -- ---- a move at which no unit comes
 
-call_still : (p : Coming) (a : Asked) (who : WhoAsked p a) (v : TurnAt) (aim : Aim) (what : Move) → is_onward what ≡ false → ArrivesAt p (Calls a who v aim) what
+call_still : (p : Arrival) (a : ClientAnswer) (who : WhoAsked p a) (v : TurnAt) (aim : Aim) (what : Move) → is_onward what ≡ false → ArrivesAt p (Calls a who v aim) what
 call_still p a who v (First client) what still = tt
 call_still p a who v (Second client server) what still = tt
 call_still p a who v (Third o c timestamp) what still = if_other (is_onward what) (KeyArrives (own p) a o) still
 call_still p a who v (Fourth o c timestamp new) what still = tt
 
-pub still_arrives : (p : Coming) (phase : LogonPhase p) (what : Move) → is_onward what ≡ false → ArrivesAt p phase what
+pub still_arrives : (p : Arrival) (phase : LogonPhase p) (what : Move) → is_onward what ≡ false → ArrivesAt p phase what
 still_arrives p Dials what still = tt
 still_arrives p Binds what still = tt
 still_arrives p (Challenged challenge) what still = tt
@@ -71,17 +71,17 @@ still_arrives p (Echoed a e talk one other back) what still = tt
 -- ---- a move
 
 -- a logon is so far, and what it says is written down
-pub record IsSoFar (p : Coming) (s : State) (b : Book) : Type 0 where
+pub record IsSoFar (p : Arrival) (s : State) (b : Book) : Type 0 where
   pub far : Progress
   pub comes : ComesSoFar p far s
   pub written : IsWritten p far b
 
 -- besides, few challenges were drawn
-record GoesSoFar (p : Coming) (s after : State) (b : Book) : Type 0 where
+record GoesSoFar (p : Arrival) (s after : State) (b : Book) : Type 0 where
   so_far : IsSoFar p after b
   few : DrawsFew s.chances.left after.chances.left
 
-module _ (p : Coming) (w : World) (b : Book) (known : IsKnown p) (user : HasUser p) (ready : IsReady p w.state) (may : MayLogOnAt p w.state) (stands : StandsAlone w.state) where
+module _ (p : Arrival) (w : World) (b : Book) (known : IsKnown p) (user : HasUser p) (ready : IsReady p w.state) (may : MayLogOnAt p w.state) (stands : StandsAlone w.state) where
   onward_goes : IsSafe p (note w move.Onward b) → (at : IsUnderWay p w.state) → IsWritten p (progress_of at.phase) b → GoesSoFar p w.state (act w.state move.Onward).state (note w move.Onward b)
   onward_goes safe at written =
       let asked : HasUserAt p w.state at.phase move.Onward = phases_go_on.has_user p w.state at move.Onward user may in
@@ -132,7 +132,7 @@ module _ (p : Coming) (w : World) (b : Book) (known : IsKnown p) (user : HasUser
       record {
         so_far = record {
           far = WasTold over.asked;
-          comes = inr (later.0, ap (λ (a : Asked). WasTold a) later.1);
+          comes = inr (later.0, ap (λ (a : ClientAnswer). WasTold a) later.1);
           written = written_stays p (WasTold over.asked) what w b stands written;
         };
         few = none_drawn w.state.chances.left (act w.state what).state.chances.left
@@ -146,17 +146,17 @@ module _ (p : Coming) (w : World) (b : Book) (known : IsKnown p) (user : HasUser
 -- ---- the moves
 
 -- at the end of the run the client is in, with its key, and its member told so of the client's own link
-pub record OwnEnds (p : Coming) (moves : List Move) (w : World) (b : Book) : Type 0 where
-  pub asked : Asked
+pub record OwnEnds (p : Arrival) (moves : List Move) (w : World) (b : Book) : Type 0 where
+  pub asked : ClientAnswer
   pub is_in : slice_get (run moves w).state.ends.clients p.meeting.at_client ≡ Some (client_ended p.meeting.task (In (told_of p) (key_at p asked) p.meeting.task.echo))
   pub told : OneOf (IsTold p asked) (book moves w b).told
   pub joined : slice_get (run moves w).state.links (own p).link ≡ Some (ToMember p.meeting.at_client p.meeting.at_member)
 
-pub may_at : (p : Coming) (s : State) → MayLogOnIn p.meeting.at_controller (info_planned p.meeting.task) s → MayLogOnAt p s
+pub may_at : (p : Arrival) (s : State) → MayLogOnIn p.meeting.at_controller (info_planned p.meeting.task) s → MayLogOnAt p s
 may_at p s may =
     subst (λ (info : NetworkInfo). IsSomeAnd (slice_get s.ends.controllers p.meeting.at_controller) (λ (c : ControllerState). MayLogOn c.table info s.moment)) (info_same p.meeting.task) may
 
-module _ (plan : Plan) (is : IsPlan plan) (forms : HasForms plan) (servers : HasServers plan) (p : Coming) (known : IsKnown p) (user : HasUser p) (s0 : State) (started_one : ℕ) where
+module _ (plan : Plan) (is : IsPlan plan) (forms : HasForms plan) (servers : HasServers plan) (p : Arrival) (known : IsKnown p) (user : HasUser p) (s0 : State) (started_one : ℕ) where
   over_ends : (moves : List Move) (w : World) (b : Book) → IsQuiet w → Along plan moves w → Started plan (length moves) s0 started_one w.state →
       AllByRecursion (λ (other : ℕ). p.meeting.at_client ≢ other) (started_in moves (length plan.clients)) → (far : Progress) → ComesSoFar p far w.state → IsWritten p far b → OwnEnds p moves w b
   over_ends moves w b quiet along started apart far (inl at) written = absurd (phases_go_on.waits p w.state at.0 quiet.dials (units_quiet w quiet))

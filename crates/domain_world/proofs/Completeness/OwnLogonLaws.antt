@@ -23,9 +23,9 @@ use Rattle.world_moves.specs.World.{World}
 use Rattle.logon_steps.specs.Calling.{TravelsAsZeros as KeyTravels}
 use Rattle.logon_steps.specs.Granting.{base_key}
 use Rattle.logon_runs.specs.GrantsTold.{TellsIn}
-use Rattle.logon_runs.specs.Phases.{Aim, ArrivesAt, Coming, First, Fits, Fourth, HasUser, HasUserAt, IsAsking, IsKnown, IsOpening, IsSetting, LogonPhase, MayLogOnAt, NotYet, Progress, Second, Third, TurnAt, WasJudged, WasOpened, WasSet, WasTold, WhoAsked, key_at, own, progress_called, progress_of, progress_onward, scene_of}
+use Rattle.logon_runs.specs.Phases.{Aim, ArrivesAt, Arrival, First, Fits, Fourth, HasUser, HasUserAt, IsAsking, IsKnown, IsOpening, IsSetting, LogonPhase, MayLogOnAt, NotYet, Progress, Second, Third, TurnAt, WasJudged, WasOpened, WasSet, WasTold, WhoAsked, key_at, own, progress_called, progress_of, progress_onward, scene_of}
 use Rattle.logon_runs.specs.Phases.{Acked, Answers, Binds, BindsBefore, BindsHeld, Calls, Challenged, Dials, DialsBefore, DialsHeld, Echoed, Echoes, Granted, Halved, Named, Proved, Sets}
-use Rattle.logon_runs.specs.Runs.{Asked, message_for}
+use Rattle.logon_runs.specs.Runs.{ClientAnswer, message_for}
 use Rattle.logon_runs.specs.Scenes.Scene.{Shows}
 use Rattle.logon_runs.proofs.GrantsToldLaws.{grants_tell}
 use Rattle.logon_runs.proofs.Phases.PhaseLaws.{phases_go_on}
@@ -39,11 +39,11 @@ use Rattle.domain_world.proofs.Completeness.JudgedNoteLaws.{IsGrant, grant_noted
 -- ---- what is written down
 
 -- the member told of the client's own link that he is in, with the client's key
-abbrev pub IsTold : Coming → Asked → OutcomeTold → Type 0
+abbrev pub IsTold : Arrival → ClientAnswer → OutcomeTold → Type 0
 IsTold p a told = (told.link ≡ (own p).link) × (told.member ≡ p.meeting.at_member) × (told.outcome ≡ outcome.In p.table.domain p.account.name (key_at p a))
 
 -- of a logon that is so far
-abbrev pub IsWritten : Coming → Progress → Book → Type 0
+abbrev pub IsWritten : Arrival → Progress → Book → Type 0
 IsWritten p NotYet b = Unit {0}
 IsWritten p (IsOpening client server) b = Unit {0}
 IsWritten p (WasOpened client server) b = Unit {0}
@@ -53,7 +53,7 @@ IsWritten p (IsAsking o) b = Unit {0}
 IsWritten p (WasJudged a o) b = OneOf (IsGrant p (key_of_channel o) (base_key p.meeting.task (message_for (own p) a))) b.judged
 IsWritten p (WasTold a) b = OneOf (IsTold p a) b.told
 
-pub written_stays : (p : Coming) (far : Progress) (what : Move) (w : World) (b : Book) → StandsAlone w.state → IsWritten p far b → IsWritten p far (note w what b)
+pub written_stays : (p : Arrival) (far : Progress) (what : Move) (w : World) (b : Book) → StandsAlone w.state → IsWritten p far b → IsWritten p far (note w what b)
 written_stays p NotYet what w b stands is = tt
 written_stays p (IsOpening client server) what w b stands is = tt
 written_stays p (WasOpened client server) what w b stands is = tt
@@ -64,17 +64,17 @@ written_stays p (WasJudged a o) what w b stands is = judged_stays (IsGrant p (ke
 written_stays p (WasTold a) what w b stands is = told_stays (IsTold p a) (what ∷ []) w b stands is
 
 -- no key of its own calls that was granted travels as zeros
-abbrev pub IsSafe : Coming → Book → Type 0
+abbrev pub IsSafe : Arrival → Book → Type 0
 IsSafe p b = (key base : List ℕ) → OneOf (IsGrant p key base) b.judged → KeyTravels key base → ⊥
 
 -- of the whole run, so by then
 abbrev pub AreSafeFor : ClientPlan → List ℕ → ℕ → Book → Type 0
 AreSafeFor task computer controller b = AllByRecursion (KeyArrives task computer controller) b.judged
 
-abbrev pub AreSafe : Coming → Book → Type 0
+abbrev pub AreSafe : Arrival → Book → Type 0
 AreSafe p b = AreSafeFor p.meeting.task p.meeting.caller.computer p.meeting.at_controller b
 
-pub safe_then : (p : Coming) (moves : List Move) (w : World) (b : Book) → StandsAlone w.state → AreSafe p (book moves w b) → IsSafe p b
+pub safe_then : (p : Arrival) (moves : List Move) (w : World) (b : Book) → StandsAlone w.state → AreSafe p (book moves w b) → IsSafe p b
 safe_then p moves w b stands safe key base one zeros =
     let found = one_found (IsGrant p key base) (KeyArrives p.meeting.task p.meeting.caller.computer p.meeting.at_controller) (book moves w b).judged safe
     (judged_stays (IsGrant p key base) moves w b stands one) in
@@ -84,7 +84,7 @@ safe_then p moves w b stands safe key base one zeros =
 
 -- ---- the member tells
 
-told_so : (p : Coming) (a : Asked) (w : World) (b : Book) (turn : ℕ) (answer : List ℕ) (rest : Given) →
+told_so : (p : Arrival) (a : ClientAnswer) (w : World) (b : Book) (turn : ℕ) (answer : List ℕ) (rest : Given) →
     (onward w.state).given
     ≡ (Member p.meeting.at_member, action.Close turn close.CallDone)
     ∷ (Member p.meeting.at_member, action.Told (own p).link (outcome.In p.table.domain p.account.name (key_at p a)))
@@ -96,14 +96,14 @@ told_so p a w b turn answer rest is =
 
 -- ---- a unit comes
 
-module _ (p : Coming) (w : World) (b : Book) (known : IsKnown p) (user : HasUser p) (may : MayLogOnAt p w.state) (stands : StandsAlone w.state) (safe : IsSafe p (note w move.Onward b)) where
+module _ (p : Arrival) (w : World) (b : Book) (known : IsKnown p) (user : HasUser p) (may : MayLogOnAt p w.state) (stands : StandsAlone w.state) (safe : IsSafe p (note w move.Onward b)) where
   -- the user's hash is there, where the logon is judged
-  asked_at : (a : Asked) (who : WhoAsked p a) (v : TurnAt) (o c : SecureChannelState) (timestamp : ℕ) (left : List (List ℕ)) (moment : ℕ) → Fits p (Calls a who v (Third o c timestamp)) →
+  asked_at : (a : ClientAnswer) (who : WhoAsked p a) (v : TurnAt) (o c : SecureChannelState) (timestamp : ℕ) (left : List (List ℕ)) (moment : ℕ) → Fits p (Calls a who v (Third o c timestamp)) →
       Shows w.state (scene_of p (Calls a who v (Third o c timestamp)) left moment) → HasUserAt p w.state (Calls a who v (Third o c timestamp)) move.Onward
   asked_at a who v o c timestamp left moment fits shows =
       phases_go_on.has_user p w.state (record { phase = Calls a who v (Third o c timestamp); left = left; moment = moment; fits = fits; shows = shows }) move.Onward user may
 
-  call_written : (a : Asked) (who : WhoAsked p a) (v : TurnAt) (aim : Aim) (left : List (List ℕ)) (moment : ℕ) → Fits p (Calls a who v aim) → Shows w.state (scene_of p (Calls a who v aim) left moment) →
+  call_written : (a : ClientAnswer) (who : WhoAsked p a) (v : TurnAt) (aim : Aim) (left : List (List ℕ)) (moment : ℕ) → Fits p (Calls a who v aim) → Shows w.state (scene_of p (Calls a who v aim) left moment) →
       IsWritten p (progress_onward {p = p} (Calls a who v aim)) (note w move.Onward b)
   call_written a who v (First client) left moment fits shows = tt
   call_written a who v (Second client server) left moment fits shows = tt
@@ -117,7 +117,7 @@ module _ (p : Coming) (w : World) (b : Book) (known : IsKnown p) (user : HasUser
   called_written (Third o c timestamp) = tt
   called_written (Fourth o c timestamp new) = tt
 
-  granted_written : (a : Asked) (who : WhoAsked p a) (v : TurnAt) (o c : SecureChannelState) (timestamp judged_at : ℕ) (accounts : AccountTable) (left : List (List ℕ)) (moment : ℕ) →
+  granted_written : (a : ClientAnswer) (who : WhoAsked p a) (v : TurnAt) (o c : SecureChannelState) (timestamp judged_at : ℕ) (accounts : AccountTable) (left : List (List ℕ)) (moment : ℕ) →
       Fits p (Granted a who v o c timestamp judged_at accounts) → Shows w.state (scene_of p (Granted a who v o c timestamp judged_at accounts) left moment) →
       IsWritten p (WasJudged a o) b → OneOf (IsTold p a) (note w move.Onward b).told
   granted_written a who v o c timestamp judged_at accounts left moment fits shows is =
@@ -147,7 +147,7 @@ module _ (p : Coming) (w : World) (b : Book) (known : IsKnown p) (user : HasUser
   onward_written (Echoes a e on one asks) left moment fits shows is = written_stays p (WasTold a) move.Onward w b stands is
   onward_written (Echoed a e talk one other back) left moment fits shows is = written_stays p (WasTold a) move.Onward w b stands is
 
-  call_arrives : (a : Asked) (who : WhoAsked p a) (v : TurnAt) (aim : Aim) (left : List (List ℕ)) (moment : ℕ) → Fits p (Calls a who v aim) → Shows w.state (scene_of p (Calls a who v aim) left moment) →
+  call_arrives : (a : ClientAnswer) (who : WhoAsked p a) (v : TurnAt) (aim : Aim) (left : List (List ℕ)) (moment : ℕ) → Fits p (Calls a who v aim) → Shows w.state (scene_of p (Calls a who v aim) left moment) →
       ArrivesAt p (Calls a who v aim) move.Onward
   call_arrives a who v (First client) left moment fits shows = tt
   call_arrives a who v (Second client server) left moment fits shows = tt

@@ -236,18 +236,18 @@ record KeepsAtRest (plan : Plan) (left client : ℕ) (value : Option ClientState
   resting : Resting plan left now
   is : slice_get now.ends.clients client ≡ value
 
-abbrev Keeps : Plan → ℕ → ℕ → Option ClientState → State → Type 0
-Keeps plan left client value now = KeepsAtRest plan left client value now ⊎ KeepsIn plan left client value now
+abbrev KeepsWhereItRests : Plan → ℕ → ℕ → Option ClientState → State → Type 0
+KeepsWhereItRests plan left client value now = KeepsAtRest plan left client value now ⊎ KeepsIn plan left client value now
 
-quiet_keeps : (plan : Plan) (left client : ℕ) (value : Option ClientState) (w : World) → IsQuiet w → Keeps plan left client value w.state → KeepsAtRest plan left client value w.state
+quiet_keeps : (plan : Plan) (left client : ℕ) (value : Option ClientState) (w : World) → IsQuiet w → KeepsWhereItRests plan left client value w.state → KeepsAtRest plan left client value w.state
 quiet_keeps plan left client value w quiet (inl rests) = rests
 quiet_keeps plan left client value w quiet (inr keeps) = record {
   resting = rests_then plan left keeps.s keeps.other w keeps.started quiet;
   is = (closes_so plan left keeps.s keeps.other w keeps.started quiet).clients client keeps.apart ∙ keeps.was;
 }
 
-step_keeps : (plan : Plan) (left client : ℕ) (value : Option ClientState) (now : State) (what : Move) → IsStepOn what → now.moment < 2 ^ 64 → Keeps plan (suc left) client value now →
-    Keeps plan left client value (act now what).state
+step_keeps : (plan : Plan) (left client : ℕ) (value : Option ClientState) (now : State) (what : Move) → IsStepOn what → now.moment < 2 ^ 64 → KeepsWhereItRests plan (suc left) client value now →
+    KeepsWhereItRests plan left client value (act now what).state
 step_keeps plan left client value now what steps below (inl rests) = inl (record {
   resting = rests_on plan left now what steps rests.resting;
   is = ap (λ (ends : EndStates). slice_get ends.clients client) (ends_rest plan now what steps rests.resting.rest) ∙ rests.is;
@@ -262,22 +262,22 @@ step_keeps plan left client value now what steps below (inr keeps) = inr (record
 
 module _ (plan : Plan) (is : IsPlan plan) (forms : HasForms plan) (servers : HasServers plan) where
   start_keeps : (left client : ℕ) (value : Option ClientState) (now : State) (number : ℕ) → HasSameEnds (first_world plan).state now → client ≢ number % length plan.clients →
-      KeepsAtRest plan (suc left) client value now → Keeps plan left client value (start number now).state
+      KeepsAtRest plan (suc left) client value now → KeepsWhereItRests plan left client value (start number now).state
   start_keeps left client value now number same apart rests =
       elim (begins_so plan left now number is forms servers same rests.resting) [
-        | inl none ↦ subst (λ (s : State). Keeps plan left client value s) (sym none.0)
+        | inl none ↦ subst (λ (s : State). KeepsWhereItRests plan left client value s) (sym none.0)
             (inl (record { resting = record { rest = rests.resting.rest; enough = fewer_moves left now.chances.left rests.resting.enough }; is = rests.is }))
         | inr begins ↦ inr (record { s = now; other = number % length plan.clients; started = begins.started; apart = apart; was = rests.is })
       ]
 
   keeps_on : (client : ℕ) (value : Option ClientState) (moves : List Move) (w : World) → Along plan moves w →
-      AllByRecursion (λ (other : ℕ). client ≢ other) (started_in moves (length plan.clients)) → Keeps plan (length moves) client value w.state →
+      AllByRecursion (λ (other : ℕ). client ≢ other) (started_in moves (length plan.clients)) → KeepsWhereItRests plan (length moves) client value w.state →
       slice_get (run moves w).state.ends.clients client ≡ value
   keeps_on client value [] w along apart keeps = (quiet_keeps plan 0 client value w along.quiet keeps).is
   keeps_on client value (what ∷ moves) w along apart keeps =
       by_plain
       (λ (one : Move).
-      Along plan (one ∷ moves) w → AllByRecursion (λ (other : ℕ). client ≢ other) (started_in (one ∷ moves) (length plan.clients)) → Keeps plan (suc (length moves)) client value w.state →
+      Along plan (one ∷ moves) w → AllByRecursion (λ (other : ℕ). client ≢ other) (started_in (one ∷ moves) (length plan.clients)) → KeepsWhereItRests plan (suc (length moves)) client value w.state →
       slice_get (run moves (happens w one)).state.ends.clients client ≡ value)
       (λ number on differs kept.
       keeps_on client value moves (happens w (move.Start number)) (along_next plan (move.Start number) moves w on) differs.1

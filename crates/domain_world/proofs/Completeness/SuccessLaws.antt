@@ -25,7 +25,7 @@ use Rattle.world_moves.specs.Alone.{HandsNothingOn}
 use Rattle.logon_runs.specs.AnyAnswer.AnyLogons.{HasServers}
 use Rattle.logon_runs.specs.Scenes.Others.{IsStepOn}
 use Rattle.logon_runs.specs.Rests.{CanBeGranted, HasBegun, HasEnough, coming_of}
-use Rattle.logon_runs.specs.Phases.{Coming, IsReached, IsUnderWay, LogonPhase, NotYet, key_at, progress_of, scene_of, told_of}
+use Rattle.logon_runs.specs.Phases.{Arrival, IsReached, IsUnderWay, LogonPhase, NotYet, key_at, progress_of, scene_of, told_of}
 use Rattle.logon_runs.specs.Phases.{Acked, Answers, Binds, BindsBefore, BindsHeld, Calls, Challenged, Dials, DialsBefore, DialsHeld, Echoed, Echoes, Granted, Halved, Named, Proved, Sets}
 use Rattle.logon_runs.specs.Scenes.Scene.{Shows}
 use Rattle.logon_runs.specs.Scenes.WaitingUnits.{waiting}
@@ -46,7 +46,7 @@ use Rattle.domain_world.proofs.Completeness.PlainLaws.{by_plain, later_starts, w
 -- ---- a logon that starts isn't judged yet
 
 -- no unit waits then
-pub not_yet : (p : Coming) (s : State) (phase : LogonPhase p) (left : List (List ℕ)) (moment : ℕ) → Shows s (scene_of p phase left moment) → waiting s.bag ≡ [] → progress_of phase ≡ NotYet
+pub not_yet : (p : Arrival) (s : State) (phase : LogonPhase p) (left : List (List ℕ)) (moment : ℕ) → Shows s (scene_of p phase left moment) → waiting s.bag ≡ [] → progress_of phase ≡ NotYet
 not_yet p s Dials left moment shows none = refl
 not_yet p s Binds left moment shows none = refl
 not_yet p s (Challenged challenge) left moment shows none = refl
@@ -88,7 +88,7 @@ module _ (plan : Plan) (every : List Move) (is : IsPlan plan) (forms : HasForms 
   begun : HasBegun plan w.state resting.rest client can.member can.controller granted number
   begun = logons_come_to_rest.begins plan w.state resting.rest client can.member can.controller granted number is forms chosen
 
-  abbrev coming : Coming
+  abbrev coming : Arrival
   coming = coming_of plan w.state resting.rest client can.member can.controller granted number begun
 
   abbrev first : World

@@ -16,9 +16,9 @@ use Rattle.world_moves.specs.Moving.{onward, settle}
 use Rattle.logon_runs.specs.Scenes.Scene.{HasFirst, Scene, Shows}
 use Rattle.logon_runs.specs.Scenes.WaitingUnits.{IsOldest, waiting}
 use Rattle.logon_runs.proofs.Scenes.WaitingLaws.{comes_by, one_piece, set_there, settled_by, waiting_comes}
-use Rattle.domain_world.specs.Past.{Coming, note_at, note_coming, note_onward, note_own, note_pieces, note_unit}
+use Rattle.domain_world.specs.Past.{Delivery, note_at, note_coming, note_onward, note_own, note_pieces, note_unit}
 
-abbrev pub coming : ℕ → ℕ → BagUnit → Coming
+abbrev pub coming : ℕ → ℕ → BagUnit → Delivery
 coming k number unit = record { at = k; source = InUnit number; link = unit.link; back = unit.back }
 
 abbrev pub state_then : EndId → BagUnit → ℕ → State → State
@@ -38,7 +38,7 @@ noted_by : (s : State) (unit : BagUnit) (end : EndId) (there : OpenLink) (number
     note_coming move.Onward k s b ≡ note_at (Some end) (coming k number unit) unit.bytes (settle number s) (state_then end unit number s) b
 noted_by s unit end there number k b some short first found opened hearer =
     let s1 : State = settle number s in
-    let w : Coming = coming k number unit in
+    let w : Delivery = coming k number unit in
     ap (λ (f : Option ℕ). note_onward f k s b) first
     ∙ ap (λ (u : Option BagUnit). note_own u number k s b) found
     ∙ ap (λ (u : Option BagUnit). note_unit u number unit.link k s1 b)

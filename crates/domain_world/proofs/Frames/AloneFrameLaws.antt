@@ -29,19 +29,19 @@ use Rattle.world_moves.specs.declared.moves.Move.{Move}
 use Rattle.world_moves.specs.declared.plan.Plan.{Plan}
 use Rattle.world_moves.specs.declared.state.State.{State}
 use Rattle.world_moves.specs.declared.state.WaitingDial.{WaitingDial}
-use Rattle.world_moves.specs.Acting.{Given, Heard, dials_of_action, done, forget, given_by, hear, is_of_other}
+use Rattle.world_moves.specs.Acting.{Given, AfterHearing, dials_of_action, done, forget, given_by, hear, is_of_other}
 use Rattle.world_moves.specs.Alone.{AsksNobody, HandsNothingOn, hear_alone}
 use Rattle.world_moves.specs.Ends.{EndStep, actions_by}
 use Rattle.world_moves.specs.Links.{acceptor_of, dialler_of}
 use Rattle.world_moves.specs.Moving.{begun, changed, with_link}
 use Rattle.world_moves.specs.World.{World, first_world, happens, run}
-use Rattle.domain_world.specs.Claims.Sessions.{restart_of}
-use Rattle.domain_world.specs.Past.{Coming, book, note, note_at}
+use Rattle.domain_world.specs.Past.{Delivery, book}
 use Rattle.wire_base.proofs.ListLaws.{all_weaker, at_end, got_nothing}
 use Rattle.world_moves.proofs.AloneLaws.{first_alone, hears_so_alone, moves_alone}
+use Rattle.domain_world.proofs.Frames.AloneNoteLaws.{note_alone, notes_alone}
 use Rattle.domain_world.proofs.Frames.AloneStepLaws.{alone_by, renews_alone}
-use Rattle.domain_world.proofs.Frames.MoveFrameLaws.{HoldsAfterMoves, later_keeps, move_keeps, moves_carry, moves_keep, placed_next}
-use Rattle.domain_world.proofs.Frames.MoveKeepLaws.{Both, IsHeard, KeepsCalmMoves, KeepsCalmMovesBy, KeepsMoves, KeepsMovesBy, MoveFact, NoSide, Progress, but_renewed, coming, every, join_calm, join_moves, started, waiting, with_rest}
+use Rattle.domain_world.proofs.Frames.MoveFrameLaws.{HoldsAfterMoves, later_keeps, moves_carry, moves_keep, placed_next}
+use Rattle.domain_world.proofs.Frames.MoveKeepLaws.{Both, IsHeard, KeepsCalmMoves, KeepsCalmMovesBy, KeepsMoves, KeepsMovesBy, MoveFact, NoSide, Progress, but_renewed, coming, every, join_moves, started, waiting, with_rest}
 use Rattle.domain_world.proofs.Moves.NoBytesLaws.{IsBeside, IsNoBytes, does_nothing_else}
 use Rattle.domain_world.proofs.Moves.OpenMadeLaws.{IsApart, IsAtSide, IsOnSide}
 use Rattle.domain_world.proofs.Moves.PlacedLaws.{HandsBytes, HasBytes, IsBytesBag, IsPlaced, placed_first}
@@ -197,7 +197,7 @@ heard_alone p end what s goes = record {
   state = record { asks = moves_alone.acting.hears end what s goes.state.asks; dials = goes.state.dials; links = goes.state.links };
   dial = goes.dial;
   rest = both_behind (given_by end (hear end what s).actions) p.rest
-      (subst (λ (heard : Heard). DialsAreOthers (given_by end heard.actions)) (sym (hears_so_alone end what s goes.state.asks)) (alone_dials end what s)) goes.rest;
+      (subst (λ (heard : AfterHearing). DialsAreOthers (given_by end heard.actions)) (sym (hears_so_alone end what s goes.state.asks)) (alone_dials end what s)) goes.rest;
 }
 
 alone_keeps : (Known : Type 0) → KeepsMovesBy every Known NoSide AloneFact
@@ -282,7 +282,7 @@ module _ (Known : Type 0) (Holds : MoveFact) where
   -- an end has heard so
   hears_as_alone : (n : ℕ) (p : Progress) (end : EndId) (what : Event) (s : State) (given : Given) (b : Book) → AsksNobody s →
       IsHeard Holds n p end (hear_alone end what s) given b → IsHeard Holds n p end (hear end what s) given b
-  hears_as_alone n p end what s given b asks holds = subst (λ (heard : Heard). IsHeard Holds n p end heard given b) (sym (hears_so_alone end what s asks)) holds
+  hears_as_alone n p end what s given b asks holds = subst (λ (heard : AfterHearing). IsHeard Holds n p end heard given b) (sym (hears_so_alone end what s asks)) holds
 
   calm_alone : KeepsCalmMoves Known NoSide Holds → KeepsCalmMovesBy every Known AloneFact Holds
   calm_alone keeps = record {
@@ -296,9 +296,12 @@ module _ (Known : Type 0) (Holds : MoveFact) where
     fails = λ n at end s b goes holds. hears_as_alone n (waiting at None) end event.DialFailed s [] b goes.state.asks (keeps.fails n at end s b tt holds);
     begins = λ n at client plan s b is goes holds. keeps.begins n at client plan s b is tt holds;
     comes = λ n end w piece s given b side came bytes goes holds.
-        subst (λ (heard : Heard). IsHeard Holds n (record (coming w) { to = Some (done end heard).state }) end heard given (note_at (Some end) w piece s (done end heard).state b))
-        (sym (hears_so_alone end (event.Bytes w.link piece) s goes.state.asks))
-        (keeps.comes n end w piece s given b (at_side s w.link w.back end goes.state.links side) came bytes tt holds);
+        let what : Event = event.Bytes w.link piece in
+        let after : State = (done end (hear end what s)).state in
+        subst (λ (now : Book). IsHeard Holds n (record (coming w) { to = Some after }) end (hear end what s) given now) (sym (notes_alone end w piece s after b goes.state.asks))
+        (subst (λ (heard : AfterHearing). IsHeard Holds n (record (coming w) { to = Some (done end heard).state }) end heard given (note_alone (Some end) w piece s (done end heard).state b))
+        (sym (hears_so_alone end what s goes.state.asks))
+        (keeps.comes n end w piece s given b (at_side s w.link w.back end goes.state.links side) came bytes tt holds));
     reaches = λ n w s given b goes holds. keeps.reaches n w s given b tt holds;
     acts = λ n p end what s given b work goes holds. keeps.acts n p end what s given b work tt holds;
     shuts = λ n p link s given b work goes holds. keeps.shuts n p link s given b work tt holds;
@@ -343,11 +346,11 @@ module _ (Known : Type 0) (Holds : MoveFact) where
 first_is_alone : (plan : Plan) → HandsNothingOn plan → IsAlone (first_world plan).state
 first_is_alone plan nobody = record { asks = first_alone plan nobody; dials = tt; links = λ number route there. absurd (got_nothing number route there) }
 
-starts_alone : (at : ℕ) (on : Option Coming) (s : State) → IsAlone s → GoesAlone (started at on) s
+starts_alone : (at : ℕ) (on : Option Delivery) (s : State) → IsAlone s → GoesAlone (started at on) s
 starts_alone at on s is = record { state = is; dial = tt; rest = tt }
 
 pub moves_keep_alone : (Known : Type 0) (Holds : MoveFact) → KeepsMoves Known NoSide Holds → (plan : Plan) (moves : List Move) → HandsNothingOn plan → (Known → HasBytes plan moves) →
-    ((on : Option Coming) → Holds 0 (started 0 on) (first_world plan).state [] blank) → HoldsAfterMoves Known Holds plan moves
+    ((on : Option Delivery) → Holds 0 (started 0 on) (first_world plan).state [] blank) → HoldsAfterMoves Known Holds plan moves
 moves_keep_alone Known Holds keeps plan moves nobody has holds =
     let after : HoldsAfterMoves Known (Both AloneFact Holds) plan moves =
     moves_keep Known (Both AloneFact Holds) (both_keep Known Holds keeps) plan moves has (λ on. (starts_alone 0 on (first_world plan).state (first_is_alone plan nobody), holds on)) in
@@ -355,7 +358,7 @@ moves_keep_alone Known Holds keeps plan moves nobody has holds =
 
 -- so it is where what is handed in are bytes, and what holds says so of the bag
 pub moves_carry_alone : (Holds : MoveFact) → KeepsMoves (Unit {0}) NoSide Holds → ((n at : ℕ) (s : State) (b : Book) → Holds n (started at None) s [] b → IsBytesBag s.bag) →
-    (plan : Plan) (moves : List Move) → HandsNothingOn plan → AllByRecursion HandsBytes moves → ((on : Option Coming) → Holds 0 (started 0 on) (first_world plan).state [] blank) →
+    (plan : Plan) (moves : List Move) → HandsNothingOn plan → AllByRecursion HandsBytes moves → ((on : Option Delivery) → Holds 0 (started 0 on) (first_world plan).state [] blank) →
     HoldsAfterMoves (Unit {0}) Holds plan moves
 moves_carry_alone Holds keeps says plan moves nobody handed holds =
     let after : HoldsAfterMoves (Unit {0}) (Both AloneFact Holds) plan moves =
@@ -374,7 +377,7 @@ pub stands_first : (plan : Plan) → HandsNothingOn plan → StandsAlone (first_
 stands_first plan nobody = record { placed = placed_first plan; alone = first_is_alone plan nobody }
 
 pub later_keeps_alone : (Holds : MoveFact) → KeepsMoves ⊥ NoSide Holds → (moves : List Move) (w : World) (b : Book) → StandsAlone w.state →
-    ((on : Option Coming) → Holds 0 (started w.moves on) w.state [] b) → (n : ℕ) × Holds n (started (run moves w).moves None) (run moves w).state [] (book moves w b)
+    ((on : Option Delivery) → Holds 0 (started w.moves on) w.state [] b) → (n : ℕ) × Holds n (started (run moves w).moves None) (run moves w).state [] (book moves w b)
 later_keeps_alone Holds keeps moves w b stands holds =
     let later = later_keeps (Both AloneFact Holds) (both_keep ⊥ Holds keeps) moves w b stands.placed (λ on. (starts_alone w.moves on w.state stands.alone, holds on)) in (later.0, later.1.1)
 
@@ -384,11 +387,3 @@ stands_next what w b stands = record {
   placed = placed_next what w b stands.placed;
   alone = (later_keeps AloneFact (alone_keeps ⊥) (what ∷ []) w b stands.placed (λ on. starts_alone w.moves on w.state stands.alone)).1.state;
 }
-
--- through one move at which no end is made anew, where it isn't known to hold on where one is
-pub move_keeps_alone : (Holds : MoveFact) → KeepsCalmMoves ⊥ NoSide Holds → (what : Move) (w : World) (b : Book) → restart_of what w.state ≡ None → StandsAlone w.state →
-    ((on : Option Coming) → Holds 0 (started w.moves on) w.state [] b) →
-    (n : ℕ) × ((next : Option Coming) → Holds n (started (happens w what).moves next) (happens w what).state [] (note w what b))
-move_keeps_alone Holds keeps what w b none stands holds =
-    let moved = move_keeps (Both AloneFact Holds) (join_calm ⊥ AloneFact Holds (but_renewed ⊥ AloneFact (alone_keeps ⊥)) (calm_alone ⊥ Holds keeps)) what w b none stands.placed
-    (λ on. (starts_alone w.moves on w.state stands.alone, holds on)) in (moved.0, λ next. (moved.1 next).1)

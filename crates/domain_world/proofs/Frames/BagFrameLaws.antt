@@ -21,15 +21,16 @@ use Rattle.world_moves.specs.declared.links.Route.{Route}
 use Rattle.world_moves.specs.declared.moves.Move.{Move}
 use Rattle.world_moves.specs.declared.plan.Plan.{Plan}
 use Rattle.world_moves.specs.declared.state.State.{State}
-use Rattle.world_moves.specs.Acting.{Heard, done, heard_by}
+use Rattle.world_moves.specs.Acting.{AfterHearing, done, heard_by}
 use Rattle.world_moves.specs.Bag.{settle_at, settled}
 use Rattle.world_moves.specs.Ends.{EndStep, actions_by, client_step, member_step}
 use Rattle.world_moves.specs.World.{first_world}
 use Rattle.world_moves.specs.Alone.{HandsNothingOn, alone_controller_step as controller_step}
-use Rattle.domain_world.specs.Past.{Coming, answers_of, at_controller, marks_of, note_at, note_client, note_controller, note_member, note_messages, numbers_on, past, sent_at, note_given}
+use Rattle.domain_world.specs.Past.{Delivery, at_controller, marks_of, note_client, note_member, note_messages, numbers_on, past, sent_at, note_given}
 use Rattle.wire_base.proofs.ListLaws.{got_append, got_nothing}
 use Rattle.world_moves.proofs.LinkFrameLaws.{IsOnLink, StaysOnLinks, actions_stay, quiet_stays}
 use Rattle.world_moves.proofs.EndKindLaws.{is_client}
+use Rattle.domain_world.proofs.Frames.AloneNoteLaws.{alone_answers as answers_of, note_alone as note_at, note_controller_alone as note_controller}
 use Rattle.domain_world.proofs.Frames.AloneStepLaws.{act_alone as hear_and_act}
 use Rattle.domain_world.proofs.Frames.FrameLaws.{Fact, HoldsIn, StaysWritten, OfSide, side_keeps}
 use Rattle.domain_world.proofs.Moves.FrontLaws.{controller_unit}
@@ -60,10 +61,10 @@ OfEachUnit P x bag sent = (number : ℕ) (one : Sent) → slice_get sent number 
 
 -- ---- the marks that bytes come to at an end
 
-abbrev pub controller_marks : ℕ → ControllerState → Coming → List ℕ → State → List Mark
+abbrev pub controller_marks : ℕ → ControllerState → Delivery → List ℕ → State → List Mark
 controller_marks at c w piece s = answered_marks (answers_of at c w piece s)
 
-abbrev pub member_marks : ℕ → MemberState → Coming → List ℕ → State → List Mark
+abbrev pub member_marks : ℕ → MemberState → Delivery → List ℕ → State → List Mark
 member_marks at m w piece s = asked_marks (OfMember at) s (turn_units m w.link piece s.moment s.chances.left)
 
 -- ---- more is written down
@@ -102,15 +103,15 @@ goes_on_with P x now bag units sent marks at same grows size fresh each number o
 pub record MarksStay {X : Type 0} (part : Book → X) (Side : X → Fact) (P : UnitFact X) : Type 0 where
   pub plain : (x : X) (number : ℕ) (unit : BagUnit) → P x number unit Plain
   pub settles : (x : X) (number : ℕ) (unit : BagUnit) (mark : Mark) → P x number unit mark → P x number (settled unit) mark
-  pub grows : (end : EndId) (w : Coming) (piece : List ℕ) (s after : State) (b : Book) (number : ℕ) (unit : BagUnit) (one : Sent) → HoldsIn (Side (part b)) s →
+  pub grows : (end : EndId) (w : Delivery) (piece : List ℕ) (s after : State) (b : Book) (number : ℕ) (unit : BagUnit) (one : Sent) → HoldsIn (Side (part b)) s →
       slice_get s.bag number ≡ Some unit → slice_get b.sent number ≡ Some one → P (part b) number unit one.mark →
       P (part (note_at (Some end) w piece s after b)) number unit one.mark
-  pub controllers : (c : ControllerState) (at : ℕ) (w : Coming) (piece : List ℕ) (s after : State) (b : Book) (number : ℕ) (unit : BagUnit) (mark : Mark) →
+  pub controllers : (c : ControllerState) (at : ℕ) (w : Delivery) (piece : List ℕ) (s after : State) (b : Book) (number : ℕ) (unit : BagUnit) (mark : Mark) →
       slice_get s.ends.controllers at ≡ Some c → HoldsIn (Side (part b)) s → length b.sent ≡ length s.bag →
       IsNewUnit w.link true (actions_by (controller_step_of c (event.Bytes w.link piece) s.moment s.chances.left).answer) (controller_marks at c w piece s)
       (numbers_on w.link true s.bag after.bag) number unit mark →
       P (part (note_controller (Some c) at w piece s after b)) number unit mark
-  pub members : (m : MemberState) (at : ℕ) (w : Coming) (piece : List ℕ) (s : State) (b : Book) → slice_get s.ends.members at ≡ Some m → HoldsIn (Side (part b)) s →
+  pub members : (m : MemberState) (at : ℕ) (w : Delivery) (piece : List ℕ) (s : State) (b : Book) → slice_get s.ends.members at ≡ Some m → HoldsIn (Side (part b)) s →
       IsAtSide s.links w.link w.back (Member at) → length b.sent ≡ length s.bag →
       let after : State = (done (Member at) (heard_by (member_step (Some m) at (event.Bytes w.link piece) s.moment s.ends s.chances) s)).state in
       (units : List BagUnit) → after.bag ≡ s.bag ++ units → AllByRecursion (IsOnLink s.links) units → (place : ℕ) (unit : BagUnit) (mark : Mark) →
@@ -121,16 +122,16 @@ pub record MarksStay {X : Type 0} (part : Book → X) (Side : X → Fact) (P : U
 pub record StepsMark {X : Type 0} (part : Book → X) (Side : X → Fact) (P : UnitFact X) : Type 0 where
   pub plain : (x : X) (number : ℕ) (unit : BagUnit) → P x number unit Plain
   pub settles : (x : X) (number : ℕ) (unit : BagUnit) (mark : Mark) → P x number unit mark → P x number (settled unit) mark
-  pub grows : (end : EndId) (w : Coming) (piece : List ℕ) (s after : State) (b : Book) (number : ℕ) (unit : BagUnit) (one : Sent) → HoldsIn (Side (part b)) s →
+  pub grows : (end : EndId) (w : Delivery) (piece : List ℕ) (s after : State) (b : Book) (number : ℕ) (unit : BagUnit) (one : Sent) → HoldsIn (Side (part b)) s →
       slice_get s.bag number ≡ Some unit → slice_get b.sent number ≡ Some one → P (part b) number unit one.mark →
       P (part (note_at (Some end) w piece s after b)) number unit one.mark
-  pub controllers : (c : ControllerState) (at : ℕ) (w : Coming) (piece : List ℕ) (s : State) (b : Book) → slice_get s.ends.controllers at ≡ Some c → HoldsIn (Side (part b)) s →
+  pub controllers : (c : ControllerState) (at : ℕ) (w : Delivery) (piece : List ℕ) (s : State) (b : Book) → slice_get s.ends.controllers at ≡ Some c → HoldsIn (Side (part b)) s →
       IsAtSide s.links w.link w.back (Controller at) → length b.sent ≡ length s.bag →
       let after : State = (done (Controller at) (heard_by (controller_step (Some c) at (event.Bytes w.link piece) s.moment s.ends s.chances) s)).state in
       (units : List BagUnit) → after.bag ≡ s.bag ++ units → AllByRecursion (IsOnLink s.links) units → (place : ℕ) (unit : BagUnit) (mark : Mark) →
       slice_get units place ≡ Some unit → slice_get (marks_of w.link true units (controller_marks at c w piece s)) place ≡ Some mark →
       P (part (note_controller (Some c) at w piece s after b)) (length s.bag + place) unit mark
-  pub members : (m : MemberState) (at : ℕ) (w : Coming) (piece : List ℕ) (s : State) (b : Book) → slice_get s.ends.members at ≡ Some m → HoldsIn (Side (part b)) s →
+  pub members : (m : MemberState) (at : ℕ) (w : Delivery) (piece : List ℕ) (s : State) (b : Book) → slice_get s.ends.members at ≡ Some m → HoldsIn (Side (part b)) s →
       IsAtSide s.links w.link w.back (Member at) → length b.sent ≡ length s.bag →
       let after : State = (done (Member at) (heard_by (member_step (Some m) at (event.Bytes w.link piece) s.moment s.ends s.chances) s)).state in
       (units : List BagUnit) → after.bag ≡ s.bag ++ units → AllByRecursion (IsOnLink s.links) units → (place : ℕ) (unit : BagUnit) (mark : Mark) →
@@ -142,7 +143,7 @@ pub record IsMarked {X : Type 0} (P : UnitFact X) (x : X) (bag : List BagUnit) (
   pub each : OfEachUnit P x bag sent
   pub all : length sent ≡ length bag
 
-abbrev hear_bytes : EndId → Coming → List ℕ → State → State
+abbrev hear_bytes : EndId → Delivery → List ℕ → State → State
 hear_bytes end w piece s = (hear_and_act end (event.Bytes w.link piece) s).state
 
 -- what clients send is marked once a move is over
@@ -157,22 +158,22 @@ bag_at None bag = bag
 bag_at (Some after) bag = after.bag
 
 -- where bytes come, each unit has its mark, unless a client is at that side of the link
-abbrev pub AllFor : Option Coming → List Route → List BagUnit → List Sent → Type 0
+abbrev pub AllFor : Option Delivery → List Route → List BagUnit → List Sent → Type 0
 AllFor None links bag sent = Unit {0}
 AllFor (Some w) links bag sent = (end : EndId) → IsAtSide links w.link w.back end → IsServer end → length sent ≡ length bag
 
-pub record MarksAt {X : Type 0} (P : UnitFact X) (on : Option Coming) (to : Option State) (links : List Route) (bag : List BagUnit) (x : X) (sent : List Sent) : Type 0 where
+pub record MarksAt {X : Type 0} (P : UnitFact X) (on : Option Delivery) (to : Option State) (links : List Route) (bag : List BagUnit) (x : X) (sent : List Sent) : Type 0 where
   pub each : OfEachUnit P x (bag_at to bag) sent
   pub all : AllFor on links (bag_at to bag) sent
 
 abbrev pub MarkFact : {X : Type 0} → (Book → X) → UnitFact X → MoveFact
 MarkFact part P n p s given b = MarksAt P p.on p.to s.links s.bag (part b) b.sent
 
-all_settled : (on : Option Coming) (number : ℕ) (links : List Route) (bag : List BagUnit) (sent : List Sent) → AllFor on links bag sent → AllFor on links (settle_at number bag) sent
+all_settled : (on : Option Delivery) (number : ℕ) (links : List Route) (bag : List BagUnit) (sent : List Sent) → AllFor on links bag sent → AllFor on links (settle_at number bag) sent
 all_settled None number links bag sent all = tt
 all_settled (Some w) number links bag sent all = λ end there server. all end there server ∙ sym (settled_length number bag)
 
-all_for : (on : Option Coming) (links : List Route) (bag : List BagUnit) (sent : List Sent) → length sent ≡ length bag → AllFor on links bag sent
+all_for : (on : Option Delivery) (links : List Route) (bag : List BagUnit) (sent : List Sent) → length sent ≡ length bag → AllFor on links bag sent
 all_for None links bag sent all = tt
 all_for (Some w) links bag sent all = λ end there server. all
 
@@ -246,25 +247,25 @@ module _ {X : Type 0} (part : Book → X) (Side : X → Fact) (P : UnitFact X) (
 
   -- ---- an end hears bytes
 
-  controller_hears : (c : ControllerState) (at : ℕ) (w : Coming) (piece : List ℕ) (s : State) (b : Book) → slice_get s.ends.controllers at ≡ Some c → HoldsIn (Side (part b)) s →
+  controller_hears : (c : ControllerState) (at : ℕ) (w : Delivery) (piece : List ℕ) (s : State) (b : Book) → slice_get s.ends.controllers at ≡ Some c → HoldsIn (Side (part b)) s →
       IsAtSide s.links w.link w.back (Controller at) → IsMarked P (part b) s.bag b.sent →
       let after : State = (done (Controller at) (heard_by (controller_step (Some c) at (event.Bytes w.link piece) s.moment s.ends s.chances) s)).state in
       let now : Book = note_controller (Some c) at w piece s after b in
       GrowsTo s.bag b now → IsMarked P (part now) after.bag now.sent
   controller_hears c at w piece s b is side hears before grows =
-      let heard : Heard = heard_by (controller_step (Some c) at (event.Bytes w.link piece) s.moment s.ends s.chances) s in
+      let heard : AfterHearing = heard_by (controller_step (Some c) at (event.Bytes w.link piece) s.moment s.ends s.chances) s in
       let after : State = (done (Controller at) heard).state in
       let more : IsMore s.links s.bag after.links after.bag = actions_stay (MoreOf s.links s.bag) (goes_on s.links s.bag) (Controller at) heard.actions heard.state (no_more s.links s.bag) in
       marked_more P (part b) (part (note_controller (Some c) at w piece s after b)) s after.bag b.sent w.link true (controller_marks at c w piece s) w.at more.units more.is grows
       (λ place unit mark there marked. stays.controllers c at w piece s b is side hears before.all more.units more.is more.on place unit mark there marked) before
 
-  member_hears : (m : MemberState) (at : ℕ) (w : Coming) (piece : List ℕ) (s : State) (b : Book) → slice_get s.ends.members at ≡ Some m → HoldsIn (Side (part b)) s →
+  member_hears : (m : MemberState) (at : ℕ) (w : Delivery) (piece : List ℕ) (s : State) (b : Book) → slice_get s.ends.members at ≡ Some m → HoldsIn (Side (part b)) s →
       IsAtSide s.links w.link w.back (Member at) → IsMarked P (part b) s.bag b.sent →
       let after : State = (done (Member at) (heard_by (member_step (Some m) at (event.Bytes w.link piece) s.moment s.ends s.chances) s)).state in
       let now : Book = note_member (Some m) at w piece s after b in
       GrowsTo s.bag b now → IsMarked P (part now) after.bag now.sent
   member_hears m at w piece s b is side hears before grows =
-      let heard : Heard = heard_by (member_step (Some m) at (event.Bytes w.link piece) s.moment s.ends s.chances) s in
+      let heard : AfterHearing = heard_by (member_step (Some m) at (event.Bytes w.link piece) s.moment s.ends s.chances) s in
       let after : State = (done (Member at) heard).state in
       let now : X = part (note_member (Some m) at w piece s after b) in
       let more : IsMore s.links s.bag after.links after.bag = actions_stay (MoreOf s.links s.bag) (goes_on s.links s.bag) (Member at) heard.actions heard.state (no_more s.links s.bag) in
@@ -278,7 +279,7 @@ module _ {X : Type 0} (part : Book → X) (Side : X → Fact) (P : UnitFact X) (
   abbrev EndHeard : EndId → State → Book → Type 0
   EndHeard end after now = OfEachUnit P (part now) after.bag now.sent × (IsServer end → length now.sent ≡ length after.bag)
 
-  end_hears : (end : EndId) (w : Coming) (piece : List ℕ) (s : State) (b : Book) → HoldsIn (Side (part b)) s → IsAtSide s.links w.link w.back end →
+  end_hears : (end : EndId) (w : Delivery) (piece : List ℕ) (s : State) (b : Book) → HoldsIn (Side (part b)) s → IsAtSide s.links w.link w.back end →
       OfEachUnit P (part b) s.bag b.sent → (IsServer end → length b.sent ≡ length s.bag) →
       let after : State = (hear_bytes end w piece s) in EndHeard end after (note_at (Some end) w piece s after b)
   end_hears end w piece s b side hears each all =
@@ -290,7 +291,7 @@ module _ {X : Type 0} (part : Book → X) (Side : X → Fact) (P : UnitFact X) (
       (λ at m is here even grows.
       let marked = member_hears m at w piece s b is side here (record { each = each; all = even refl }) grows in (marked.each, (λ server. marked.all)))
       (λ at c is here even grows.
-      let heard : Heard = heard_by (client_step (Some c) at (event.Bytes w.link piece) s.moment s.ends s.chances) s in
+      let heard : AfterHearing = heard_by (client_step (Some c) at (event.Bytes w.link piece) s.moment s.ends s.chances) s in
       let after : State = (done (Client at) heard).state in
       let more : IsMore s.links s.bag after.links after.bag = actions_stay (MoreOf s.links s.bag) (goes_on s.links s.bag) (Client at) heard.actions heard.state (no_more s.links s.bag) in (
         each_more P (part b) (part (note_client (Some c) at w piece s b)) s.bag more.units after.bag b.sent more.is grows each,
@@ -298,7 +299,7 @@ module _ {X : Type 0} (part : Book → X) (Side : X → Fact) (P : UnitFact X) (
       )) end hears all (λ number unit one there sent holds. stays.grows end w piece s (hear_bytes end w piece s) b number unit one side there sent holds)
 
   -- a unit more
-  sends_on : (x : X) (sent : List Sent) (on : Option Coming) (to : Option State) → AtWork on to → StaysOnLinks (λ links map bag. MarksAt P on to links bag x sent)
+  sends_on : (x : X) (sent : List Sent) (on : Option Delivery) (to : Option State) → AtWork on to → StaysOnLinks (λ links map bag. MarksAt P on to links bag x sent)
   sends_on x sent None None work = record {
     sends = λ unit links map bag is marks. record {
       each = each_more P x x bag (unit ∷ []) (bag ++ unit ∷ []) sent refl (λ number here one there mark holds. holds) marks.each;
@@ -349,7 +350,7 @@ module _ {X : Type 0} (part : Book → X) (Side : X → Fact) (P : UnitFact X) (
   pub marked_keep : (Known : Type 0) → KeepsMoves Known NoSide (Both (OfSide part Side written) (MarkFact part P))
   marked_keep Known = join_moves Known (OfSide part Side written) (MarkFact part P) (side_keeps part Side written Known) (marks_keep Known)
 
-  pub first_marked : (plan : Plan) (on : Option Coming) → HoldsIn (Side (part blank)) (first_world plan).state →
+  pub first_marked : (plan : Plan) (on : Option Delivery) → HoldsIn (Side (part blank)) (first_world plan).state →
       Both (OfSide part Side written) (MarkFact part P) 0 (started 0 on) (first_world plan).state [] blank
   first_marked plan on holds = (holds, record { each = λ number one there. absurd (got_nothing number one there); all = all_for on [] [] [] refl })
 

@@ -16,13 +16,14 @@ use Rattle.world_moves.specs.Moving.{settle}
 use Rattle.world_moves.specs.World.{first_world}
 use Rattle.world_moves.specs.Alone.{HandsNothingOn}
 use Rattle.world_moves.proofs.LinkFrameLaws.{quiet_stays}
-use Rattle.domain_world.specs.Past.{Coming, note_at, note_given, past}
+use Rattle.domain_world.specs.Past.{Delivery, note_given, past}
+use Rattle.domain_world.proofs.Frames.AloneNoteLaws.{note_alone as note_at}
 use Rattle.domain_world.proofs.Frames.AloneStepLaws.{act_alone as hear_and_act}
 use Rattle.domain_world.proofs.Frames.BagFrameLaws.{IsServer, StepsMark, UnitFact, MarkFact, bag_at, first_marked, marked_keep}
 use Rattle.domain_world.proofs.Moves.ComingLaws.{CameFrom, StillHas, kept_same, kept_settled, StillIn, kept_sent}
 use Rattle.domain_world.proofs.Frames.FrameLaws.{Fact, HoldsIn, StaysWritten, OfSide}
 use Rattle.domain_world.proofs.Moves.OpenMadeLaws.{IsAtSide}
-use Rattle.domain_world.proofs.Frames.StepFrameLaws.{ActionFact, Keeps, NoFact, RunFact, OfSteps, steps_keep}
+use Rattle.domain_world.proofs.Frames.StepFrameLaws.{ActionFact, StepKeeps, NoFact, RunFact, OfSteps, steps_keep}
 use Rattle.domain_world.proofs.Frames.AloneFrameLaws.{moves_keep_alone}
 use Rattle.domain_world.proofs.Frames.MoveFrameLaws.{HoldsAfterMoves}
 use Rattle.domain_world.proofs.Frames.MoveKeepLaws.{Both, KeepsMoves, MoveFact, NoSide, join_moves}
@@ -40,7 +41,7 @@ BookFact = List BagUnit → Book → Type 0
 -- mark before, where a controller or a member hears them.
 pub record BagKeeps {X : Type 0} (Holds : RunFact) (part : Book → X) (Side : X → Fact) (Fits : BookFact) : Type 0 where
   pub still : (old bag : List BagUnit) (b : Book) → StillHas old bag → Fits old b → Fits bag b
-  pub comes : (n : ℕ) (end : EndId) (w : Coming) (piece : List ℕ) (s : State) (given : Given) (b : Book) → IsAtSide s.links w.link w.back end → CameFrom w.source s w piece → AreBytes piece →
+  pub comes : (n : ℕ) (end : EndId) (w : Delivery) (piece : List ℕ) (s : State) (given : Given) (b : Book) → IsAtSide s.links w.link w.back end → CameFrom w.source s w piece → AreBytes piece →
       (IsServer end → length b.sent ≡ length s.bag) → Holds n s given b → HoldsIn (Side (part b)) s → Fits s.bag b →
       Fits (hear_and_act end (event.Bytes w.link piece) s).state.bag (note_at (Some end) w piece s (hear_and_act end (event.Bytes w.link piece) s).state b)
   pub over : (at : ℕ) (given : Given) (s : State) (b : Book) → Fits s.bag b → Fits s.bag (note_given at given s b)
@@ -61,7 +62,7 @@ any_unit part Side = record {
 
 -- ---- a run
 
-module _ {X : Type 0} (Holds : RunFact) (Fine : ActionFact) (keeps : Keeps NoFact Holds Fine) (part : Book → X) (Side : X → Fact) (written : StaysWritten part Side) (Fits : BookFact)
+module _ {X : Type 0} (Holds : RunFact) (Fine : ActionFact) (keeps : StepKeeps NoFact Holds Fine) (part : Book → X) (Side : X → Fact) (written : StaysWritten part Side) (Fits : BookFact)
     (bag_keeps : BagKeeps Holds part Side Fits) where
   -- of the bag as it is once the step at bytes is done
   abbrev OfBag : MoveFact

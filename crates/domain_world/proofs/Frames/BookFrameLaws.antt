@@ -10,13 +10,13 @@ use Rattle.world_moves.specs.declared.plan.Plan.{Plan}
 use Rattle.world_moves.specs.declared.state.State.{State}
 use Rattle.world_moves.specs.Acting.{Given, hear_and_act}
 use Rattle.world_moves.specs.World.{World}
-use Rattle.domain_world.specs.Past.{Coming, book, note_at, note_given, past}
+use Rattle.domain_world.specs.Past.{Delivery, book, note_at, note_given, past}
 use Rattle.domain_world.proofs.Frames.MoveFrameLaws.{HoldsAfterMoves, later_keeps, moves_keep}
 use Rattle.domain_world.proofs.Frames.MoveKeepLaws.{KeepsMovesBy, MoveFact, NoSide, every}
 use Rattle.domain_world.proofs.Moves.PlacedLaws.{IsPlaced}
 
 module _ (Holds : Book → Type 0)
-    (bytes : (end : EndId) (w : Coming) (piece : List ℕ) (s after : State) (b : Book) → Holds b → Holds (note_at (Some end) w piece s after b))
+    (bytes : (end : EndId) (w : Delivery) (piece : List ℕ) (s after : State) (b : Book) → Holds b → Holds (note_at (Some end) w piece s after b))
     (gives : (at : ℕ) (given : Given) (after : State) (b : Book) → Holds b → Holds (note_given at given after b)) where
   abbrev OfBook : MoveFact
   OfBook n p s given b = Holds b

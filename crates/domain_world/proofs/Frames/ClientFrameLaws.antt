@@ -22,7 +22,7 @@ use Rattle.world_moves.specs.Ends.{EndStates, EndStep, client_step, end_step}
 use Rattle.world_moves.specs.Links.{acceptor_of}
 use Rattle.world_moves.specs.Moving.{renewed, changed}
 use Rattle.world_moves.proofs.EndKindLaws.{IfClient, clients_by, is_controller, renew_by}
-use Rattle.domain_world.specs.Past.{Coming, note_at, note_client, past}
+use Rattle.domain_world.specs.Past.{Delivery, note_at, note_client, past}
 use Rattle.domain_world.proofs.Messages.MessageOnceLaws.{each_put}
 use Rattle.domain_world.proofs.Frames.EndFrameLaws.{EndFact, IsCalm, KeepsEndsBy, by_calm, every_ends_after}
 use Rattle.domain_world.proofs.Moves.MarkPlaceLaws.{got_map}
@@ -106,7 +106,7 @@ module _ (plans : List ClientPlan) (Fits : ClientFact) (Made : MadeFact) (keeps 
 
   -- ---- bytes come
 
-  client_comes : (c : ClientState) (at : ℕ) (w : Coming) (piece : List ℕ) (s : State) (b : Book) → slice_get s.ends.clients at ≡ Some c → AreKept s.ends.clients s.links b.made →
+  client_comes : (c : ClientState) (at : ℕ) (w : Delivery) (piece : List ℕ) (s : State) (b : Book) → slice_get s.ends.clients at ≡ Some c → AreKept s.ends.clients s.links b.made →
       AreKept (client_step (Some c) at (event.Bytes w.link piece) s.moment s.ends s.chances).ends.clients s.links (note_client (Some c) at w piece s b).made
   client_comes c at w piece s b is kept =
       let l : ClientAt = record { at = w.at; client = at; link = w.link } in
@@ -118,7 +118,7 @@ module _ (plans : List ClientPlan) (Fits : ClientFact) (Made : MadeFact) (keeps 
         made = its.1;
       }
 
-  end_comes : (end : EndId) (w : Coming) (piece : List ℕ) (s after : State) (b : Book) → AreKept s.ends.clients s.links b.made →
+  end_comes : (end : EndId) (w : Delivery) (piece : List ℕ) (s after : State) (b : Book) → AreKept s.ends.clients s.links b.made →
       AreKept (end_step end (event.Bytes w.link piece) s.moment s.ends s.chances).ends.clients s.links (note_at (Some end) w piece s after b).made
   end_comes end w piece s after b kept =
       noted_by (λ (one : EndId) (step : EndStep) (now : Book). AreKept step.ends.clients s.links now.made) w piece s after b (λ one. kept) (λ at c is. kept)

@@ -15,7 +15,8 @@ use Rattle.world_moves.specs.Acting.{Given}
 use Rattle.world_moves.specs.Ends.{EndStates, EndStep, drawn_on}
 use Rattle.world_moves.specs.Links.{acceptor_of}
 use Rattle.world_moves.specs.Alone.{alone_end_step as end_step}
-use Rattle.domain_world.specs.Past.{Coming, note_at, note_controller, note_given}
+use Rattle.domain_world.specs.Past.{Delivery, note_given}
+use Rattle.domain_world.proofs.Frames.AloneNoteLaws.{note_alone as note_at, note_controller_alone as note_controller}
 use Rattle.domain_world.proofs.Frames.AloneStepLaws.{alone_by as step_by}
 use Rattle.domain_world.proofs.Frames.EndNoteLaws.{OfControllers, noted_by}
 use Rattle.domain_world.proofs.Frames.FrameLaws.{Fact, HoldsAfter, HoldsIn, StaysWritten}
@@ -42,7 +43,7 @@ pub record KeepsControllers {X : Type 0} (part : Book → X) (Fits : X → Contr
   pub hears : (x : X) (c : ControllerState) (at : ℕ) (what : Event) (now : ℕ) (controllers : List ControllerState) (chances : Drawing) → IsNoBytes what → slice_get controllers at ≡ Some c →
       Fits x controllers chances → ControllerStepped (Fits x) c at what now controllers chances
   -- it hears bytes
-  pub comes : (c : ControllerState) (at : ℕ) (w : Coming) (piece : List ℕ) (s after : State) (b : Book) → slice_get s.ends.controllers at ≡ Some c →
+  pub comes : (c : ControllerState) (at : ℕ) (w : Delivery) (piece : List ℕ) (s after : State) (b : Book) → slice_get s.ends.controllers at ≡ Some c →
       Fits (part b) s.ends.controllers s.chances →
       ControllerStepped (Fits (part (note_controller (Some c) at w piece s after b))) c at (event.Bytes w.link piece) s.moment s.ends.controllers s.chances
   -- it is made anew
@@ -66,7 +67,7 @@ module _ {X : Type 0} (part : Book → X) (Fits : X → ControllersFact) (keeps 
   others_keep x now controllers chances later same draws fits =
       subst (λ (one : X). Fits one controllers later) (sym same) (keeps.draws x controllers chances later draws fits)
 
-  bytes_keep : (end : EndId) (w : Coming) (piece : List ℕ) (s after : State) (b : Book) → HoldsIn (AmongControllers (part b)) s →
+  bytes_keep : (end : EndId) (w : Delivery) (piece : List ℕ) (s after : State) (b : Book) → HoldsIn (AmongControllers (part b)) s →
       HoldsAfter (AmongControllers (part (note_at (Some end) w piece s after b))) (end_step end (event.Bytes w.link piece) s.moment s.ends s.chances) s.links
   bytes_keep end w piece s after b fits =
       noted_by (λ (one : EndId) (step : EndStep) (now : Book). DrawsOn s.chances step.chances → Fits (part now) step.ends.controllers step.chances) w piece s after b (λ one draws. fits)

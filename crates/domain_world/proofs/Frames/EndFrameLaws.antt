@@ -15,18 +15,19 @@ use Rattle.world_moves.specs.declared.links.Route.{Route}
 use Rattle.world_moves.specs.declared.moves.Move.{Move}
 use Rattle.world_moves.specs.declared.plan.Plan.{Plan}
 use Rattle.world_moves.specs.declared.state.State.{State}
-use Rattle.world_moves.specs.Acting.{Given, done, forget, Heard, given_by}
+use Rattle.world_moves.specs.Acting.{Given, done, forget, AfterHearing, given_by}
 use Rattle.world_moves.specs.Ends.{EndStates}
 use Rattle.world_moves.specs.Links.{acceptor_of}
 use Rattle.world_moves.specs.Moving.{begun, changed, with_link}
 use Rattle.world_moves.specs.World.{World, first_world, happens, run}
 use Rattle.world_moves.specs.Alone.{HandsNothingOn}
 use Rattle.domain_world.specs.Claims.Sessions.{restart_of}
-use Rattle.domain_world.specs.Past.{Coming, book, note, note_at, note_given, past}
+use Rattle.domain_world.specs.Past.{Delivery, book, note, note_given, past}
 use Rattle.domain_world.proofs.Moves.ComingLaws.{CameFrom}
-use Rattle.domain_world.proofs.Frames.AloneFrameLaws.{StandsAlone, later_keeps_alone, move_keeps_alone, moves_keep_alone}
-use Rattle.domain_world.proofs.Frames.MoveFrameLaws.{HoldsAfterMoves, moves_keep}
-use Rattle.domain_world.proofs.Frames.MoveKeepLaws.{How, KeepsMovesBy, alone, every, KeepsCalmMoves, KeepsMoves, MoveFact, NoSide}
+use Rattle.domain_world.proofs.Frames.AloneFrameLaws.{StandsAlone, later_keeps_alone, moves_keep_alone}
+use Rattle.domain_world.proofs.Frames.MoveFrameLaws.{HoldsAfterMoves, move_keeps, moves_keep}
+use Rattle.domain_world.proofs.Frames.MoveKeepLaws.{How, KeepsMovesBy, alone, every, KeepsCalmMovesBy, KeepsMoves, MoveFact, NoSide}
+use Rattle.domain_world.proofs.Moves.PlacedLaws.{IsPlaced}
 
 -- ---- what is to hold
 
@@ -42,10 +43,10 @@ ends_in s = record { client_plans = s.client_plans; ends = s.ends; chances = s.c
 
 -- after so many moves, where that comes in this one, if bytes come: of the ends, what ends gave in this move, the book
 abbrev pub EndFact : Type 1
-EndFact = ℕ → Option Coming → Ends → Given → Book → Type 0
+EndFact = ℕ → Option Delivery → Ends → Given → Book → Type 0
 
 -- an end has heard something
-abbrev pub HasHeard : EndFact → ℕ → Option Coming → EndId → Heard → Given → Book → Type 0
+abbrev pub HasHeard : EndFact → ℕ → Option Delivery → EndId → AfterHearing → Given → Book → Type 0
 HasHeard Holds at on end heard given b = Holds at on (ends_in heard.state) (given ++ given_by end heard.actions) b
 
 -- no bytes come, no link opens and none is answered
@@ -66,7 +67,7 @@ by_calm P closed fails stops event.DialFailed calm = fails
 by_calm P closed fails stops event.Stop calm = stops
 
 pub record KeepsEndsBy (how : How) (Holds : EndFact) : Type 0 where
-  pub calm : (at : ℕ) (on : Option Coming) (end : EndId) (what : Event) (s : State) (given : Given) (b : Book) → IsCalm what → Holds at on (ends_in s) given b →
+  pub calm : (at : ℕ) (on : Option Delivery) (end : EndId) (what : Event) (s : State) (given : Given) (b : Book) → IsCalm what → Holds at on (ends_in s) given b →
       HasHeard Holds at on end (how.hears end what s) given b
   pub dialled : (at : ℕ) (end : EndId) (link : ℕ) (s : State) (given : Given) (b : Book) → how.at_side s.links link true end → Holds at None (ends_in s) given b →
       HasHeard Holds at None end (how.hears end (event.Dialled link) s) given b
@@ -74,18 +75,18 @@ pub record KeepsEndsBy (how : How) (Holds : EndFact) : Type 0 where
       HasHeard Holds at None (acceptor_of route) (how.hears (acceptor_of route) (event.Opened (length s.links)) (with_link route s)) given b
   pub begins : (at client : ℕ) (plan : ClientPlan) (s : State) (b : Book) → slice_get s.client_plans client ≡ Some plan → Holds at None (ends_in s) [] b →
       HasHeard Holds at None (Client client) (begun client plan s) [] b
-  pub comes : (end : EndId) (w : Coming) (piece : List ℕ) (s : State) (given : Given) (b : Book) → how.at_side s.links w.link w.back end → CameFrom w.source s w piece →
+  pub comes : (end : EndId) (w : Delivery) (piece : List ℕ) (s : State) (given : Given) (b : Book) → how.at_side s.links w.link w.back end → CameFrom w.source s w piece →
       Holds w.at (Some w) (ends_in s) given b →
-      HasHeard Holds w.at (Some w) end (how.hears end (event.Bytes w.link piece) s) given (note_at (Some end) w piece s (done end (how.hears end (event.Bytes w.link piece) s)).state b)
+      HasHeard Holds w.at (Some w) end (how.hears end (event.Bytes w.link piece) s) given (how.notes (Some end) w piece s (done end (how.hears end (event.Bytes w.link piece) s)).state b)
   pub renews : (at : ℕ) (end : EndId) (s : State) (b : Book) → Holds at None (ends_in s) [] b → Holds at None (ends_in (how.renews end s)) [] b
   -- a member begins to change its secret
   pub changes : (at member : ℕ) (secret : List ℕ) (s : State) (b : Book) → Holds at None (ends_in s) [] b → HasHeard Holds at None (Member member) (changed member secret s) [] b
   -- the move is over, whatever comes in the next one
-  pub over : (at : ℕ) (on next : Option Coming) (s : State) (given : Given) (b : Book) → Holds at on (ends_in s) given b → Holds (at + 1) next (ends_in s) [] (note_given at given s b)
+  pub over : (at : ℕ) (on next : Option Delivery) (s : State) (given : Given) (b : Book) → Holds at on (ends_in s) given b → Holds (at + 1) next (ends_in s) [] (note_given at given s b)
 
 -- The same but for an end that is made anew, where it isn't known to hold on.
 pub record KeepsCalmEndsBy (how : How) (Holds : EndFact) : Type 0 where
-  pub calm : (at : ℕ) (on : Option Coming) (end : EndId) (what : Event) (s : State) (given : Given) (b : Book) → IsCalm what → Holds at on (ends_in s) given b →
+  pub calm : (at : ℕ) (on : Option Delivery) (end : EndId) (what : Event) (s : State) (given : Given) (b : Book) → IsCalm what → Holds at on (ends_in s) given b →
       HasHeard Holds at on end (how.hears end what s) given b
   pub dialled : (at : ℕ) (end : EndId) (link : ℕ) (s : State) (given : Given) (b : Book) → how.at_side s.links link true end → Holds at None (ends_in s) given b →
       HasHeard Holds at None end (how.hears end (event.Dialled link) s) given b
@@ -93,26 +94,23 @@ pub record KeepsCalmEndsBy (how : How) (Holds : EndFact) : Type 0 where
       HasHeard Holds at None (acceptor_of route) (how.hears (acceptor_of route) (event.Opened (length s.links)) (with_link route s)) given b
   pub begins : (at client : ℕ) (plan : ClientPlan) (s : State) (b : Book) → slice_get s.client_plans client ≡ Some plan → Holds at None (ends_in s) [] b →
       HasHeard Holds at None (Client client) (begun client plan s) [] b
-  pub comes : (end : EndId) (w : Coming) (piece : List ℕ) (s : State) (given : Given) (b : Book) → how.at_side s.links w.link w.back end → CameFrom w.source s w piece →
+  pub comes : (end : EndId) (w : Delivery) (piece : List ℕ) (s : State) (given : Given) (b : Book) → how.at_side s.links w.link w.back end → CameFrom w.source s w piece →
       Holds w.at (Some w) (ends_in s) given b →
-      HasHeard Holds w.at (Some w) end (how.hears end (event.Bytes w.link piece) s) given (note_at (Some end) w piece s (done end (how.hears end (event.Bytes w.link piece) s)).state b)
+      HasHeard Holds w.at (Some w) end (how.hears end (event.Bytes w.link piece) s) given (how.notes (Some end) w piece s (done end (how.hears end (event.Bytes w.link piece) s)).state b)
   pub changes : (at member : ℕ) (secret : List ℕ) (s : State) (b : Book) → Holds at None (ends_in s) [] b → HasHeard Holds at None (Member member) (changed member secret s) [] b
-  pub over : (at : ℕ) (on next : Option Coming) (s : State) (given : Given) (b : Book) → Holds at on (ends_in s) given b → Holds (at + 1) next (ends_in s) [] (note_given at given s b)
+  pub over : (at : ℕ) (on next : Option Delivery) (s : State) (given : Given) (b : Book) → Holds at on (ends_in s) given b → Holds (at + 1) next (ends_in s) [] (note_given at given s b)
 
 -- the same where controllers ask nobody
 abbrev pub KeepsEnds : EndFact → Type 0
 KeepsEnds Holds = KeepsEndsBy alone Holds
 
-abbrev pub KeepsCalmEnds : EndFact → Type 0
-KeepsCalmEnds Holds = KeepsCalmEndsBy alone Holds
-
 -- ---- a run
 
-module _ (Holds : EndFact) (keeps : KeepsCalmEnds Holds) where
+module _ (Holds : EndFact) (keeps : KeepsCalmEndsBy every Holds) where
   abbrev OfCalmMoves : MoveFact
   OfCalmMoves n p s given b = Holds p.at p.on (ends_in s) given b
 
-  calm_ends_keep : KeepsCalmMoves ⊥ NoSide OfCalmMoves
+  calm_ends_keep : KeepsCalmMovesBy every ⊥ NoSide OfCalmMoves
   calm_ends_keep = record {
     closes = λ n p end link s given b work none holds. keeps.calm p.at p.on end (event.Closed link) s given b tt holds;
     opens = λ n at dial route s given b out none holds. keeps.opens at route s given b holds;
@@ -133,9 +131,9 @@ module _ (Holds : EndFact) (keeps : KeepsCalmEnds Holds) where
   }
 
   -- through one move at which no end is made anew
-  pub ends_through : (what : Move) (w : World) (b : Book) → restart_of what w.state ≡ None → StandsAlone w.state → ((on : Option Coming) → Holds w.moves on (ends_in w.state) [] b) →
-      (next : Option Coming) → Holds (happens w what).moves next (ends_in (happens w what).state) [] (note w what b)
-  ends_through what w b none stands holds = (move_keeps_alone OfCalmMoves calm_ends_keep what w b none stands holds).1
+  pub ends_through : (what : Move) (w : World) (b : Book) → restart_of what w.state ≡ None → IsPlaced w.state → ((on : Option Delivery) → Holds w.moves on (ends_in w.state) [] b) →
+      (next : Option Delivery) → Holds (happens w what).moves next (ends_in (happens w what).state) [] (note w what b)
+  ends_through what w b none placed holds = (move_keeps OfCalmMoves calm_ends_keep what w b none placed holds).1
 
 abbrev pub OfMoves : EndFact → MoveFact
 OfMoves Holds n p s given b = Holds p.at p.on (ends_in s) given b
@@ -167,18 +165,18 @@ module _ (Holds : EndFact) (keeps : KeepsEnds Holds) where
   pub ends_keep : (Known : Type 0) → KeepsMoves Known NoSide (OfMoves Holds)
   ends_keep Known = ends_keep_by alone Holds keeps Known
 
-  pub ends_after : (plan : Plan) (moves : List Move) → HandsNothingOn plan → ((on : Option Coming) → Holds 0 on (ends_in (first_world plan).state) [] blank) →
+  pub ends_after : (plan : Plan) (moves : List Move) → HandsNothingOn plan → ((on : Option Delivery) → Holds 0 on (ends_in (first_world plan).state) [] blank) →
       Holds (past plan moves).world.moves None (ends_in (past plan moves).world.state) [] (past plan moves).book
   ends_after plan moves nobody holds =
       let after : HoldsAfterMoves ⊥ (OfMoves Holds) plan moves = moves_keep_alone ⊥ (OfMoves Holds) (ends_keep ⊥) plan moves nobody (λ none. absurd none) holds in after.holds
 
   -- the same from any world on
-  pub ends_later : (moves : List Move) (w : World) (b : Book) → StandsAlone w.state → ((on : Option Coming) → Holds w.moves on (ends_in w.state) [] b) →
+  pub ends_later : (moves : List Move) (w : World) (b : Book) → StandsAlone w.state → ((on : Option Delivery) → Holds w.moves on (ends_in w.state) [] b) →
       Holds (run moves w).moves None (ends_in (run moves w).state) [] (book moves w b)
   ends_later moves w b stands holds = (later_keeps_alone (OfMoves Holds) (ends_keep ⊥) moves w b stands holds).1
 
 -- in every run, whether controllers ask others or not
-pub every_ends_after : (Holds : EndFact) → KeepsEndsBy every Holds → (plan : Plan) (moves : List Move) → ((on : Option Coming) → Holds 0 on (ends_in (first_world plan).state) [] blank) →
+pub every_ends_after : (Holds : EndFact) → KeepsEndsBy every Holds → (plan : Plan) (moves : List Move) → ((on : Option Delivery) → Holds 0 on (ends_in (first_world plan).state) [] blank) →
     Holds (past plan moves).world.moves None (ends_in (past plan moves).world.state) [] (past plan moves).book
 every_ends_after Holds keeps plan moves holds =
     let after : HoldsAfterMoves ⊥ (OfMoves Holds) plan moves = moves_keep ⊥ (OfMoves Holds) (ends_keep_by every Holds keeps ⊥) plan moves (λ none. absurd none) holds in after.holds

@@ -1,6 +1,6 @@
 -- What is written down where an end hears bytes, beside its step, by the kind of the end; and the parts of the book
 -- that ends of one kind change alone. It serves the laws of every run that speak of ends of one kind.
-use Rattle.std.proofs.Common.{◌≡◌, ℕ, false, List, Option, Some, None, slice_get, refl, true, sym, subst}
+use Rattle.std.proofs.Common.{◌≡◌, ℕ, List, Option, Some, None, slice_get, refl, sym, subst}
 use Rattle.outside.specs.declared.event.Event.TheVariants as event
 use Rattle.outside.specs.declared.event.Event.{Event}
 use Rattle.domain_controller.specs.State.{State as ControllerState}
@@ -9,6 +9,7 @@ use Rattle.logon_client.specs.State.{State as ClientState}
 use Rattle.logon_client.specs.Machine.{step_of as client_step_of}
 use Rattle.member_server.specs.State.{State as MemberState}
 use Rattle.member_server.specs.Machine.{step_of as member_step_of}
+use Rattle.step_notes.specs.ControllerNotes.{Answered}
 use Rattle.step_notes.specs.MemberNotes.{turn_units}
 use Rattle.step_notes.specs.Records.{Book, ChannelAccepted, Judging, MessageMade, MessageTaken, OfMember}
 use Rattle.world_moves.specs.declared.links.EndId.{EndId}
@@ -17,14 +18,14 @@ use Rattle.world_moves.specs.declared.state.State.{State}
 use Rattle.world_moves.specs.Ends.{EndStep, client_done, client_step, controller_done, member_done, member_step, no_step}
 use Rattle.world_moves.specs.Acting.{done, heard_by}
 use Rattle.world_moves.specs.Alone.{alone_controller_step as controller_step, alone_end_step as end_step}
-use Rattle.domain_world.specs.Past.{Coming, note_at, note_client, note_controller, note_member, note_messages}
-use Rattle.world_moves.proofs.EndKindLaws.{is_controller}
+use Rattle.domain_world.specs.Past.{Delivery, note_answers, note_client, note_member, note_messages}
+use Rattle.domain_world.proofs.Frames.AloneNoteLaws.{note_alone as note_at, note_controller_alone as note_controller}
 use Rattle.domain_world.proofs.Frames.AloneStepLaws.{act_alone as hear_and_act}
-use Rattle.domain_world.proofs.Frames.TurnFrameLaws.{asked_leave, turns_told}
+use Rattle.domain_world.proofs.Frames.TurnFrameLaws.{asked_leave}
 
 -- ---- where an end isn't there, nothing is done and nothing written down
 
-module _ (P : EndId → EndStep → Book → Type 0) (w : Coming) (piece : List ℕ) (s after : State) (b : Book) (none : (end : EndId) → P end (no_step s.ends s.chances) b)
+module _ (P : EndId → EndStep → Book → Type 0) (w : Delivery) (piece : List ℕ) (s after : State) (b : Book) (none : (end : EndId) → P end (no_step s.ends s.chances) b)
     (controllers : (at : ℕ) (c : ControllerState) → slice_get s.ends.controllers at ≡ Some c →
     P (Controller at) (controller_done (controller_step_of c (event.Bytes w.link piece) s.moment s.chances.left) at s.ends s.chances) (note_controller (Some c) at w piece s after b))
     (members : (at : ℕ) (m : MemberState) → slice_get s.ends.members at ≡ Some m →
@@ -52,7 +53,7 @@ module _ (P : EndId → EndStep → Book → Type 0) (w : Coming) (piece : List 
   noted_by (Client at) = client_noted (slice_get s.ends.clients at) at refl
 
 -- the same of the book alone
-pub book_by : (P : EndId → Book → Type 0) (w : Coming) (piece : List ℕ) (s after : State) (b : Book) → ((end : EndId) → P end b) →
+pub book_by : (P : EndId → Book → Type 0) (w : Delivery) (piece : List ℕ) (s after : State) (b : Book) → ((end : EndId) → P end b) →
     ((at : ℕ) (c : ControllerState) → slice_get s.ends.controllers at ≡ Some c → P (Controller at) (note_controller (Some c) at w piece s after b)) →
     ((at : ℕ) (m : MemberState) → slice_get s.ends.members at ≡ Some m → P (Member at) (note_member (Some m) at w piece s after b)) →
     ((at : ℕ) (c : ClientState) → slice_get s.ends.clients at ≡ Some c → P (Client at) (note_client (Some c) at w piece s b)) → (end : EndId) → P end (note_at (Some end) w piece s after b)
@@ -63,7 +64,7 @@ abbrev pub stepped : EndId → EndStep → State → State
 stepped end step s = (done end (heard_by step s)).state
 
 -- the same with the state once the end acted
-pub acted_by : (P : EndId → EndStep → State → Book → Type 0) (w : Coming) (piece : List ℕ) (s : State) (b : Book) →
+pub acted_by : (P : EndId → EndStep → State → Book → Type 0) (w : Delivery) (piece : List ℕ) (s : State) (b : Book) →
     ((end : EndId) → P end (no_step s.ends s.chances) (stepped end (no_step s.ends s.chances) s) b) →
     ((at : ℕ) (c : ControllerState) → slice_get s.ends.controllers at ≡ Some c →
     let step : EndStep = controller_step (Some c) at (event.Bytes w.link piece) s.moment s.ends s.chances in
@@ -92,13 +93,13 @@ acted_by P w piece s b none controllers members clients end =
 
 -- what the other ends hear leaves that part
 abbrev pub ControllersLeave : {X : Type 0} → (Book → X) → Type 0
-ControllersLeave part = (c : ControllerState) (at : ℕ) (w : Coming) (piece : List ℕ) (s after : State) (b : Book) → part (note_controller (Some c) at w piece s after b) ≡ part b
+ControllersLeave part = (answers : List Answered) (w : Delivery) (s after : State) (b : Book) → part (note_answers answers w s after b) ≡ part b
 
 abbrev pub MembersLeave : {X : Type 0} → (Book → X) → Type 0
-MembersLeave part = (m : MemberState) (at : ℕ) (w : Coming) (piece : List ℕ) (s after : State) (b : Book) → part (note_member (Some m) at w piece s after b) ≡ part b
+MembersLeave part = (m : MemberState) (at : ℕ) (w : Delivery) (piece : List ℕ) (s after : State) (b : Book) → part (note_member (Some m) at w piece s after b) ≡ part b
 
 abbrev pub ClientsLeave : {X : Type 0} → (Book → X) → Type 0
-ClientsLeave part = (c : ClientState) (at : ℕ) (w : Coming) (piece : List ℕ) (s : State) (b : Book) → part (note_client (Some c) at w piece s b) ≡ part b
+ClientsLeave part = (c : ClientState) (at : ℕ) (w : Delivery) (piece : List ℕ) (s : State) (b : Book) → part (note_client (Some c) at w piece s b) ≡ part b
 
 pub record OfControllers {X : Type 0} (part : Book → X) : Type 0 where
   pub members : MembersLeave part
@@ -111,13 +112,6 @@ pub record OfMembers {X : Type 0} (part : Book → X) : Type 0 where
 pub record OfClients {X : Type 0} (part : Book → X) : Type 0 where
   pub controllers : ControllersLeave part
   pub members : MembersLeave part
-
--- so it is where any other end hears bytes
-pub others_of_controllers : {X : Type 0} (part : Book → X) → OfControllers part → (w : Coming) (piece : List ℕ) (s after : State) (b : Book) (end : EndId) → is_controller end ≡ false →
-    part (note_at (Some end) w piece s after b) ≡ part b
-others_of_controllers part of w piece s after b =
-    book_by (λ (end : EndId) (now : Book). is_controller end ≡ false → part now ≡ part b) w piece s after b (λ end other. refl) (λ at c is other. absurd (let never : true ≡ false = other in cc))
-    (λ at m is other. of.members m at w piece s after b) (λ at c is other. of.clients c at w piece s b)
 
 -- what was judged is written down at controllers alone, what was taken at members, and what was made at clients
 abbrev pub judgings_of : Book → List Judging
@@ -145,20 +139,20 @@ abbrev pub takings_of : Book → List ℕ
 takings_of b = b.taken
 
 pub taken_so : OfMembers takings_of
-taken_so = record { controllers = λ c at w piece s after b. refl; clients = λ c at w piece s b. refl }
+taken_so = record { controllers = λ answers w s after b. refl; clients = λ c at w piece s b. refl }
 
 abbrev pub messages_in : Book → List MessageTaken
 messages_in b = b.messages
 
 pub messages_so : OfMembers messages_in
-messages_so = record { controllers = λ c at w piece s after b. refl; clients = λ c at w piece s b. refl }
+messages_so = record { controllers = λ answers w s after b. refl; clients = λ c at w piece s b. refl }
 
 abbrev pub made_in : Book → List MessageMade
 made_in b = b.made
 
 pub made_so : OfClients made_in
 made_so = record {
-  controllers = λ c at w piece s after b. refl;
+  controllers = λ answers w s after b. refl;
   members = λ m at w piece s after b.
       asked_leave (OfMember at) w (turn_units m w.link piece s.moment s.chances.left) s after (note_messages at m w piece s b) made_in (λ note served unit number old. refl);
 }
@@ -169,13 +163,7 @@ pub turns_leave : MembersLeave (λ (b : Book). b.turns)
 turns_leave m at w piece s after b =
     asked_leave (OfMember at) w (turn_units m w.link piece s.moment s.chances.left) s after (note_messages at m w piece s b) (λ (book : Book). book.turns) (λ note served unit number old. refl)
 
-pub bytes_told : (end : EndId) (w : Coming) (piece : List ℕ) (s after : State) (b : Book) → (note_at (Some end) w piece s after b).told ≡ b.told
-bytes_told end w piece s after b =
-    book_by (λ (one : EndId) (now : Book). now.told ≡ b.told) w piece s after b (λ one. refl) (λ at c is. refl)
-    (λ at m is. turns_told (OfMember at) w (turn_units m w.link piece s.moment s.chances.left) s after (note_messages at m w piece s b))
-    (λ at c is. refl) end
-
-pub bytes_turns : (end : EndId) (w : Coming) (piece : List ℕ) (s after : State) (b : Book) → (note_at (Some end) w piece s after b).turns ≡ b.turns
+pub bytes_turns : (end : EndId) (w : Delivery) (piece : List ℕ) (s after : State) (b : Book) → (note_at (Some end) w piece s after b).turns ≡ b.turns
 bytes_turns end w piece s after b =
     book_by (λ (one : EndId) (now : Book). now.turns ≡ b.turns) w piece s after b (λ one. refl) (λ at c is. refl)
     (λ at m is. turns_leave m at w piece s after b) (λ at c is. refl) end

@@ -28,7 +28,8 @@ use Rattle.logon_client.specs.Machine.{step_of as client_step_of}
 use Rattle.logon_client.specs.State.{State as ClientState}
 use Rattle.member_server.specs.Machine.{step_of as member_step_of}
 use Rattle.member_server.specs.State.{State as MemberState}
-use Rattle.step_notes.specs.Records.{Book}
+use Rattle.step_notes.specs.MemberNotes.{turn_units}
+use Rattle.step_notes.specs.Records.{Book, OfMember}
 use Rattle.step_notes.proofs.Members.RestLaws.{client_leaves_rest, member_leaves}
 use Rattle.world_moves.specs.declared.links.EndId.{EndId}
 use Rattle.world_moves.specs.declared.links.EndId.TheVariants.{Controller, Member, Client}
@@ -38,8 +39,10 @@ use Rattle.world_moves.specs.declared.state.State.{State}
 use Rattle.world_moves.specs.Acting.{done, hear_and_act, heard_by}
 use Rattle.world_moves.specs.Ends.{EndStates, EndStep, client_done, client_step, controller_done, controller_step, end_step, member_done, member_step, no_step}
 use Rattle.world_moves.specs.Links.{dialler_of}
-use Rattle.domain_world.specs.Past.{Coming, note_at, note_client, note_controller, note_member}
+use Rattle.domain_world.specs.Past.{Delivery, note_at, note_client, note_controller, note_member, note_messages}
 use Rattle.world_moves.proofs.EndKindLaws.{is_controller, step_by as end_by}
+use Rattle.domain_world.proofs.Frames.EndNoteLaws.{OfControllers}
+use Rattle.domain_world.proofs.Frames.TurnFrameLaws.{turns_told}
 use Rattle.domain_world.proofs.Moves.LeftLaws.{DrawsOn}
 use Rattle.domain_world.proofs.Moves.OpenMadeLaws.{IsApart, IsAtSide, IsOnSide}
 
@@ -73,7 +76,7 @@ event_rest (event.Dialled number) name now table parts left = IsRest-refl left
 event_rest event.DialFailed name now table parts left = IsRest-refl left
 event_rest event.Stop name now table parts left = IsRest-refl left
 
-controller_rest : (running : Option Running) (c : ControllerState) (what : Event) (now : ℕ) (left : List (List ℕ)) → IsRest (trust_step_on running c what now left).left left
+pub controller_rest : (running : Option Running) (c : ControllerState) (what : Event) (now : ℕ) (left : List (List ℕ)) → IsRest (trust_step_on running c what now left).left left
 controller_rest None c what now left = IsRest-refl left
 controller_rest (Some running) c what now left =
     let parts : Parts = parts_of running c.trusting in
@@ -102,7 +105,7 @@ every_draws end what now ends chances =
 
 -- ---- where an end isn't there, nothing is done and nothing written down
 
-module _ (P : EndId → EndStep → Book → Type 0) (w : Coming) (piece : List ℕ) (s after : State) (b : Book) (none : (end : EndId) → P end (no_step s.ends s.chances) b)
+module _ (P : EndId → EndStep → Book → Type 0) (w : Delivery) (piece : List ℕ) (s after : State) (b : Book) (none : (end : EndId) → P end (no_step s.ends s.chances) b)
     (controllers : (at : ℕ) (c : ControllerState) → slice_get s.ends.controllers at ≡ Some c →
     P (Controller at) (controller_done (controller_step_of c (event.Bytes w.link piece) s.moment s.chances.left) at s.ends s.chances) (note_controller (Some c) at w piece s after b))
     (members : (at : ℕ) (m : MemberState) → slice_get s.ends.members at ≡ Some m →
@@ -129,12 +132,32 @@ module _ (P : EndId → EndStep → Book → Type 0) (w : Coming) (piece : List 
   every_noted (Member at) = member_noted (slice_get s.ends.members at) at refl
   every_noted (Client at) = client_noted (slice_get s.ends.clients at) at refl
 
+-- the same of the book alone
+pub every_book : (P : EndId → Book → Type 0) (w : Delivery) (piece : List ℕ) (s after : State) (b : Book) → ((end : EndId) → P end b) →
+    ((at : ℕ) (c : ControllerState) → slice_get s.ends.controllers at ≡ Some c → P (Controller at) (note_controller (Some c) at w piece s after b)) →
+    ((at : ℕ) (m : MemberState) → slice_get s.ends.members at ≡ Some m → P (Member at) (note_member (Some m) at w piece s after b)) →
+    ((at : ℕ) (c : ClientState) → slice_get s.ends.clients at ≡ Some c → P (Client at) (note_client (Some c) at w piece s b)) → (end : EndId) → P end (note_at (Some end) w piece s after b)
+every_book P w piece s after b none controllers members clients = every_noted (λ (end : EndId) (step : EndStep) (now : Book). P end now) w piece s after b none controllers members clients
+
+-- a part of the book that controllers change alone stays where any other end hears bytes
+pub others_of_controllers : {X : Type 0} (part : Book → X) → OfControllers part → (w : Delivery) (piece : List ℕ) (s after : State) (b : Book) (end : EndId) → is_controller end ≡ false →
+    part (note_at (Some end) w piece s after b) ≡ part b
+others_of_controllers part of w piece s after b =
+    every_book (λ (end : EndId) (now : Book). is_controller end ≡ false → part now ≡ part b) w piece s after b (λ end other. refl) (λ at c is other. absurd (let never : true ≡ false = other in cc))
+    (λ at m is other. of.members m at w piece s after b) (λ at c is other. of.clients c at w piece s b)
+
+pub bytes_told : (end : EndId) (w : Delivery) (piece : List ℕ) (s after : State) (b : Book) → (note_at (Some end) w piece s after b).told ≡ b.told
+bytes_told end w piece s after b =
+    every_book (λ (one : EndId) (now : Book). now.told ≡ b.told) w piece s after b (λ one. refl) (λ at c is. refl)
+    (λ at m is. turns_told (OfMember at) w (turn_units m w.link piece s.moment s.chances.left) s after (note_messages at m w piece s b))
+    (λ at c is. refl) end
+
 -- so a state is once an end took that step
 abbrev pub stepped : EndId → EndStep → State → State
 stepped end step s = (done end (heard_by step s)).state
 
 -- the same with the state once the end acted
-pub every_acted : (P : EndId → EndStep → State → Book → Type 0) (w : Coming) (piece : List ℕ) (s : State) (b : Book) →
+pub every_acted : (P : EndId → EndStep → State → Book → Type 0) (w : Delivery) (piece : List ℕ) (s : State) (b : Book) →
     ((end : EndId) → P end (no_step s.ends s.chances) (stepped end (no_step s.ends s.chances) s) b) →
     ((at : ℕ) (c : ControllerState) → slice_get s.ends.controllers at ≡ Some c →
     let step : EndStep = controller_step (Some c) at (event.Bytes w.link piece) s.moment s.ends s.chances in

@@ -24,7 +24,8 @@ use Rattle.world_moves.specs.Ends.{EndStates, EndStep, with_client, with_member}
 use Rattle.world_moves.specs.Links.{acceptor_of}
 use Rattle.world_moves.specs.Moving.{changed}
 use Rattle.world_moves.specs.World.{World, first_world, run}
-use Rattle.domain_world.specs.Past.{Coming, book, note_at, note_given, past}
+use Rattle.domain_world.specs.Past.{Delivery, book, note_given, past}
+use Rattle.domain_world.proofs.Frames.AloneNoteLaws.{note_alone as note_at}
 use Rattle.domain_world.proofs.Frames.AloneStepLaws.{act_alone as hear_and_act, renew_alone_by as renew_by, renewed_alone as renewed}
 use Rattle.domain_world.proofs.Frames.EndFrameLaws.{EndFact, IsCalm, KeepsEnds, by_calm, ends_after, ends_keep, ends_later}
 use Rattle.domain_world.proofs.Frames.MoveKeepLaws.{KeepsMoves, MoveFact, NoSide}
@@ -127,14 +128,14 @@ calm_quiet = by_calm IsQuiet (λ link. tt) tt tt
 -- step, and nothing else changes that part.
 pub record StaysWritten {X : Type 0} (part : Book → X) (Fits : X → Fact) : Type 0 where
   pub stays : (x : X) → Stays (Fits x)
-  pub bytes : (end : EndId) (w : Coming) (piece : List ℕ) (s after : State) (b : Book) → HoldsIn (Fits (part b)) s →
+  pub bytes : (end : EndId) (w : Delivery) (piece : List ℕ) (s after : State) (b : Book) → HoldsIn (Fits (part b)) s →
       HoldsAfter (Fits (part (note_at (Some end) w piece s after b))) (end_step end (event.Bytes w.link piece) s.moment s.ends s.chances) s.links
   pub given : (at : ℕ) (given : Given) (after : State) (b : Book) → part (note_given at given after b) ≡ part b
 
 -- the same by the plans of the clients
 pub record StaysWrittenByPlans {X : Type 0} (part : Book → X) (Fits : X → PlannedFact) : Type 0 where
   pub stays : (x : X) → StaysByPlans (Fits x)
-  pub bytes : (end : EndId) (w : Coming) (piece : List ℕ) (s after : State) (b : Book) → HoldsByPlans (Fits (part b)) s →
+  pub bytes : (end : EndId) (w : Delivery) (piece : List ℕ) (s after : State) (b : Book) → HoldsByPlans (Fits (part b)) s →
       HoldsAfter (Fits (part (note_at (Some end) w piece s after b)) s.client_plans) (end_step end (event.Bytes w.link piece) s.moment s.ends s.chances) s.links
   pub given : (at : ℕ) (given : Given) (after : State) (b : Book) → part (note_given at given after b) ≡ part b
 

@@ -23,7 +23,8 @@ use Rattle.world_moves.specs.Links.{acceptor_of}
 use Rattle.world_moves.specs.Moving.{with_link}
 use Rattle.world_moves.specs.World.{first_world}
 use Rattle.world_moves.specs.Alone.{alone_end_step as end_step}
-use Rattle.domain_world.specs.Past.{Coming, note_at, note_given, note_member, past}
+use Rattle.domain_world.specs.Past.{Delivery, answers_of, note_at, note_given, note_member, past}
+use Rattle.domain_world.proofs.Frames.AloneNoteLaws.{alone_answers, note_alone}
 use Rattle.domain_world.proofs.Frames.AloneStepLaws.{alone_by as step_by}
 use Rattle.domain_world.proofs.Frames.EndNoteLaws.{OfMembers, noted_by}
 use Rattle.world_moves.proofs.EndKindLaws.{renew_by, step_by as every_by}
@@ -58,7 +59,7 @@ pub record KeepsMembers {X : Type 0} (part : Book → X) (Fits : X → MembersFa
   pub accepts : (x : X) (m : MemberState) (at : ℕ) (route : Route) (now : ℕ) (members : List MemberState) (chances : Drawing) (links : List Route) → acceptor_of route ≡ Member at →
       slice_get members at ≡ Some m → Fits x members chances links → MemberStepped (Fits x) m at (event.Opened (length links)) now members chances (links ++ route ∷ [])
   -- a member hears bytes
-  pub comes : (m : MemberState) (at : ℕ) (w : Coming) (piece : List ℕ) (s after : State) (b : Book) → slice_get s.ends.members at ≡ Some m → Fits (part b) s.ends.members s.chances s.links →
+  pub comes : (m : MemberState) (at : ℕ) (w : Delivery) (piece : List ℕ) (s after : State) (b : Book) → slice_get s.ends.members at ≡ Some m → Fits (part b) s.ends.members s.chances s.links →
       MemberStepped (Fits (part (note_member (Some m) at w piece s after b))) m at (event.Bytes w.link piece) s.moment s.ends.members s.chances s.links
   -- a member is made anew
   pub anew : (x : X) (plan : MemberPlan) (at : ℕ) (members : List MemberState) (chances : Drawing) (links : List Route) → Fits x members chances links →
@@ -96,11 +97,11 @@ module _ {X : Type 0} (part : Book → X) (Fits : X → MembersFact) (keeps : Ke
   others_keep x now members chances later links same draws fits =
       subst (λ (one : X). Fits one members later links) (sym same) (keeps.draws x members chances later links draws fits)
 
-  bytes_keep : (end : EndId) (w : Coming) (piece : List ℕ) (s after : State) (b : Book) → HoldsIn (AmongMembers (part b)) s →
-      HoldsAfter (AmongMembers (part (note_at (Some end) w piece s after b))) (end_step end (event.Bytes w.link piece) s.moment s.ends s.chances) s.links
+  bytes_keep : (end : EndId) (w : Delivery) (piece : List ℕ) (s after : State) (b : Book) → HoldsIn (AmongMembers (part b)) s →
+      HoldsAfter (AmongMembers (part (note_alone (Some end) w piece s after b))) (end_step end (event.Bytes w.link piece) s.moment s.ends s.chances) s.links
   bytes_keep end w piece s after b fits =
       noted_by (λ (one : EndId) (step : EndStep) (now : Book). DrawsOn s.chances step.chances → Fits (part now) step.ends.members step.chances s.links) w piece s after b (λ one draws. fits)
-      (λ at c is draws. others_keep (part b) _ s.ends.members s.chances _ s.links (keeps.of.controllers c at w piece s after b) draws fits)
+      (λ at c is draws. others_keep (part b) _ s.ends.members s.chances _ s.links (keeps.of.controllers (alone_answers at c w piece s) w s after b) draws fits)
       (λ at m is draws. keeps.comes m at w piece s after b is fits)
       (λ at c is draws. others_keep (part b) _ s.ends.members s.chances _ s.links (keeps.of.clients c at w piece s b) draws fits) end
       (end_draws end (event.Bytes w.link piece) s.moment s.ends s.chances)
@@ -141,11 +142,11 @@ module _ {X : Type 0} (part : Book → X) (Fits : X → MembersFact) (keeps : Ke
       (λ at c is accepts draws. keeps.draws x s.ends.members s.chances _ (s.links ++ route ∷ []) draws more) (acceptor_of route) refl
       (every_draws (acceptor_of route) (event.Opened (length s.links)) s.moment s.ends s.chances)
 
-  every_comes : (end : EndId) (w : Coming) (piece : List ℕ) (s after : State) (b : Book) → Fits (part b) s.ends.members s.chances s.links →
+  every_comes : (end : EndId) (w : Delivery) (piece : List ℕ) (s after : State) (b : Book) → Fits (part b) s.ends.members s.chances s.links →
       let heard = hear end (event.Bytes w.link piece) s in Fits (part (note_at (Some end) w piece s after b)) heard.state.ends.members heard.state.chances s.links
   every_comes end w piece s after b fits =
       every_noted (λ (one : EndId) (step : EndStep) (now : Book). DrawsOn s.chances step.chances → Fits (part now) step.ends.members step.chances s.links) w piece s after b (λ one draws. fits)
-      (λ at c is draws. others_keep (part b) _ s.ends.members s.chances _ s.links (keeps.of.controllers c at w piece s after b) draws fits)
+      (λ at c is draws. others_keep (part b) _ s.ends.members s.chances _ s.links (keeps.of.controllers (answers_of at c w piece s) w s after b) draws fits)
       (λ at m is draws. keeps.comes m at w piece s after b is fits)
       (λ at c is draws. others_keep (part b) _ s.ends.members s.chances _ s.links (keeps.of.clients c at w piece s b) draws fits) end
       (every_draws end (event.Bytes w.link piece) s.moment s.ends s.chances)

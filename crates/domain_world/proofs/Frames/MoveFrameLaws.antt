@@ -25,7 +25,7 @@ use Rattle.world_moves.specs.declared.moves.Move.TheVariants as move
 use Rattle.world_moves.specs.declared.plan.Plan.{Plan}
 use Rattle.world_moves.specs.declared.state.State.{State}
 use Rattle.world_moves.specs.declared.state.WaitingDial.{WaitingDial}
-use Rattle.world_moves.specs.Acting.{Acted, Given, Heard, close_open, closed_at, done, forget, given_by, hear, hear_and_act, hear_and_act_if, link_closed, nothing_done, perform, perform_all, perform_all_quietly, perform_by, perform_quietly, piece_comes, pieces_come, shut_link, then_act}
+use Rattle.world_moves.specs.Acting.{Acted, Given, AfterHearing, close_open, closed_at, done, forget, given_by, hear, hear_and_act, hear_and_act_if, link_closed, nothing_done, perform, perform_all, perform_all_quietly, perform_by, perform_quietly, piece_comes, pieces_come, shut_link, then_act}
 use Rattle.world_moves.specs.Bag.{first_waiting, pieces_of}
 use Rattle.world_moves.specs.Choosing.{chosen_in, chosen_place}
 use Rattle.world_moves.specs.Ends.{acceptors_in, count_of, end_at}
@@ -33,7 +33,7 @@ use Rattle.world_moves.specs.Links.{accepted, acceptor_of, answered, dialler_of,
 use Rattle.world_moves.specs.Moving.{act, answer_by, answered_link, begun, change_at, changed, come_by, come_on_own, connect_by, connect_first, deliver_by, deliver_on, deliver_unit, end_of_peer, fail_first, hand_on, lose_by, onward_by, open_link, renewed, restart_at, restart_by, route_to, settle, shut_at, shut_by, start_at, start_by, stranger_at, stranger_by, tick, with_link, without_first}
 use Rattle.world_moves.specs.World.{World, first_world, happens, run}
 use Rattle.domain_world.specs.Claims.Sessions.{end_by, restart_of}
-use Rattle.domain_world.specs.Past.{Coming, book, note, note_at, note_chosen, note_coming, note_deliver, note_hand, note_on, note_onward, note_own, note_pieces, note_unit, past}
+use Rattle.domain_world.specs.Past.{Delivery, book, note, note_at, note_chosen, note_coming, note_deliver, note_hand, note_on, note_onward, note_own, note_pieces, note_unit, past}
 use Rattle.wire_base.proofs.ListLaws.{got_last, got_nothing}
 use Rattle.world_moves.proofs.BagLaws.{pieces_few}
 use Rattle.world_moves.proofs.BoundLaws.{hears_links}
@@ -97,7 +97,7 @@ module _ (Known : Type 0) (Holds : MoveFact) (keeps : KeepsCalmMovesBy every Kno
       After p (n + 1 + 2 * length s.open_links) (closed_at end link s) given b
   closed_part p work None link n s given b holds = nothing p (n + 1 + 2 * length s.open_links) n s given b holds (omega arith)
   closed_part p work (Some end) link n s given b holds =
-      let heard : Heard = hear end (event.Closed link) s in
+      let heard : AfterHearing = hear end (event.Closed link) s in
       let few : length (closed_at (Some end) link s).state.open_links ≤ length s.open_links =
       closed_stays (FewOpen (length s.open_links)) (few_open (length s.open_links)) (Some end) link s (omega arith) in
       record {
@@ -136,7 +136,7 @@ module _ (Known : Type 0) (Holds : MoveFact) (keeps : KeepsCalmMovesBy every Kno
       (widen p (first.steps + 2 * length after.open_links) (n + 2 * length s.open_links) (perform_all end actions after) (given ++ (perform end what s).given) b first.few
       (all_part p work end actions first.steps after (given ++ (perform end what s).given) b first.holds))
 
-  done_part : (p : Progress) (work : AtWork p.on p.to) (n : ℕ) (end : EndId) (heard : Heard) (given : Given) (b : Book) → IsHeard Holds n p end heard given b →
+  done_part : (p : Progress) (work : AtWork p.on p.to) (n : ℕ) (end : EndId) (heard : AfterHearing) (given : Given) (b : Book) → IsHeard Holds n p end heard given b →
       After p (n + 1 + 2 * length heard.state.open_links) (done end heard) given b
   done_part p work n end heard given b holds =
       let all : After p (n + 1 + 2 * length heard.state.open_links) (perform_all end heard.actions heard.state) (given ++ given_by end heard.actions) b =
@@ -274,7 +274,7 @@ module _ (Known : Type 0) (Holds : MoveFact) (keeps : KeepsCalmMovesBy every Kno
 
   -- ---- bytes come
 
-  piece_part : (end : Option EndId) (w : Coming) (piece : List ℕ) (n : ℕ) (s : State) (given : Given) (b : Book) → hearer_of w.back (lookup same_number w.link s.open_links) ≡ end →
+  piece_part : (end : Option EndId) (w : Delivery) (piece : List ℕ) (n : ℕ) (s : State) (given : Given) (b : Book) → hearer_of w.back (lookup same_number w.link s.open_links) ≡ end →
       CameFrom w.source s w piece → (Known → AreBytes piece) → IsPlaced s → Holds n (coming w) s given b →
       After (coming w) (n + 1 + 2 * length s.open_links) (hear_and_act_if end (event.Bytes w.link piece) s) given (note_at end w piece s (hear_and_act_if end (event.Bytes w.link piece) s).state b)
   piece_part None w piece n s given b is came bytes placed holds = nothing (coming w) (n + 1 + 2 * length s.open_links) n s given b holds (omega arith)
@@ -286,7 +286,7 @@ module _ (Known : Type 0) (Holds : MoveFact) (keeps : KeepsCalmMovesBy every Kno
       done_part (record (coming w) { to = Some after }) tt n end (hear end (event.Bytes w.link piece) s) given now (keeps.comes n end w piece s given b side came bytes tt holds) in
       record { steps = all.steps; holds = keeps.reaches all.steps w after (given ++ (hear_and_act end (event.Bytes w.link piece) s).given) now tt all.holds; few = all.few }
 
-  pieces_part : (w : Coming) (links : List Route) (old : List BagUnit) (pieces : List (List ℕ)) (n : ℕ) (s : State) (given : Given) (b : Book) →
+  pieces_part : (w : Delivery) (links : List Route) (old : List BagUnit) (pieces : List (List ℕ)) (n : ℕ) (s : State) (given : Given) (b : Book) →
       ((later : State) (piece : List ℕ) → Since links old later.links later.open_links later.bag → OneOf (λ (one : List ℕ). one ≡ piece) pieces → CameFrom w.source later w piece) →
       ((piece : List ℕ) → OneOf (λ (one : List ℕ). one ≡ piece) pieces → Known → AreBytes piece) → Since links old s.links s.open_links s.bag → Holds n (coming w) s given b →
       After (coming w) (n + length pieces + 2 * length s.open_links) (pieces_come w.back w.link pieces s) given (note_pieces w pieces s b)
@@ -304,7 +304,7 @@ module _ (Known : Type 0) (Holds : MoveFact) (keeps : KeepsCalmMovesBy every Kno
       (pieces_part w links old pieces first.steps one.state (given ++ one.given) middle (λ later other then_so there. came later other then_so (inr there)) (λ other there. bytes other (inr there))
       (heard_if_stays (Since links old) (since_sent links old) end (event.Bytes w.link piece) s since) first.holds))
 
-  pieces_since : (w : Coming) (links : List Route) (old : List BagUnit) (pieces : List (List ℕ)) (s : State) → Since links old s.links s.open_links s.bag →
+  pieces_since : (w : Delivery) (links : List Route) (old : List BagUnit) (pieces : List (List ℕ)) (s : State) → Since links old s.links s.open_links s.bag →
       let after : State = (pieces_come w.back w.link pieces s).state in Since links old after.links after.open_links after.bag
   pieces_since w links old [] s since = since
   pieces_since w links old (piece ∷ pieces) s since =
@@ -314,14 +314,14 @@ module _ (Known : Type 0) (Holds : MoveFact) (keeps : KeepsCalmMovesBy every Kno
   -- it holds after a move, of which what is given isn't written down; few steps were taken, where no unit is long
   record Moved (n at : ℕ) (s : State) (acted : Acted) (b : Book) : Type 0 where
     steps : ℕ
-    on : Option Coming
+    on : Option Delivery
     holds : Holds steps (started at on) acted.state acted.given b
     placed : IsPlaced acted.state
     few : Known → steps + 2 * length acted.state.open_links ≤ n + 2 * length s.open_links + 10
 
   -- before a move it holds whatever comes in it
   abbrev HoldsFor : ℕ → ℕ → State → Book → Type 0
-  HoldsFor n at s b = (on : Option Coming) → Holds n (started at on) s [] b
+  HoldsFor n at s b = (on : Option Delivery) → Holds n (started at on) s [] b
 
   unmoved : (n at : ℕ) (s : State) (b : Book) → IsPlaced s → HoldsFor n at s b → Moved n at s (nothing_done s) b
   unmoved n at s b placed holds = record { steps = n; on = None; holds = holds None; placed = placed; few = λ known. omega arith }
@@ -330,7 +330,7 @@ module _ (Known : Type 0) (Holds : MoveFact) (keeps : KeepsCalmMovesBy every Kno
       IsPlaced s → (Known → IsBytesBag s.bag) → HoldsFor n at s b → Moved n at s (come_by unit link s) (note_unit unit number link at s b)
   unit_part None number link n at s b is of placed have holds = unmoved n at s b placed holds
   unit_part (Some unit) number link n at s b is of placed have holds =
-      let w : Coming = record { at = at; source = InUnit number; link = link; back = unit.back } in
+      let w : Delivery = record { at = at; source = InUnit number; link = link; back = unit.back } in
       let start : Since s.links s.bag s.links s.open_links s.bag = record { same = refl; still = kept_same s.bag; placed = placed } in
       let all : After (coming w) (n + length (pieces_of unit.bytes) + 2 * length s.open_links) (come_by (Some unit) link s) [] (note_unit (Some unit) number link at s b) =
       pieces_part w s.links s.bag (pieces_of unit.bytes) n s [] b (λ later piece since one. same_piece number unit link at s later piece is (of unit refl) since one)
@@ -388,7 +388,7 @@ module _ (Known : Type 0) (Holds : MoveFact) (keeps : KeepsCalmMovesBy every Kno
       IsPlaced s → (Known → AreBytes piece) → HoldsFor n at s b → Moved n at s (hand_on link back piece s) (note_hand link back piece at s b)
   hand_part None back piece n at s b outside placed bytes holds = unmoved n at s b placed holds
   hand_part (Some link) back piece n at s b outside placed bytes holds =
-      let w : Coming = record { at = at; source = Outside; link = link; back = back } in
+      let w : Delivery = record { at = at; source = Outside; link = link; back = back } in
       let end : Option EndId = hearer_of back (lookup same_number link s.open_links) in
       let one : After (coming w) (n + 1 + 2 * length s.open_links) (hear_and_act_if end (event.Bytes link piece) s) [] (note_at end w piece s (hear_and_act_if end (event.Bytes link piece) s).state b) =
       piece_part end w piece n s [] b refl (outside link refl) bytes placed (holds (Some w)) in
@@ -488,7 +488,7 @@ pub record HoldsAfterMoves (Known : Type 0) (Holds : MoveFact) (plan : Plan) (mo
   pub few : Known → steps + 2 * length (past plan moves).world.state.open_links ≤ 10 * length moves
 
 pub moves_keep : (Known : Type 0) (Holds : MoveFact) → KeepsMovesBy every Known NoSide Holds → (plan : Plan) (moves : List Move) → (Known → HasBytes plan moves) →
-    ((on : Option Coming) → Holds 0 (started 0 on) (first_world plan).state [] blank) → HoldsAfterMoves Known Holds plan moves
+    ((on : Option Delivery) → Holds 0 (started 0 on) (first_world plan).state [] blank) → HoldsAfterMoves Known Holds plan moves
 moves_keep Known Holds keeps plan moves has holds =
     let bag : List BagUnit = (past plan moves).world.state.bag in
     let ran : Ran Known Holds keeps 0 moves (first_world plan) blank =
@@ -499,7 +499,7 @@ moves_keep Known Holds keeps plan moves has holds =
 
 -- so it is where what is handed in are bytes, and what holds says so of the bag
 pub moves_carry : (Holds : MoveFact) → KeepsMovesBy every (Unit {0}) NoSide Holds → ((n at : ℕ) (s : State) (b : Book) → Holds n (started at None) s [] b → IsBytesBag s.bag) →
-    (plan : Plan) (moves : List Move) → AllByRecursion HandsBytes moves → ((on : Option Coming) → Holds 0 (started 0 on) (first_world plan).state [] blank) →
+    (plan : Plan) (moves : List Move) → AllByRecursion HandsBytes moves → ((on : Option Delivery) → Holds 0 (started 0 on) (first_world plan).state [] blank) →
     HoldsAfterMoves (Unit {0}) Holds plan moves
 moves_carry Holds keeps says plan moves handed holds =
     let ran : Ran (Unit {0}) Holds keeps 0 moves (first_world plan) blank =
@@ -509,7 +509,7 @@ moves_carry Holds keeps says plan moves handed holds =
 -- ---- from any world on
 
 -- So it does after a run from any world in which links and units have their places, where nothing of bytes is asked.
-pub later_keeps : (Holds : MoveFact) → KeepsMovesBy every ⊥ NoSide Holds → (moves : List Move) (w : World) (b : Book) → IsPlaced w.state → ((on : Option Coming) → Holds 0 (started w.moves on) w.state [] b) →
+pub later_keeps : (Holds : MoveFact) → KeepsMovesBy every ⊥ NoSide Holds → (moves : List Move) (w : World) (b : Book) → IsPlaced w.state → ((on : Option Delivery) → Holds 0 (started w.moves on) w.state [] b) →
     (n : ℕ) × Holds n (started (run moves w).moves None) (run moves w).state [] (book moves w b)
 later_keeps Holds keeps moves w b placed holds =
     let ran : Ran ⊥ Holds keeps 0 moves w b = run_part ⊥ Holds keeps moves 0 w b (λ none. absurd none) (λ none. absurd none) placed holds in (ran.steps, ran.holds None)
@@ -549,8 +549,8 @@ placed_next what w b placed =
 
 -- it holds on through it, though it isn't known to where one is
 pub move_keeps : (Holds : MoveFact) → KeepsCalmMovesBy every ⊥ NoSide Holds → (what : Move) (w : World) (b : Book) → restart_of what w.state ≡ None → IsPlaced w.state →
-    ((on : Option Coming) → Holds 0 (started w.moves on) w.state [] b) →
-    (n : ℕ) × ((next : Option Coming) → Holds n (started (happens w what).moves next) (happens w what).state [] (note w what b))
+    ((on : Option Delivery) → Holds 0 (started w.moves on) w.state [] b) →
+    (n : ℕ) × ((next : Option Delivery) → Holds n (started (happens w what).moves next) (happens w what).state [] (note w what b))
 move_keeps Holds keeps what w b none placed holds =
     let moved : Moved ⊥ Holds keeps 0 w.moves w.state (act w.state what) (note_coming what w.moves w.state b) =
     act_part ⊥ Holds keeps what 0 w.moves w.state b placed (λ never. absurd never) (λ never. absurd never)

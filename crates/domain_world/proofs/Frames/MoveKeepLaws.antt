@@ -16,21 +16,25 @@ use Rattle.world_moves.specs.declared.links.OpenLink.{OpenLink}
 use Rattle.world_moves.specs.declared.links.Route.{Route}
 use Rattle.world_moves.specs.declared.state.State.{State}
 use Rattle.world_moves.specs.declared.state.WaitingDial.{WaitingDial}
-use Rattle.world_moves.specs.Acting.{Given, Heard, done, forget, given_by, hear, perform_quietly, shut_link}
+use Rattle.world_moves.specs.Acting.{Given, AfterHearing, done, forget, given_by, hear, perform_quietly, shut_link}
 use Rattle.world_moves.specs.Alone.{hear_alone}
 use Rattle.world_moves.specs.Links.{acceptor_of, dialler_of}
 use Rattle.world_moves.specs.Moving.{answered_link, begun, changed, renewed, settle, tick, with_link, without_first}
-use Rattle.domain_world.specs.Past.{Coming, note_at, note_given}
+use Rattle.domain_world.specs.Past.{Delivery, note_at, note_given}
+use Rattle.domain_world.proofs.Frames.AloneNoteLaws.{note_alone}
 use Rattle.domain_world.proofs.Frames.AloneStepLaws.{renewed_alone}
 use Rattle.domain_world.proofs.Moves.ComingLaws.{CameFrom}
 use Rattle.domain_world.proofs.Moves.OpenMadeLaws.{IsAtSide, IsOnSide}
 
 -- ---- what is to hold
 
--- How ends hear and are made anew, and which end is at a side of a link: what a frame asks of each step is said of it.
+-- How ends hear and are made anew, what is written down of bytes that come, and which end is at a side of a link: what
+-- a frame asks of each step is said of it.
 pub record How : Type 1 where
-  pub hears : EndId → Event → State → Heard
+  pub hears : EndId → Event → State → AfterHearing
   pub renews : EndId → State → State
+  -- what is written down of bytes that come at it
+  pub notes : Option EndId → Delivery → List ℕ → State → State → Book → Book
   -- the link's number, and the direction, `back` to the end that dialled
   pub at_side : List Route → ℕ → Bool → EndId → Type 0
 
@@ -39,6 +43,7 @@ abbrev pub every : How
 every = record {
   hears = λ end what s. hear end what s;
   renews = λ end s. renewed end s;
+  notes = λ end w piece s after b. note_at end w piece s after b;
   at_side = λ links link back end. IsOnSide links link back end;
 }
 
@@ -47,6 +52,7 @@ abbrev pub alone : How
 alone = record {
   hears = λ end what s. hear_alone end what s;
   renews = λ end s. renewed_alone end s;
+  notes = λ end w piece s after b. note_alone end w piece s after b;
   at_side = λ links link back end. IsAtSide links link back end;
 }
 
@@ -55,7 +61,7 @@ pub record Progress : Type 0 where
   -- after how many moves
   pub at : ℕ
   -- what comes in this move, or None where no bytes come
-  pub on : Option Coming
+  pub on : Option Delivery
   -- while an end does what it does at bytes: the state once all of that is done
   pub to : Option State
   -- the end whose dial is answered
@@ -68,7 +74,7 @@ abbrev pub MoveFact : Type 1
 MoveFact = ℕ → Progress → State → Given → Book → Type 0
 
 -- nothing is left to do
-abbrev pub started : ℕ → Option Coming → Progress
+abbrev pub started : ℕ → Option Delivery → Progress
 started at on = record { at = at; on = on; to = None; dial = None; rest = [] }
 
 -- no bytes come, and the dial of that end is answered, if of any
@@ -76,18 +82,18 @@ abbrev pub waiting : ℕ → Option EndId → Progress
 waiting at dial = record { at = at; on = None; to = None; dial = dial; rest = [] }
 
 -- bytes come
-abbrev pub coming : Coming → Progress
+abbrev pub coming : Delivery → Progress
 coming w = started w.at (Some w)
 
 abbrev pub with_rest : Given → Progress → Progress
 with_rest given p = record p { rest = given ++ p.rest }
 
 -- an end has heard something, and its actions aren't done yet
-abbrev pub IsHeard : MoveFact → ℕ → Progress → EndId → Heard → Given → Book → Type 0
+abbrev pub IsHeard : MoveFact → ℕ → Progress → EndId → AfterHearing → Given → Book → Type 0
 IsHeard Holds n p end heard given b = Holds (n + 1) (with_rest (given_by end heard.actions) p) heard.state (given ++ given_by end heard.actions) b
 
 -- An end may act, or hear that a link closed: at a move without bytes, or within the step at bytes that is under way.
-abbrev pub AtWork : Option Coming → Option State → Type 0
+abbrev pub AtWork : Option Delivery → Option State → Type 0
 AtWork None to = Unit {0}
 AtWork (Some w) None = ⊥
 AtWork (Some w) (Some after) = Unit {0}
@@ -108,12 +114,12 @@ pub record KeepsMovesBy (how : How) (Known : Type 0) (Side Holds : MoveFact) : T
       IsHeard Holds n (waiting at None) end (how.hears end event.DialFailed s) [] b
   pub begins : (n at client : ℕ) (plan : ClientPlan) (s : State) (b : Book) → slice_get s.client_plans client ≡ Some plan → Side n (waiting at None) s [] b →
       Holds n (waiting at None) s [] b → IsHeard Holds n (waiting at None) (Client client) (begun client plan s) [] b
-  pub comes : (n : ℕ) (end : EndId) (w : Coming) (piece : List ℕ) (s : State) (given : Given) (b : Book) → how.at_side s.links w.link w.back end → CameFrom w.source s w piece →
+  pub comes : (n : ℕ) (end : EndId) (w : Delivery) (piece : List ℕ) (s : State) (given : Given) (b : Book) → how.at_side s.links w.link w.back end → CameFrom w.source s w piece →
       (Known → AreBytes piece) → Side n (coming w) s given b → Holds n (coming w) s given b →
       let after : State = (done end (how.hears end (event.Bytes w.link piece) s)).state in
-      IsHeard Holds n (record (coming w) { to = Some after }) end (how.hears end (event.Bytes w.link piece) s) given (note_at (Some end) w piece s after b)
+      IsHeard Holds n (record (coming w) { to = Some after }) end (how.hears end (event.Bytes w.link piece) s) given (how.notes (Some end) w piece s after b)
   -- the step at bytes is done
-  pub reaches : (n : ℕ) (w : Coming) (s : State) (given : Given) (b : Book) → Side n (record (coming w) { to = Some s }) s given b → Holds n (record (coming w) { to = Some s }) s given b →
+  pub reaches : (n : ℕ) (w : Delivery) (s : State) (given : Given) (b : Book) → Side n (record (coming w) { to = Some s }) s given b → Holds n (record (coming w) { to = Some s }) s given b →
       Holds n (coming w) s given b
   -- an action is done: a unit goes into the bag, a dial waits, or a text is kept
   pub acts : (n : ℕ) (p : Progress) (end : EndId) (what : Action) (s : State) (given : Given) (b : Book) → AtWork p.on p.to → Side n (with_rest ((end, what) ∷ []) p) s given b →
@@ -123,7 +129,7 @@ pub record KeepsMovesBy (how : How) (Known : Type 0) (Side Holds : MoveFact) : T
   pub answers : (n at : ℕ) (dial : Option EndId) (link : ℕ) (there : OpenLink) (s : State) (given : Given) (b : Book) → lookup same_number link s.open_links ≡ Some there →
       Side n (waiting at dial) s given b → Holds n (waiting at dial) s given b → Holds n (waiting at dial) (answered_link link there s) given b
   pub forgets : (n at : ℕ) (end : EndId) (s : State) (b : Book) → Side n (waiting at None) s [] b → Holds n (waiting at None) s [] b → Holds n (waiting at None) (forget end s) [] b
-  pub settles : (n at : ℕ) (on : Option Coming) (number : ℕ) (s : State) (b : Book) → Side n (started at on) s [] b → Holds n (started at on) s [] b →
+  pub settles : (n at : ℕ) (on : Option Delivery) (number : ℕ) (s : State) (b : Book) → Side n (started at on) s [] b → Holds n (started at on) s [] b →
       Holds n (started at on) (settle number s) [] b
   -- the first dial waits no more
   pub dials : (n at : ℕ) (dial : WaitingDial) (s : State) (b : Book) → slice_get s.dials 0 ≡ Some dial → Side n (waiting at None) s [] b → Holds n (waiting at None) s [] b →
@@ -134,7 +140,7 @@ pub record KeepsMovesBy (how : How) (Known : Type 0) (Side Holds : MoveFact) : T
       IsHeard Holds n (waiting at None) (Member member) (changed member secret s) [] b
   pub ticks : (n at more : ℕ) (s : State) (b : Book) → Side n (waiting at None) s [] b → Holds n (waiting at None) s [] b → Holds n (waiting at None) (tick more s) [] b
   -- the move is over, and what ends gave is written down; whatever comes in the next one
-  pub over : (n at : ℕ) (on next : Option Coming) (s : State) (given : Given) (b : Book) → Side n (started at on) s given b → Holds n (started at on) s given b →
+  pub over : (n at : ℕ) (on next : Option Delivery) (s : State) (given : Given) (b : Book) → Side n (started at on) s given b → Holds n (started at on) s given b →
       Holds n (started (at + 1) next) s [] (note_given at given s b)
 
 -- The same but for an end that is made anew, where it isn't known to hold on.
@@ -151,12 +157,12 @@ pub record KeepsCalmMovesBy (how : How) (Known : Type 0) (Side Holds : MoveFact)
       IsHeard Holds n (waiting at None) end (how.hears end event.DialFailed s) [] b
   pub begins : (n at client : ℕ) (plan : ClientPlan) (s : State) (b : Book) → slice_get s.client_plans client ≡ Some plan → Side n (waiting at None) s [] b →
       Holds n (waiting at None) s [] b → IsHeard Holds n (waiting at None) (Client client) (begun client plan s) [] b
-  pub comes : (n : ℕ) (end : EndId) (w : Coming) (piece : List ℕ) (s : State) (given : Given) (b : Book) → how.at_side s.links w.link w.back end → CameFrom w.source s w piece →
+  pub comes : (n : ℕ) (end : EndId) (w : Delivery) (piece : List ℕ) (s : State) (given : Given) (b : Book) → how.at_side s.links w.link w.back end → CameFrom w.source s w piece →
       (Known → AreBytes piece) → Side n (coming w) s given b → Holds n (coming w) s given b →
       let after : State = (done end (how.hears end (event.Bytes w.link piece) s)).state in
-      IsHeard Holds n (record (coming w) { to = Some after }) end (how.hears end (event.Bytes w.link piece) s) given (note_at (Some end) w piece s after b)
+      IsHeard Holds n (record (coming w) { to = Some after }) end (how.hears end (event.Bytes w.link piece) s) given (how.notes (Some end) w piece s after b)
   -- the step at bytes is done
-  pub reaches : (n : ℕ) (w : Coming) (s : State) (given : Given) (b : Book) → Side n (record (coming w) { to = Some s }) s given b → Holds n (record (coming w) { to = Some s }) s given b →
+  pub reaches : (n : ℕ) (w : Delivery) (s : State) (given : Given) (b : Book) → Side n (record (coming w) { to = Some s }) s given b → Holds n (record (coming w) { to = Some s }) s given b →
       Holds n (coming w) s given b
   -- an action is done: a unit goes into the bag, a dial waits, or a text is kept
   pub acts : (n : ℕ) (p : Progress) (end : EndId) (what : Action) (s : State) (given : Given) (b : Book) → AtWork p.on p.to → Side n (with_rest ((end, what) ∷ []) p) s given b →
@@ -166,7 +172,7 @@ pub record KeepsCalmMovesBy (how : How) (Known : Type 0) (Side Holds : MoveFact)
   pub answers : (n at : ℕ) (dial : Option EndId) (link : ℕ) (there : OpenLink) (s : State) (given : Given) (b : Book) → lookup same_number link s.open_links ≡ Some there →
       Side n (waiting at dial) s given b → Holds n (waiting at dial) s given b → Holds n (waiting at dial) (answered_link link there s) given b
   pub forgets : (n at : ℕ) (end : EndId) (s : State) (b : Book) → Side n (waiting at None) s [] b → Holds n (waiting at None) s [] b → Holds n (waiting at None) (forget end s) [] b
-  pub settles : (n at : ℕ) (on : Option Coming) (number : ℕ) (s : State) (b : Book) → Side n (started at on) s [] b → Holds n (started at on) s [] b →
+  pub settles : (n at : ℕ) (on : Option Delivery) (number : ℕ) (s : State) (b : Book) → Side n (started at on) s [] b → Holds n (started at on) s [] b →
       Holds n (started at on) (settle number s) [] b
   -- the first dial waits no more
   pub dials : (n at : ℕ) (dial : WaitingDial) (s : State) (b : Book) → slice_get s.dials 0 ≡ Some dial → Side n (waiting at None) s [] b → Holds n (waiting at None) s [] b →
@@ -176,7 +182,7 @@ pub record KeepsCalmMovesBy (how : How) (Known : Type 0) (Side Holds : MoveFact)
       IsHeard Holds n (waiting at None) (Member member) (changed member secret s) [] b
   pub ticks : (n at more : ℕ) (s : State) (b : Book) → Side n (waiting at None) s [] b → Holds n (waiting at None) s [] b → Holds n (waiting at None) (tick more s) [] b
   -- the move is over, and what ends gave is written down; whatever comes in the next one
-  pub over : (n at : ℕ) (on next : Option Coming) (s : State) (given : Given) (b : Book) → Side n (started at on) s given b → Holds n (started at on) s given b →
+  pub over : (n at : ℕ) (on next : Option Delivery) (s : State) (given : Given) (b : Book) → Side n (started at on) s given b → Holds n (started at on) s given b →
       Holds n (started (at + 1) next) s [] (note_given at given s b)
 
 -- the same where controllers ask nobody

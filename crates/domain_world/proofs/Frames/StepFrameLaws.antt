@@ -18,12 +18,13 @@ use Rattle.world_moves.specs.declared.links.Route.{Route}
 use Rattle.world_moves.specs.declared.moves.Move.{Move}
 use Rattle.world_moves.specs.declared.plan.Plan.{Plan}
 use Rattle.world_moves.specs.declared.state.State.{State}
-use Rattle.world_moves.specs.Acting.{Given, Heard, forget, given_by, perform_quietly, shut_link}
+use Rattle.world_moves.specs.Acting.{Given, AfterHearing, forget, given_by, perform_quietly, shut_link}
 use Rattle.world_moves.specs.Links.{acceptor_of}
 use Rattle.world_moves.specs.Moving.{answered_link, begun, changed, settle, tick, with_link, without_first}
 use Rattle.world_moves.specs.World.{first_world}
 use Rattle.world_moves.specs.Alone.{HandsNothingOn, hear_alone as hear}
-use Rattle.domain_world.specs.Past.{Coming, note_at, note_given, past}
+use Rattle.domain_world.specs.Past.{Delivery, note_given, past}
+use Rattle.domain_world.proofs.Frames.AloneNoteLaws.{note_alone as note_at}
 use Rattle.domain_world.proofs.Frames.AloneStepLaws.{act_alone as hear_and_act, renewed_alone as renewed}
 use Rattle.domain_world.proofs.Frames.BagFrameLaws.{IsServer, no_more_of, no_part, no_side, nothing_marked, nothing_written, AllFor, MarkFact, first_marked, marked_keep}
 use Rattle.domain_world.proofs.Moves.ComingLaws.{CameFrom}
@@ -47,7 +48,7 @@ abbrev pub ActionFact : Type 1
 ActionFact = EndId → List Route → Action → Type 0
 
 -- an end has heard something, and its actions aren't done yet
-pub record HasHeard (Holds : RunFact) (Fine : ActionFact) (n : ℕ) (end : EndId) (heard : Heard) (given : Given) (b : Book) : Type 0 where
+pub record HasHeard (Holds : RunFact) (Fine : ActionFact) (n : ℕ) (end : EndId) (heard : AfterHearing) (given : Given) (b : Book) : Type 0 where
   pub holds : Holds n heard.state (given ++ given_by end heard.actions) b
   pub fine : AllByRecursion (Fine end heard.state.links) heard.actions
 
@@ -65,7 +66,7 @@ pub record KeepsWith (Over : Type 0) (Side Holds : RunFact) (Fine : ActionFact) 
   pub begins : (n client : ℕ) (plan : ClientPlan) (s : State) (given : Given) (b : Book) → slice_get s.client_plans client ≡ Some plan → Side n s given b → Holds n s given b →
       HasHeard Holds Fine (n + 1) (Client client) (begun client plan s) given b
   -- each unit of the bag has its mark, where a controller or a member hears bytes
-  pub comes : (n : ℕ) (end : EndId) (w : Coming) (piece : List ℕ) (s : State) (given : Given) (b : Book) → IsAtSide s.links w.link w.back end → CameFrom w.source s w piece → AreBytes piece →
+  pub comes : (n : ℕ) (end : EndId) (w : Delivery) (piece : List ℕ) (s : State) (given : Given) (b : Book) → IsAtSide s.links w.link w.back end → CameFrom w.source s w piece → AreBytes piece →
       (IsServer end → length b.sent ≡ length s.bag) → Side n s given b → Holds n s given b →
       HasHeard Holds Fine (n + 1) end (hear end (event.Bytes w.link piece) s) given (note_at (Some end) w piece s (hear_and_act end (event.Bytes w.link piece) s).state b)
   -- an action is done: a unit goes into the bag, a dial waits, or a text is kept
@@ -91,8 +92,8 @@ abbrev pub KeepsOver : RunFact → RunFact → Type 0
 KeepsOver Side Holds = (n at : ℕ) (s : State) (given : Given) (b : Book) → Side n s given b → Holds n s given b → Holds n s [] (note_given at given s b)
 
 -- and it holds on where a move is over
-abbrev pub Keeps : RunFact → RunFact → ActionFact → Type 0
-Keeps Side Holds Fine = KeepsWith (KeepsOver Side Holds) Side Holds Fine
+abbrev pub StepKeeps : RunFact → RunFact → ActionFact → Type 0
+StepKeeps Side Holds Fine = KeepsWith (KeepsOver Side Holds) Side Holds Fine
 
 -- ---- two facts together
 
@@ -106,7 +107,7 @@ abbrev pub BothFine : ActionFact → ActionFact → ActionFact
 BothFine F G end links what = F end links what × G end links what
 
 module _ (A B : RunFact) (F G : ActionFact) where
-  both_heard : (n : ℕ) (end : EndId) (heard : Heard) (given : Given) (b : Book) → HasHeard A F n end heard given b → HasHeard B G n end heard given b →
+  both_heard : (n : ℕ) (end : EndId) (heard : AfterHearing) (given : Given) (b : Book) → HasHeard A F n end heard given b → HasHeard B G n end heard given b →
       HasHeard (BothFacts A B) (BothFine F G) n end heard given b
   both_heard n end heard given b one other = record {
     holds = (one.holds, other.holds);
@@ -141,13 +142,13 @@ module _ (A B : RunFact) (F G : ActionFact) where
     over = ends;
   }
 
-  pub join : Keeps NoFact A F → Keeps A B G → Keeps NoFact (BothFacts A B) (BothFine F G)
+  pub join : StepKeeps NoFact A F → StepKeeps A B G → StepKeeps NoFact (BothFacts A B) (BothFine F G)
   join one other =
       join_with one other (λ n at s given b none holds. (one.over n at s given b tt holds.0, other.over n at s given b holds.0 holds.1))
 
 -- A fact that rests on a side fact rests on whatever gives it.
-pub with_side : (Side More Holds : RunFact) (Fine : ActionFact) → ((n : ℕ) (s : State) (given : Given) (b : Book) → More n s given b → Side n s given b) → Keeps Side Holds Fine →
-    Keeps More Holds Fine
+pub with_side : (Side More Holds : RunFact) (Fine : ActionFact) → ((n : ℕ) (s : State) (given : Given) (b : Book) → More n s given b → Side n s given b) → StepKeeps Side Holds Fine →
+    StepKeeps More Holds Fine
 with_side Side More Holds Fine so keeps = record {
   calm = λ n end what s given b quiet more holds. keeps.calm n end what s given b quiet (so n s given b more) holds;
   dialled = λ n end link s given b side more holds. keeps.dialled n end link s given b side (so n s given b more) holds;
@@ -178,12 +179,12 @@ all_any (what ∷ actions) = (tt, all_any actions)
 abbrev pub WhileFew : ℕ → RunFact → RunFact
 WhileFew most Holds n s given b = n ≤ most → Holds n s given b
 
-module _ (most : ℕ) (Side Holds : RunFact) (keeps : Keeps Side Holds AnyAction) where
-  few_heard : (n : ℕ) (end : EndId) (heard : Heard) (given : Given) (b : Book) → (n + 1 ≤ most → HasHeard Holds AnyAction (n + 1) end heard given b) →
+module _ (most : ℕ) (Side Holds : RunFact) (keeps : StepKeeps Side Holds AnyAction) where
+  few_heard : (n : ℕ) (end : EndId) (heard : AfterHearing) (given : Given) (b : Book) → (n + 1 ≤ most → HasHeard Holds AnyAction (n + 1) end heard given b) →
       HasHeard (WhileFew most Holds) AnyAction (n + 1) end heard given b
   few_heard n end heard given b so = record { holds = λ few. (so few).holds; fine = all_any heard.actions }
 
-  pub while_few : Keeps (WhileFew most Side) (WhileFew most Holds) AnyAction
+  pub while_few : StepKeeps (WhileFew most Side) (WhileFew most Holds) AnyAction
   while_few = record {
     calm = λ n end what s given b quiet side holds.
         few_heard n end (hear end what s) given b (λ few. keeps.calm n end what s given b quiet (side (omega (arith, few))) (holds (omega (arith, few))));
@@ -226,9 +227,9 @@ fine_given Fine end links (what ∷ actions) rest fine more = (fine.0, fine_give
 
 -- The side fact gives the marks where bytes come, and that it holds on where a move is over.
 module _ {Over : Type 0} (Holds : RunFact) (Fine : ActionFact) (keeps : KeepsWith Over NoFact Holds Fine) (Beneath : MoveFact)
-    (marks : (n : ℕ) (w : Coming) (s : State) (given : Given) (b : Book) → Beneath n (coming w) s given b → AllFor (Some w) s.links s.bag b.sent)
-    (over : (n at : ℕ) (on : Option Coming) (s : State) (given : Given) (b : Book) → Beneath n (started at on) s given b → Holds n s given b → Holds n s [] (note_given at given s b)) where
-  so_heard : (n : ℕ) (p : Progress) (end : EndId) (heard : Heard) (given : Given) (b : Book) → HasHeard Holds Fine (n + 1) end heard given b → OfRest Fine heard.state.links p.rest →
+    (marks : (n : ℕ) (w : Delivery) (s : State) (given : Given) (b : Book) → Beneath n (coming w) s given b → AllFor (Some w) s.links s.bag b.sent)
+    (over : (n at : ℕ) (on : Option Delivery) (s : State) (given : Given) (b : Book) → Beneath n (started at on) s given b → Holds n s given b → Holds n s [] (note_given at given s b)) where
+  so_heard : (n : ℕ) (p : Progress) (end : EndId) (heard : AfterHearing) (given : Given) (b : Book) → HasHeard Holds Fine (n + 1) end heard given b → OfRest Fine heard.state.links p.rest →
       IsHeard (OfSteps Holds Fine) n p end heard given b
   so_heard n p end heard given b so rest = (so.holds, fine_given Fine end heard.state.links heard.actions p.rest so.fine rest)
 
@@ -274,8 +275,8 @@ Marked = Both Nothing (MarkFact no_part no_more_of)
 
 -- where something else is known in each move, with which it holds on where a move is over
 pub run_beside : {Over : Type 0} → (Holds : RunFact) (Fine : ActionFact) → KeepsWith Over NoFact Holds Fine → (Also : MoveFact) → KeepsMoves (Unit {0}) NoSide Also →
-    ((n at : ℕ) (on : Option Coming) (s : State) (given : Given) (b : Book) → Also n (started at on) s given b → Holds n s given b → Holds n s [] (note_given at given s b)) →
-    (plan : Plan) (moves : List Move) → HandsNothingOn plan → HasBytes plan moves → ((on : Option Coming) → Also 0 (started 0 on) (first_world plan).state [] blank) →
+    ((n at : ℕ) (on : Option Delivery) (s : State) (given : Given) (b : Book) → Also n (started at on) s given b → Holds n s given b → Holds n s [] (note_given at given s b)) →
+    (plan : Plan) (moves : List Move) → HandsNothingOn plan → HasBytes plan moves → ((on : Option Delivery) → Also 0 (started 0 on) (first_world plan).state [] blank) →
     Holds 0 (first_world plan).state [] blank → HoldsAfterRun Holds plan moves
 run_beside Holds Fine keeps Also also over plan moves nobody has more holds =
     let known : Type 0 = Unit {0} in
@@ -289,13 +290,13 @@ run_beside Holds Fine keeps Also also over plan moves nobody has more holds =
     (λ on. ((first_marked no_part no_side no_more_of nothing_written nothing_marked plan on tt, more on), (holds, tt))) in
     record { steps = after.steps; holds = after.holds.1.0; few = after.few tt }
 
-pub run_keeps : (Holds : RunFact) (Fine : ActionFact) → Keeps NoFact Holds Fine → (plan : Plan) (moves : List Move) → HandsNothingOn plan → HasBytes plan moves →
+pub run_keeps : (Holds : RunFact) (Fine : ActionFact) → StepKeeps NoFact Holds Fine → (plan : Plan) (moves : List Move) → HandsNothingOn plan → HasBytes plan moves →
     Holds 0 (first_world plan).state [] blank → HoldsAfterRun Holds plan moves
 run_keeps Holds Fine keeps plan moves nobody has holds =
     run_beside Holds Fine keeps Nothing (side_keeps no_part no_side nothing_written (Unit {0})) (λ n at on s given b none. keeps.over n at s given b tt) plan moves nobody has (λ on. tt) holds
 
 -- so it is where what is handed in are bytes, and what holds says of the bag that its units are short, and have bytes
-pub run_carries : (Holds : RunFact) (Fine : ActionFact) → Keeps NoFact Holds Fine → ((n : ℕ) (s : State) (b : Book) → Holds n s [] b → IsBytesBag s.bag) →
+pub run_carries : (Holds : RunFact) (Fine : ActionFact) → StepKeeps NoFact Holds Fine → ((n : ℕ) (s : State) (b : Book) → Holds n s [] b → IsBytesBag s.bag) →
     (plan : Plan) (moves : List Move) → HandsNothingOn plan → AllByRecursion HandsBytes moves → Holds 0 (first_world plan).state [] blank → HoldsAfterRun Holds plan moves
 run_carries Holds Fine keeps says plan moves nobody handed holds =
     let known : Type 0 = Unit {0} in

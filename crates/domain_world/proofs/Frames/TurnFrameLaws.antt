@@ -10,7 +10,7 @@ use Rattle.step_notes.specs.Marking.{turn_marks}
 use Rattle.step_notes.specs.MemberNotes.{TurnNote, turn_note}
 use Rattle.step_notes.specs.Records.{Book, RequesterId, unit_in}
 use Rattle.world_moves.specs.declared.state.State.{State}
-use Rattle.domain_world.specs.Past.{Coming, controller_asked, first_of, later_of, note_turn, note_turns, numbers_on}
+use Rattle.domain_world.specs.Past.{Delivery, controller_asked, first_of, later_of, note_turn, note_turns, numbers_on}
 
 module _ (Holds : Book → Type 0) (unit : Option ℕ)
     (each : (note : TurnNote) (served : ServedUnit AtTurn TurnTalk) (number : Option ℕ) (b : Book) → Holds b → Holds (note_turn note served unit number b)) where
@@ -31,11 +31,11 @@ abbrev pub asked_marks : RequesterId → State → List (ServedUnit AtTurn TurnT
 asked_marks who s units = turn_marks (asked_notes who s units)
 
 -- the book once the units of its turn are written down
-abbrev pub asked_book : RequesterId → Coming → List (ServedUnit AtTurn TurnTalk) → State → State → Book → Book
+abbrev pub asked_book : RequesterId → Delivery → List (ServedUnit AtTurn TurnTalk) → State → State → Book → Book
 asked_book who w units s after b =
     note_turns (controller_asked who s) units (unit_in w.source) (numbers_on w.link false s.bag after.bag) b
 
-module _ (who : RequesterId) (w : Coming) (units : List (ServedUnit AtTurn TurnTalk)) (s after : State) (b : Book) where
+module _ (who : RequesterId) (w : Delivery) (units : List (ServedUnit AtTurn TurnTalk)) (s after : State) (b : Book) where
   pub asked_keep : (Holds : Book → Type 0) →
       ((note : TurnNote) (served : ServedUnit AtTurn TurnTalk) (number : Option ℕ) (old : Book) → Holds old → Holds (note_turn note served (unit_in w.source) number old)) →
       Holds b → Holds (asked_book who w units s after b)

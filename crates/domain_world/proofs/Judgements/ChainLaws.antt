@@ -7,6 +7,8 @@ use Rattle.authenticators.specs.Channels.{ChannelIdentity}
 use Rattle.authenticators.specs.Sequences.{return_of}
 use Rattle.authenticators.specs.SecureChannels.{key_of_channel}
 use Rattle.outside.specs.declared.action.Action.TheVariants as action
+use Rattle.outside.specs.declared.action.Judged.{Judged}
+use Rattle.outside.specs.declared.action.Judged.TheVariants as judged
 use Rattle.account_table.specs.AccountTable.{AccountTable}
 use Rattle.controller_calls.specs.Calls.{asked_of}
 use Rattle.controller_calls.specs.Desk.{Desk, desk, tell}
@@ -16,14 +18,17 @@ use Rattle.controller_calls.specs.declared.line.Line.{Line}
 use Rattle.controller_calls.specs.declared.state.Work.{Work}
 use Rattle.controller_calls.proofs.DoneLaws.{does_what_passes}
 use Rattle.controller_calls.proofs.ReplyLaws.{authenticate_replies, challenge_replies}
+use Rattle.domain_controller.specs.Forwarding.{TrustDesk, base_desk}
 use Rattle.domain_controller.specs.Laws.{IsNext}
 use Rattle.domain_controller.specs.Machine.{answer_authenticate, answer_challenge, answer_judged}
 use Rattle.step_notes.specs.ControllerNotes.{Answered, Where, channel_in, has_passed, judged_answer, judging_by, judging_of, opened_by, opening, passing, plain, silent}
 use Rattle.step_notes.specs.Judged.{IsJudgedRight}
+use Rattle.step_notes.specs.TrustNotes.{trust_judged_answer, trust_judging_by}
 use Rattle.step_notes.specs.Records.{Judging, computer_named, given_in}
 use Rattle.step_notes.proofs.Controllers.JudgedStepLaws.{next_of, on_next}
 use Rattle.step_notes.proofs.Controllers.NotedLaws.{StaysThrough}
-use Rattle.domain_world.proofs.Judgements.JudgedLaws.{calls_right}
+use Rattle.step_notes.proofs.Controllers.TrustedStepLaws.{IsTrusted, StaysWithTrusts}
+use Rattle.domain_world.proofs.Judgements.JudgedLaws.{calls_right, trusted_judging}
 
 -- ---- what is kept
 
@@ -42,6 +47,11 @@ pub record FollowsCalls {X : Type 0} (ledger : Ledger X) : Type 0 where
   pub stays : (table : AccountTable) (old new : Work) → new.computers.sessions ≡ old.computers.sessions → ledger.of (desk table new) ≡ ledger.of (desk table old)
   pub by : (w : Where) (line : Line) (c : JudgedCall) (d : Desk) → ledger.before (its_judging w line c d) ≡ ledger.of d
   pub leaves : (w : Where) (line : Line) (c : JudgedCall) (d : Desk) → ledger.of (answer_judged c w.name w.moment line d) ≡ ledger.behind (its_judging w line c d)
+
+-- the same of a logon for a trust
+pub record FollowsTrusts {X : Type 0} (ledger : Ledger X) : Type 0 where
+  pub by : (w : Where) (line : Line) (c : JudgedCall) (d after : TrustDesk) → ledger.before (trusted_judging w line c d after) ≡ ledger.of (base_desk d)
+  pub leaves : (w : Where) (line : Line) (c : JudgedCall) (d after : TrustDesk) → IsTrusted c d after → ledger.of (base_desk after) ≡ ledger.behind (trusted_judging w line c d after)
 
 -- ---- what was judged in a step, in order
 
@@ -85,6 +95,18 @@ pub opening_judging : (channel : Option ChannelIdentity) (w : Where) (number : �
 opening_judging None w number = refl
 opening_judging (Some channel) w number = refl
 
+-- a call that may be handed on
+trust_judging : (how : Option Judged) (j : Judging) → (trust_judging_by how j).judging ≡ Some j
+trust_judging None j = refl
+trust_judging (Some (judged.Passed status)) j = judged_judging true j
+trust_judging (Some judged.Forwarded) j = refl
+trust_judging (Some (judged.Answered status)) j = refl
+trust_judging (Some judged.Barred) j = refl
+trust_judging (Some judged.NoChannel) j = refl
+
+pub trust_answer_judging : (j : Judging) → (trust_judged_answer j).judging ≡ Some j
+trust_answer_judging j = trust_judging j.how j
+
 -- ---- the units of a stream
 
 module _ {X : Type 0} (ledger : Ledger X) (follows : FollowsCalls ledger) (w : Where) (x : X) where
@@ -122,6 +144,18 @@ module _ {X : Type 0} (ledger : Ledger X) (follows : FollowsCalls ledger) (w : W
         more answers (judged_answer j) (ledger.of d) _
         (subst (λ (judging : Option Judging). IsBy ledger w (ledger.of d) judging) (sym is) (record { controller = refl; at = refl; by = follows.by w line c d }))
         (follows.leaves w line c d ∙ ap (λ (judging : Option Judging). left_of ledger (ledger.of d) judging) (sym is)) chains;
+  }
+
+  -- a logon for a trust leaves so too
+  pub trusting_chains : (link : ℕ) → FollowsTrusts ledger → StaysWithTrusts w link (λ answers d left. Chains ledger w x answers (ledger.of d))
+  trusting_chains link trusts = record {
+    base = chains_stay link;
+    trusted = λ answers d after left line c on is chains.
+        let j : Judging = trusted_judging w line c d after in
+        let one : (trust_judged_answer j).judging ≡ Some j = trust_answer_judging j in
+        more answers (trust_judged_answer j) (ledger.of (base_desk d)) (ledger.of (base_desk after))
+        (subst (λ (judging : Option Judging). IsBy ledger w (ledger.of (base_desk d)) judging) (sym one) (record { controller = refl; at = refl; by = trusts.by w line c d after }))
+        (trusts.leaves w line c d after is ∙ ap (λ (judging : Option Judging). left_of ledger (ledger.of (base_desk d)) judging) (sym one)) chains;
   }
 
 -- ---- a call that is judged

@@ -1,13 +1,12 @@
--- In every run a controller grants a Logon call exactly where it is to be granted, by the accounts of the plan.
--- It serves `Proved.grants`, `Proved.alone` and `Proved.statuses`.
-use Rattle.std.proofs.Common.{◌≡◌, Bool, ◌↔◌, ℕ, zero, suc, true, List, [], ◌∷◌, ◌++◌, Option, Some, None, Ok, Err, inl, inr, slice_get, slice_set, refl, sym, ap, subst, ◌∙◌}
+-- In every run of a plan that hands nothing on each call was judged by the accounts of the plan, and told with its
+-- status. It serves `Proved.alone`, `Proved.let_on` and `Proved.statuses`.
+use Rattle.std.proofs.Common.{◌≡◌, Bool, ℕ, zero, suc, true, List, [], ◌∷◌, ◌++◌, Option, Some, None, Ok, Err, inl, inr, slice_get, slice_set, refl, sym, ap, subst, ◌∙◌}
 use Rattle.std.specs.List.{AllByRecursion}
 use Rattle.wire_base.specs.Maps.{lookup, same_number}
 use Rattle.authenticators.specs.SecureChannels.{SecureChannelState}
 use Rattle.outside.specs.Machine.{step_by, then_part}
 use Rattle.outside.specs.declared.event.Event.{Event}
 use Rattle.rpc_units.specs.Stream.{cut_stream}
-use Rattle.logon_stubs.specs.declared.calls.LogonCall.{LogonCall}
 use Rattle.account_table.specs.AccountTable.{AccountTable}
 use Rattle.account_table.specs.Changes.{DifferInStates}
 use Rattle.account_table.proofs.ChangeLaws.{states-again, states-none}
@@ -15,7 +14,7 @@ use Rattle.end_links.specs.Links.{LinkState}
 use Rattle.end_links.specs.Serving.{ServedUnit, served_units}
 use Rattle.domain_controller.specs.Hearing.{hear}
 use Rattle.domain_controller.proofs.CountLaws.{PartDiffers, counts_by_verdict, heard-differs, part-differs}
-use Rattle.domain_controller.specs.Machine.{Desk, answer_judged, by_heard, controller_server, status_of}
+use Rattle.domain_controller.specs.Machine.{Desk, answer_judged, by_heard, controller_server}
 use Rattle.controller_calls.specs.Calls.{asked_of}
 use Rattle.controller_calls.specs.declared.calls.JudgedCall.{JudgedCall}
 use Rattle.controller_calls.proofs.DoneLaws.{texts_kept}
@@ -25,29 +24,25 @@ use Rattle.domain_controller.specs.Step.{StepPart, by_event, first_desk, first_s
 use Rattle.controller_calls.specs.declared.line.Line.{Line}
 use Rattle.domain_controller.specs.declared.state.Running.{Running}
 use Rattle.domain_controller.specs.declared.state.Talk.{Talk}
-use Rattle.step_notes.specs.ControllerNotes.{Answered, Where, answer_on, has_passed, judged_in, judging_of, new_actions, units_at, units_by, units_of_controller}
-use Rattle.step_notes.specs.Judged.{IsJudgedRight, IsNextOn}
-use Rattle.step_notes.specs.Records.{Judging, given_in}
-use Rattle.controller_calls.specs.declared.calls.JudgedCall.TheVariants.{Network}
-use Rattle.step_notes.specs.ReplySends.{done_on, verdict_passed}
+use Rattle.step_notes.specs.ControllerNotes.{Answered, Where, answer_on, judged_in, judging_of, new_actions, units_at, units_by, units_of_controller}
+use Rattle.step_notes.specs.Records.{Judging}
+use Rattle.step_notes.specs.ReplySends.{done_on}
 use Rattle.world_moves.specs.declared.moves.Move.{Move}
 use Rattle.world_moves.specs.declared.plan.Plan.{Plan}
 use Rattle.world_moves.specs.declared.state.State.{State}
 use Rattle.world_moves.specs.World.{first_controllers, first_world}
 use Rattle.world_moves.specs.Alone.{HandsNothingOn}
 use Rattle.world_moves.specs.Ends.{fresh_controller}
-use Rattle.domain_world.specs.Claims.Grants.{GrantsWhoMayLogOn, IsGrantedRightly, IsToBeGranted, users_of}
 use Rattle.domain_world.specs.Claims.Statuses.{TellsItsStatus}
-use Rattle.domain_world.specs.Past.{Coming, answers_of, at_controller, judged_of, note_controller, numbers_on, past}
-use Rattle.step_notes.proofs.Controllers.GrantVerdictLaws.{IsServedGrant, granted_status, served_grant}
-use Rattle.step_notes.proofs.Controllers.JudgedCallLaws.{if_network, status_done}
-use Rattle.step_notes.proofs.Controllers.JudgedStepLaws.{told_kept, same_status}
+use Rattle.domain_world.specs.Past.{Delivery, at_controller, judged_of, numbers_on, past}
+use Rattle.step_notes.proofs.Controllers.JudgedStepLaws.{told_kept}
+use Rattle.domain_world.proofs.Frames.AloneNoteLaws.{alone_answers as answers_of, note_controller_alone as note_controller}
 use Rattle.domain_world.proofs.Frames.AloneStepLaws.{fresh_by}
 use Rattle.domain_world.proofs.Messages.MessageOnceLaws.{set_cases}
 use Rattle.domain_world.proofs.Frames.FrameLaws.{run_stays}
 use Rattle.domain_world.proofs.Frames.ControllerFrameLaws.{AmongControllers, ControllersFact, KeepsControllers, controllers_written}
 use Rattle.domain_world.proofs.Frames.EndNoteLaws.{judged_so, judgings_of}
-use Rattle.domain_world.proofs.Judgements.JudgedLaws.{AreRight, HoldsIf, IsServedBy, answers_hold, are_if_taken, heard_holds, judged_hold, judged_rightly, onto_hold}
+use Rattle.domain_world.proofs.Judgements.JudgedLaws.{HoldsIf, IsServedBy, answers_hold, are_if_taken, heard_holds, judged_hold, onto_hold}
 use Rattle.step_notes.proofs.ServedLaws.{served_such}
 use Rattle.outside.specs.declared.action.Judged.TheVariants as judged
 use Rattle.outside.specs.declared.event.Event.TheVariants as event
@@ -105,7 +100,7 @@ pub record IsPlanned (plan : Plan) (controller : ℕ) (table : AccountTable) (na
   pub states : DifferInStates planned table
   pub name_is : slice_get plan.controllers controller ≡ Some name
 
-planned_later : (plan : Plan) (controller : ℕ) (table other : AccountTable) (name : List ℕ) → IsPlanned plan controller table name → DifferInStates table other →
+pub planned_later : (plan : Plan) (controller : ℕ) (table other : AccountTable) (name : List ℕ) → IsPlanned plan controller table name → DifferInStates table other →
     IsPlanned plan controller other name
 planned_later plan controller table other name planned differ = record {
   planned = planned.planned;
@@ -138,7 +133,7 @@ by_served : (running : Option Running) (number : ℕ) (piece : List ℕ) (c : Co
 by_served None number piece c now left = tt
 by_served (Some running) number piece c now left = at_served (lookup same_number number running.links) number piece c running now left
 
-answers_by_plan : (plan : Plan) (controller : ℕ) (c : ControllerState) (w : Coming) (piece : List ℕ) (s : State) → IsPlanned plan controller c.table c.name →
+answers_by_plan : (plan : Plan) (controller : ℕ) (c : ControllerState) (w : Delivery) (piece : List ℕ) (s : State) → IsPlanned plan controller c.table c.name →
     AllByRecursion (λ (one : Answered). HoldsIf (IsByPlan plan) one.judging) (answers_of controller c w piece s)
 answers_by_plan plan controller c w piece s planned =
     answers_hold (IsByPlan plan) (IsServedFrom c.name s.moment w.link c.table) (at_controller controller c w s) w.link
@@ -210,39 +205,6 @@ first_stands plan = record {
       record { planned = c.table; is = both.0; states = states-none c.table; name_is = both.1 };
 }
 
--- ---- each is granted rightly
-
-to_be_granted : (j : Judging) (c : LogonCall) → j.asked ≡ Network c → TellsItsStatus j → IsJudgedRight j → j.how ≡ Some (judged.Passed 0) → IsToBeGranted j c
-to_be_granted j c asks told right how =
-    let passed : has_passed j.how ≡ true = ap has_passed how in
-    let next : IsNextOn j.checks (given_in j.asked) = right.right.passed.0 passed in
-    let status : status_of (verdict_passed j c) ≡ 0 = sym (status_done j c next.channel asks) ∙ same_status _ 0 (sym (told next.channel next.stands passed) ∙ how) in
-    let served : IsServedGrant j.table j.name j.moment c.info c.validation (verdict_passed j c) = served_grant j.table j.name j.moment c.info c.validation status in
-    record { next = next; level = served.level; may = served.may; verifies = served.verifies }
-
-pub is_granted_so : (j : Judging) (c : LogonCall) → j.asked ≡ Network c → TellsItsStatus j → IsJudgedRight j → IsToBeGranted j c → j.how ≡ Some (judged.Passed 0)
-is_granted_so j c asks told right meets =
-    told meets.next.channel meets.next.stands (right.right.passed.1 meets.next)
-    ∙ ap (λ (status : ℕ). Some (judged.Passed status))
-    (status_done j c meets.next.channel asks ∙ granted_status j.table j.name j.moment c.info c.validation meets.level meets.may meets.verifies)
-
--- users have the hashes that the plan gives them
-abbrev pub HasUsers : Plan → Judging → Type 0
-HasUsers plan j = (planned : AccountTable) → slice_get plan.tables j.controller ≡ Some planned → users_of j.table.accounts ≡ users_of planned.accounts
-
-all_rightly : (plan : Plan) (judgings : List Judging) → AllByRecursion (IsByPlan plan) judgings → AreRight judgings → AllByRecursion (HasUsers plan) judgings →
-    AllByRecursion (λ (j : Judging). IsGrantedRightly plan j) judgings
-all_rightly plan [] planned right users = tt
-all_rightly plan (j ∷ judgings) planned right users = (
-  record {
-    granted = if_network (λ (c : LogonCall). (j.how ≡ Some (judged.Passed 0)) ↔ IsToBeGranted j c) j.asked
-        (λ c asks. (to_be_granted j c asks planned.0.1 right.0, is_granted_so j c asks planned.0.1 right.0));
-    table = record { planned = planned.0.0.planned; is = planned.0.0.is; states = planned.0.0.states; users = users.0 planned.0.0.planned planned.0.0.is };
-    name = planned.0.0.name_is;
-  },
-  all_rightly plan judgings planned.1 right.1 users.1,
-)
-
 -- after all moves of a run
 pub stand_after : (plan : Plan) (moves : List Move) → HandsNothingOn plan → StandsByPlan plan (past plan moves).book.judged (past plan moves).world.state.ends.controllers
 stand_after plan moves nobody =
@@ -253,11 +215,3 @@ pub each_status : (plan : Plan) (moves : List Move) → HandsNothingOn plan → 
 each_status plan moves nobody =
     all_weaker (IsByPlan plan) TellsItsStatus (past plan moves).book.judged (λ j planned. planned.1)
     (stand_after plan moves nobody).judged
-
--- in every run a controller grants a Logon call exactly where it is to be granted, by the accounts of the plan
-pub grants_who_may : (plan : Plan) (moves : List Move) → HandsNothingOn plan → AllByRecursion (HasUsers plan) (past plan moves).book.judged → GrantsWhoMayLogOn (past plan moves)
-grants_who_may plan moves nobody users =
-    all_rightly plan (past plan moves).book.judged
-    (stand_after plan moves nobody).judged
-    (judged_rightly plan moves)
-    users

@@ -29,7 +29,6 @@ use Rattle.domain_world.specs.Claims.Hashes.{HashesFollowSets, hash_after, hash_
 use Rattle.domain_world.specs.Claims.Tables.{AreByEarlier, accounts_after, accounts_if, left_if, left_on}
 use Rattle.domain_world.specs.Past.{past}
 use Rattle.domain_world.proofs.Judgements.TableLaws.{tables_follow}
-use Rattle.world_moves.specs.Alone.{HandsNothingOn}
 
 -- ---- a table
 
@@ -126,8 +125,8 @@ module _ (plan : Plan) (planned : AccountTable) (place : ℕ) where
   after_hash [] by controller there = refl
   after_hash (j ∷ earlier) by controller there = own_hash (j.controller == controller) j earlier controller (after_hash earlier by.1) refl by there
 
-pub hashes_follow : (plan : Plan) (moves : List Move) → HandsNothingOn plan → HashesFollowSets (past plan moves)
-hashes_follow plan moves nobody controller c planned is there place =
-    let follow = tables_follow plan moves nobody in
+pub hashes_follow : (plan : Plan) (moves : List Move) → HashesFollowSets (past plan moves)
+hashes_follow plan moves controller c planned is there place =
+    let follow = tables_follow plan moves in
     ap (λ (table : AccountTable). hash_at table place) (follow.stands controller c there planned is)
     ∙ after_hash plan planned place (past plan moves).book.judged follow.judged controller is

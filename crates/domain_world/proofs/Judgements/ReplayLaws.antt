@@ -17,7 +17,6 @@ use Rattle.outside.specs.Counter.{most_draws}
 use Rattle.outside.proofs.CounterLaws.{challenges_from-distinct}
 use Rattle.account_table.specs.AccountTable.{AccountTable}
 use Rattle.domain_controller.specs.State.{State as ControllerState}
-use Rattle.domain_controller.specs.Step.{first_state}
 use Rattle.step_notes.specs.ControllerNotes.{channel_in, has_passed}
 use Rattle.step_notes.specs.Judged.{IsNextOn, channel_if}
 use Rattle.step_notes.specs.Marking.{is_channel}
@@ -25,19 +24,18 @@ use Rattle.step_notes.specs.Records.{Judging, computer_named, given_in, timestam
 use Rattle.world_moves.specs.declared.moves.Move.{Move}
 use Rattle.world_moves.specs.declared.plan.Plan.{Plan}
 use Rattle.world_moves.specs.World.{first_controllers, first_world}
-use Rattle.world_moves.specs.Alone.{HandsNothingOn}
 use Rattle.world_moves.specs.Ends.{fresh_controller}
 use Rattle.domain_world.specs.Claims.{ReplaysBySum, moved_if, moved_on, passed_on, judged_timestamp}
 use Rattle.domain_world.specs.Past.{numbers_on, past}
 use Rattle.channel_events.proofs.TimestampLaws.{moved_none, moved_one}
 use Rattle.channel_events.proofs.SameLaws.{one_channel}
 use Rattle.domain_world.proofs.Frames.AloneStepLaws.{fresh_by}
-use Rattle.domain_world.proofs.Frames.FrameLaws.{run_stays}
 use Rattle.domain_world.proofs.Judgements.JudgedLaws.{AreRight, judged_rightly}
 use Rattle.domain_world.proofs.Judgements.MovedLaws.{found_in, moved_append, moved_same}
 use Rattle.domain_world.proofs.Judgements.SeedLaws.{AreApart, AreKept, AreMoved, AreUnheard, IsMovedIn}
 use Rattle.domain_world.proofs.Judgements.SeedStepLaws.{AreKeptIf, SeedsFollow, bytes_follow, controller_put, drawn_follow, quiet_follow}
-use Rattle.domain_world.proofs.Frames.ControllerFrameLaws.{AmongControllers, ControllersFact, KeepsControllers, controllers_written}
+use Rattle.domain_world.proofs.Frames.ControllerFrameLaws.{ControllersFact}
+use Rattle.domain_world.proofs.Frames.TrustingFrameLaws.{KeepsTrusting, controllers_after}
 use Rattle.domain_world.proofs.Frames.EndNoteLaws.{judged_so, judgings_of}
 
 -- ---- through the moves
@@ -53,7 +51,7 @@ fresh_kept judgings left controller = record {
   each = λ name. record { channels = λ c there. absurd cc; pairs = λ pair waits. absurd cc; differ = λ c pair there waits. absurd cc };
 }
 
-follow_on : KeepsControllers judgings_of Follows
+follow_on : KeepsTrusting judgings_of Follows
 follow_on = record {
   of = judged_so;
   given = λ at given after b. refl;
@@ -61,10 +59,11 @@ follow_on = record {
   hears = λ judgings c at what now controllers chances none is follow. quiet_follow c judgings at what now controllers chances.left is none follow;
   comes = λ c at w piece s after b is follow.
       bytes_follow c b.judged at w piece s (numbers_on w.link true s.bag after.bag) is follow;
-  anew = λ judgings c at controllers chances is follow.
-      controller_put judgings judgings chances.left chances.left controllers at (first_state c.table c.name) follow (record {
+  anew = λ judgings c at hands_on controllers chances is follow.
+      let left : List (List ℕ) = chances.left in
+      controller_put judgings judgings left left controllers at (fresh_controller hands_on c.table c.name) follow (record {
         order = follow.order;
-        kept = fresh_kept judgings chances.left at;
+        kept = fresh_by (λ (new : ControllerState). AreKeptIf judgings left at new.running) c.table c.name (fresh_kept judgings left at) (fresh_kept judgings left at) hands_on;
         fewer = record { front = []; is = refl };
         others = λ channel apart. refl;
       });
@@ -103,13 +102,13 @@ first_follows plan =
     }
 
 -- after every run what each controller keeps of computers follows what was judged
-pub seeds_kept : (plan : Plan) (moves : List Move) → HandsNothingOn plan →
+pub seeds_kept : (plan : Plan) (moves : List Move) →
     SeedsFollow (past plan moves).book.judged (past plan moves).world.state.chances.left (past plan moves).world.state.ends.controllers
-seeds_kept plan moves nobody = run_stays judgings_of (AmongControllers judgings_of Follows follow_on) (controllers_written judgings_of Follows follow_on) plan moves nobody (first_follows plan)
+seeds_kept plan moves = controllers_after judgings_of Follows follow_on plan moves (first_follows plan)
 
 -- in every run each call that was judged met its channel's seed moved so
-seeds_follow : (plan : Plan) (moves : List Move) → HandsNothingOn plan → AreMoved (past plan moves).book.judged
-seeds_follow plan moves nobody = (seeds_kept plan moves nobody).order.moved
+seeds_follow : (plan : Plan) (moves : List Move) → AreMoved (past plan moves).book.judged
+seeds_follow plan moves = (seeds_kept plan moves).order.moved
 
 -- ---- the claim
 
@@ -245,9 +244,9 @@ by_sum channel between earlier second first moved right passed same again =
     )
 
 -- in every run a replay passes by the sum of timestamps
-pub replays_by_sum : (plan : Plan) (moves : List Move) → HandsNothingOn plan → ReplaysBySum (past plan moves)
-replays_by_sum plan moves nobody channel later between earlier second first all passed same again =
+pub replays_by_sum : (plan : Plan) (moves : List Move) → ReplaysBySum (past plan moves)
+replays_by_sum plan moves channel later between earlier second first all passed same again =
     by_sum channel between earlier second first
-    (later_moved later second (between ++ first ∷ earlier) (subst (λ (judgings : List Judging). AreMoved judgings) all (seeds_follow plan moves nobody)))
+    (later_moved later second (between ++ first ∷ earlier) (subst (λ (judgings : List Judging). AreMoved judgings) all (seeds_follow plan moves)))
     (later_right later second (between ++ first ∷ earlier) (subst (λ (judgings : List Judging). AreRight judgings) all (judged_rightly plan moves)))
     passed same again

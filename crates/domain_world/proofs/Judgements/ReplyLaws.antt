@@ -43,9 +43,10 @@ use Rattle.world_moves.specs.Acting.{done, heard_by}
 use Rattle.world_moves.specs.Ends.{actions_by, member_step}
 use Rattle.world_moves.specs.Alone.{HandsNothingOn}
 use Rattle.domain_world.specs.Claims.Replies.{IsReplyOfOne, RepliesCarryTheirJudgement}
-use Rattle.domain_world.specs.Past.{Coming, answers_of, first_of, judged_of, later_of, is_sent_on, marks_by, marks_of, note_at, note_controller, note_member, numbers_on, onto, past, with_reply, controller_asked}
+use Rattle.domain_world.specs.Past.{Delivery, first_of, judged_of, later_of, is_sent_on, marks_by, marks_of, note_member, numbers_on, onto, past, with_reply, controller_asked}
 use Rattle.wire_base.proofs.ListLaws.{got_nothing, one_behind, some_is}
 use Rattle.step_notes.proofs.Controllers.ReplyStepLaws.{replies_sent}
+use Rattle.domain_world.proofs.Frames.AloneNoteLaws.{alone_answers as answers_of, note_alone as note_at, note_controller_alone as note_controller}
 use Rattle.domain_world.proofs.Frames.BagFrameLaws.{IsOfUnit, MarksStay, UnitFact, controller_marks, member_marks, run_stays_marked}
 use Rattle.domain_world.proofs.Frames.FrameLaws.{Fact, StaysWritten}
 use Rattle.domain_world.proofs.Moves.NewUnitLaws.{IsNewUnit}
@@ -221,20 +222,20 @@ nothing_else = record {
 plain_unit : (judgings : List Judging) (number : ℕ) (unit : BagUnit) → OfUnit judgings number unit Plain
 plain_unit judgings number unit = tt
 
-controller_grows : (c : ControllerState) (at : ℕ) (w : Coming) (piece : List ℕ) (s after : State) (b : Book) (number : ℕ) (unit : BagUnit) (mark : Mark) → OfUnit b.judged number unit mark →
+controller_grows : (c : ControllerState) (at : ℕ) (w : Delivery) (piece : List ℕ) (s after : State) (b : Book) (number : ℕ) (unit : BagUnit) (mark : Mark) → OfUnit b.judged number unit mark →
     OfUnit (note_controller (Some c) at w piece s after b).judged number unit mark
 controller_grows c at w piece s after b number unit mark is =
     let new : List Judging = judged_of (answers_of at c w piece s) (numbers_on w.link true s.bag after.bag) in
     of_others mark b.judged (onto new b.judged) number unit.bytes (λ P it. one_older P new b.judged it) is
 
-end_grows : (end : EndId) (w : Coming) (piece : List ℕ) (s after : State) (b : Book) (number : ℕ) (unit : BagUnit) (mark : Mark) → OfUnit b.judged number unit mark →
+end_grows : (end : EndId) (w : Delivery) (piece : List ℕ) (s after : State) (b : Book) (number : ℕ) (unit : BagUnit) (mark : Mark) → OfUnit b.judged number unit mark →
     OfUnit (note_at (Some end) w piece s after b).judged number unit mark
 end_grows end w piece s after b number unit mark is =
     book_by (λ (one : EndId) (now : Book). OfUnit now.judged number unit mark) w piece s after b (λ one. is) (λ at c there. controller_grows c at w piece s after b number unit mark is)
     (λ at m there. subst (λ (judgings : List Judging). OfUnit judgings number unit mark) (sym (judged_so.members m at w piece s after b)) is) (λ at c there. is) end
 
 -- what the controller sends at that place
-new_reply : (answer : Result (List Action) StepRefused) (c : ControllerState) (at : ℕ) (w : Coming) (piece : List ℕ) (s : State) (numbers : List ℕ) (place number : ℕ) (bytes : List ℕ) (mark : Mark) →
+new_reply : (answer : Result (List Action) StepRefused) (c : ControllerState) (at : ℕ) (w : Delivery) (piece : List ℕ) (s : State) (numbers : List ℕ) (place number : ℕ) (bytes : List ℕ) (mark : Mark) →
     (step_of c (event.Bytes w.link piece) s.moment s.chances.left).answer ≡ answer → slice_get (controller_marks at c w piece s) place ≡ Some mark →
     slice_get (sends_in (actions_by answer)) place ≡ Some bytes → slice_get numbers place ≡ Some number →
     IsReplyOfOne (judged_of (answers_of at c w piece s) numbers) number bytes mark
@@ -243,7 +244,7 @@ new_reply (Ok actions) c at w piece s numbers place number bytes mark is marked 
     all_placed number bytes mark (answers_of at c w piece s) (sends_in actions) numbers place
     (replies_sent c w.at at w.source w.link piece s.moment s.chances.left actions is) marked sends numbered
 
-controller_new : (c : ControllerState) (at : ℕ) (w : Coming) (piece : List ℕ) (s after : State) (b : Book) (number : ℕ) (unit : BagUnit) (mark : Mark) →
+controller_new : (c : ControllerState) (at : ℕ) (w : Delivery) (piece : List ℕ) (s after : State) (b : Book) (number : ℕ) (unit : BagUnit) (mark : Mark) →
     IsNewUnit w.link true (actions_by (step_of c (event.Bytes w.link piece) s.moment s.chances.left).answer) (controller_marks at c w piece s)
     (numbers_on w.link true s.bag after.bag) number unit mark →
     OfUnit (note_controller (Some c) at w piece s after b).judged number unit mark
@@ -253,7 +254,7 @@ controller_new c at w piece s after b number unit mark new =
     of_others mark judgings (onto judgings b.judged) number unit.bytes (λ P it. one_newer P judgings b.judged it)
     (new_reply (step_of c (event.Bytes w.link piece) s.moment s.chances.left).answer c at w piece s numbers new.place number unit.bytes mark refl new.marked new.sends new.numbered)
 
-member_new : (m : MemberState) (at : ℕ) (w : Coming) (piece : List ℕ) (s : State) (judgings : List Judging) (number place : ℕ) (bytes : List ℕ) (units : List BagUnit) (mark : Mark) →
+member_new : (m : MemberState) (at : ℕ) (w : Delivery) (piece : List ℕ) (s : State) (judgings : List Judging) (number place : ℕ) (bytes : List ℕ) (units : List BagUnit) (mark : Mark) →
     slice_get (marks_of w.link false units (member_marks at m w piece s)) place ≡ Some mark → IsReplyOfOne judgings number bytes mark
 member_new m at w piece s judgings number place bytes units mark marked =
     got_all (IsFree judgings number bytes) (marks_of w.link false units (member_marks at m w piece s)) place mark

@@ -21,6 +21,7 @@ use Rattle.logon_stubs.specs.declared.calls.AuthCall.{AuthCall}
 use Rattle.account_table.specs.AccountTable.{AccountTable}
 use Rattle.account_table.specs.declared.account.Account.{Account}
 use Rattle.channel_events.proofs.SameLaws.{itself}
+use Rattle.domain_controller.specs.Forwarding.{TrustDesk, base_desk}
 use Rattle.domain_controller.specs.Laws.{IsNext, KeepsComputer}
 use Rattle.domain_controller.specs.Machine.{Desk, account_for, answer_authenticate, answer_judged, channel_for, open_channel, put_channel, put_pair_if, take_pair}
 use Rattle.controller_calls.specs.declared.line.Line.{Line}
@@ -35,8 +36,10 @@ use Rattle.step_notes.specs.Records.{Judging, computer_named, given_in, timestam
 use Rattle.controller_calls.specs.declared.calls.JudgedCall.{JudgedCall}
 use Rattle.controller_calls.proofs.OutcomeLaws.{opening_comes}
 use Rattle.domain_world.proofs.Judgements.ChainLaws.{its_judging, done_or_refused}
+use Rattle.domain_world.proofs.Judgements.JudgedLaws.{trusted_judging}
 use Rattle.domain_world.specs.Claims.{moved_if, moved_on, passed_on, judged_timestamp}
 use Rattle.step_notes.proofs.Controllers.ComputerLaws.{lookup_named}
+use Rattle.step_notes.proofs.Controllers.TrustedStepLaws.{IsTrusted, trusted_how}
 use Rattle.domain_world.proofs.Judgements.MovedLaws.{IsFound, moved_past, moved_same, not_passed, passed_in}
 
 -- ---- what is known
@@ -415,3 +418,15 @@ logon_kept judgings left number w line c d kept =
           none_moved judgings left j d.work.computers refl kept (λ channel passed. not_passed (has_passed j.how) j channel refused.0 passed) after.work.computers refused.1.pending
           refused.1.channels
     ]
+
+-- a logon for a trust passed, and its channel has moved on
+pub trusted_kept : (judgings : List Judging) (left : List (List ℕ)) (number : Option ℕ) (w : Where) (line : Line) (c : JudgedCall) (d after : TrustDesk) → IsTrusted c d after →
+    AreKept judgings left w.controller d.work.work.computers →
+    AreKept (judged_as (trusted_judging w line c d after).how number w line c (base_desk d) ∷ judgings) left w.controller after.work.work.computers
+trusted_kept judgings left number w line c d after is kept =
+    let computers : Computers = d.work.work.computers in
+    let j : Judging = judged_as (trusted_judging w line c d after).how number w line c (base_desk d) in
+    let next : IsNext computers (computer_named c) (given_in c) = is.goes.next in
+    let passed : has_passed j.how ≡ true = ap has_passed (trusted_how c d after is) ∙ is.passed in
+    moved_kept judgings left j computers refl kept (passes_on next.channel next.given) next.computer next.given next.channel after.work.work.computers
+    (passed ∙ sym ((bytes_eq-Decides _ _).1 next.passes)) next.named next.there next.stands (ap (λ (now : Computers). now.pending) is.computers) (ap (λ (now : Computers). now.channels) is.computers)

@@ -7,21 +7,27 @@ use Rattle.outside.specs.declared.event.Event.{Event}
 use Rattle.outside.specs.Drawing.{IsRest}
 use Rattle.outside.proofs.DrawLaws.{IsRest-later, IsRest-nothing, IsRest-refl, IsRest-trans}
 use Rattle.account_table.specs.LookUps.{knows_in}
+use Rattle.domain_controller.specs.Forwarding.{base_desk}
 use Rattle.domain_controller.specs.Machine.{Desk, answer_authenticate, answer_challenge, answer_judged}
 use Rattle.domain_controller.specs.State.{State as ControllerState}
-use Rattle.domain_controller.specs.Step.{step_of}
+use Rattle.domain_controller.specs.TrustStep.{trust_step_of as step_of}
 use Rattle.controller_calls.specs.declared.state.Computers.{Computers}
 use Rattle.domain_controller.specs.declared.state.Running.{Running}
 use Rattle.step_notes.specs.ControllerNotes.{Answered, Where, judged_answer, plain, silent, has_passed, opened_by, opening}
+use Rattle.step_notes.specs.TrustNotes.{trust_judged_answer}
 use Rattle.step_notes.specs.Records.{Judging}
 use Rattle.world_moves.specs.declared.state.State.{State}
 use Rattle.domain_world.specs.Claims.{moved_on}
-use Rattle.domain_world.specs.Past.{Coming, answers_of, at_controller, first_of, judged_of, later_of, onto, with_reply}
-use Rattle.step_notes.proofs.Controllers.NotedLaws.{NotedFact, StaysThrough, step_says}
+use Rattle.domain_world.specs.Past.{Delivery, answers_of, at_controller, first_of, judged_of, later_of, onto, with_reply}
+use Rattle.step_notes.proofs.Controllers.NotedLaws.{NotedFact, StaysThrough}
+use Rattle.step_notes.proofs.Controllers.TrustNotedLaws.{trust_step_says}
+use Rattle.step_notes.proofs.Controllers.TrustedStepLaws.{OfBase, StaysWithTrusts, trusting_stays}
 use Rattle.domain_world.proofs.Messages.MessageOnceLaws.{set_cases}
-use Rattle.domain_world.proofs.Judgements.SeedLaws.{AreApart, AreKept, AreUnheard, IsInOrder, IsSpent, authenticate_kept, channel_from, drawn_order, judged_as, judged_order, keeps_all, kept_on, logon_kept, others_unmoved, pair_kept}
-use Rattle.domain_world.proofs.Judgements.ChainLaws.{its_judging, judged_judging, opening_judging}
-use Rattle.domain_world.proofs.Moves.NoBytesLaws.{DoesNothingElse, IsNoBytes, KeepsComputers, does_nothing_else}
+use Rattle.domain_world.proofs.Judgements.SeedLaws.{AreApart, AreKept, AreUnheard, IsInOrder, IsSpent, authenticate_kept, channel_from, drawn_order, judged_as, judged_order, keeps_all, kept_on, logon_kept, others_unmoved, pair_kept, trusted_kept}
+use Rattle.domain_world.proofs.Judgements.ChainLaws.{its_judging, judged_judging, opening_judging, trust_answer_judging}
+use Rattle.domain_world.proofs.Judgements.JudgedLaws.{trusted_judging}
+use Rattle.domain_world.proofs.Moves.NoBytesLaws.{IsNoBytes}
+use Rattle.domain_world.proofs.Moves.TrustNoBytesLaws.{HearsNoCall, KeepsUnlessEnded, hears_no_call}
 use Rattle.outside.specs.declared.event.Event.TheVariants as event
 
 -- ---- fewer challenges are left
@@ -159,6 +165,25 @@ module _ (w : Where) (judgings : List Judging) (left : List (List ℕ)) (numbers
         }));
   }
 
+  -- so it is of a controller that may hand logons on
+  goes_trusting : (link : ℕ) → StaysWithTrusts w link GoesOn
+  goes_trusting link = record {
+    base = goes_stay link;
+    trusted = λ answers d after some line c on is goes.
+        let one : Judging = trusted_judging w line c d after in
+        let number : Option ℕ = first_of (numbers_left answers numbers) in
+        let j : Judging = judged_as one.how number w line c (base_desk d) in
+        let computers : Computers = d.work.work.computers in
+        further answers (trust_judged_answer one) (base_desk d) after.work.work.computers some some goes
+        (subst (λ (o : Option Judging). Goes (written answers) (with_judging o number (written answers)) some some w.controller after.work.work.computers)
+        (sym (trust_answer_judging one)) (record {
+          order = judged_order (written answers) some j computers refl goes.kept goes.order;
+          kept = trusted_kept (written answers) some number w line c d after is goes.kept;
+          fewer = IsRest-refl some;
+          others = others_unmoved (written answers) some j computers refl goes.kept;
+        }));
+  }
+
 -- ---- a step of a controller
 
 -- of a controller that hasn't stopped
@@ -181,41 +206,61 @@ step_ends : (judgings : List Judging) (left : List (List ℕ)) (controller : ℕ
 step_ends judgings left controller order =
     record { order = order_rest judgings [] left (IsRest-nothing left) order; kept = tt; fewer = IsRest-nothing left; others = λ channel apart. refl }
 
-bytes_step : (controller : ℕ) (c : ControllerState) (judgings : List Judging) (w : Coming) (piece : List ℕ) (s : State) (numbers : List ℕ) → IsInOrder judgings s.chances.left →
+-- a turn may draw, and dial
+turn_goes : (judgings now : List Judging) (left rest last : List (List ℕ)) (controller : ℕ) (computers : Computers) → IsRest last rest → Goes judgings now left rest controller computers →
+    Goes judgings now left last controller computers
+turn_goes judgings now left rest last controller computers fewer goes = record {
+  order = order_rest now last rest fewer goes.order;
+  kept = kept_rest now now last rest controller computers fewer (λ channel same. refl) goes.kept;
+  fewer = IsRest-trans last rest left fewer goes.fewer;
+  others = goes.others;
+}
+
+bytes_step : (controller : ℕ) (c : ControllerState) (judgings : List Judging) (w : Delivery) (piece : List ℕ) (s : State) (numbers : List ℕ) → IsInOrder judgings s.chances.left →
     AreKeptIf judgings s.chances.left controller c.running →
     StepGoes judgings (onto (judged_of (answers_of controller c w piece s) numbers) judgings) s.chances.left (step_of c (event.Bytes w.link piece) s.moment s.chances.left).left controller
     (step_of c (event.Bytes w.link piece) s.moment s.chances.left).state.running
 bytes_step controller c judgings w piece s numbers order kept =
     let at : Where = at_controller controller c w s in
     let left : List (List ℕ) = s.chances.left in
-    step_says at w.link c piece s.moment left (λ running. GoesOn at judgings left numbers)
+    let kept_at : (running : Running) → c.running ≡ Some running → AreKept judgings left controller running.computers =
+    λ running runs. subst (λ (r : Option Running). AreKeptIf judgings left controller r) runs kept in
+    trust_step_says at w.link c piece s.moment left (λ running. OfBase (GoesOn at judgings left numbers))
     (λ answers stepped. StepGoes judgings (onto (judged_of answers numbers) judgings) left stepped.left controller stepped.state.running) (record {
-      stays = λ running. goes_stay at judgings left numbers w.link;
-      first = λ running runs.
-          stays judgings left controller running.computers order (subst (λ (r : Option Running). AreKeptIf judgings left controller r) runs kept);
+      stays = λ running. trusting_stays at w.link (GoesOn at judgings left numbers) (goes_trusting at judgings left numbers w.link);
+      first = λ running runs. stays judgings left controller running.computers order (kept_at running runs);
       stopped = λ ends. step_stays judgings left controller c.running order kept;
       spent = step_ends judgings left controller order;
-      taken = λ running answers d links rest runs goes.
+      turn = λ running actions last links t runs on all fewer.
+          let goes = turn_goes judgings judgings left left last controller running.computers fewer (stays judgings left controller running.computers order (kept_at running runs)) in
+          record { order = goes.order; kept = goes.kept; fewer = goes.fewer; others = goes.others };
+      taken = λ running answers d rest last links dial t runs holds fewer.
+          let goes = turn_goes judgings (onto (judged_of answers numbers) judgings) left rest last controller d.work.work.computers fewer holds in
           record { order = goes.order; kept = goes.kept; fewer = goes.fewer; others = goes.others };
     })
 
 -- ---- a step at which no bytes come
 
--- what is kept of computers is so
-same_kept : (old new : Option Running) (judgings : List Judging) (left : List (List ℕ)) (controller : ℕ) → KeepsComputers old new → AreKeptIf judgings left controller old →
-    AreKeptIf judgings left controller new
-same_kept None None judgings left controller same kept = tt
-same_kept None (Some after) judgings left controller same kept = absurd same
-same_kept (Some before) None judgings left controller same kept = absurd same
-same_kept (Some before) (Some after) judgings left controller same kept = subst (λ (computers : Computers). AreKept judgings left controller computers) (sym same) kept
+-- what is kept of computers is so, where fewer challenges are left
+same_kept : (after before : Option Running) (judgings : List Judging) (rest left : List (List ℕ)) (controller : ℕ) → IsRest rest left → KeepsUnlessEnded after before →
+    AreKeptIf judgings left controller before → AreKeptIf judgings rest controller after
+same_kept None before judgings rest left controller fewer same kept = tt
+same_kept (Some after) None judgings rest left controller fewer same kept = absurd same
+same_kept (Some after) (Some before) judgings rest left controller fewer same kept =
+    subst (λ (computers : Computers). AreKept judgings rest controller computers) (sym same)
+    (kept_rest judgings judgings rest left controller before.computers fewer (λ channel is. refl) kept)
 
 quiet_step : (what : Event) (judgings : List Judging) (controller : ℕ) (c : ControllerState) (now : ℕ) (left : List (List ℕ)) → IsNoBytes what → IsInOrder judgings left →
     AreKeptIf judgings left controller c.running → StepGoes judgings judgings left (step_of c what now left).left controller (step_of c what now left).state.running
 quiet_step what judgings controller c now left none order kept =
-    let stays : DoesNothingElse c what now left = does_nothing_else c what now left none in
-    let after : Option Running = (step_of c what now left).state.running in
-    subst (λ (rest : List (List ℕ)). StepGoes judgings judgings left rest controller after) (sym stays.rest)
-    (step_stays judgings left controller after order (same_kept c.running after judgings left controller stays.keeps kept))
+    let stays : HearsNoCall c what now left = hears_no_call c what now left none in
+    let rest : List (List ℕ) = (step_of c what now left).left in
+    record {
+      order = order_rest judgings rest left stays.rest order;
+      kept = same_kept (step_of c what now left).state.running c.running judgings rest left controller stays.rest stays.keeps kept;
+      fewer = stays.rest;
+      others = λ channel apart. refl;
+    }
 
 -- ---- all controllers
 
@@ -251,7 +296,7 @@ drawn_follow judgings left rest controllers is follow = record {
 }
 
 -- a controller hears bytes
-pub bytes_follow : (c : ControllerState) (judgings : List Judging) (controller : ℕ) (w : Coming) (piece : List ℕ) (s : State) (numbers : List ℕ) →
+pub bytes_follow : (c : ControllerState) (judgings : List Judging) (controller : ℕ) (w : Delivery) (piece : List ℕ) (s : State) (numbers : List ℕ) →
     slice_get s.ends.controllers controller ≡ Some c → SeedsFollow judgings s.chances.left s.ends.controllers →
     SeedsFollow (onto (judged_of (answers_of controller c w piece s) numbers) judgings) (step_of c (event.Bytes w.link piece) s.moment s.chances.left).left
     (slice_set s.ends.controllers controller (step_of c (event.Bytes w.link piece) s.moment s.chances.left).state)

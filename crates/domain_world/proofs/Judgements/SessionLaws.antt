@@ -21,9 +21,10 @@ use Rattle.secret_change.specs.Hiding.{show_of}
 use Rattle.sam_logon.specs.MayLogOn.{HashIsStored, MayLogOnAt}
 use Rattle.sam_logon.specs.Verdict.{interactive_judgement_of, is_granted}
 use Rattle.sam_logon.proofs.VerdictLaws.{interactive_verdict_of-Decides}
-use Rattle.controller_calls.specs.Calls.{IfInteractive}
 use Rattle.controller_calls.specs.declared.calls.JudgedCall.{JudgedCall}
 use Rattle.controller_calls.specs.declared.calls.JudgedCall.TheVariants.{Interactive, Logoff, Network, NetworkLogoff, Set}
+use Rattle.controller_calls.specs.Calls.{IfInteractive, asked_of}
+use Rattle.controller_calls.specs.declared.calls.Asked.TheVariants as asked
 use Rattle.controller_calls.specs.Doing.{computer_or_none, done_by, sessions_after, set_so}
 use Rattle.controller_calls.specs.Interactive.{admitted, judge_interactive, judge_interactive_level, shown_hash}
 use Rattle.controller_calls.specs.Logons.{IsServedLevel, serves_level, status_of}
@@ -38,12 +39,11 @@ use Rattle.step_notes.proofs.Controllers.JudgedStepLaws.{same_status}
 use Rattle.world_moves.specs.declared.moves.Move.{Move}
 use Rattle.world_moves.specs.declared.plan.Plan.{Plan}
 use Rattle.world_moves.specs.World.{first_world}
-use Rattle.world_moves.specs.Alone.{HandsNothingOn}
 use Rattle.domain_world.specs.Claims.Grants.{GrantsWhoseHashIsStored, IsLetOnRightly, IsToBeLetOn}
 use Rattle.domain_world.specs.Claims.Sessions.{AreBySince, ControllerRenewed, HasSessions, SessionsFollow, is_since, last_start, renewals, sessions_if, sessions_on, sessions_since, since_if, start_before}
 use Rattle.domain_world.specs.Claims.Statuses.{TellsItsStatus}
 use Rattle.domain_world.specs.Past.{past}
-use Rattle.domain_world.proofs.Judgements.GrantLaws.{each_status}
+use Rattle.domain_world.proofs.Judgements.TrustGrantLaws.{IsToldSo, each_told}
 use Rattle.domain_world.proofs.Judgements.JudgedLaws.{AreRight, judged_rightly}
 use Rattle.domain_world.proofs.Judgements.SessionRunLaws.{SessionsStand, sessions_stand}
 use Rattle.domain_world.proofs.Judgements.SessionStepLaws.{RunsWith}
@@ -132,10 +132,10 @@ of_running None one sessions is runs = absurd (let never : None ≡ Some one = i
 of_running (Some running) one sessions is runs = subst (λ (x : Running). x.computers.sessions ≡ sessions) (let same : running ≡ one = cc in same) runs
 
 -- in every run
-pub sessions_follow : (plan : Plan) (moves : List Move) → HandsNothingOn plan → SessionsFollow (past plan moves) (renewals moves (first_world plan) [])
-sessions_follow plan moves nobody =
+pub sessions_follow : (plan : Plan) (moves : List Move) → SessionsFollow (past plan moves) (renewals moves (first_world plan) [])
+sessions_follow plan moves =
     let starts : List ControllerRenewed = renewals moves (first_world plan) [] in
-    let stands : SessionsStand plan moves = sessions_stand plan moves nobody in
+    let stands : SessionsStand plan moves = sessions_stand plan moves in
     let judgings : List Judging = (past plan moves).book.judged in
     let so : (controller : ℕ) (sessions : List Session) → HasSessions (past plan moves) controller sessions → sessions ≡ sessions_since controller (last_start controller starts) judgings =
     λ controller sessions has. sym has.are ∙ of_running has.state.running has.running _ has.runs (stands.each controller has.state has.at) in
@@ -222,16 +222,23 @@ if_interactive Fact (Logoff c) so = tt
 if_interactive Fact (NetworkLogoff c) so = tt
 if_interactive Fact (Set c) so = tt
 
-all_let_on : (judgings : List Judging) → AllByRecursion TellsItsStatus judgings → AreRight judgings → AreFew judgings → AllByRecursion (λ (j : Judging). IsLetOnRightly j) judgings
+-- it comes for no trusted domain
+told_so : (j : Judging) (c : InteractiveCall) → j.asked ≡ Interactive c → IsToldSo j → TellsItsStatus j
+told_so j c asks (inl told) = told
+told_so j c asks (inr elsewhere) =
+    absurd (let never : asked.Interactive c.info c.validation ≡ asked.Network elsewhere.info elsewhere.validation = ap asked_of (sym asks) ∙ elsewhere.asks in cc)
+
+all_let_on : (judgings : List Judging) → AllByRecursion IsToldSo judgings → AreRight judgings → AreFew judgings → AllByRecursion (λ (j : Judging). IsLetOnRightly j) judgings
 all_let_on [] told right few = tt
 all_let_on (j ∷ judgings) told right few = (
   if_interactive (λ (c : InteractiveCall). (j.how ≡ Some (judged.Passed 0)) ↔ IsToBeLetOn j c) j.asked
-      (λ c asks. (to_be_let_on j c asks told.0 right.0 few.0, is_let_on j c asks told.0 right.0)),
+      (λ c asks.
+      let status : TellsItsStatus j = told_so j c asks told.0 in (to_be_let_on j c asks status right.0 few.0, is_let_on j c asks status right.0)),
   all_let_on judgings told.1 right.1 few.1,
 )
 
 -- in every run a controller grants an interactive logon exactly where it is to be granted
-pub grants_by_hash : (plan : Plan) (moves : List Move) → HandsNothingOn plan → GrantsWhoseHashIsStored (past plan moves)
-grants_by_hash plan moves nobody =
-    all_let_on (past plan moves).book.judged (each_status plan moves nobody) (judged_rightly plan moves)
-    (are_few (renewals moves (first_world plan) []) (past plan moves).book.judged (sessions_stand plan moves nobody).judged)
+pub grants_by_hash : (plan : Plan) (moves : List Move) → GrantsWhoseHashIsStored (past plan moves)
+grants_by_hash plan moves =
+    all_let_on (past plan moves).book.judged (each_told plan moves) (judged_rightly plan moves)
+    (are_few (renewals moves (first_world plan) []) (past plan moves).book.judged (sessions_stand plan moves).judged)

@@ -8,7 +8,7 @@ use Rattle.outside.specs.declared.event.Event.TheVariants as event
 use Rattle.authenticators.specs.SecureChannels.{SecureChannelState}
 use Rattle.interactive_logon.specs.declared.sessions.Session.{Session}
 use Rattle.domain_controller.specs.State.{State as ControllerState}
-use Rattle.domain_controller.specs.Step.{step_of}
+use Rattle.domain_controller.specs.TrustStep.{trust_step_of as step_of}
 use Rattle.domain_controller.specs.declared.state.Running.{Running}
 use Rattle.outside.specs.Drawing.{Drawing}
 use Rattle.step_notes.specs.ControllerNotes.{Answered, Where, has_passed}
@@ -19,29 +19,33 @@ use Rattle.world_moves.specs.declared.moves.Move.{Move}
 use Rattle.world_moves.specs.declared.moves.Move.TheVariants as move
 use Rattle.world_moves.specs.declared.plan.Plan.{Plan}
 use Rattle.world_moves.specs.declared.state.State.{State}
-use Rattle.world_moves.specs.Acting.{forget}
+use Rattle.world_moves.specs.Acting.{forget, hear_and_act}
 use Rattle.world_moves.specs.Choosing.{chosen_place}
-use Rattle.world_moves.specs.Ends.{EndStates, EndStep, count_of, fresh_controller, renew_client, renew_controller, renew_member}
+use Rattle.world_moves.specs.Ends.{EndStates, EndStep, count_of, end_step, fresh_controller, renew_client, renew_controller, renew_member}
 use Rattle.world_moves.specs.Links.{acceptor_of}
 use Rattle.world_moves.specs.Moving.{act, renewed, restart_at, restart_by}
 use Rattle.world_moves.specs.World.{World, first_world, happens, run}
-use Rattle.world_moves.specs.Alone.{HandsNothingOn, alone_end_step as end_step}
 use Rattle.logon_client.specs.declared.plan.ClientPlan.{ClientPlan}
 use Rattle.member_server.specs.declared.plan.MemberPlan.{MemberPlan}
 use Rattle.domain_world.specs.Claims.Sessions.{AreBySince, ControllerRenewed, end_by, is_since, last_start, renewal_by, renewals, restart_of, sessions_behind, sessions_if, sessions_on, sessions_since, since_if, start_before, start_if}
-use Rattle.domain_world.specs.Past.{Coming, answers_of, at_controller, book, first_of, judged_of, later_of, note, note_at, note_coming, note_controller, numbers_on, onto, past, with_reply}
+use Rattle.domain_world.specs.Past.{Delivery, answers_of, at_controller, book, first_of, judged_of, later_of, note, note_at, note_coming, note_controller, numbers_on, onto, past, with_reply}
 use Rattle.wire_base.proofs.ListLaws.{all_weaker, no_some}
 use Rattle.domain_world.proofs.Messages.MessageOnceLaws.{each_put}
-use Rattle.domain_world.proofs.Frames.AloneFrameLaws.{StandsAlone, stands_first, stands_next}
-use Rattle.domain_world.proofs.Frames.AloneStepLaws.{act_alone as hear_and_act, alone_by as step_by, fresh_by}
-use Rattle.domain_world.proofs.Frames.EndFrameLaws.{EndFact, KeepsCalmEnds, ends_through}
-use Rattle.domain_world.proofs.Frames.EndNoteLaws.{judged_so, noted_by}
+use Rattle.domain_world.proofs.Frames.AloneStepLaws.{fresh_by}
+use Rattle.domain_world.proofs.Frames.EndFrameLaws.{EndFact, KeepsCalmEndsBy, ends_through}
+use Rattle.domain_world.proofs.Frames.EndNoteLaws.{judged_so}
+use Rattle.domain_world.proofs.Frames.EveryStepLaws.{every_noted as noted_by}
+use Rattle.domain_world.proofs.Frames.MoveFrameLaws.{placed_next}
+use Rattle.domain_world.proofs.Frames.MoveKeepLaws.{every}
 use Rattle.domain_world.proofs.Frames.EventLaws.{calm_no_bytes}
-use Rattle.domain_world.proofs.Moves.NoBytesLaws.{IsNoBytes, KeepsComputers, does_nothing_else}
+use Rattle.domain_world.proofs.Moves.NoBytesLaws.{IsNoBytes}
+use Rattle.domain_world.proofs.Moves.PlacedLaws.{IsPlaced, placed_first}
+use Rattle.domain_world.proofs.Moves.TrustNoBytesLaws.{KeepsUnlessEnded, hears_no_call}
 use Rattle.domain_world.proofs.Judgements.Openings.OpeningRunLaws.{each_fresh}
 use Rattle.domain_world.proofs.Judgements.ChainLaws.{AreChained, IsBy, left_behind, left_of}
 use Rattle.domain_world.proofs.Judgements.SessionStepLaws.{RunningChains, RunsWith, kept_sessions, step_chains}
 use Rattle.world_moves.proofs.ChangeLaws.{by_change}
+use Rattle.world_moves.proofs.EndKindLaws.{step_by}
 use Rattle.outside.specs.declared.action.Action.{Action}
 
 -- ---- since when
@@ -189,11 +193,10 @@ runs_same None one other same runs = tt
 runs_same (Some running) one other same runs = runs ∙ same
 
 -- what it keeps of computers is so
-runs_kept : (old new : Option Running) (sessions : List Session) → KeepsComputers old new → RunsWith sessions old → RunsWith sessions new
-runs_kept None None sessions same runs = tt
-runs_kept None (Some after) sessions same runs = absurd same
-runs_kept (Some before) None sessions same runs = absurd same
-runs_kept (Some before) (Some after) sessions same runs = ap (λ computers. computers.sessions) same ∙ runs
+runs_kept : (new old : Option Running) (sessions : List Session) → KeepsUnlessEnded new old → RunsWith sessions old → RunsWith sessions new
+runs_kept None old sessions same runs = tt
+runs_kept (Some after) None sessions same runs = absurd same
+runs_kept (Some after) (Some before) sessions same runs = ap (λ computers. computers.sessions) same ∙ runs
 
 -- a controller heard bytes
 record Comes (starts : List ControllerRenewed) (w : Where) (old now : List Judging) (after : Option Running) : Type 0 where
@@ -223,7 +226,7 @@ running_comes (Some running) starts w answers numbers old after early chains all
       made = brings.made;
     }
 
-controller_comes : (c : ControllerState) (starts : List ControllerRenewed) (k : ℕ) (w : Coming) (piece : List ℕ) (s after : State) (b : Book) → slice_get s.ends.controllers k ≡ Some c →
+controller_comes : (c : ControllerState) (starts : List ControllerRenewed) (k : ℕ) (w : Delivery) (piece : List ℕ) (s after : State) (b : Book) → slice_get s.ends.controllers k ≡ Some c →
     Stand starts w.at b.judged s.ends.controllers →
     Stand starts w.at (note_controller (Some c) k w piece s after b).judged (slice_set s.ends.controllers k (step_of c (event.Bytes w.link piece) s.moment s.chances.left).state)
 controller_comes c starts k w piece s after b is stands =
@@ -246,11 +249,11 @@ controller_comes c starts k w piece s after b is stands =
 
 -- a controller keeps what it kept
 same_put : (starts : List ControllerRenewed) (at : ℕ) (judgings : List Judging) (controllers : List ControllerState) (k : ℕ) (c new : ControllerState) → slice_get controllers k ≡ Some c →
-    KeepsComputers c.running new.running → Stand starts at judgings controllers → Stand starts at judgings (slice_set controllers k new)
+    KeepsUnlessEnded new.running c.running → Stand starts at judgings controllers → Stand starts at judgings (slice_set controllers k new)
 same_put starts at judgings controllers k c new there same stands = record {
   judged = stands.judged;
   each = each_put (λ (n : ℕ) (x : ControllerState). RunsWith (sessions_since n (last_start n starts) judgings) x.running) controllers k new (λ n x differs its. stands.each n x its)
-      (runs_kept c.running new.running (sessions_since k (last_start k starts) judgings) same (stands.each k c there));
+      (runs_kept new.running c.running (sessions_since k (last_start k starts) judgings) same (stands.each k c there));
   made = stands.made;
   early = stands.early;
 }
@@ -261,10 +264,10 @@ hear_stands : (starts : List ControllerRenewed) (at : ℕ) (judgings : List Judg
     Stand starts at judgings ends.controllers → Stand starts at judgings (end_step end what now ends chances).ends.controllers
 hear_stands starts at judgings end what now ends chances none stands =
     step_by (λ (one : EndId) (step : EndStep). Stand starts at judgings step.ends.controllers) what now ends chances (λ one. stands)
-    (λ k c is. same_put starts at judgings ends.controllers k c (step_of c what now chances.left).state is (does_nothing_else c what now chances.left none).keeps stands)
+    (λ k c is. same_put starts at judgings ends.controllers k c (step_of c what now chances.left).state is (hears_no_call c what now chances.left none).keeps stands)
     (λ k m is. stands) (λ k c is. stands) end
 
-bytes_stand : (starts : List ControllerRenewed) (end : EndId) (w : Coming) (piece : List ℕ) (s after : State) (b : Book) → Stand starts w.at b.judged s.ends.controllers →
+bytes_stand : (starts : List ControllerRenewed) (end : EndId) (w : Delivery) (piece : List ℕ) (s after : State) (b : Book) → Stand starts w.at b.judged s.ends.controllers →
     Stand starts w.at (note_at (Some end) w piece s after b).judged (end_step end (event.Bytes w.link piece) s.moment s.ends s.chances).ends.controllers
 bytes_stand starts end w piece s after b stands =
     noted_by (λ (one : EndId) (step : EndStep) (now : Book). Stand starts w.at now.judged step.ends.controllers) w piece s after b (λ one. stands)
@@ -280,10 +283,10 @@ later_stands starts at judgings controllers stands = record {
   early = all_weaker (λ (one : ControllerRenewed). one.moves ≤ at) (λ (one : ControllerRenewed). one.moves ≤ at + 1) starts (λ one early. omega (arith, early)) stands.early;
 }
 
-abbrev Stands : List ControllerRenewed → EndFact
-Stands starts at on ends given b = Stand starts at b.judged ends.ends.controllers
+abbrev SessionsHold : List ControllerRenewed → EndFact
+SessionsHold starts at on ends given b = Stand starts at b.judged ends.ends.controllers
 
-stands_on : (starts : List ControllerRenewed) → KeepsCalmEnds (Stands starts)
+stands_on : (starts : List ControllerRenewed) → KeepsCalmEndsBy every (SessionsHold starts)
 stands_on starts = record {
   calm = λ at on end what s given b calm stands. hear_stands starts at b.judged end what s.moment s.ends s.chances (calm_no_bytes what calm) stands;
   dialled = λ at end link s given b side stands. hear_stands starts at b.judged end (event.Dialled link) s.moment s.ends s.chances tt stands;
@@ -397,22 +400,22 @@ restarts (move.Tick more) at s b end is = absurd (no_some end is)
 
 -- ---- a run
 
-one_move : (end : Option EndId) (what : Move) (w : World) (b : Book) (starts : List ControllerRenewed) → restart_of what w.state ≡ end → StandsAlone w.state →
+one_move : (end : Option EndId) (what : Move) (w : World) (b : Book) (starts : List ControllerRenewed) → restart_of what w.state ≡ end → IsPlaced w.state →
     Stand starts w.moves b.judged w.state.ends.controllers →
     Stand (renewal_by end (w.moves + 1) ++ starts) (w.moves + 1) (note w what b).judged (happens w what).state.ends.controllers
-one_move None what w b starts is alone stands = ends_through (Stands starts) (stands_on starts) what w b is alone (λ on. stands) None
-one_move (Some end) what w b starts is alone stands =
+one_move None what w b starts is placed stands = ends_through (SessionsHold starts) (stands_on starts) what w b is placed (λ on. stands) None
+one_move (Some end) what w b starts is placed stands =
     let so : IsRestart what w.moves w.state b end = restarts what w.moves w.state b end is in
     subst (λ (s : State). Stand (renewal_by (Some end) (w.moves + 1) ++ starts) (w.moves + 1) (note_coming what w.moves w.state b).judged s.ends.controllers) (sym so.acts)
     (subst (λ (x : Book). Stand (renewal_by (Some end) (w.moves + 1) ++ starts) (w.moves + 1) x.judged (renewed end (forget end w.state)).ends.controllers) (sym so.notes)
     (end_anew w.moves starts b.judged end w.state stands))
 
-all_moves : (moves : List Move) (w : World) (b : Book) (starts : List ControllerRenewed) → StandsAlone w.state → Stand starts w.moves b.judged w.state.ends.controllers →
+all_moves : (moves : List Move) (w : World) (b : Book) (starts : List ControllerRenewed) → IsPlaced w.state → Stand starts w.moves b.judged w.state.ends.controllers →
     Stand (renewals moves w starts) (run moves w).moves (book moves w b).judged (run moves w).state.ends.controllers
-all_moves [] w b starts alone stands = stands
-all_moves (what ∷ moves) w b starts alone stands =
-    all_moves moves (happens w what) (note w what b) (renewal_by (restart_of what w.state) (w.moves + 1) ++ starts) (stands_next what w b alone)
-    (one_move (restart_of what w.state) what w b starts refl alone stands)
+all_moves [] w b starts placed stands = stands
+all_moves (what ∷ moves) w b starts placed stands =
+    all_moves moves (happens w what) (note w what b) (renewal_by (restart_of what w.state) (w.moves + 1) ++ starts) (placed_next what w b placed)
+    (one_move (restart_of what w.state) what w b starts refl placed stands)
 
 -- in every run sessions follow the calls
 pub record SessionsStand (plan : Plan) (moves : List Move) : Type 0 where
@@ -420,10 +423,10 @@ pub record SessionsStand (plan : Plan) (moves : List Move) : Type 0 where
   pub each : (k : ℕ) (c : ControllerState) → slice_get (past plan moves).world.state.ends.controllers k ≡ Some c →
       RunsWith (sessions_since k (last_start k (renewals moves (first_world plan) [])) (past plan moves).book.judged) c.running
 
-pub sessions_stand : (plan : Plan) (moves : List Move) → HandsNothingOn plan → SessionsStand plan moves
-sessions_stand plan moves nobody =
+pub sessions_stand : (plan : Plan) (moves : List Move) → SessionsStand plan moves
+sessions_stand plan moves =
     let stands : Stand (renewals moves (first_world plan) []) (past plan moves).world.moves (past plan moves).book.judged (past plan moves).world.state.ends.controllers =
-    all_moves moves (first_world plan) blank [] (stands_first plan nobody) (record {
+    all_moves moves (first_world plan) blank [] (placed_first plan) (record {
       judged = tt;
       each = λ k c there. each_fresh (λ (x : ControllerState). RunsWith [] x.running) (λ table name. refl) (λ table name. refl) plan.hands_on plan.tables plan.controllers k c there;
       made = tt;

@@ -6,25 +6,40 @@ use Rattle.outside.specs.declared.event.Event.TheVariants as event
 use Rattle.authenticators.specs.SecureChannels.{SecureChannelState}
 use Rattle.account_table.specs.AccountTable.{AccountTable}
 use Rattle.domain_controller.specs.State.{State as ControllerState}
+use Rattle.domain_controller.specs.Forwarding.{TrustDesk, answer_trust_call, base_desk}
 use Rattle.domain_controller.specs.Step.{first_state, step_of}
+use Rattle.domain_controller.specs.TrustLaws.{IsForTrust}
+use Rattle.domain_controller.specs.TrustStep.{trust_step_of}
+use Rattle.domain_controller.proofs.CountLaws.{counts_by_verdict}
+use Rattle.domain_controller.proofs.HandOnLaws.{CallGoes, GoesOn, IsLeft as IsLeftHere, StaysHere, call_goes}
+use Rattle.controller_calls.specs.Doing.{done_by}
+use Rattle.controller_calls.specs.declared.calls.JudgedCall.{JudgedCall}
+use Rattle.controller_calls.specs.declared.line.Line.{Line}
+use Rattle.controller_calls.proofs.DoneLaws.{does_what_passes}
 use Rattle.step_notes.specs.ControllerNotes.{Answered, Where, has_passed}
 use Rattle.step_notes.specs.Records.{Book, Judging, computer_named, given_in}
 use Rattle.world_moves.specs.declared.moves.Move.{Move}
 use Rattle.world_moves.specs.declared.plan.Plan.{Plan}
 use Rattle.world_moves.specs.declared.state.State.{State}
 use Rattle.world_moves.specs.World.{first_world}
-use Rattle.world_moves.specs.Alone.{HandsNothingOn}
+use Rattle.world_moves.specs.Ends.{fresh_controller}
 use Rattle.domain_world.specs.Claims.Tables.{AreByEarlier, IsLeft, TablesFollowVerdicts, accounts_after, accounts_if, left_by, left_if, left_on}
-use Rattle.domain_world.specs.Past.{Coming, answers_of, at_controller, first_of, judged_of, later_of, note_controller, numbers_on, onto, past, with_reply}
+use Rattle.domain_world.specs.Past.{Delivery, answers_of, at_controller, first_of, judged_of, later_of, note_answers, numbers_on, onto, past, with_reply}
 use Rattle.step_notes.proofs.Controllers.JudgedStepLaws.{on_next}
 use Rattle.domain_world.proofs.Messages.MessageOnceLaws.{each_put}
-use Rattle.domain_world.proofs.Frames.FrameLaws.{run_stays}
+use Rattle.domain_world.proofs.Frames.AloneNoteLaws.{alone_answers}
+use Rattle.domain_world.proofs.Frames.AloneStepLaws.{fresh_by}
+use Rattle.domain_world.proofs.Frames.TrustingFrameLaws.{KeepsTrusting, controllers_after}
 use Rattle.domain_world.proofs.Moves.NoBytesLaws.{does_nothing_else}
-use Rattle.domain_world.proofs.Frames.ControllerFrameLaws.{AmongControllers, ControllersFact, KeepsControllers, controllers_written}
+use Rattle.domain_world.proofs.Moves.TrustNoBytesLaws.{hears_no_call}
+use Rattle.domain_world.proofs.Frames.ControllerFrameLaws.{ControllersFact, KeepsControllers}
 use Rattle.domain_world.proofs.Frames.EndNoteLaws.{judged_so, judgings_of}
 use Rattle.domain_world.proofs.Judgements.GrantLaws.{first_planned}
-use Rattle.step_notes.proofs.Controllers.NotedLaws.{step_says}
-use Rattle.domain_world.proofs.Judgements.ChainLaws.{AreChained, Chains, FollowsCalls, IsBy, Ledger, chains_stay, done_or_refused, its_judging, left_behind, left_of}
+use Rattle.step_notes.proofs.Controllers.NotedLaws.{NotedFact, step_says}
+use Rattle.step_notes.proofs.Controllers.TrustNotedLaws.{trust_step_says}
+use Rattle.step_notes.proofs.Controllers.TrustedStepLaws.{OfBase, trusted_how, trusting_stays}
+use Rattle.domain_world.proofs.Judgements.ChainLaws.{AreChained, Chains, FollowsCalls, FollowsTrusts, IsBy, Ledger, chains_stay, done_or_refused, its_judging, left_behind, left_of, trusting_chains}
+use Rattle.domain_world.proofs.Judgements.JudgedLaws.{trusted_judging}
 
 -- ---- the accounts, as calls on channels change them
 
@@ -46,11 +61,50 @@ accounts_follow = record {
       ];
 }
 
+-- what a logon for a trust would come to here leaves the accounts
+goes_leaves : (c : JudgedCall) (name : List ℕ) (now : ℕ) (line : Line) (d after : TrustDesk) → IsForTrust c d → CallGoes c name now line d after → after.table ≡ d.table
+goes_leaves c name now line d after goes (GoesOn is so) = so.table
+goes_leaves c name now line d after goes (IsLeftHere other so) = so.table
+goes_leaves c name now line d after goes (StaysHere not is) = absurd (not goes)
+
+done_leaves : (c : JudgedCall) (name : List ℕ) (now : ℕ) (line : Line) (d : TrustDesk) (goes : IsForTrust c d) →
+    (done_by c goes.next.channel name d.table now d.work.work.computers.sessions).table ≡ d.table
+done_leaves c name now line d goes =
+    sym (does_what_passes.passed c name now line (base_desk d) goes.next).table
+    ∙ sym (counts_by_verdict.trusting_call c name now line d)
+    ∙ goes_leaves c name now line d (answer_trust_call c name now line d) goes (call_goes c name now line d)
+
+accounts_trusting : FollowsTrusts accounts
+accounts_trusting = record {
+  by = λ w line c d after. refl;
+  leaves = λ w line c d after is.
+      let j : Judging = trusted_judging w line c d after in
+      is.table
+      ∙ sym (done_leaves c w.name w.moment line d is.goes)
+      ∙ ap (λ (found : Option SecureChannelState). left_on found j) (sym (on_next (computer_named c) d.work.work.computers (given_in c) is.goes.next).stands)
+      ∙ ap (λ (passed : Bool). left_if passed j) (sym (ap has_passed (trusted_how c d after is) ∙ is.passed));
+}
+
 -- each call of a step is judged by the accounts as those before it left them, and the last ones stand behind it; where
 -- the step isn't taken there are none
-step_chains : (controller : ℕ) (c : ControllerState) (w : Coming) (piece : List ℕ) (s : State) →
-    Chains accounts (at_controller controller c w s) c.table (answers_of controller c w piece s) (step_of c (event.Bytes w.link piece) s.moment s.chances.left).state.table
+step_chains : (controller : ℕ) (c : ControllerState) (w : Delivery) (piece : List ℕ) (s : State) →
+    Chains accounts (at_controller controller c w s) c.table (answers_of controller c w piece s) (trust_step_of c (event.Bytes w.link piece) s.moment s.chances.left).state.table
 step_chains controller c w piece s =
+    let at : Where = at_controller controller c w s in
+    let Holds : NotedFact = λ answers d left. Chains accounts at c.table answers d.table in
+    trust_step_says at w.link c piece s.moment s.chances.left (λ running. OfBase Holds) (λ answers stepped. Chains accounts at c.table answers stepped.state.table) (record {
+      stays = λ running. trusting_stays at w.link Holds (trusting_chains accounts accounts_follow at c.table w.link accounts_trusting);
+      first = λ running runs. (tt, refl);
+      stopped = λ ends. (tt, refl);
+      spent = (tt, refl);
+      turn = λ running actions last links t runs on all fewer. (tt, refl);
+      taken = λ running answers d rest last links dial t runs chains fewer. chains;
+    })
+
+-- so it is where nobody is asked
+chains_alone : (controller : ℕ) (c : ControllerState) (w : Delivery) (piece : List ℕ) (s : State) →
+    Chains accounts (at_controller controller c w s) c.table (alone_answers controller c w piece s) (step_of c (event.Bytes w.link piece) s.moment s.chances.left).state.table
+chains_alone controller c w piece s =
     let at : Where = at_controller controller c w s in
     step_says at w.link c piece s.moment s.chances.left (λ running answers d left. Chains accounts at c.table answers d.table)
     (λ answers stepped. Chains accounts at c.table answers stepped.state.table) (record {
@@ -125,8 +179,8 @@ pub record Stand (plan : Plan) (judgings : List Judging) (controllers : List Con
   pub judged : AreByEarlier plan judgings
   pub each : (at : ℕ) (c : ControllerState) → slice_get controllers at ≡ Some c → IsLeft plan at judgings c.table
 
-abbrev pub Stands : Plan → List Judging → ControllersFact
-Stands plan judgings controllers chances = Stand plan judgings controllers
+abbrev pub TablesStand : Plan → List Judging → ControllersFact
+TablesStand plan judgings controllers chances = Stand plan judgings controllers
 
 -- a controller with the same accounts is put in its place
 same_put : (plan : Plan) (judgings : List Judging) (controllers : List ControllerState) (at : ℕ) (c new : ControllerState) → slice_get controllers at ≡ Some c → new.table ≡ c.table →
@@ -137,16 +191,14 @@ same_put plan judgings controllers at c new there same stands = record {
       (subst (λ (t : AccountTable). IsLeft plan at judgings t) (sym same) (stands.each at c there));
 }
 
--- bytes come at a controller
-controller_comes : (c : ControllerState) (plan : Plan) (at : ℕ) (w : Coming) (piece : List ℕ) (s after : State) (b : Book) → slice_get s.ends.controllers at ≡ Some c →
-    Stand plan b.judged s.ends.controllers →
-    Stand plan (note_controller (Some c) at w piece s after b).judged (slice_set s.ends.controllers at (step_of c (event.Bytes w.link piece) s.moment s.chances.left).state)
-controller_comes c plan at w piece s after b is stands =
-    let new : ControllerState = (step_of c (event.Bytes w.link piece) s.moment s.chances.left).state in
-    let now : List Judging = (note_controller (Some c) at w piece s after b).judged in
-    let steps = step_chains at c w piece s in
-    let brings : Brings plan at b.judged now (left_behind accounts c.table (answers_of at c w piece s)) =
-    answers_bring plan (at_controller at c w s) (answers_of at c w piece s) (numbers_on w.link true s.bag after.bag) b.judged c.table steps.0 stands.judged (stands.each at c is) in
+-- bytes come at a controller, which answers so
+controller_comes : (c new : ControllerState) (plan : Plan) (at : ℕ) (w : Delivery) (answers : List Answered) (s after : State) (b : Book) → slice_get s.ends.controllers at ≡ Some c →
+    Chains accounts (at_controller at c w s) c.table answers new.table → Stand plan b.judged s.ends.controllers →
+    Stand plan (note_answers answers w s after b).judged (slice_set s.ends.controllers at new)
+controller_comes c new plan at w answers s after b is steps stands =
+    let now : List Judging = (note_answers answers w s after b).judged in
+    let brings : Brings plan at b.judged now (left_behind accounts c.table answers) =
+    answers_bring plan (at_controller at c w s) answers (numbers_on w.link true s.bag after.bag) b.judged c.table steps.0 stands.judged (stands.each at c is) in
     record {
       judged = brings.judged;
       each = each_put (λ (k : ℕ) (x : ControllerState). IsLeft plan k now x.table) s.ends.controllers at new
@@ -154,15 +206,32 @@ controller_comes c plan at w piece s after b is stands =
           (subst (λ (t : AccountTable). IsLeft plan at now t) (sym steps.1) brings.own);
     }
 
-pub stand_on : (plan : Plan) → KeepsControllers judgings_of (Stands plan)
+-- where nobody is asked
+pub stand_on : (plan : Plan) → KeepsControllers judgings_of (TablesStand plan)
 stand_on plan = record {
   of = judged_so;
   given = λ at given after b. refl;
   draws = λ judgings controllers chances later on stands. stands;
   hears = λ judgings c at what now controllers chances none is stands.
       same_put plan judgings controllers at c (step_of c what now chances.left).state is (does_nothing_else c what now chances.left none).table stands;
-  comes = λ c at w piece s after b is stands. controller_comes c plan at w piece s after b is stands;
+  comes = λ c at w piece s after b is stands.
+      controller_comes c (step_of c (event.Bytes w.link piece) s.moment s.chances.left).state plan at w (alone_answers at c w piece s) s after b is (chains_alone at c w piece s) stands;
   anew = λ judgings c at controllers chances is stands. same_put plan judgings controllers at c (first_state c.table c.name) is refl stands;
+}
+
+-- in every world
+stand_trusting : (plan : Plan) → KeepsTrusting judgings_of (TablesStand plan)
+stand_trusting plan = record {
+  of = judged_so;
+  given = λ at given after b. refl;
+  draws = λ judgings controllers chances later on stands. stands;
+  hears = λ judgings c at what now controllers chances none is stands.
+      same_put plan judgings controllers at c (trust_step_of c what now chances.left).state is (hears_no_call c what now chances.left none).table stands;
+  comes = λ c at w piece s after b is stands.
+      controller_comes c (trust_step_of c (event.Bytes w.link piece) s.moment s.chances.left).state plan at w (answers_of at c w piece s) s after b is (step_chains at c w piece s) stands;
+  anew = λ judgings c at hands_on controllers chances is stands.
+      same_put plan judgings controllers at c (fresh_controller hands_on c.table c.name) is
+      (fresh_by (λ (new : ControllerState). new.table ≡ c.table) c.table c.name refl refl hands_on) stands;
 }
 
 -- ---- at first
@@ -177,8 +246,8 @@ first_stands plan = record {
 }
 
 -- in every run accounts change by verdicts alone
-pub tables_follow : (plan : Plan) (moves : List Move) → HandsNothingOn plan → TablesFollowVerdicts (past plan moves)
-tables_follow plan moves nobody =
+pub tables_follow : (plan : Plan) (moves : List Move) → TablesFollowVerdicts (past plan moves)
+tables_follow plan moves =
     let stands : Stand plan (past plan moves).book.judged (past plan moves).world.state.ends.controllers =
-    run_stays judgings_of (AmongControllers judgings_of (Stands plan) (stand_on plan)) (controllers_written judgings_of (Stands plan) (stand_on plan)) plan moves nobody (first_stands plan) in
+    controllers_after judgings_of (TablesStand plan) (stand_trusting plan) plan moves (first_stands plan) in
     record { judged = stands.judged; stands = stands.each }

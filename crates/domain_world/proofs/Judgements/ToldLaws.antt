@@ -1,5 +1,5 @@
--- What controllers told in a run are the judgements of the Logon calls that they heard, in their order.
--- It serves `Proved.credentials`.
+-- What controllers told in a run of a plan that hands nothing on are the judgements of the calls that they heard, in
+-- their order. It serves `Proved.alone` and `Proved.credentials`.
 use Rattle.std.proofs.Common.{◌≡◌, ℕ, Bool, true, false, cond, List, [], ◌∷◌, ◌++◌, length, Option, Some, None, refl, sym, ap, ◌∙◌, subst}
 use Rattle.std.specs.List.{AllByRecursion}
 use Rattle.std.specs.Prelude.{flat_map}
@@ -26,11 +26,12 @@ use Rattle.world_moves.specs.Acting.{Given, given_by}
 use Rattle.world_moves.specs.Ends.{EndStep, actions_by, client_step, member_step}
 use Rattle.world_moves.specs.Links.{acceptor_of}
 use Rattle.world_moves.specs.Moving.{begun, with_link, changed}
-use Rattle.domain_world.specs.Claims.{AreRightlyTold, AreTheirJudgements, PassesTheNextCredential, judgements_of_calls}
-use Rattle.domain_world.specs.Past.{Coming, answers_of, at_controller, first_of, judged_of, judgement_by, judgements_in, later_of, note_at, note_client, note_controller, note_member, note_messages, numbers_on, onto, past, with_reply}
+use Rattle.domain_world.specs.Claims.{AreRightlyTold, AreTheirJudgements, judgements_of_calls}
+use Rattle.domain_world.specs.Past.{Delivery, at_controller, first_of, judged_of, judgement_by, judgements_in, later_of, note_client, note_member, note_messages, numbers_on, onto, past, with_reply}
 use Rattle.step_notes.proofs.Controllers.JudgedStepLaws.{Told, how_is, told_call}
+use Rattle.domain_world.proofs.Frames.AloneNoteLaws.{alone_answers as answers_of, note_alone as note_at, note_controller_alone as note_controller}
 use Rattle.domain_world.proofs.Frames.AloneStepLaws.{act_alone as hear_and_act, alone_by as end_by}
-use Rattle.domain_world.proofs.Judgements.JudgedLaws.{AreRight, judged_rightly}
+use Rattle.domain_world.proofs.Judgements.JudgedLaws.{AreRight}
 use Rattle.domain_world.proofs.Frames.TurnFrameLaws.{asked_leave}
 use Rattle.domain_world.proofs.Frames.EndFrameLaws.{EndFact, KeepsEnds, ends_after}
 use Rattle.step_notes.proofs.Controllers.NotedLaws.{NotedFact, StaysThrough, step_says}
@@ -66,33 +67,33 @@ telling_if (Some j) = telling j
 abbrev pub answered : List Answered → List JudgementTold
 answered answers = flat_map (λ (one : Answered). telling_if one.judging) answers
 
-judgements_append : (given later : Given) (at : ℕ) → judgements_in (given ++ later) at ≡ judgements_in given at ++ judgements_in later at
+pub judgements_append : (given later : Given) (at : ℕ) → judgements_in (given ++ later) at ≡ judgements_in given at ++ judgements_in later at
 judgements_append given later at = flat_map-append (λ (one : EndId × Action). judgement_by one.0 one.1 at) given later
 
 -- ---- actions of a controller
 
 -- what a controller tells by one
-abbrev told_of : Where → Action → List JudgementTold
+abbrev pub told_of : Where → Action → List JudgementTold
 told_of w what = judgement_by (Controller w.controller) what w.at
 
-told_by : (w : Where) (actions : List Action) → judgements_in (given_by (Controller w.controller) actions) w.at ≡ flat_map (told_of w) actions
+pub told_by : (w : Where) (actions : List Action) → judgements_in (given_by (Controller w.controller) actions) w.at ≡ flat_map (told_of w) actions
 told_by w [] = refl
 told_by w (what ∷ actions) = ap (λ (rest : List JudgementTold). told_of w what ++ rest) (told_by w actions)
 
 -- ---- the units of a stream
 
 -- what was told is what the calls were judged
-abbrev Follows : Where → NotedFact
+abbrev pub Follows : Where → NotedFact
 Follows w answers d left = flat_map (told_of w) d.work.actions ≡ answered answers
 
-further : (w : Where) (answers : List Answered) (one : Answered) (old new : List Action) → flat_map (told_of w) old ≡ answered answers →
+pub further : (w : Where) (answers : List Answered) (one : Answered) (old new : List Action) → flat_map (told_of w) old ≡ answered answers →
     flat_map (told_of w) new ≡ flat_map (told_of w) old ++ telling_if one.judging → flat_map (told_of w) new ≡ answered (answers ++ one ∷ [])
 further w answers one old new follows is =
     is
     ∙ ap (λ (told : List JudgementTold). told ++ telling_if one.judging) follows
     ∙ flat_map_more (λ (one : Answered). telling_if one.judging) [] answers one
 
-told_stays : (w : Where) (link : ℕ) → StaysThrough w link w.name w.moment (Follows w)
+pub told_stays : (w : Where) (link : ℕ) → StaysThrough w link w.name w.moment (Follows w)
 told_stays w link = record {
   closes = λ answers d left cause follows.
       flat_map-append (told_of w) d.work.actions (action.Close link cause ∷ []) ∙ append-nil (flat_map (told_of w) d.work.actions) ∙ follows;
@@ -123,7 +124,7 @@ told_stays w link = record {
 
 -- ---- a step of a controller, when bytes come
 
-step_told : (controller : ℕ) (c : ControllerState) (w : Coming) (piece : List ℕ) (s : State) →
+step_told : (controller : ℕ) (c : ControllerState) (w : Delivery) (piece : List ℕ) (s : State) →
     judgements_in (given_by (Controller controller) (actions_by (step_of c (event.Bytes w.link piece) s.moment s.chances.left).answer)) w.at
     ≡ answered (answers_of controller c w piece s)
 step_told controller c w piece s =
@@ -155,7 +156,7 @@ controller_quiet : (c : ControllerState) (what : Event) (controller at now : ℕ
 controller_quiet c what controller at now left none = beside_quiet controller (actions_by (step_of c what now left).answer) at (does_nothing_else c what now left none).acts
 
 -- only controllers tell judgements
-others_quiet : (end : EndId) → is_controller end ≡ false → (actions : List Action) (at : ℕ) → judgements_in (given_by end actions) at ≡ []
+pub others_quiet : (end : EndId) → is_controller end ≡ false → (actions : List Action) (at : ℕ) → judgements_in (given_by end actions) at ≡ []
 others_quiet (Controller controller) other actions at = absurd (let never : true ≡ false = other in cc)
 others_quiet (Member member) other [] at = refl
 others_quiet (Member member) other (what ∷ actions) at = others_quiet (Member member) other actions at
@@ -171,7 +172,7 @@ end_quiet end what s at none =
 
 -- ---- what is written down as bytes come
 
-onto_append : {T : Type 0} (items later older : List T) → onto (items ++ later) older ≡ onto later (onto items older)
+pub onto_append : {T : Type 0} (items later older : List T) → onto (items ++ later) older ≡ onto later (onto items older)
 onto_append [] later older = refl
 onto_append (item ∷ items) later older = onto_append items later (item ∷ older)
 
@@ -180,7 +181,7 @@ onto_one : (how : Option Judged) (at controller : ℕ) (judgings old : List Judg
 onto_one None at controller judgings old = refl
 onto_one (Some how) at controller judgings old = refl
 
-tellings_onto : (judgings older : List Judging) → tellings (onto judgings older) ≡ onto (tellings judgings) (tellings older)
+pub tellings_onto : (judgings older : List Judging) → tellings (onto judgings older) ≡ onto (tellings judgings) (tellings older)
 tellings_onto [] older = refl
 tellings_onto (j ∷ judgings) older = tellings_onto judgings (j ∷ older) ∙ onto_one j.how j.at j.controller (tellings judgings) (tellings older)
 
@@ -188,7 +189,7 @@ reply_told : (j : Option Judging) (number : Option ℕ) (later : List Judging) �
 reply_told None number later = refl
 reply_told (Some j) number later = refl
 
-judged_told : (answers : List Answered) (numbers : List ℕ) → tellings (judged_of answers numbers) ≡ answered answers
+pub judged_told : (answers : List Answered) (numbers : List ℕ) → tellings (judged_of answers numbers) ≡ answered answers
 judged_told [] numbers = refl
 judged_told (one ∷ answers) numbers =
     reply_told one.judging (first_of numbers) (judged_of answers (later_of one.sends numbers))
@@ -213,7 +214,7 @@ none_told : (at : ℕ) (given more : Given) (old new : Book) → AreTold at give
 none_told at given more old new told none judged same =
     more_told at given more old new told (ap tellings judged ∙ ap (λ all. onto all (tellings old.judged)) (sym none)) same
 
-controller_told : (c : ControllerState) (controller : ℕ) (w : Coming) (piece : List ℕ) (s after : State) (given : Given) (b : Book) → AreTold w.at given b →
+controller_told : (c : ControllerState) (controller : ℕ) (w : Delivery) (piece : List ℕ) (s after : State) (given : Given) (b : Book) → AreTold w.at given b →
     AreTold w.at (given ++ given_by (Controller controller) (actions_by (step_of c (event.Bytes w.link piece) s.moment s.chances.left).answer)) (note_controller (Some c) controller w piece s after b)
 controller_told c controller w piece s after given b told =
     let numbers : List ℕ = numbers_on w.link true s.bag after.bag in
@@ -223,7 +224,7 @@ controller_told c controller w piece s after given b told =
     ∙ sym (step_told controller c w piece s)))
     refl
 
-end_told : (end : EndId) (w : Coming) (piece : List ℕ) (s after : State) (given : Given) (b : Book) → AreTold w.at given b →
+end_told : (end : EndId) (w : Delivery) (piece : List ℕ) (s after : State) (given : Given) (b : Book) → AreTold w.at given b →
     AreTold w.at (given ++ given_by end (hear_alone end (event.Bytes w.link piece) s).actions) (note_at (Some end) w piece s after b)
 end_told end w piece s after given b told =
     let what : Event = event.Bytes w.link piece in
@@ -299,12 +300,6 @@ one_rightly (Some how) j more judgings is right rest =
     subst (λ (told : List JudgementTold). AreTheirJudgements told (j ∷ judgings)) (sym (call_first how one more refl (right_judges how j.checks (given_in j.asked) of)))
     (record { at = refl; controller = refl; how = sym is; right = right }, rest)
 
-all_rightly : (judgings : List Judging) → AreRight judgings → AreRightlyTold (tellings judgings) judgings
+pub all_rightly : (judgings : List Judging) → AreRight judgings → AreRightlyTold (tellings judgings) judgings
 all_rightly [] right = tt
 all_rightly (j ∷ judgings) right = one_rightly j.how j (tellings judgings) judgings refl right.0 (all_rightly judgings right.1)
-
--- in every run a controller passes an authenticator exactly where it is the next one
-pub passes_the_next : (plan : Plan) (moves : List Move) → HandsNothingOn plan → PassesTheNextCredential (past plan moves)
-passes_the_next plan moves nobody =
-    subst (λ told. AreRightlyTold told (past plan moves).book.judged) (judgements_told plan moves nobody)
-    (all_rightly (past plan moves).book.judged (judged_rightly plan moves))

@@ -5,6 +5,9 @@ use Rattle.std.specs.List.{AllByRecursion}
 use Rattle.authenticators.specs.Channels.{ChannelIdentity}
 use Rattle.controller_calls.specs.declared.calls.ControllerCall.TheVariants as call
 use Rattle.end_links.specs.Serving.{ServedUnit}
+use Rattle.outside.specs.declared.action.Judged.{Judged}
+use Rattle.outside.specs.declared.action.Judged.TheVariants as judged
+use Rattle.domain_controller.specs.Forwarding.{TrustDesk, base_desk}
 use Rattle.domain_controller.specs.Hearing.{hear}
 use Rattle.domain_controller.specs.Machine.{Desk}
 use Rattle.domain_controller.specs.State.{State as ControllerState}
@@ -13,23 +16,24 @@ use Rattle.domain_controller.specs.declared.hearing.Heard.TheVariants as heard
 use Rattle.controller_calls.specs.declared.line.Line.{Line}
 use Rattle.domain_controller.specs.declared.state.Talk.{Talk}
 use Rattle.member_server.specs.State.{State as MemberState}
-use Rattle.step_notes.specs.ControllerNotes.{Answered, Where, answer_on, call_answer, channel_in, has_passed, heard_answer, judging_by, judging_of, opened_by, opening, passing, units_of_controller}
+use Rattle.step_notes.specs.ControllerNotes.{Answered, Where, channel_in, has_passed, judging_by, judging_of, opened_by, opening, passing}
 use Rattle.step_notes.specs.Judged.{channel_if, passed_channel}
 use Rattle.step_notes.specs.Marking.{clashes, is_channel, sent_channel}
 use Rattle.step_notes.specs.MemberNotes.{turn_units}
 use Rattle.step_notes.specs.Records.{Book, Judging, Sent, Source, computer_named, unit_in, OfMember}
 use Rattle.controller_calls.specs.declared.calls.ControllerCall.{ControllerCall}
 use Rattle.step_notes.specs.Served.{work_after}
+use Rattle.step_notes.specs.TrustNotes.{base_after, trust_answer_on, trust_call_answer, trust_heard_answer, trust_judging_by, trust_units_of}
 use Rattle.world_moves.specs.declared.links.EndId.{EndId}
 use Rattle.world_moves.specs.declared.moves.Move.{Move}
 use Rattle.world_moves.specs.declared.plan.Plan.{Plan}
 use Rattle.world_moves.specs.declared.state.State.{State}
 use Rattle.domain_world.specs.Accepting.Answered.{PassesAreUnclashed}
-use Rattle.domain_world.specs.Past.{Coming, answers_of, any_clash, at_controller, first_of, judged_of, later_of, note_at, note_controller, note_member, note_messages, numbers_on, onto, past, with_reply}
+use Rattle.domain_world.specs.Past.{Delivery, answers_of, any_clash, at_controller, first_of, judged_of, later_of, note_at, note_controller, note_member, note_messages, numbers_on, onto, past, with_reply}
 use Rattle.wire_base.proofs.ListLaws.{all_weaker, got_append}
 use Rattle.domain_world.proofs.Frames.BookFrameLaws.{book_holds}
 use Rattle.domain_world.proofs.Judgements.JudgedLaws.{onto_hold}
-use Rattle.domain_world.proofs.Frames.EndNoteLaws.{book_by}
+use Rattle.domain_world.proofs.Frames.EveryStepLaws.{every_book as book_by}
 use Rattle.domain_world.proofs.Frames.TurnFrameLaws.{asked_book, asked_keep}
 
 -- ---- what is to hold
@@ -84,20 +88,28 @@ opening_noted : (channel : Option ChannelIdentity) (w : Where) (number : ℕ) �
 opening_noted None w number = tt
 opening_noted (Some channel) w number = tt
 
-call_noted : (c : ControllerCall) (line : Line) (w : Where) (before : Desk) (after : Option Desk) → IsNoted w.source (call_answer c line w before after)
+by_noted : (how : Option Judged) (j : Judging) → j.how ≡ how → IsNoted j.source (trust_judging_by how j)
+by_noted None j is = judging_noted false j (ap has_passed is)
+by_noted (Some (judged.Passed status)) j is = judging_noted true j (ap has_passed is)
+by_noted (Some judged.Forwarded) j is = (ap (λ (p : Bool). channel_if p j) (ap has_passed is), refl)
+by_noted (Some (judged.Answered status)) j is = judging_noted false j (ap has_passed is)
+by_noted (Some judged.Barred) j is = judging_noted false j (ap has_passed is)
+by_noted (Some judged.NoChannel) j is = judging_noted false j (ap has_passed is)
+
+call_noted : (c : ControllerCall) (line : Line) (w : Where) (before : Desk) (after : Option Desk) → IsNoted w.source (trust_call_answer c line w before after)
 call_noted (call.Challenge c) line w before after = tt
 call_noted (call.Authenticate c) line w before after = opening_noted (opened_by w.controller c before) w line.call
-call_noted (call.Judged c) line w before after = judging_noted (has_passed (judging_of w line c before after).how) (judging_of w line c before after) refl
+call_noted (call.Judged c) line w before after = by_noted (judging_of w line c before after).how (judging_of w line c before after) refl
 
-heard_noted : (what : Heard) (w : Where) (before : Desk) (after : Option Desk) → IsNoted w.source (heard_answer what w before after)
+heard_noted : (what : Heard) (w : Where) (before : Desk) (after : Option Desk) → IsNoted w.source (trust_heard_answer what w before after)
 heard_noted (heard.Close cause) w before after = tt
 heard_noted (heard.Answer bytes talk) w before after = tt
 heard_noted (heard.Waits talk) w before after = tt
 heard_noted (heard.Asked line c talk) w before after = call_noted c line w before after
 
-answers_noted : (link : ℕ) (w : Where) (units : List (ServedUnit Desk Talk)) → AllByRecursion (IsNoted w.source) (map (answer_on link w) units)
+answers_noted : (link : ℕ) (w : Where) (units : List (ServedUnit TrustDesk Talk)) → AllByRecursion (IsNoted w.source) (map (trust_answer_on link w) units)
 answers_noted link w [] = tt
-answers_noted link w (unit ∷ units) = (heard_noted (hear link unit.bytes unit.talk) w unit.work (work_after unit.part), answers_noted link w units)
+answers_noted link w (unit ∷ units) = (heard_noted (hear link unit.bytes unit.talk) w (base_desk unit.work) (base_after (work_after unit.part)), answers_noted link w units)
 
 -- which unit carries the reply changes nothing of that
 reply_same : (passed : Bool) (j : Judging) (number : Option ℕ) → channel_if passed (record j { reply = number }) ≡ channel_if passed j
@@ -122,22 +134,22 @@ judged_fit (one ∷ answers) source numbers sent noted none =
 
 -- ---- bytes that an end hears
 
-controller_unclashed : (c : ControllerState) (at : ℕ) (w : Coming) (piece : List ℕ) (s after : State) (b : Book) → AreUnclashed b → AreUnclashed (note_controller (Some c) at w piece s after b)
+controller_unclashed : (c : ControllerState) (at : ℕ) (w : Delivery) (piece : List ℕ) (s after : State) (b : Book) → AreUnclashed b → AreUnclashed (note_controller (Some c) at w piece s after b)
 controller_unclashed c at w piece s after b all = λ apart.
     let answers : List Answered = answers_of at c w piece s in
     let both = or_false b.clash (any_clash answers (unit_in w.source) b.sent) apart in
     let numbers : List ℕ = numbers_on w.link true s.bag after.bag in
     all_weaker (Fits b.sent) (Fits _) (onto (judged_of answers numbers) b.judged) (λ j fits. clashes_more (passed_channel j) (unit_in j.source) b.sent _ fits)
     (onto_hold (Fits b.sent) (judged_of answers numbers) b.judged
-    (judged_fit answers w.source numbers b.sent (answers_noted w.link (at_controller at c w s) (units_of_controller c w.link piece s.moment s.chances.left)) both.1) (all both.0))
+    (judged_fit answers w.source numbers b.sent (answers_noted w.link (at_controller at c w s) (trust_units_of c w.link piece s.moment s.chances.left)) both.1) (all both.0))
 
-member_unclashed : (m : MemberState) (at : ℕ) (w : Coming) (piece : List ℕ) (s after : State) (b : Book) → AreUnclashed b → AreUnclashed (note_member (Some m) at w piece s after b)
+member_unclashed : (m : MemberState) (at : ℕ) (w : Delivery) (piece : List ℕ) (s after : State) (b : Book) → AreUnclashed b → AreUnclashed (note_member (Some m) at w piece s after b)
 member_unclashed m at w piece s after b all =
     sent_more (asked_book (OfMember at) w (turn_units m w.link piece s.moment s.chances.left) s after (note_messages at m w piece s b)) _
     (asked_keep (OfMember at) w (turn_units m w.link piece s.moment s.chances.left) s after (note_messages at m w piece s b) AreUnclashed
     (λ note served number later so apart. so (or_false later.clash (clashes note.checked (unit_in w.source) later.sent) apart).0) all)
 
-end_unclashed : (end : EndId) (w : Coming) (piece : List ℕ) (s after : State) (b : Book) → AreUnclashed b → AreUnclashed (note_at (Some end) w piece s after b)
+end_unclashed : (end : EndId) (w : Delivery) (piece : List ℕ) (s after : State) (b : Book) → AreUnclashed b → AreUnclashed (note_at (Some end) w piece s after b)
 end_unclashed end w piece s after b all =
     book_by (λ (one : EndId) (now : Book). AreUnclashed now) w piece s after b (λ one. all) (λ at c is. controller_unclashed c at w piece s after b all)
     (λ at m is. member_unclashed m at w piece s after b all) (λ at c is. all) end

@@ -23,12 +23,12 @@ use Rattle.world_moves.specs.declared.moves.Move.{Move}
 use Rattle.world_moves.specs.declared.plan.Plan.{Plan}
 use Rattle.world_moves.specs.declared.state.State.{State}
 use Rattle.domain_world.specs.Accepting.Answered.{MessagesAreApart}
-use Rattle.domain_world.specs.Past.{Coming, at_member, change_if, change_message, note_at, note_member, note_messages, note_turn, past, with_answer, with_call}
+use Rattle.domain_world.specs.Past.{Delivery, at_member, change_if, change_message, note_at, note_member, note_messages, note_turn, past, with_answer, with_call}
 use Rattle.wire_base.proofs.ListLaws.{pairs_first}
 use Rattle.domain_world.proofs.Messages.MessageOnceLaws.{messages_once}
 use Rattle.domain_world.proofs.Frames.BookFrameLaws.{book_holds}
 use Rattle.domain_world.proofs.Frames.TurnFrameLaws.{turns_taken, asked_book, asked_leave}
-use Rattle.domain_world.proofs.Frames.EndNoteLaws.{book_by}
+use Rattle.domain_world.proofs.Frames.EveryStepLaws.{every_book as book_by}
 
 -- ---- a list among another, in order
 
@@ -158,16 +158,16 @@ turn_links note served unit number b =
     change_same (link_of_place note.answered served.work.work.logons) (with_answer unit) (λ one. refl) first
     ∙ change_same (link_of_place note.called served.work.work.logons) (with_call number) (λ one. refl) b.messages
 
-pub turns_links : (who : RequesterId) (w : Coming) (units : List (ServedUnit AtTurn TurnTalk)) (s after : State) (b : Book) →
+pub turns_links : (who : RequesterId) (w : Delivery) (units : List (ServedUnit AtTurn TurnTalk)) (s after : State) (b : Book) →
     links_in (asked_book who w units s after b).messages ≡ links_in b.messages
 turns_links who w units s after b = asked_leave who w units s after b (λ (later : Book). links_in later.messages) turn_links
 
-turns_among : (who : RequesterId) (w : Coming) (units : List (ServedUnit AtTurn TurnTalk)) (s after : State) (b : Book) → AreAmong b → AreAmong (asked_book who w units s after b)
+turns_among : (who : RequesterId) (w : Delivery) (units : List (ServedUnit AtTurn TurnTalk)) (s after : State) (b : Book) → AreAmong b → AreAmong (asked_book who w units s after b)
 turns_among who w units s after b among =
     subst (λ (taken : List ℕ). Among (links_in (asked_book who w units s after b).messages) taken) (sym (turns_taken who w units s after b))
     (subst (λ (links : List ℕ). Among links b.taken) (sym (turns_links who w units s after b)) among)
 
-member_among : (m : MemberState) (at : ℕ) (w : Coming) (piece : List ℕ) (s after : State) (b : Book) → AreAmong b → AreAmong (note_member (Some m) at w piece s after b)
+member_among : (m : MemberState) (at : ℕ) (w : Delivery) (piece : List ℕ) (s after : State) (b : Book) → AreAmong b → AreAmong (note_member (Some m) at w piece s after b)
 member_among m at w piece s after b among =
     let units = link_units m w.link piece s.moment s.chances.left in
     turns_among (OfMember at) w (turn_units m w.link piece s.moment s.chances.left) s after (note_messages at m w piece s b)
@@ -175,7 +175,7 @@ member_among m at w piece s after b among =
     (among_append (links_in b.messages) b.taken (links_in (flat_map (message_note (at_member at w s)) units)) (flat_map (taken_link (at_member at w s)) units) among
     (units_among (at_member at w s) units)))
 
-end_among : (end : EndId) (w : Coming) (piece : List ℕ) (s after : State) (b : Book) → AreAmong b → AreAmong (note_at (Some end) w piece s after b)
+end_among : (end : EndId) (w : Delivery) (piece : List ℕ) (s after : State) (b : Book) → AreAmong b → AreAmong (note_at (Some end) w piece s after b)
 end_among end w piece s after b among =
     book_by (λ (one : EndId) (now : Book). AreAmong now) w piece s after b (λ one. among) (λ at c is. among) (λ at m is. member_among m at w piece s after b among) (λ at c is. among) end
 

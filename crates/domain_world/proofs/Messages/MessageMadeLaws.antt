@@ -29,7 +29,7 @@ use Rattle.world_moves.specs.World.{first_world}
 use Rattle.world_moves.proofs.ChangeLaws.{by_change}
 use Rattle.world_moves.proofs.EndKindLaws.{renew_by, step_by}
 use Rattle.domain_world.specs.Accepting.KeysMade.{IsMadeFrom, MessagesAreMade}
-use Rattle.domain_world.specs.Past.{Coming, note_at, note_client, past}
+use Rattle.domain_world.specs.Past.{Delivery, note_at, note_client, past}
 use Rattle.domain_world.proofs.Messages.ClientOfferLaws.{AreMadeFrom, HasNames}
 use Rattle.domain_world.proofs.Messages.ClientPlanLaws.{TaskIn, client_made, task_stays}
 use Rattle.domain_world.proofs.Messages.MessageOnceLaws.{each_put}
@@ -96,7 +96,7 @@ renewed_answers end made s kept =
 
 -- ---- bytes come
 
-client_heard : (c : ClientState) (at : ℕ) (w : Coming) (piece : List ℕ) (s : State) (b : Book) → slice_get s.ends.clients at ≡ Some c → Answers b.made s.client_plans s.ends s.chances →
+client_heard : (c : ClientState) (at : ℕ) (w : Delivery) (piece : List ℕ) (s : State) (b : Book) → slice_get s.ends.clients at ≡ Some c → Answers b.made s.client_plans s.ends s.chances →
     AnswersAfter (note_client (Some c) at w piece s b).made s.client_plans (client_step (Some c) at (event.Bytes w.link piece) s.moment s.ends s.chances)
 client_heard c at w piece s b is kept eights =
     let went = client_answers c b.made at (event.Bytes w.link piece) s.moment s.client_plans s.ends s.chances is kept eights in
@@ -109,7 +109,7 @@ client_heard c at w piece s b is kept eights =
           (client_made c l w.link piece s.moment s.chances.left (kept.each at c is) kept.eights);
     }
 
-end_heard : (end : EndId) (w : Coming) (piece : List ℕ) (s after : State) (b : Book) → Answers b.made s.client_plans s.ends s.chances →
+end_heard : (end : EndId) (w : Delivery) (piece : List ℕ) (s after : State) (b : Book) → Answers b.made s.client_plans s.ends s.chances →
     let step : EndStep = end_step end (event.Bytes w.link piece) s.moment s.ends s.chances in
     Answers (note_at (Some end) w piece s after b).made s.client_plans step.ends step.chances
 end_heard end w piece s after b kept =

@@ -21,7 +21,7 @@ use Rattle.world_moves.specs.declared.plan.Plan.{Plan}
 use Rattle.world_moves.specs.declared.state.State.{State}
 use Rattle.world_moves.specs.Links.{acceptor_of}
 use Rattle.world_moves.specs.World.{first_world}
-use Rattle.domain_world.specs.Past.{Coming, at_member, note_member, note_messages, past}
+use Rattle.domain_world.specs.Past.{Delivery, at_member, note_member, note_messages, past}
 use Rattle.wire_base.proofs.ListLaws.{got_append, got_behind}
 use Rattle.step_notes.proofs.Members.UnservedLaws.{LinksIn, Opens, Took, bytes_took, in_so, step_known}
 use Rattle.domain_world.proofs.Frames.FrameLaws.{IsQuiet}
@@ -70,8 +70,8 @@ pub record IsTakenOnce (taken : List ℕ) (members : List MemberState) (links : 
   pub each : (k : ℕ) (m : MemberState) → slice_get members k ≡ Some m → LinksIn (λ link p. MayTake taken links k link) m.running
 
 -- so it is by the parts of a world
-abbrev pub Keeps : List ℕ → MembersFact
-Keeps taken members chances links = IsTakenOnce taken members links
+abbrev pub MessagesAreKept : List ℕ → MembersFact
+MessagesAreKept taken members chances links = IsTakenOnce taken members links
 
 may_more : (taken : List ℕ) (links : List Route) (member link one : ℕ) → MayTake taken links member link → one ≢ link → MayTake (taken ++ one ∷ []) links member link
 may_more taken links member link one may differs =
@@ -156,7 +156,7 @@ hear_keeps taken m at what now members left links is opens kept =
 -- ---- bytes come
 
 -- what it took is written down
-member_bytes : (m : MemberState) (at : ℕ) (w : Coming) (piece : List ℕ) (s after : State) (b : Book) → slice_get s.ends.members at ≡ Some m → IsTakenOnce b.taken s.ends.members s.links →
+member_bytes : (m : MemberState) (at : ℕ) (w : Delivery) (piece : List ℕ) (s after : State) (b : Book) → slice_get s.ends.members at ≡ Some m → IsTakenOnce b.taken s.ends.members s.links →
     IsTakenOnce (note_member (Some m) at w piece s after b).taken (slice_set s.ends.members at (step_of m (event.Bytes w.link piece) s.moment s.chances.left).state) s.links
 member_bytes m at w piece s after b is kept =
     let new : MemberState = (step_of m (event.Bytes w.link piece) s.moment s.chances.left).state in
@@ -168,7 +168,7 @@ member_bytes m at w piece s after b is kept =
 
 -- ---- a run
 
-keeps_on : KeepsMembers takings_of Keeps
+keeps_on : KeepsMembers takings_of MessagesAreKept
 keeps_on = record {
   of = taken_so;
   given = λ at given after b. refl;
@@ -199,4 +199,4 @@ first_kept plan = record {
 
 -- in every run a link takes at most one AUTHENTICATE
 pub messages_once : (plan : Plan) (moves : List Move) → AllPairs (λ (one other : ℕ). one ≢ other) (past plan moves).book.taken
-messages_once plan moves = (members_after takings_of Keeps keeps_on plan moves (first_kept plan)).once
+messages_once plan moves = (members_after takings_of MessagesAreKept keeps_on plan moves (first_kept plan)).once

@@ -32,7 +32,7 @@ use Rattle.world_moves.specs.declared.state.State.{State}
 use Rattle.world_moves.specs.Links.{acceptor_of}
 use Rattle.world_moves.specs.World.{first_world}
 use Rattle.domain_world.specs.Accepting.KeysMade.{IsTakenAsSent, MessagesAreTakenAsSent}
-use Rattle.domain_world.specs.Past.{Coming, Past, at_member, change_if, change_message, note_member, note_messages, note_turn, past, with_answer, with_call}
+use Rattle.domain_world.specs.Past.{Delivery, Past, at_member, change_if, change_message, note_member, note_messages, note_turn, past, with_answer, with_call}
 use Rattle.wire_base.proofs.ListLaws.{all_weaker, got_behind, one_before, one_behind}
 use Rattle.domain_world.proofs.Messages.ChallengeLinkLaws.{BytesCome, KnownAfter, KnownAt, ReadOf, bytes_come, so_far}
 use Rattle.domain_world.proofs.Messages.ChallengeReadLaws.{AreTakenWith, IsTakenWith}
@@ -257,7 +257,7 @@ turn_for note served unit number b members links left kept =
       eights = kept.eights;
     }
 
-member_heard : (m : MemberState) (at : ℕ) (w : Coming) (piece : List ℕ) (s after : State) (b : Book) → slice_get s.ends.members at ≡ Some m →
+member_heard : (m : MemberState) (at : ℕ) (w : Delivery) (piece : List ℕ) (s after : State) (b : Book) → slice_get s.ends.members at ≡ Some m →
     AreAsSent (written_of b) s.ends.members s.links s.chances.left →
     AreAsSent (written_of (note_member (Some m) at w piece s after b)) (slice_set s.ends.members at (step_of m (event.Bytes w.link piece) s.moment s.chances.left).state) s.links
     (step_of m (event.Bytes w.link piece) s.moment s.chances.left).left
@@ -279,7 +279,7 @@ member_heard m at w piece s after b is kept =
 
 sends_on : KeepsMembers written_of Sends
 sends_on = record {
-  of = record { controllers = λ c at w piece s after b. refl; clients = λ c at w piece s b. refl };
+  of = record { controllers = λ answers w s after b. refl; clients = λ c at w piece s b. refl };
   given = λ at given after b. refl;
   draws = λ written members chances later links on kept. less_left written members links chances.left later.left kept (eights_after chances later on kept.eights);
   hears = λ written m at what now members chances links quiet is kept.

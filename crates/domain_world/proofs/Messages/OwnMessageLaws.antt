@@ -18,7 +18,7 @@ use Rattle.step_notes.specs.CallLogons.{AsksUnlessStopped}
 use Rattle.step_notes.specs.MemberNotes.{LinkAt, link_of_place, link_units, message_note, taken_link, turn_units}
 use Rattle.step_notes.specs.Records.{Book, MessageTaken, unit_in, OfMember}
 use Rattle.world_moves.specs.declared.state.State.{State}
-use Rattle.domain_world.specs.Past.{Coming, at_member, change_message, note_member, note_messages, with_answer, with_call}
+use Rattle.domain_world.specs.Past.{Delivery, at_member, change_message, note_member, note_messages, with_answer, with_call}
 use Rattle.step_notes.proofs.Members.CallKeptLaws.{change_asks, fresh_asks, step_asks}
 use Rattle.step_notes.proofs.Members.KeptLogonLaws.{Dials, IsFor, KeptIn, bytes_keep, kept_so, one_before, step_keeps}
 use Rattle.step_notes.proofs.Members.UnservedLaws.{LinksIn, Opens, bytes_took, step_known, took_known}
@@ -45,11 +45,11 @@ HasMessage messages place logon = OneOf (IsOfLogon place logon) messages
 -- ---- what stays of a message as units of the turn are written down
 
 -- of the messages before bytes come at a member, after they are written down
-abbrev pub member_messages : ℕ → MemberState → Coming → List ℕ → State → State → Book → List MessageTaken
+abbrev pub member_messages : ℕ → MemberState → Delivery → List ℕ → State → State → Book → List MessageTaken
 member_messages at m w piece s after b = (note_member (Some m) at w piece s after b).messages
 
 module _ (Fits : MessageTaken → Type 0) (call : (number : Option ℕ) (message : MessageTaken) → Fits message → Fits (with_call number message))
-    (answer : (number : Option ℕ) (message : MessageTaken) → Fits message → Fits (with_answer number message)) (at : ℕ) (m : MemberState) (w : Coming) (piece : List ℕ) (s after : State) (b : Book) where
+    (answer : (number : Option ℕ) (message : MessageTaken) → Fits message → Fits (with_answer number message)) (at : ℕ) (m : MemberState) (w : Delivery) (piece : List ℕ) (s after : State) (b : Book) where
   pub noted_stays : OneOf Fits (note_messages at m w piece s b).messages → OneOf Fits (member_messages at m w piece s after b)
   noted_stays one =
       asked_keep (OfMember at) w (turn_units m w.link piece s.moment s.chances.left) s after (note_messages at m w piece s b) (λ (later : Book). OneOf Fits later.messages)
@@ -67,11 +67,11 @@ of_call place logon number message is = record { same_place = is.same_place; sam
 of_answer : (place : ℕ) (logon : Logon) (number : Option ℕ) (message : MessageTaken) → IsOfLogon place logon message → IsOfLogon place logon (with_answer number message)
 of_answer place logon number message is = record { same_place = is.same_place; same_logon = is.same_logon; on = is.on }
 
-pub has_noted : (at : ℕ) (m : MemberState) (w : Coming) (piece : List ℕ) (s after : State) (b : Book) (place : ℕ) (logon : Logon) →
+pub has_noted : (at : ℕ) (m : MemberState) (w : Delivery) (piece : List ℕ) (s after : State) (b : Book) (place : ℕ) (logon : Logon) →
     HasMessage (note_messages at m w piece s b).messages place logon → HasMessage (member_messages at m w piece s after b) place logon
 has_noted at m w piece s after b place logon one = noted_stays (IsOfLogon place logon) (of_call place logon) (of_answer place logon) at m w piece s after b one
 
-pub has_still : (at : ℕ) (m : MemberState) (w : Coming) (piece : List ℕ) (s after : State) (b : Book) (place : ℕ) (logon : Logon) →
+pub has_still : (at : ℕ) (m : MemberState) (w : Delivery) (piece : List ℕ) (s after : State) (b : Book) (place : ℕ) (logon : Logon) →
     HasMessage b.messages place logon → HasMessage (member_messages at m w piece s after b) place logon
 has_still at m w piece s after b place logon one = member_stays (IsOfLogon place logon) (of_call place logon) (of_answer place logon) at m w piece s after b one
 
@@ -187,7 +187,7 @@ all_more : (messages more : List MessageTaken) → ((place : ℕ) (logon : Logon
 all_more messages more so [] all = tt
 all_more messages more so (m ∷ members) all = (more_kept messages more so m.running all.0, all_more messages more so members all.1)
 
-member_bytes : (m : MemberState) (at : ℕ) (w : Coming) (piece : List ℕ) (s after : State) (b : Book) → slice_get s.ends.members at ≡ Some m → AllOf b.messages s.ends.members →
+member_bytes : (m : MemberState) (at : ℕ) (w : Delivery) (piece : List ℕ) (s after : State) (b : Book) → slice_get s.ends.members at ≡ Some m → AllOf b.messages s.ends.members →
     AllOf (note_member (Some m) at w piece s after b).messages (slice_set s.ends.members at (step_of m (event.Bytes w.link piece) s.moment s.chances.left).state)
 member_bytes m at w piece s after b is all =
     let now : List MessageTaken = member_messages at m w piece s after b in

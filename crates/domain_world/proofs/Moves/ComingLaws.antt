@@ -19,7 +19,7 @@ use Rattle.world_moves.specs.Choosing.{places_from}
 use Rattle.world_moves.specs.Links.{OpenMap, dialler_of, handed_links, is_handed, is_of, kind_of, links_of, same_kind}
 use Rattle.world_moves.specs.Moving.{act, between_if, route_to}
 use Rattle.world_moves.specs.World.{World, happens, run}
-use Rattle.domain_world.specs.Past.{Coming}
+use Rattle.domain_world.specs.Past.{Delivery}
 use Rattle.step_notes.specs.Records.{InUnit, Outside, Source}
 use Rattle.wire_base.proofs.ListLaws.{got_append, got_nothing}
 use Rattle.world_moves.proofs.LinkFrameLaws.{IsOnLink, LinkFact, StaysAlways, StaysOnLinks, move_stays}
@@ -28,7 +28,7 @@ use Rattle.domain_world.proofs.Moves.MarkPlaceLaws.{SettledOr, got_beside, got_s
 -- ---- where bytes come from
 
 -- a piece of that unit of the bag, on a link of its kind
-pub record IsPieceOf (s : State) (number : ℕ) (w : Coming) (piece : List ℕ) : Type 0 where
+pub record IsPieceOf (s : State) (number : ℕ) (w : Delivery) (piece : List ℕ) : Type 0 where
   pub unit : BagUnit
   pub there : slice_get s.bag number ≡ Some unit
   pub back : unit.back ≡ w.back
@@ -40,18 +40,18 @@ pub record IsPieceOf (s : State) (number : ℕ) (w : Coming) (piece : List ℕ) 
 abbrev pub IsFromOutside : List Route → ℕ → Type 0
 IsFromOutside links link = (member controller : ℕ) → slice_get links link ≡ Some (ToController member controller) → ⊥
 
-abbrev pub CameFrom : Source → State → Coming → List ℕ → Type 0
+abbrev pub CameFrom : Source → State → Delivery → List ℕ → Type 0
 CameFrom Outside s w piece = IsFromOutside s.links w.link
 CameFrom (InUnit number) s w piece = IsPieceOf s number w piece
 
 -- they are a piece of a unit of the bag
-pub record CameInUnit (source : Source) (s : State) (w : Coming) (piece : List ℕ) : Type 0 where
+pub record CameInUnit (source : Source) (s : State) (w : Delivery) (piece : List ℕ) : Type 0 where
   pub number : ℕ
   pub is : source ≡ InUnit number
   pub piece_of : IsPieceOf s number w piece
 
 -- so is whatever comes on a link of a member and a controller
-pub came_in_unit : (source : Source) (s : State) (w : Coming) (piece : List ℕ) (member controller : ℕ) → CameFrom source s w piece →
+pub came_in_unit : (source : Source) (s : State) (w : Delivery) (piece : List ℕ) (member controller : ℕ) → CameFrom source s w piece →
     slice_get s.links w.link ≡ Some (ToController member controller) → CameInUnit source s w piece
 came_in_unit (InUnit number) s w piece member controller came made = record { number = number; is = refl; piece_of = came }
 came_in_unit Outside s w piece member controller came made = absurd (came member controller made)

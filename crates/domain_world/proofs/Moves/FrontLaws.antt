@@ -33,7 +33,7 @@ use Rattle.world_moves.specs.declared.links.EndId.TheVariants.{Controller}
 use Rattle.world_moves.specs.declared.links.Route.{Route}
 use Rattle.world_moves.specs.declared.links.Route.TheVariants.{ToMember, ToController, Between, Stranger}
 use Rattle.world_moves.specs.declared.state.State.{State}
-use Rattle.world_moves.specs.Acting.{Heard as Done, done, heard_by}
+use Rattle.world_moves.specs.Acting.{AfterHearing, done, heard_by}
 use Rattle.world_moves.specs.Ends.{actions_by}
 use Rattle.world_moves.specs.Links.{acceptor_of, is_accepted_by, same_end}
 use Rattle.world_moves.specs.Alone.{alone_controller_step as controller_step}
@@ -192,13 +192,13 @@ controller_way true (Stranger to) at apart is = absurd cc
 -- of the units that go into the bag where bytes come at a controller, each is made for no channel, or is one that it
 -- sends on their link for its mark
 pub controller_unit : (c : ControllerState) (at link : ℕ) (back : Bool) (piece : List ℕ) (s : State) (w : Where) → IsAtSide s.links link back (Controller at) →
-    let heard : Done = heard_by (controller_step (Some c) at (event.Bytes link piece) s.moment s.ends s.chances) s in
+    let heard : AfterHearing = heard_by (controller_step (Some c) at (event.Bytes link piece) s.moment s.ends s.chances) s in
     let after : State = (done (Controller at) heard).state in
     let marks : List Mark = answered_marks (map (answer_on link w) (units_of_controller c link piece s.moment s.chances.left)) in
     (units : List BagUnit) → after.bag ≡ s.bag ++ units → AllByRecursion (IsOnLink s.links) units → (place : ℕ) (unit : BagUnit) (mark : Mark) →
     slice_get units place ≡ Some unit → slice_get (marks_of link true units marks) place ≡ Some mark →
     (mark ≡ Plain) ⊎ IsNewUnit link true (actions_by (step_of c (event.Bytes link piece) s.moment s.chances.left).answer) marks (numbers_on link true s.bag after.bag) (length s.bag + place) unit mark
 controller_unit c at link back piece s w side units is on place unit mark there marked =
-    let heard : Done = heard_by (controller_step (Some c) at (event.Bytes link piece) s.moment s.ends s.chances) s in
+    let heard : AfterHearing = heard_by (controller_step (Some c) at (event.Bytes link piece) s.moment s.ends s.chances) s in
     new_or_plain side.route (Controller at) link true heard.actions (answered_marks (map (answer_on link w) (units_of_controller c link piece s.moment s.chances.left))) heard.state units place unit mark
     side.made (controller_way back side.route at side.apart side.side) (controller_front c link piece s.moment s.chances.left w) is on there marked

@@ -10,6 +10,7 @@ use Rattle.domain_controller.specs.State.{State as ControllerState}
 use Rattle.logon_client.specs.State.{State as ClientState}
 use Rattle.member_server.specs.State.{State as MemberState}
 use Rattle.channel_events.specs.Marks.{Mark, Plain}
+use Rattle.step_notes.specs.Marking.{answered_marks}
 use Rattle.step_notes.specs.MemberNotes.{turn_units}
 use Rattle.step_notes.specs.Records.{Book, OfMember, Sent, blank}
 use Rattle.world_moves.specs.declared.bag.BagUnit.{BagUnit}
@@ -21,9 +22,9 @@ use Rattle.world_moves.specs.declared.state.State.{State}
 use Rattle.world_moves.specs.Acting.{hear_and_act, perform_quietly, units_of_action}
 use Rattle.world_moves.specs.World.{World, first_world, happens, run}
 use Rattle.domain_world.specs.Claims.MarkedUnits.{EachUnitIsMarked}
-use Rattle.domain_world.specs.Past.{Coming, book, marks_of, note, note_at, note_client, note_coming, note_controller, note_member, note_messages, past, sent_at}
+use Rattle.domain_world.specs.Past.{Delivery, answers_of, book, marks_of, note, note_at, note_client, note_coming, note_controller, note_member, note_messages, past, sent_at}
 use Rattle.world_moves.proofs.LinkFrameLaws.{heard_stays}
-use Rattle.domain_world.proofs.Frames.BagFrameLaws.{bag_at, controller_marks, member_marks}
+use Rattle.domain_world.proofs.Frames.BagFrameLaws.{bag_at, member_marks}
 use Rattle.domain_world.proofs.Moves.MarkPlaceLaws.{marks_length, settled_length}
 use Rattle.domain_world.proofs.Frames.MoveFrameLaws.{HoldsAfterMoves, moves_keep}
 use Rattle.domain_world.proofs.Frames.MoveKeepLaws.{KeepsMovesBy, MoveFact, NoSide, every}
@@ -47,12 +48,12 @@ more_marks sent before after link back marks at more few =
       length-drop (length before) after,
     )
 
-controller_few : (found : Option ControllerState) (at : ℕ) (w : Coming) (piece : List ℕ) (s after : State) (b : Book) → length s.bag ≤ length after.bag → length b.sent ≤ length s.bag →
+controller_few : (found : Option ControllerState) (at : ℕ) (w : Delivery) (piece : List ℕ) (s after : State) (b : Book) → length s.bag ≤ length after.bag → length b.sent ≤ length s.bag →
     length (note_controller found at w piece s after b).sent ≤ length after.bag
 controller_few None at w piece s after b more few = omega (arith, more, few)
-controller_few (Some c) at w piece s after b more few = more_marks b.sent s.bag after.bag w.link true (controller_marks at c w piece s) w.at more few
+controller_few (Some c) at w piece s after b more few = more_marks b.sent s.bag after.bag w.link true (answered_marks (answers_of at c w piece s)) w.at more few
 
-member_few : (found : Option MemberState) (at : ℕ) (w : Coming) (piece : List ℕ) (s after : State) (b : Book) → length s.bag ≤ length after.bag → length b.sent ≤ length s.bag →
+member_few : (found : Option MemberState) (at : ℕ) (w : Delivery) (piece : List ℕ) (s after : State) (b : Book) → length s.bag ≤ length after.bag → length b.sent ≤ length s.bag →
     length (note_member found at w piece s after b).sent ≤ length after.bag
 member_few None at w piece s after b more few = omega (arith, more, few)
 member_few (Some m) at w piece s after b more few =
@@ -60,12 +61,12 @@ member_few (Some m) at w piece s after b more few =
     let same : old ≡ b.sent = turns_sent (OfMember at) w (turn_units m w.link piece s.moment s.chances.left) s after (note_messages at m w piece s b) in
     more_marks old s.bag after.bag w.link false (member_marks at m w piece s) w.at more (omega (arith, few, ap length same))
 
-client_few : (found : Option ClientState) (at : ℕ) (w : Coming) (piece : List ℕ) (s after : State) (b : Book) → length s.bag ≤ length after.bag → length b.sent ≤ length s.bag →
+client_few : (found : Option ClientState) (at : ℕ) (w : Delivery) (piece : List ℕ) (s after : State) (b : Book) → length s.bag ≤ length after.bag → length b.sent ≤ length s.bag →
     length (note_client found at w piece s b).sent ≤ length after.bag
 client_few None at w piece s after b more few = omega (arith, more, few)
 client_few (Some c) at w piece s after b more few = omega (arith, more, few)
 
-bytes_few : (end : EndId) (w : Coming) (piece : List ℕ) (s after : State) (b : Book) → length s.bag ≤ length after.bag → length b.sent ≤ length s.bag →
+bytes_few : (end : EndId) (w : Delivery) (piece : List ℕ) (s after : State) (b : Book) → length s.bag ≤ length after.bag → length b.sent ≤ length s.bag →
     length (note_at (Some end) w piece s after b).sent ≤ length after.bag
 bytes_few (Controller at) w piece s after b more few = controller_few (slice_get s.ends.controllers at) at w piece s after b more few
 bytes_few (Member at) w piece s after b more few = member_few (slice_get s.ends.members at) at w piece s after b more few

@@ -22,7 +22,7 @@ use Rattle.world_moves.specs.Ends.{EndStates, with_member}
 use Rattle.world_moves.specs.Links.{same_end}
 use Rattle.world_moves.specs.MemberPlans.{AreAlikeButSecrets}
 use Rattle.world_moves.specs.World.{first_world}
-use Rattle.domain_world.specs.Claims.SharedSequences.{Stands}
+use Rattle.domain_world.specs.Claims.SharedSequences.{ChannelStands}
 use Rattle.domain_world.specs.Past.{controller_asked, controller_of_plan, requester_at, requester_in, running_in}
 use Rattle.domain_world.proofs.Accepting.Turns.TurnFactLaws.{SameEnds}
 use Rattle.domain_world.proofs.Messages.MessageOnceLaws.{set_cases}
@@ -106,7 +106,7 @@ pub asker_runs : (who : RequesterId) (s : State) (requester : Requester) → req
 asker_runs who s requester at = runs_with (asker_in who s.ends) requester (sym (asker_is who s) ∙ at)
 
 -- the channel that stands at a requester, as its own state names it
-pub stands_open : (s : State) (who : RequesterId) (channel : ChannelIdentity) (o : SecureChannelState) (stands : Stands s who channel o) →
+pub stands_open : (s : State) (who : RequesterId) (channel : ChannelIdentity) (o : SecureChannelState) (stands : ChannelStands s who channel o) →
     stands_in (controller_asked who s) stands.requester.caller.computer stands.requester.standing ≡ Some channel
 stands_open s who channel o stands =
     ap (λ (how : Standing). stands_in (controller_asked who s) stands.requester.caller.computer how) stands.open_so ∙ ap Some (sym stands.is)

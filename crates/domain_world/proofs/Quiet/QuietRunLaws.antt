@@ -67,7 +67,7 @@ use Rattle.world_moves.specs.World.{IsPlan, first_controllers, first_world, run}
 use Rattle.world_moves.proofs.RangeLaws.{table_in_range}
 use Rattle.world_moves.proofs.QuietLaws.{units_by}
 use Rattle.domain_world.specs.Accepting.Runs.{IsOfMember}
-use Rattle.domain_world.specs.Past.{Coming}
+use Rattle.domain_world.specs.Past.{Delivery}
 use Rattle.wire_base.proofs.ListLaws.{at_end, got_append, got_last, got_nothing, some_is}
 use Rattle.domain_world.proofs.Accepting.LetInStepLaws.{IsAcceptedBy, IsDialledBy}
 use Rattle.domain_world.proofs.Quiet.QuietListenLaws.{ListensWell, OpensWell, WellUnlessStopped, entries_so}
@@ -76,7 +76,7 @@ use Rattle.domain_world.proofs.Messages.MessageOnceLaws.{each_put}
 use Rattle.domain_world.proofs.Moves.ComingLaws.{CameFrom, CameInUnit, IsPieceOf, IsStill, came_in_unit, kept_settled}
 use Rattle.domain_world.proofs.Moves.MarkPlaceLaws.{got_beside, settled_length}
 use Rattle.domain_world.proofs.Moves.OpenMadeLaws.{IsAtSide}
-use Rattle.domain_world.proofs.Frames.StepFrameLaws.{HasHeard, Keeps, NoFact}
+use Rattle.domain_world.proofs.Frames.StepFrameLaws.{HasHeard, StepKeeps, NoFact}
 use Rattle.domain_world.proofs.Frames.EndFrameLaws.{IsCalm, by_calm}
 use Rattle.domain_world.proofs.Moves.PlacedLaws.{HandsBytes, HasBytes, IsBytesBag, short_units, units_have_bytes}
 use Rattle.domain_world.proofs.Moves.MemberPlanLaws.{names_alike}
@@ -218,7 +218,7 @@ one_piece (byte ∷ bytes) piece few one =
     ]
 
 -- what comes on a link between a member and a controller is one whole unit
-pub comes_whole : (source : Source) (s : State) (w : Coming) (piece : List ℕ) → WholeBag s.bag → CameFrom source s w piece → IsOfMember s.links w.link → IsOneUnit piece
+pub comes_whole : (source : Source) (s : State) (w : Delivery) (piece : List ℕ) → WholeBag s.bag → CameFrom source s w piece → IsOfMember s.links w.link → IsOneUnit piece
 comes_whole source s w piece whole from own =
     let in_unit : CameInUnit source s w piece = came_in_unit source s w piece own.0 own.1 from own.2 in
     let came : IsPieceOf s in_unit.number w piece = in_unit.piece_of in
@@ -228,7 +228,7 @@ comes_whole source s w piece whole from own =
     let same : came.unit.bytes ≡ piece = one_piece came.unit.bytes piece send.few came.part in
     subst IsOneUnit same (record { frames = send.frames; unit = send.unit; heard = send.heard })
 
-bytes_meet : (end : EndId) (s : State) (w : Coming) (piece : List ℕ) → WholeBag s.bag → CameFrom w.source s w piece → AreBytes piece → Meets end s.links (event.Bytes w.link piece)
+bytes_meet : (end : EndId) (s : State) (w : Delivery) (piece : List ℕ) → WholeBag s.bag → CameFrom w.source s w piece → AreBytes piece → Meets end s.links (event.Bytes w.link piece)
 bytes_meet end s w piece whole came bytes = record {
   controllers = λ at same own. comes_whole w.source s w piece whole came own;
   members = λ k same.
@@ -370,7 +370,7 @@ heard_quiet : (n : ℕ) (end : EndId) (what : Event) (s : State) (given : Given)
 heard_quiet n end what s given b meets quiet =
     let stepped = end_steps s.member_plans s.client_plans s.links s.bag s.moment s.ends s.chances quiet end what meets in record { holds = stepped.stands; fine = stepped.fine }
 
-pub quiet_keeps : Keeps NoFact QuietFact QuietAction
+pub quiet_keeps : StepKeeps NoFact QuietFact QuietAction
 quiet_keeps = record {
   calm = λ n end what s given b calm none quiet. heard_quiet (n + 1) end what s given b (calm_meets end s.links what calm) quiet;
   dialled = λ n end link s given b side none quiet. heard_quiet (n + 1) end (event.Dialled link) s given b (dialled_meets end s.links link side) quiet;

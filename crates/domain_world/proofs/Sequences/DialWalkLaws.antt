@@ -14,7 +14,7 @@ use Rattle.world_moves.specs.declared.links.EndId.TheVariants.{Client, Member}
 use Rattle.world_moves.specs.declared.moves.Move.{Move}
 use Rattle.world_moves.specs.declared.state.State.{State}
 use Rattle.world_moves.specs.declared.state.WaitingDial.{WaitingDial}
-use Rattle.world_moves.specs.Acting.{Given, Heard, forget, given_by, perform_quietly}
+use Rattle.world_moves.specs.Acting.{Given, AfterHearing, forget, given_by, perform_quietly}
 use Rattle.world_moves.specs.Ends.{EndStates}
 use Rattle.world_moves.specs.Links.{acceptor_of}
 use Rattle.world_moves.specs.Moving.{begun, changed, with_link, without_first}
@@ -37,7 +37,7 @@ abbrev pub AtState : DialFact → Option EndId → Given → State → Given →
 AtState Holds d rest s given turns = Holds d rest s.member_plans s.ends s.dials s.chances given turns
 
 -- an end has heard something, and its actions aren't done yet
-abbrev pub IsHeard : DialFact → Option EndId → Given → EndId → Heard → Given → List ChannelTurn → Type 0
+abbrev pub IsHeard : DialFact → Option EndId → Given → EndId → AfterHearing → Given → List ChannelTurn → Type 0
 IsHeard Holds d rest end heard given turns = AtState Holds d (given_by end heard.actions ++ rest) heard.state (given ++ given_by end heard.actions) turns
 
 pub record KeepsDials (Holds : DialFact) : Type 0 where

@@ -35,7 +35,7 @@ use Rattle.domain_world.proofs.Calls.MarkWayLaws.{marks_have_their_way}
 use Rattle.domain_world.specs.Accepting.Carried.{IsAsMarked, IsJudgedAsCarried, IsNotJudged, IsPlain, IsWholeAsMarked, JudgedAsCarried, MarkedUnitsAreWhole, call_carried}
 use Rattle.domain_world.specs.Accepting.Sequences.{HavePassed, CallsAreStamped, CallsOfTurns, HasPassed, IsMadeOn, IsPassedIn, SequencesFollow, TakenCallsPass, TurnsAreCalled, stamps_of}
 use Rattle.domain_world.specs.Claims.{IsClear, moved_on, passed_on, same_unit, judged_timestamp}
-use Rattle.domain_world.specs.Claims.SharedSequences.{IsBeforeTurn, Keeps, SequencesAreOwn, SequencesAreShared, any_foreign, is_foreign, timestamps_on}
+use Rattle.domain_world.specs.Claims.SharedSequences.{IsBeforeTurn, ChannelIsKept, SequencesAreOwn, SequencesAreShared, any_foreign, is_foreign, timestamps_on}
 use Rattle.domain_world.specs.Past.{Past, past, plain_form}
 use Rattle.domain_world.proofs.Accepting.AnsweredLaws.{AreInUnit, IsMade, StandsFor, both_true, channel_there, in_unit, made_at, no_twice, passed_of, right_at, unit_same, came_in}
 use Rattle.domain_world.proofs.Accepting.AnsweredRunLaws.{is_proved}
@@ -244,7 +244,7 @@ module _ (past : Past) (known : IsProved past) (heard : AnswersAreHeard past) (c
 -- ---- a controller's seed
 
 kept_seed : (p : Past) (controller : ℕ) (computer : List ℕ) (c : SecureChannelState) (left : List (List ℕ)) → SeedsFollow p.book.judged left p.world.state.ends.controllers →
-    (keeps : Keeps p.world.state controller computer c) → c.seed ≡ add_to (client_credential (channel_of controller computer c)) (moved_on (channel_of controller computer c) p.book.judged)
+    (keeps : ChannelIsKept p.world.state controller computer c) → c.seed ≡ add_to (client_credential (channel_of controller computer c)) (moved_on (channel_of controller computer c) p.book.judged)
 kept_seed p controller computer c left follow keeps =
     let kept = subst (λ (r : Option ControllerRunning). AreKeptIf p.book.judged left controller r) keeps.runs (follow.each controller keeps.state keeps.at) in
     ((kept.each computer).channels c keeps.kept).0
@@ -267,7 +267,7 @@ pub sequences_follow : SequencesFollow
 sequences_follow plan moves nobody heard stamped called clear =
     let differ : DrawsDiffer (past plan moves).world = draws_differ plan moves in
     sequence_shared (past plan moves) (is_proved plan moves nobody differ) (heard_in plan moves nobody heard differ) clear heard.whole heard.judged stamped called (sequences_own plan moves nobody)
-    (past plan moves).world.state.chances.left (seeds_kept plan moves nobody)
+    (past plan moves).world.state.chances.left (seeds_kept plan moves)
 
 -- ---- a call whose answer was taken
 

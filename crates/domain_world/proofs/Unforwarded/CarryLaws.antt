@@ -1,36 +1,34 @@
 -- What is proved of runs where nobody can be asked holds of those in which no call comes for a trusted domain. It
 -- serves `what_is_proved_alone_is_carried_over` and `claims_hold_of_runs`.
-use Rattle.std.proofs.Common.{◌≡◌, false, List, [], sym, ap, ap₂, subst, ◌∙◌}
+use Rattle.std.proofs.Common.{◌≡◌, false, List, sym, ap, ap₂, subst, ◌∙◌}
 use Rattle.step_notes.specs.Records.{Book}
 use Rattle.world_moves.specs.declared.moves.Move.{Move}
 use Rattle.world_moves.specs.declared.plan.Plan.{Plan}
 use Rattle.world_moves.specs.Forms.{IsSchedule}
 use Rattle.world_moves.specs.Unforwarded.{IsUnforwarded, alone_plan}
-use Rattle.world_moves.specs.World.{World, first_world}
+use Rattle.world_moves.specs.World.{World}
 use Rattle.domain_world.specs.Accepting.Answered.{CallsAskForMessages}
 use Rattle.domain_world.specs.Accepting.Carried.{MarkedUnitsAreWhole}
 use Rattle.domain_world.specs.Accepting.Sequences.{RepliesAnswerCalls, TurnsAreCalled}
-use Rattle.domain_world.specs.Claims.{AcceptsAllGranted, AcceptsOnlyGranted, IsClear, KeysAgree, PassesTheNextCredential, ReplaysBySum, ShortResponsesLetInOnce, TellsOfCallsAlone}
+use Rattle.domain_world.specs.Claims.{AcceptsAllGranted, AcceptsOnlyGranted, IsClear, KeysAgree, ShortResponsesLetInOnce, TellsOfCallsAlone}
 use Rattle.domain_world.specs.Claims.Completeness.{EachSucceeds}
 use Rattle.domain_world.specs.Claims.Counts.{EachCallRaisesOnce}
-use Rattle.domain_world.specs.Claims.Grants.{GrantsWhoMayLogOn, GrantsWhoseHashIsStored}
 use Rattle.domain_world.specs.Claims.MarkedUnits.{AnswersHaveCalls, CallsAreMarked, RepliesAreMarked}
 use Rattle.domain_world.specs.Claims.Names.{LetsInByName}
+use Rattle.domain_world.specs.Claims.NeverApart.{MembersAreNeverApart}
 use Rattle.domain_world.specs.Claims.OneByOne.{NoneClashes}
 use Rattle.domain_world.specs.Claims.OpeningReplies.{OpeningsAreMarked, RepliesAnswerOpenings, RepliesAreToOpenings}
-use Rattle.domain_world.specs.Claims.Openings.{OpeningsAreInOrder}
 use Rattle.domain_world.specs.Claims.Replies.{RepliesCarryTheirJudgement}
 use Rattle.domain_world.specs.Claims.RequestNumbers.{RequestsHaveNumbers}
-use Rattle.domain_world.specs.Claims.Sessions.{ControllerRenewed, SessionsFollow, renewals}
 use Rattle.domain_world.specs.Claims.SharedSequences.{OneTurnIsOut, SequencesAreOwn, SequencesAreShared}
 use Rattle.domain_world.specs.Claims.Statuses.{StatusesAreTold}
-use Rattle.domain_world.specs.Claims.Tables.{TablesFollowVerdicts}
 use Rattle.domain_world.specs.Past.{Past, past}
 use Rattle.domain_world.specs.Unforwarded.{CarriesOver, IsProvedAlone}
+use Rattle.domain_world.proofs.Unforwarded.ApartSeenLaws.{never_apart_so}
 use Rattle.domain_world.proofs.Unforwarded.ErasedBookLaws.{books_alone}
 use Rattle.domain_world.proofs.Unforwarded.ErasedLaws.{runs_alone}
-use Rattle.domain_world.proofs.Unforwarded.RunSeenLaws.{complete_so, one_by_one_so, renewals_seen, schedule_seen}
-use Rattle.domain_world.proofs.Unforwarded.SeenLaws.{all_so, answered_so, call_marks_so, called_so, grants_so, once_so, one_turn_so, only_so, opened_by_so, opened_marks_so, opened_so, openings_so, own_so, reply_marks_so, seen, sessions_so, shared_so, tables_so}
+use Rattle.domain_world.proofs.Unforwarded.RunSeenLaws.{complete_so, one_by_one_so, schedule_seen}
+use Rattle.domain_world.proofs.Unforwarded.SeenLaws.{all_so, answered_so, call_marks_so, called_so, once_so, one_turn_so, only_so, opened_by_so, opened_marks_so, opened_so, own_so, reply_marks_so, seen, shared_so}
 
 module _ (plan : Plan) (moves : List Move) (is : IsUnforwarded plan moves) (alone : IsProvedAlone (alone_plan plan) moves) where
   abbrev run_seen : Past
@@ -56,26 +54,13 @@ module _ (plan : Plan) (moves : List Move) (is : IsUnforwarded plan moves) (alon
   clear_so : IsClear run_seen.book → IsClear other.book
   clear_so clear = subst IsClear (sym (books_alone plan moves is)) clear
 
-  sessions_here : SessionsFollow run_seen (renewals moves (first_world plan) [])
-  sessions_here =
-      sessions_so run_seen (renewals moves (first_world plan) [])
-      (subst (λ (renewed : List ControllerRenewed). SessionsFollow (seen run_seen) renewed) (renewals_seen plan moves is)
-      (on (λ (q : Past). SessionsFollow q (renewals moves (first_world (alone_plan plan)) [])) alone.sessions))
-
   carried_over : IsProvedAlone plan moves
   carried_over = record {
-    openings = openings_so run_seen (on OpeningsAreInOrder alone.openings);
     opened = opened_so run_seen (on RepliesAnswerOpenings alone.opened);
     opened_by = λ schedule calm. opened_by_so run_seen (on RepliesAreToOpenings (alone.opened_by (schedule_alone schedule) (calm_so calm)));
     numbers = λ schedule. on RequestsHaveNumbers (alone.numbers (schedule_alone schedule));
-    credentials = on PassesTheNextCredential alone.credentials;
     alone = on TellsOfCallsAlone alone.alone;
-    replays = on ReplaysBySum alone.replays;
-    grants = grants_so run_seen (on GrantsWhoMayLogOn alone.grants);
-    let_on = on GrantsWhoseHashIsStored alone.let_on;
     statuses = on StatusesAreTold alone.statuses;
-    tables = tables_so run_seen (on TablesFollowVerdicts alone.tables);
-    sessions = sessions_here;
     replies = on RepliesCarryTheirJudgement alone.replies;
     answered = λ schedule calm. answered_so run_seen (on RepliesAnswerCalls (alone.answered (schedule_alone schedule) (calm_so calm)));
     names = λ schedule calm. on LetsInByName (alone.names (schedule_alone schedule) (calm_so calm));
@@ -96,6 +81,7 @@ module _ (plan : Plan) (moves : List Move) (is : IsUnforwarded plan moves) (alon
     opened_marks = λ schedule. opened_marks_so run_seen (on OpeningsAreMarked (alone.opened_marks (schedule_alone schedule)));
     complete = complete_so plan moves is (on (λ (q : Past). EachSucceeds q moves) alone.complete);
     one_by_one = one_by_one_so plan moves is (on (λ (q : Past). NoneClashes q moves) alone.one_by_one);
+    never_apart = λ schedule clear. never_apart_so run_seen (on MembersAreNeverApart (alone.never_apart (schedule_alone schedule) (clear_so clear)));
   }
 
 pub carries_over : CarriesOver

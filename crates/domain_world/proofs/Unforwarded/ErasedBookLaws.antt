@@ -1,6 +1,6 @@
 -- What is written down of a run in which no call comes for a trusted domain is what is written down where nobody can be
 -- asked. It serves `claims_hold_of_runs`.
-use Rattle.std.proofs.Common.{◌≡◌, ◌≤◌, ◌++◌, ℕ, Bool, true, false, List, [], ◌∷◌, drop, length, map, option_map, Option, Some, None, slice_get, refl, ap, ap₂, ◌∙◌}
+use Rattle.std.proofs.Common.{◌≡◌, ◌≤◌, ◌++◌, ℕ, Bool, false, List, [], ◌∷◌, drop, length, map, option_map, Option, Some, None, slice_get, refl, sym, ap, ap₂, ◌∙◌}
 use Rattle.wire_base.specs.Maps.{lookup, same_number}
 use Rattle.outside.specs.declared.action.Action.{Action}
 use Rattle.outside.specs.declared.action.Action.TheVariants as action
@@ -9,17 +9,20 @@ use Rattle.end_links.specs.Links.{LinkState}
 use Rattle.end_links.specs.Serving.{ServedUnit}
 use Rattle.domain_controller.specs.Machine.{Desk}
 use Rattle.domain_controller.specs.State.{State as ControllerState}
-use Rattle.domain_controller.specs.TrustHere.{told_trusts}
+use Rattle.domain_controller.specs.Step.{step_of}
+use Rattle.domain_controller.specs.TrustHere.{NoneIsAsked, told_trusts}
+use Rattle.domain_controller.specs.TrustStep.{trust_step_of}
 use Rattle.domain_controller.specs.declared.state.Running.{Running as ControllerRunning}
 use Rattle.domain_controller.specs.declared.state.Talk.{Talk}
 use Rattle.logon_client.specs.State.{State as ClientState}
 use Rattle.member_server.specs.State.{State as MemberState}
 use Rattle.member_server.specs.declared.plan.MemberPlan.{MemberPlan}
-use Rattle.step_notes.specs.ControllerNotes.{answer_on, units_at, units_by, units_of_controller}
-use Rattle.step_notes.specs.Marking.{answered_marks, turn_marks}
+use Rattle.step_notes.specs.ControllerNotes.{Answered, answer_on, units_at, units_by, units_of_controller}
+use Rattle.step_notes.specs.Marking.{turn_marks}
 use Rattle.step_notes.specs.MemberNotes.{turn_in, turn_note, turn_units}
 use Rattle.step_notes.specs.Records.{Book, ChannelTurn, InUnit, OfMember, Outside, blank, unit_in}
 use Rattle.step_notes.specs.Served.{units_if_taken}
+use Rattle.step_notes.proofs.Controllers.TrustNoteLaws.{notes_alike}
 use Rattle.world_moves.specs.declared.bag.BagUnit.{BagUnit}
 use Rattle.world_moves.specs.declared.links.EndId.{EndId}
 use Rattle.world_moves.specs.declared.links.EndId.TheVariants.{Controller, Member, Client}
@@ -27,7 +30,7 @@ use Rattle.world_moves.specs.declared.moves.Move.{Move}
 use Rattle.world_moves.specs.declared.moves.Move.TheVariants as move
 use Rattle.world_moves.specs.declared.plan.Plan.{Plan}
 use Rattle.world_moves.specs.declared.state.State.{State}
-use Rattle.world_moves.specs.Acting.{Acted, Given, piece_comes, pieces_come}
+use Rattle.world_moves.specs.Acting.{Acted, Given, hear_and_act_if, piece_comes, pieces_come}
 use Rattle.world_moves.specs.Bag.{first_waiting, pieces_of}
 use Rattle.world_moves.specs.Choosing.{chosen_in, chosen_place}
 use Rattle.world_moves.specs.Ends.{EndStates}
@@ -35,8 +38,9 @@ use Rattle.world_moves.specs.Links.{handed_links, hearer_of, links_of}
 use Rattle.world_moves.specs.Moving.{act, come_by, come_on_own, deliver_by, deliver_on, deliver_unit, hand_on, onward_by, settle}
 use Rattle.world_moves.specs.Unforwarded.{IsUnforwarded, alone_plan, erased, erased_controller, erased_ends, erased_world}
 use Rattle.world_moves.specs.World.{World, actions_of_run, first_world, happens, run, run_of}
-use Rattle.domain_world.specs.Past.{Coming, at_controller, book, controller_number, controller_of, controller_of_plan, note, note_at, note_chosen, note_client, note_coming, note_controller, note_deliver, note_given, note_hand, note_member, note_messages, note_on, note_onward, note_own, note_piece, note_pieces, note_turns, note_unit, numbers_on, past, running_in, turns_by, turns_in, with_answers, with_marks, with_taken}
-use Rattle.domain_world.proofs.Unforwarded.ErasedLaws.{IsFine, IsSame, IsStill, as_many, first_erased, first_still, fine_first, get_mapped, happens_same, move_same, part_erased_answer, peer_same, piece_fine, piece_same, told_later}
+use Rattle.domain_world.specs.Past.{Delivery, answers_of, at_controller, book, controller_number, controller_of, controller_of_plan, note, note_answers, note_at, note_chosen, note_client, note_coming, note_controller, note_deliver, note_given, note_hand, note_member, note_messages, note_on, note_onward, note_own, note_piece, note_pieces, note_turns, note_unit, numbers_on, past, running_in, turns_by, turns_in, with_marks, with_taken}
+use Rattle.domain_world.proofs.Frames.AloneNoteLaws.{answers_alike}
+use Rattle.domain_world.proofs.Unforwarded.ErasedLaws.{IsFine, IsSame, IsStill, as_many, controller_same, first_erased, first_still, fine_first, get_mapped, happens_same, move_same, part_erased_answer, peer_same, piece_fine, piece_same, told_later}
 
 -- ---- at a controller
 
@@ -55,14 +59,24 @@ served_same : (c : ControllerState) (number : ℕ) (piece : List ℕ) (now : ℕ
 served_same c number piece now left =
     ap₂ units_if_taken (part_erased_answer c (event.Bytes number piece) now left) (units_same c.running number piece c now left)
 
-controller_noted : (found : Option ControllerState) (at : ℕ) (w : Coming) (piece : List ℕ) (s after : State) (b : Book) →
+-- the step is that of one that asks nobody
+abbrev IsStepAlone : ControllerState → Delivery → List ℕ → State → Type 0
+IsStepAlone c w piece s =
+    trust_step_of c (event.Bytes w.link piece) s.moment s.chances.left ≡ step_of c (event.Bytes w.link piece) s.moment s.chances.left
+
+answers_same : (at : ℕ) (c : ControllerState) (w : Delivery) (piece : List ℕ) (s : State) → NoneIsAsked c.trusting → IsStepAlone c w piece s →
+    answers_of at (erased_controller c) w piece (erased s) ≡ answers_of at c w piece s
+answers_same at c w piece s none same =
+    answers_alike at (erased_controller c) w piece (erased s) refl
+    ∙ ap (λ (units : List (ServedUnit Desk Talk)). map (answer_on w.link (at_controller at c w s)) units) (served_same c w.link piece s.moment s.chances.left)
+    ∙ sym (notes_alike c w.link (at_controller at c w s) piece s.moment s.chances.left none same)
+
+controller_noted : (found : Option ControllerState) (at : ℕ) (w : Delivery) (piece : List ℕ) (s after : State) (b : Book) →
+    ((c : ControllerState) → found ≡ Some c → NoneIsAsked c.trusting × IsStepAlone c w piece s) →
     note_controller (option_map erased_controller found) at w piece (erased s) (erased after) b ≡ note_controller found at w piece s after b
-controller_noted None at w piece s after b = refl
-controller_noted (Some c) at w piece s after b =
-    ap (λ (units : List (ServedUnit Desk Talk)).
-    with_marks w.at w.link true (drop (length s.bag) after.bag) (answered_marks (map (answer_on w.link (at_controller at c w s)) units))
-    (with_answers (map (answer_on w.link (at_controller at c w s)) units) (unit_in w.source) (numbers_on w.link true s.bag after.bag) b))
-    (served_same c w.link piece s.moment s.chances.left)
+controller_noted None at w piece s after b alone = refl
+controller_noted (Some c) at w piece s after b alone =
+    let own = alone c refl in ap (λ (answers : List Answered). note_answers answers w s after b) (answers_same at c w piece s own.0 own.1)
 
 -- ---- at a member
 
@@ -73,7 +87,7 @@ plan_same (Some plan) ends = ap₂ controller_number (peer_same plan.controller 
 pub asked_same : (member : ℕ) (s : State) → controller_of member (erased s) ≡ controller_of member s
 asked_same member s = plan_same (slice_get s.member_plans member) s.ends
 
-member_noted : (found : Option MemberState) (at : ℕ) (w : Coming) (piece : List ℕ) (s after : State) (b : Book) →
+member_noted : (found : Option MemberState) (at : ℕ) (w : Delivery) (piece : List ℕ) (s after : State) (b : Book) →
     note_member found at w piece (erased s) (erased after) b ≡ note_member found at w piece s after b
 member_noted None at w piece s after b = refl
 member_noted (Some m) at w piece s after b =
@@ -86,28 +100,29 @@ member_noted (Some m) at w piece s after b =
 
 -- ---- at a client, and at any end
 
-client_noted : (found : Option ClientState) (at : ℕ) (w : Coming) (piece : List ℕ) (s : State) (b : Book) → note_client found at w piece (erased s) b ≡ note_client found at w piece s b
+client_noted : (found : Option ClientState) (at : ℕ) (w : Delivery) (piece : List ℕ) (s : State) (b : Book) → note_client found at w piece (erased s) b ≡ note_client found at w piece s b
 client_noted None at w piece s b = refl
 client_noted (Some c) at w piece s b = refl
 
-end_noted : (end : Option EndId) (w : Coming) (piece : List ℕ) (s after : State) (b : Book) → note_at end w piece (erased s) (erased after) b ≡ note_at end w piece s after b
-end_noted None w piece s after b = refl
-end_noted (Some (Controller at)) w piece s after b =
+end_noted : (end : Option EndId) (w : Delivery) (piece : List ℕ) (s after : State) (b : Book) → IsStill s → IsFine (hear_and_act_if end (event.Bytes w.link piece) s) →
+    note_at end w piece (erased s) (erased after) b ≡ note_at end w piece s after b
+end_noted None w piece s after b still fine = refl
+end_noted (Some (Controller at)) w piece s after b still fine =
     ap (λ (found : Option ControllerState). note_controller found at w piece (erased s) (erased after) b) (get_mapped erased_controller s.ends.controllers at)
-    ∙ controller_noted (slice_get s.ends.controllers at) at w piece s after b
-end_noted (Some (Member at)) w piece s after b = member_noted (slice_get s.ends.members at) at w piece s after b
-end_noted (Some (Client at)) w piece s after b = client_noted (slice_get s.ends.clients at) at w piece s b
+    ∙ controller_noted (slice_get s.ends.controllers at) at w piece s after b (λ c is. (still at c is, controller_same at (event.Bytes w.link piece) s c is still fine))
+end_noted (Some (Member at)) w piece s after b still fine = member_noted (slice_get s.ends.members at) at w piece s after b
+end_noted (Some (Client at)) w piece s after b still fine = client_noted (slice_get s.ends.clients at) at w piece s b
 
 -- ---- bytes come
 
-pieces_noted : (w : Coming) (pieces : List (List ℕ)) (s : State) (b : Book) → IsStill s → IsFine (pieces_come w.back w.link pieces s) → note_pieces w pieces (erased s) b ≡ note_pieces w pieces s b
+pieces_noted : (w : Delivery) (pieces : List (List ℕ)) (s : State) (b : Book) → IsStill s → IsFine (pieces_come w.back w.link pieces s) → note_pieces w pieces (erased s) b ≡ note_pieces w pieces s b
 pieces_noted w [] s b still fine = refl
 pieces_noted w (piece ∷ pieces) s b still fine =
     let fines = piece_fine w.back w.link piece pieces s fine in
     let one : Acted = piece_comes w.back w.link piece s in
     let same : IsSame one (piece_comes w.back w.link piece (erased s)) = piece_same w.back w.link piece s still fines.0 in
     ap (λ (a : Acted). note_pieces w pieces a.state (note_piece w piece (erased s) a.state b)) same.is
-    ∙ ap (λ (noted : Book). note_pieces w pieces (erased one.state) noted) (end_noted (hearer_of w.back (lookup same_number w.link s.open_links)) w piece s one.state b)
+    ∙ ap (λ (noted : Book). note_pieces w pieces (erased one.state) noted) (end_noted (hearer_of w.back (lookup same_number w.link s.open_links)) w piece s one.state b still fines.0)
     ∙ pieces_noted w pieces one.state (note_piece w piece s one.state b) same.still fines.1
 
 unit_noted : (unit : Option BagUnit) (number link at : ℕ) (s : State) (b : Book) → IsStill s → IsFine (come_by unit link s) → note_unit unit number link at (erased s) b ≡ note_unit unit number link at s b
@@ -140,10 +155,10 @@ hand_noted : (link : Option ℕ) (back : Bool) (bytes : List ℕ) (at : ℕ) (s 
     note_hand link back bytes at (erased s) b ≡ note_hand link back bytes at s b
 hand_noted None back bytes at s b still fine = refl
 hand_noted (Some link) back bytes at s b still fine =
-    let w : Coming = record { at = at; source = Outside; link = link; back = back } in
+    let w : Delivery = record { at = at; source = Outside; link = link; back = back } in
     let one : Acted = piece_comes back link bytes s in
     let same : IsSame one (piece_comes back link bytes (erased s)) = piece_same back link bytes s still fine in
-    ap (λ (a : Acted). note_piece w bytes (erased s) a.state b) same.is ∙ end_noted (hearer_of back (lookup same_number link s.open_links)) w bytes s one.state b
+    ap (λ (a : Acted). note_piece w bytes (erased s) a.state b) same.is ∙ end_noted (hearer_of back (lookup same_number link s.open_links)) w bytes s one.state b still fine
 
 coming_noted : (what : Move) (at : ℕ) (s : State) (b : Book) → IsStill s → IsFine (act s what) → note_coming what at (erased s) b ≡ note_coming what at s b
 coming_noted (move.Start number) at s b still fine = refl

@@ -33,7 +33,7 @@ use Rattle.world_moves.specs.declared.moves.Move.TheVariants as move
 use Rattle.world_moves.specs.declared.plan.Plan.{Plan}
 use Rattle.world_moves.specs.declared.state.State.{State}
 use Rattle.world_moves.specs.declared.state.WaitingDial.{WaitingDial}
-use Rattle.world_moves.specs.Acting.{Acted, Given, Heard, close_open, closed_at, done, forget, given_by, hear, hear_and_act, hear_and_act_if, heard_by, link_closed, nothing_done, perform, perform_all, perform_all_quietly, perform_by, perform_quietly, piece_comes, pieces_come, shut_link, then_act}
+use Rattle.world_moves.specs.Acting.{Acted, Given, AfterHearing, close_open, closed_at, done, forget, given_by, hear, hear_and_act, hear_and_act_if, heard_by, link_closed, nothing_done, perform, perform_all, perform_all_quietly, perform_by, perform_quietly, piece_comes, pieces_come, shut_link, then_act}
 use Rattle.world_moves.specs.Bag.{first_waiting, pieces_of}
 use Rattle.world_moves.specs.Choosing.{chosen_in, chosen_place}
 use Rattle.world_moves.specs.Ends.{EndStates, EndStep, acceptors_in, actions_by, change_by, client_step, controller_done, controller_step, count_of, end_at, end_in, end_step, fresh_controller, member_step, renew_client, renew_controller, renew_member}
@@ -49,7 +49,7 @@ use Rattle.domain_world.proofs.Frames.EveryStepLaws.{every_rests}
 abbrev pub erased_acted : Acted → Acted
 erased_acted a = record { state = erased a.state; given = a.given }
 
-abbrev pub erased_heard : Heard → Heard
+abbrev pub erased_heard : AfterHearing → AfterHearing
 erased_heard h = record { state = erased h.state; actions = h.actions }
 
 abbrev erased_step : EndStep → EndStep
@@ -177,17 +177,23 @@ module _ (c : ControllerState) (what : Event) (now : ℕ) (left : List (List ℕ
     is : trust_step_of (erased_controller c) what now left ≡ erased_stepped Taken
     still : NoneIsAsked Taken.state.trusting
 
-  step_still : StepsHere c what now left → told_trusts (actions_by Taken.answer) ≡ 0 → 1 ≤ length Taken.left → StepsStill
-  step_still (inl same) told some = record {
-    is = steps_alone.step (erased_controller c) what now left refl ∙ alone_erased c what now left ∙ ap erased_stepped (sym same);
-    still = subst NoneIsAsked (sym (ap (λ (step : Stepped ControllerState). step.state.trusting) same ∙ answers_here.stays c what now left)) none;
-  }
-  step_still (inr (inl some_told)) told some =
+  -- it is that of one that asks nobody
+  step_same : StepsHere c what now left → told_trusts (actions_by Taken.answer) ≡ 0 → 1 ≤ length Taken.left → Taken ≡ step_of c what now left
+  step_same (inl same) told some = same
+  step_same (inr (inl some_told)) told some =
       let same : told_trusts (actions_of Taken) ≡ told_trusts (actions_by Taken.answer) = ap told_trusts (given_actions Taken.answer) in
       absurd (omega (arith, some_told, told, same))
-  step_still (inr (inr spent)) told some =
+  step_same (inr (inr spent)) told some =
       let never : length Taken.left ≡ 0 = ap (λ (step : Stepped ControllerState). length step.left) spent in
       absurd (omega (arith, never, some))
+
+  step_still : told_trusts (actions_by Taken.answer) ≡ 0 → 1 ≤ length Taken.left → StepsStill
+  step_still told some =
+      let same : Taken ≡ step_of c what now left = step_same (answers_here.step c what now left none) told some in
+      record {
+        is = steps_alone.step (erased_controller c) what now left refl ∙ alone_erased c what now left ∙ ap erased_stepped (sym same);
+        still = subst NoneIsAsked (sym (ap (λ (step : Stepped ControllerState). step.state.trusting) same ∙ answers_here.stays c what now left)) none;
+      }
 
 -- ---- an end hears something
 
@@ -201,7 +207,7 @@ controller_found : (found : Option ControllerState) (at : ℕ) (what : Event) (n
 controller_found None at what now ends chances is still told some = record { is = refl; still = still }
 controller_found (Some c) at what now ends chances is still told some =
     let step : Stepped ControllerState = trust_step_of c what now chances.left in
-    let goes : StepsStill c what now chances.left (still at c is) = step_still c what now chances.left (still at c is) (answers_here.step c what now chances.left (still at c is)) told some in
+    let goes : StepsStill c what now chances.left (still at c is) = step_still c what now chances.left (still at c is) told some in
     record {
       is = ap (λ (one : Stepped ControllerState). controller_done one at (erased_ends ends) chances) goes.is
           ∙ ap (λ (controllers : List ControllerState). record (controller_done step at ends chances) { ends = record (erased_ends ends) { controllers = controllers } })
@@ -229,7 +235,7 @@ ends_still (Controller at) what now ends chances still told some =
 ends_still (Member at) what now ends chances still told some = member_found (slice_get ends.members at) at what now ends chances still
 ends_still (Client at) what now ends chances still told some = client_found (slice_get ends.clients at) at what now ends chances still
 
-record HearsStill (h other : Heard) : Type 0 where
+record HearsStill (h other : AfterHearing) : Type 0 where
   is : other ≡ erased_heard h
   still : IsStill h.state
 
@@ -274,11 +280,11 @@ closed_same : (end : Option EndId) (link : ℕ) (s : State) → IsStill s → Is
 closed_same None link s still fine = none_done s still
 closed_same (Some end) link s still fine =
     let what : Event = event.Closed link in
-    let heard : Heard = hear end what s in
+    let heard : AfterHearing = hear end what s in
     let rest = quiet_same end heard.actions heard.state in
     let goes = hear_still end what s still (sym (given_told end heard.actions) ∙ fine.told) (subst (λ (chances : Drawing). 1 ≤ length chances.left) rest.chances fine.left) in
     record {
-      is = ap (λ (h : Heard). record { state = perform_all_quietly end h.actions h.state; given = given_by end h.actions }) goes.is
+      is = ap (λ (h : AfterHearing). record { state = perform_all_quietly end h.actions h.state; given = given_by end h.actions }) goes.is
           ∙ ap (λ (after : State). record { state = after; given = given_by end heard.actions }) rest.is;
       still = subst (λ (ends : EndStates). AreStill ends.controllers) (sym rest.ends) goes.still;
     }
@@ -301,24 +307,42 @@ actions_same end (what ∷ actions) s still fine =
     then_same one (perform end what (erased s)) (λ later. perform_all end actions later) fine (actions_so Shrinks shrinks end actions one.state)
     (λ good. perform_by_same (link_closed what) end what s still good) (λ good rests. actions_same end actions one.state rests good)
 
+-- what an end has heard tells of no call for a trusted domain, and leaves challenges
+fine_heard : (end : EndId) (heard : AfterHearing) → IsFine (done end heard) → (told_trusts heard.actions ≡ 0) × (1 ≤ length heard.state.chances.left)
+fine_heard end heard fine =
+    let after : Acted = perform_all end heard.actions heard.state in
+    let sum = more_given (given_by end heard.actions) after.given in
+    let own = given_told end heard.actions in (omega (arith, sum, own, fine.told), actions_so Shrinks shrinks end heard.actions heard.state fine.left)
+
 -- an end has heard something, and does what it then does
-done_same : (end : EndId) (heard other : Heard) → IsFine (done end heard) →
+done_same : (end : EndId) (heard other : AfterHearing) → IsFine (done end heard) →
     (told_trusts heard.actions ≡ 0 → 1 ≤ length heard.state.chances.left → HearsStill heard other) → IsSame (done end heard) (done end other)
 done_same end heard other fine hears =
     let after : Acted = perform_all end heard.actions heard.state in
     let sum = more_given (given_by end heard.actions) after.given in
     let own = given_told end heard.actions in
-    let goes : HearsStill heard other = hears (omega (arith, sum, own, fine.told)) (actions_so Shrinks shrinks end heard.actions heard.state fine.left) in
+    let good = fine_heard end heard fine in
+    let goes : HearsStill heard other = hears good.0 good.1 in
     let rest : IsSame after (perform_all end heard.actions (erased heard.state)) =
     actions_same end heard.actions heard.state goes.still (record { told = omega (arith, sum, own, fine.told); left = fine.left }) in
     record {
-      is = ap (λ (h : Heard). done end h) goes.is
+      is = ap (λ (h : AfterHearing). done end h) goes.is
           ∙ ap (λ (a : Acted). record { state = a.state; given = given_by end heard.actions ++ a.given }) rest.is;
       still = rest.still;
     }
 
 pub hears_same : (end : EndId) (what : Event) (s : State) → IsStill s → IsFine (hear_and_act end what s) → IsSame (hear_and_act end what s) (hear_and_act end what (erased s))
 hears_same end what s still fine = done_same end (hear end what s) (hear end what (erased s)) fine (λ told some. hear_still end what s still told some)
+
+-- so a controller steps there as one that asks nobody
+pub controller_same : (at : ℕ) (what : Event) (s : State) (c : ControllerState) → slice_get s.ends.controllers at ≡ Some c → IsStill s → IsFine (hear_and_act (Controller at) what s) →
+    trust_step_of c what s.moment s.chances.left ≡ step_of c what s.moment s.chances.left
+controller_same at what s c is still fine =
+    let good = fine_heard (Controller at) (hear (Controller at) what s) fine in
+    let of : (told_trusts (controller_step (Some c) at what s.moment s.ends s.chances).actions ≡ 0) × (1 ≤ length (controller_step (Some c) at what s.moment s.ends s.chances).chances.left) =
+    subst (λ (found : Option ControllerState). (told_trusts (controller_step found at what s.moment s.ends s.chances).actions ≡ 0)
+    × (1 ≤ length (controller_step found at what s.moment s.ends s.chances).chances.left)) is good in
+    step_same c what s.moment s.chances.left (still at c is) (answers_here.step c what s.moment s.chances.left (still at c is)) of.0 of.1
 
 pub hears_if_same : (end : Option EndId) (what : Event) (s : State) → IsStill s → IsFine (hear_and_act_if end what s) →
     IsSame (hear_and_act_if end what s) (hear_and_act_if end what (erased s))
@@ -477,7 +501,7 @@ fresh_erased false table name = refl
 fresh_erased true table name = refl
 
 fresh_still : (hands_on : Bool) (table : AccountTable) (name : List ℕ) → NoneIsAsked (fresh_controller hands_on table name).trusting
-fresh_still false table name = record { nobody = tt; none = refl; idle = refl }
+fresh_still false table name = record { nobody = tt; none = refl; idle = refl; unsealing = refl }
 fresh_still true table name = answers_here.first table name
 
 record RenewsStill (ends other : EndStates) : Type 0 where

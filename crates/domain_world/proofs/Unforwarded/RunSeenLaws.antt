@@ -1,6 +1,6 @@
 -- What is claimed of a run move by move, in which no call comes for a trusted domain, is alike where nobody can be
 -- asked. It serves `claims_hold_of_runs`.
-use Rattle.std.proofs.Common.{◌≡◌, ◌≤◌, ◌+◌, ◌++◌, ℕ, Bool, List, [], ◌∷◌, length, option_map, Option, Some, None, slice_get, if◌then◌else◌, refl, sym, ap, ap₂, subst, ◌∙◌}
+use Rattle.std.proofs.Common.{◌≡◌, ◌≤◌, ℕ, Bool, List, [], ◌∷◌, length, option_map, Option, Some, None, slice_get, if◌then◌else◌, refl, sym, ap, ap₂, subst, ◌∙◌}
 use Rattle.std.specs.Prelude.{AllPairs, IsSomeAnd}
 use Rattle.wire_base.specs.Names.{SameName}
 use Rattle.logon_stubs.specs.declared.info.NetworkInfo.{NetworkInfo}
@@ -15,8 +15,7 @@ use Rattle.world_moves.specs.declared.moves.Move.{Move}
 use Rattle.world_moves.specs.declared.moves.Move.TheVariants as move
 use Rattle.world_moves.specs.declared.plan.Plan.{Plan}
 use Rattle.world_moves.specs.declared.state.State.{State}
-use Rattle.world_moves.specs.Choosing.{chosen_place}
-use Rattle.world_moves.specs.Ends.{EndStates, count_of}
+use Rattle.world_moves.specs.Ends.{EndStates}
 use Rattle.world_moves.specs.Forms.{IsSchedule}
 use Rattle.world_moves.specs.Links.{is_end}
 use Rattle.world_moves.specs.Moving.{act, end_of_peer}
@@ -24,9 +23,8 @@ use Rattle.world_moves.specs.Unforwarded.{IsUnforwarded, alone_plan, erased, era
 use Rattle.world_moves.specs.World.{World, actions_of_run, first_ends, first_world, happens, run, run_of}
 use Rattle.domain_world.specs.Claims.Completeness.{CanSucceed, ComesOneAtATime, EachSucceeds, InEachState, IsQuiet, IsQuietAt, MayLogOnIn, OneAtATime, OwnKeysArrive, Succeeds, info_planned, members_of, started_in}
 use Rattle.domain_world.specs.Claims.OneByOne.{HasOwnMember, NoneClashes}
-use Rattle.domain_world.specs.Claims.Sessions.{ControllerRenewed, end_by, renewal_by, renewals, restart_of}
 use Rattle.domain_world.specs.Past.{Past, past}
-use Rattle.domain_world.proofs.Unforwarded.ErasedLaws.{IsFine, IsStill, as_many, end_same, fine_first, first_erased, first_same, first_still, get_mapped, happens_same, move_same, peer_same, told_later}
+use Rattle.domain_world.proofs.Unforwarded.ErasedLaws.{IsFine, IsStill, fine_first, first_erased, first_same, first_still, get_mapped, happens_same, move_same, peer_same, told_later}
 use Rattle.domain_world.proofs.Unforwarded.SeenLaws.{seen}
 
 -- ---- what holds of worlds through a run
@@ -129,7 +127,7 @@ may_each controller info (what ∷ moves) w goes may = (
 pub ends_seen : (plan : Plan) → first_ends (alone_plan plan) ≡ erased_ends (first_ends plan)
 ends_seen plan = ap (λ (s : State). s.ends) (first_same plan)
 
-peer_seen : (peer : List ℕ) (plan : Plan) → end_of_peer peer (first_ends (alone_plan plan)) ≡ end_of_peer peer (first_ends plan)
+pub peer_seen : (peer : List ℕ) (plan : Plan) → end_of_peer peer (first_ends (alone_plan plan)) ≡ end_of_peer peer (first_ends plan)
 peer_seen peer plan = ap (end_of_peer peer) (ends_seen plan) ∙ peer_same peer (first_ends plan)
 
 abbrev kept_if : Bool → MemberPlan → List MemberPlan → List MemberPlan
@@ -191,38 +189,3 @@ own_seen plan client has = λ task member work controller table is_task is_membe
 pub one_by_one_so : (plan : Plan) (moves : List Move) → IsUnforwarded plan moves → NoneClashes (seen (past plan moves)) moves → NoneClashes (past plan moves) moves
 one_by_one_so plan moves is x = λ comes own.
     x (comes_seen plan moves is comes) (all_weaker (HasOwnMember plan) (HasOwnMember (alone_plan plan)) (started_in moves (length plan.clients)) (own_seen plan) own)
-
--- ---- controllers that are made anew
-
-by_number : (number : Option ℕ) (s : State) → end_by number (erased s) ≡ end_by number s
-by_number None s = refl
-by_number (Some number) s = end_same number s.ends
-
-restart_seen : (number : ℕ) (s : State) → restart_of (move.Restart number) (erased s) ≡ restart_of (move.Restart number) s
-restart_seen number s =
-    ap (λ (many : ℕ). end_by (chosen_place number (many + length s.ends.members + length s.ends.clients)) (erased s)) (as_many s.ends)
-    ∙ by_number (chosen_place number (count_of s.ends)) s
-
-restarted_seen : (what : Move) (s : State) → restart_of what (erased s) ≡ restart_of what s
-restarted_seen (move.Start number) s = refl
-restarted_seen (move.Stranger number) s = refl
-restarted_seen move.Connect s = refl
-restarted_seen move.FailDial s = refl
-restarted_seen move.Onward s = refl
-restarted_seen move.Lose s = refl
-restarted_seen (move.Deliver unit link) s = refl
-restarted_seen (move.Hand link back bytes) s = refl
-restarted_seen (move.Shut number) s = refl
-restarted_seen (move.Restart number) s = restart_seen number s
-restarted_seen (move.Change member secret) s = refl
-restarted_seen (move.Tick more) s = refl
-
-renewals_on : (moves : List Move) (w : World) (earlier : List ControllerRenewed) → GoesOn moves w → renewals moves (erased_world w) earlier ≡ renewals moves w earlier
-renewals_on [] w earlier goes = refl
-renewals_on (what ∷ moves) w earlier goes =
-    ap₂ (λ (later : World) (end : Option EndId). renewals moves later (renewal_by end (w.moves + 1) ++ earlier)) (sym (goes_same what moves w goes)) (restarted_seen what w.state)
-    ∙ renewals_on moves (happens w what) (renewal_by (restart_of what w.state) (w.moves + 1) ++ earlier) (goes_later what moves w goes)
-
-pub renewals_seen : (plan : Plan) (moves : List Move) → IsUnforwarded plan moves → renewals moves (first_world (alone_plan plan)) [] ≡ renewals moves (first_world plan) []
-renewals_seen plan moves is =
-    ap (λ (w : World). renewals moves w []) (first_erased plan) ∙ renewals_on moves (first_world plan) [] (goes_first plan moves is)

@@ -1,6 +1,6 @@
 -- What is claimed of a run as it is where nobody can be asked holds of the run itself: the claims don't look at what
 -- controllers keep of those that could be asked. It serves `claims_hold_of_runs`.
-use Rattle.std.proofs.Common.{◌≡◌, ◌≢◌, ◌⊎◌, ℕ, true, List, [], ◌∷◌, map, option_map, Option, Some, None, inl, inr, slice_get, refl, sym, ap, subst, ◌∙◌}
+use Rattle.std.proofs.Common.{◌≡◌, ◌≢◌, ◌⊎◌, ℕ, true, List, map, option_map, Option, Some, None, inl, inr, slice_get, refl, sym, ap, subst, ◌∙◌}
 use Rattle.std.specs.List.{AllByRecursion}
 use Rattle.authenticators.specs.Channels.{ChannelIdentity}
 use Rattle.authenticators.specs.SecureChannels.{SecureChannelState, channel_of}
@@ -8,24 +8,18 @@ use Rattle.channel_client.specs.declared.state.Pending.{Pending}
 use Rattle.wire_base.specs.Lists.{OneOf}
 use Rattle.wire_base.proofs.ListLaws.{all_weaker, one_weaker}
 use Rattle.domain_controller.specs.State.{State as ControllerState}
-use Rattle.interactive_logon.specs.declared.sessions.Session.{Session}
 use Rattle.member_server.specs.declared.plan.MemberPlan.{MemberPlan}
 use Rattle.step_notes.specs.ControllerNotes.{has_passed}
 use Rattle.step_notes.specs.Records.{ChallengeSent, ChannelAccepted, InUnit, Judging, MessageTaken, OfMember, OutcomeTold, RequesterId}
-use Rattle.world_moves.specs.declared.plan.Plan.{Plan}
 use Rattle.world_moves.specs.declared.state.State.{State}
 use Rattle.world_moves.specs.Counting.{is_in}
 use Rattle.world_moves.specs.Ends.{EndStates}
 use Rattle.world_moves.specs.Unforwarded.{alone_plan, erased, erased_controller, erased_ends, erased_world}
 use Rattle.domain_world.specs.Accepting.Sequences.{AnswersCall, AreSoFar, CallsOfTurns, IsMadeOn, RepliesAnswerCalls, TurnsAreCalled}
 use Rattle.domain_world.specs.Claims.{AcceptsAllGranted, AcceptsOnlyGranted, HasController, IsAccepted, IsGrantedBy, IsItsControllersAnswer, IsLetInShortly, IsToldIn, IsUnusedChallenge, ShortResponsesLetInOnce}
-use Rattle.domain_world.specs.Claims.Grants.{GrantsWhoMayLogOn, IsGrantedRightly}
 use Rattle.domain_world.specs.Claims.MarkedUnits.{CallsAreMarked, IsMarkedAsCall, IsMarkedAsReply, RepliesAreMarked}
 use Rattle.domain_world.specs.Claims.OpeningReplies.{AnswersOpening, IsMarkedAsOpened, OpeningsAreMarked, RepliesAnswerOpenings, RepliesAreToOpenings}
-use Rattle.domain_world.specs.Claims.Openings.{KeepsAt, OpeningsAreInOrder, WaitsAt}
-use Rattle.domain_world.specs.Claims.Sessions.{ControllerRenewed, HasSessions, SessionsFollow}
-use Rattle.domain_world.specs.Claims.SharedSequences.{HasOneTurnOut, IsBeforeTurn, Keeps, OneTurnIsOut, SequenceIsOwn, SequenceIsShared, SequencesAreOwn, SequencesAreShared, Stands, timestamps_on}
-use Rattle.domain_world.specs.Claims.Tables.{AreByEarlier, TablesFollowVerdicts}
+use Rattle.domain_world.specs.Claims.SharedSequences.{HasOneTurnOut, IsBeforeTurn, ChannelIsKept, OneTurnIsOut, SequenceIsOwn, SequenceIsShared, SequencesAreOwn, SequencesAreShared, ChannelStands, timestamps_on}
 use Rattle.domain_world.specs.Past.{Past}
 use Rattle.domain_world.proofs.Unforwarded.ErasedBookLaws.{asked_same}
 use Rattle.domain_world.proofs.Unforwarded.ErasedLaws.{get_mapped, peer_same}
@@ -39,73 +33,6 @@ there : (controllers : List ControllerState) (at : ℕ) (c : ControllerState) �
 there controllers at c is = get_mapped erased_controller controllers at ∙ ap (λ (found : Option ControllerState). option_map erased_controller found) is
 
 -- ---- what controllers judge, grant and keep
-
-granted_so : (plan : Plan) (j : Judging) → IsGrantedRightly (alone_plan plan) j → IsGrantedRightly plan j
-granted_so plan j x = record {
-  granted = x.granted;
-  table = record { planned = x.table.planned; is = x.table.is; states = x.table.states; users = x.table.users };
-  name = x.name;
-}
-
-pub grants_so : (p : Past) → GrantsWhoMayLogOn (seen p) → GrantsWhoMayLogOn p
-grants_so p x = all_weaker (IsGrantedRightly (alone_plan p.plan)) (IsGrantedRightly p.plan) p.book.judged (granted_so p.plan) x
-
-earlier_so : (plan : Plan) (judgings : List Judging) → AreByEarlier (alone_plan plan) judgings → AreByEarlier plan judgings
-earlier_so plan [] x = tt
-earlier_so plan (j ∷ judgings) x = (x.0, earlier_so plan judgings x.1)
-
-pub tables_so : (p : Past) → TablesFollowVerdicts (seen p) → TablesFollowVerdicts p
-tables_so p x = record {
-  judged = earlier_so p.plan p.book.judged x.judged;
-  stands = λ controller c is. x.stands controller (erased_controller c) (there p.world.state.ends.controllers controller c is);
-}
-
-sessions_seen : (p : Past) (controller : ℕ) (sessions : List Session) → HasSessions p controller sessions → HasSessions (seen p) controller sessions
-sessions_seen p controller sessions has = record {
-  state = erased_controller has.state;
-  at = there p.world.state.ends.controllers controller has.state has.at;
-  running = has.running;
-  runs = has.runs;
-  are = has.are;
-}
-
-pub sessions_so : (p : Past) (renewed : List ControllerRenewed) → SessionsFollow (seen p) renewed → SessionsFollow p renewed
-sessions_so p renewed x = record {
-  judged = x.judged;
-  stands = λ controller sessions has. x.stands controller sessions (sessions_seen p controller sessions has);
-  few = λ controller sessions has. x.few controller sessions (sessions_seen p controller sessions has);
-}
-
-waits_seen : (controllers : List ControllerState) (controller : ℕ) (computer server : List ℕ) → WaitsAt controllers controller computer server →
-    WaitsAt (map erased_controller controllers) controller computer server
-waits_seen controllers controller computer server w = record {
-  state = erased_controller w.state;
-  running = w.running;
-  at = there controllers controller w.state w.at;
-  runs = w.runs;
-  waits = w.waits;
-}
-
-keeps_seen : (controllers : List ControllerState) (controller : ℕ) (computer : List ℕ) (channel : ChannelIdentity) → KeepsAt controllers controller computer channel →
-    KeepsAt (map erased_controller controllers) controller computer channel
-keeps_seen controllers controller computer channel k = record {
-  state = erased_controller k.state;
-  running = k.running;
-  at = there controllers controller k.state k.at;
-  runs = k.runs;
-  keeps = k.keeps;
-}
-
-pub openings_so : (p : Past) → OpeningsAreInOrder (seen p) → OpeningsAreInOrder p
-openings_so p x =
-    let controllers : List ControllerState = p.world.state.ends.controllers in
-    record {
-      once = x.once;
-      last = λ controller computer channel keeps. x.last controller computer channel (keeps_seen controllers controller computer channel keeps);
-      unused = λ controller computer server waits. x.unused controller computer server (waits_seen controllers controller computer server waits);
-      one = λ controller other computer more server waits also.
-          x.one controller other computer more server (waits_seen controllers controller computer server waits) (waits_seen controllers other more server also);
-    }
 
 -- ---- replies
 
@@ -241,7 +168,7 @@ one_turn_so p x = λ member m running is runs.
     let out : HasOneTurnOut (erased p.world.state) member running = x member m running is runs in
     record { out = out.out; few = out.few; waits = out.waits }
 
-stands_seen : (s : State) (who : RequesterId) (channel : ChannelIdentity) (o : SecureChannelState) → Stands s who channel o → Stands (erased s) who channel o
+stands_seen : (s : State) (who : RequesterId) (channel : ChannelIdentity) (o : SecureChannelState) → ChannelStands s who channel o → ChannelStands (erased s) who channel o
 stands_seen s (OfMember member) channel o st = record {
   requester = st.requester;
   at = st.at;
@@ -251,7 +178,7 @@ stands_seen s (OfMember member) channel o st = record {
   is_turn = st.is_turn;
 }
 
-turn_seen : (s : State) (who : RequesterId) (channel : ChannelIdentity) (o : SecureChannelState) (st : Stands s who channel o) → (stands_seen s who channel o st).turn ≡ st.turn
+turn_seen : (s : State) (who : RequesterId) (channel : ChannelIdentity) (o : SecureChannelState) (st : ChannelStands s who channel o) → (stands_seen s who channel o st).turn ≡ st.turn
 unfolding stands_seen
 turn_seen s (OfMember member) channel o st = refl
 
@@ -261,7 +188,7 @@ own_one p who x = λ channel o st. x channel o (stands_seen p.world.state who ch
 pub own_so : (p : Past) → SequencesAreOwn (seen p) → SequencesAreOwn p
 own_so p x = λ who. own_one p who (x who)
 
-kept_seen : (s : State) (controller : ℕ) (computer : List ℕ) (c : SecureChannelState) → Keeps s controller computer c → Keeps (erased s) controller computer c
+kept_seen : (s : State) (controller : ℕ) (computer : List ℕ) (c : SecureChannelState) → ChannelIsKept s controller computer c → ChannelIsKept (erased s) controller computer c
 kept_seen s controller computer c k = record {
   state = erased_controller k.state;
   running = k.running;

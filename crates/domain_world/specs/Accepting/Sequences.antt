@@ -17,7 +17,7 @@ use Rattle.world_moves.specs.Alone.{HandsNothingOn}
 use Rattle.domain_world.specs.Accepting.Carried.{IsTakenInTurn, IsWholeUnit, call_carried, call_judged}
 use Rattle.domain_world.specs.Accepting.Units.{UnitsAreHeard}
 use Rattle.domain_world.specs.Claims.{IsClear}
-use Rattle.domain_world.specs.Claims.SharedSequences.{SequencesAreShared, Stands, timestamps_on}
+use Rattle.domain_world.specs.Claims.SharedSequences.{SequencesAreShared, ChannelStands, timestamps_on}
 use Rattle.domain_world.specs.Past.{Past, past, plain_form}
 
 -- ---- timestamps
@@ -99,7 +99,7 @@ pub record CallsOfTurns (past : Past) (channel : ChannelIdentity) (turn : Option
 -- so it is of each channel that stands at a requester
 abbrev pub TurnsAreCalled : Past → Type 0
 TurnsAreCalled past =
-    (who : RequesterId) (channel : ChannelIdentity) (o : SecureChannelState) → (stands : Stands past.world.state who channel o) →
+    (who : RequesterId) (channel : ChannelIdentity) (o : SecureChannelState) → (stands : ChannelStands past.world.state who channel o) →
     CallsOfTurns past channel stands.turn (timestamps_on who channel past.book.turns)
 
 -- ---- replies

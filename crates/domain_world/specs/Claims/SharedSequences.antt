@@ -64,7 +64,7 @@ pub record IsBeforeTurn (turn : Option Pending) (seed : List ℕ) (channel : Cha
   pub seed_before : seed ≡ channel_seed channel earlier
 
 -- the channel that stands at a requester, and its state there
-pub record Stands (s : State) (who : RequesterId) (channel : ChannelIdentity) (o : SecureChannelState) : Type 0 where
+pub record ChannelStands (s : State) (who : RequesterId) (channel : ChannelIdentity) (o : SecureChannelState) : Type 0 where
   pub requester : Requester
   pub at : requester_at s who ≡ Some requester
   pub open_so : requester.standing ≡ standing.Open o
@@ -75,7 +75,7 @@ pub record Stands (s : State) (who : RequesterId) (channel : ChannelIdentity) (o
 -- ---- the controller's side
 
 -- the controller has a channel for that computer, in this state
-pub record Keeps (s : State) (controller : ℕ) (computer : List ℕ) (c : SecureChannelState) : Type 0 where
+pub record ChannelIsKept (s : State) (controller : ℕ) (computer : List ℕ) (c : SecureChannelState) : Type 0 where
   pub state : ControllerState
   pub running : ControllerRunning
   pub at : slice_get s.ends.controllers controller ≡ Some state
@@ -96,7 +96,7 @@ any_foreign channel judgings = list_any (λ (j : Judging). is_foreign channel j.
 -- channel, each plus one: the first part of the claim, which speaks of the requester alone.
 abbrev pub SequenceIsOwn : Past → RequesterId → Type 0
 SequenceIsOwn past who =
-    (channel : ChannelIdentity) (o : SecureChannelState) → Stands past.world.state who channel o →
+    (channel : ChannelIdentity) (o : SecureChannelState) → ChannelStands past.world.state who channel o →
     o.seed ≡ channel_seed channel (timestamps_on who channel past.book.turns)
 
 -- each requester's is
@@ -107,8 +107,8 @@ SequencesAreOwn past = (who : RequesterId) → SequenceIsOwn past who
 -- passed on it, the controller's seed is the requester's, or with a turn out the one before that turn.
 pub record SequenceIsShared (past : Past) (who : RequesterId) : Type 0 where
   pub own : SequenceIsOwn past who
-  pub other : (channel : ChannelIdentity) (o c : SecureChannelState) → (stands : Stands past.world.state who channel o) →
-      Keeps past.world.state channel.controller channel.computer c →
+  pub other : (channel : ChannelIdentity) (o c : SecureChannelState) → (stands : ChannelStands past.world.state who channel o) →
+      ChannelIsKept past.world.state channel.controller channel.computer c →
       SameChannel (channel_of channel.controller channel.computer c) channel →
       any_foreign channel past.book.judged ≡ false →
       (c.seed ≡ o.seed) ⊎ IsBeforeTurn stands.turn c.seed channel (timestamps_on who channel past.book.turns)

@@ -31,7 +31,7 @@ use Rattle.logon_steps.specs.Calling.{HasShortCaller}
 use Rattle.logon_steps.proofs.CallingLaws.{calls_can_go}
 use Rattle.logon_steps.proofs.KnowingLaws.{computers_are_known, known_found}
 use Rattle.logon_runs.specs.Scenes.LinkScenes.{rest_scene}
-use Rattle.logon_runs.specs.Phases.{Coming, Dials, scene_of, with_its_controller}
+use Rattle.logon_runs.specs.Phases.{Arrival, Dials, scene_of, with_its_controller}
 use Rattle.logon_runs.specs.Rests.{AtRest, ControllerRests, HasOwnComputer, HasOwnName, IsInStepAt, MemberRests, StandsWell, secret_at}
 use Rattle.logon_runs.specs.Scenes.Scene.{Shows}
 use Rattle.logon_runs.specs.AnyAnswer.AnyPhases.{IsAble, IsOwn, KnowsComputer, MayStand, On}
@@ -72,7 +72,7 @@ module _ (plan : Plan) (s : State) (rest : AtRest plan s) (client member control
   abbrev desk : ControllerRests plan s controller three.table
   desk = rest.controllers controller three.table three.is_table
 
-  abbrev coming : Coming
+  abbrev coming : Arrival
   coming = coming_from plan s rest client member controller three account machine
 
   -- its name is its own, by its plan

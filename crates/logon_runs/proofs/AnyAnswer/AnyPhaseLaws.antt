@@ -10,7 +10,7 @@ use Rattle.world_moves.specs.Moving.{act, moment_after, onward, tick}
 use Rattle.logon_steps.specs.ClientSteps.{client_ended}
 use Rattle.logon_runs.specs.Scenes.LinkScenes.{rest_scene}
 use Rattle.logon_runs.specs.Scenes.Others.{IsStepOn}
-use Rattle.logon_runs.specs.Phases.{Acked, Answers, Binds, BindsBefore, BindsHeld, Calls, Challenged, Coming, Dials, DialsBefore, DialsHeld, Echoed, Echoes, Granted, Halved, LogonPhase, Named, Progress, Proved, Sets, progress_onward, scene_of}
+use Rattle.logon_runs.specs.Phases.{Acked, Answers, Binds, BindsBefore, BindsHeld, Calls, Challenged, Arrival, Dials, DialsBefore, DialsHeld, Echoed, Echoes, Granted, Halved, LogonPhase, Named, Progress, Proved, Sets, progress_onward, scene_of}
 use Rattle.logon_runs.specs.Scenes.Scene.{Scene, Shows}
 use Rattle.logon_runs.specs.Failing.TurnedAway.{AwayPhase, Faulted, Refused, Unheard, away_scene, settled_in}
 use Rattle.logon_runs.specs.Scenes.WaitingUnits.{waiting}
@@ -23,7 +23,7 @@ use Rattle.logon_runs.proofs.AnyAnswer.AnyStartLaws.{any_answers, any_binds, any
 use Rattle.logon_runs.proofs.AnyAnswer.AnyReplyLaws.{any_judged, any_set, any_told}
 use Rattle.logon_runs.proofs.AnyAnswer.AnyTurnLaws.{any_acked, any_away, any_binds_held, any_bound, any_calls, any_dials_held, any_halved}
 
-module _ (plan : Plan) (p : Coming) (s : State) where
+module _ (plan : Plan) (p : Arrival) (s : State) where
   -- ---- a unit comes
 
   -- where none waits

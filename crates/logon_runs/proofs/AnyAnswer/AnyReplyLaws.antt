@@ -36,11 +36,11 @@ use Rattle.world_moves.specs.Moving.{onward}
 use Rattle.logon_steps.specs.Turning.{IsTurnReply}
 use Rattle.logon_steps.proofs.AskingLaws.{same_bytes}
 use Rattle.logon_steps.proofs.CallingLaws.{calls_can_go}
-use Rattle.logon_runs.specs.Phases.{Coming, DialsHeld, FitsCaller, Fourth, IsPlanned, IsSetAt, NotYet, account_of_caller, own, own_keeping, Second, Third, turn_before, turn_on, TurnAt, waits_for, WhoAsked}
-use Rattle.logon_runs.specs.Runs.{Asked, info_asked, message_for}
+use Rattle.logon_runs.specs.Phases.{Arrival, DialsHeld, FitsCaller, Fourth, IsPlanned, IsSetAt, NotYet, account_of_caller, own, own_keeping, Second, Third, turn_before, turn_on, TurnAt, waits_for, WhoAsked}
+use Rattle.logon_runs.specs.Runs.{ClientAnswer, info_asked, message_for}
 use Rattle.logon_runs.specs.Scenes.Scene.{Shows}
 use Rattle.logon_runs.specs.Failing.TurnedAway.{Faulted}
-use Rattle.logon_runs.specs.Scenes.TurnScenes.{Turn, dial_scene, waiting_scene, with_accounts, with_secrets}
+use Rattle.logon_runs.specs.Scenes.TurnScenes.{TurnScene, dial_scene, waiting_scene, with_accounts, with_secrets}
 use Rattle.logon_runs.specs.AnyAnswer.AnyPhases.{Away, IsGranted, IsJudgedBy, GoesTo, IsLetIn, IsOwn, IsProofOwn, IsSetBy, IsTurningBy, KeepsInStep, MaySet, On, Setting, Told, any_scene, proof_reply}
 use Rattle.logon_runs.specs.OtherKeys.GrantRests.{judged_scene}
 use Rattle.logon_runs.proofs.Failing.FailingLaws.{failings_are_seen}
@@ -67,18 +67,18 @@ set_state true returned o later is = set_awaited (is_awaited o.awaited returned.
 set_not : {state : SecureChannelState} {cause : DropCause} → Err cause ≡ Ok state → ⊥
 set_not is = absurd cc
 
-module _ (plan : Plan) (p : Coming) (s : State) where
+module _ (plan : Plan) (p : Arrival) (s : State) where
   -- ---- the channel opens by the credential that is awaited
 
-  module _ (a : Asked) (who : WhoAsked p a) (v : TurnAt) (client server : List ℕ) (left : List (List ℕ)) (moment : ℕ) (turning : IsTurningBy plan p a v) (planned : IsPlanned p v)
+  module _ (a : ClientAnswer) (who : WhoAsked p a) (v : TurnAt) (client server : List ℕ) (left : List (List ℕ)) (moment : ℕ) (turning : IsTurningBy plan p a v) (planned : IsPlanned p v)
       (granted : IsGranted plan p v client server) (shows : Shows s (any_scene p (Told a who v client server (server_credential p.meeting.caller.secret client server) 0) left moment)) where
-    abbrev before : Turn
+    abbrev before : TurnScene
     before = turn_before p a who.later (who.sent ∷ []) v
 
     abbrev half : Standing
     half = standing.Half client server
 
-    abbrev out : Turn
+    abbrev out : TurnScene
     out = turn_on p a who.later (who.sent ∷ []) v (Second client server)
 
     abbrev fresh : SecureChannelState
@@ -154,7 +154,7 @@ module _ (plan : Plan) (p : Coming) (s : State) where
     opened_on : GoesTo plan p NotYet s (onward s).state
     opened_on = opens v.secrets.next refl
 
-  pub any_told : (a : Asked) (who : WhoAsked p a) (v : TurnAt) (client server credential : List ℕ) (status : ℕ) (left : List (List ℕ)) (moment : ℕ) → IsTurningBy plan p a v →
+  pub any_told : (a : ClientAnswer) (who : WhoAsked p a) (v : TurnAt) (client server credential : List ℕ) (status : ℕ) (left : List (List ℕ)) (moment : ℕ) → IsTurningBy plan p a v →
       IsTurnReply question.Authenticate (proof_reply credential status) → (status ≡ 0 → IsGranted plan p v client server) → IsPlanned p v →
       (IsOwn plan p → IsProofOwn p client server credential status) → Shows s (any_scene p (Told a who v client server credential status) left moment) → GoesTo plan p NotYet s (onward s).state
   any_told a who v client server credential status left moment turning goes granted planned right shows =
@@ -181,15 +181,15 @@ module _ (plan : Plan) (p : Coming) (s : State) where
 
   -- ---- the reply to the call that sets the secret
 
-  module _ (a : Asked) (who : WhoAsked p a) (v : TurnAt) (o c : SecureChannelState) (timestamp : ℕ) (new : List ℕ) (accounts : AccountTable) (answer : SetReply) (left : List (List ℕ)) (moment : ℕ)
+  module _ (a : ClientAnswer) (who : WhoAsked p a) (v : TurnAt) (o c : SecureChannelState) (timestamp : ℕ) (new : List ℕ) (accounts : AccountTable) (answer : SetReply) (left : List (List ℕ)) (moment : ℕ)
       (fits : IsSetBy plan p a v o timestamp new accounts answer) (shows : Shows s (any_scene p (Setting a who v o c timestamp new accounts answer) left moment)) where
     abbrev how_set : Standing
     how_set = standing.Open (after_call o timestamp)
 
-    abbrev set_before : Turn
+    abbrev set_before : TurnScene
     set_before = turn_before p a who.later (who.sent ∷ []) v
 
-    abbrev set_out : Turn
+    abbrev set_out : TurnScene
     set_out = turn_on p a who.later (who.sent ∷ []) v (Fourth o c timestamp new)
 
     set_or_not : MaySet plan p accounts
@@ -255,7 +255,7 @@ module _ (plan : Plan) (p : Coming) (s : State) where
     any_set = set_by (judge_set answer how_set) refl
 
   -- by how the reply to the logon's call is judged: the client is refused, or let in
-  module _ (a : Asked) (who : WhoAsked p a) (v : TurnAt) (o c : SecureChannelState) (timestamp : ℕ) (accounts : AccountTable) (answer : Reply) (left : List (List ℕ)) (moment : ℕ)
+  module _ (a : ClientAnswer) (who : WhoAsked p a) (v : TurnAt) (o c : SecureChannelState) (timestamp : ℕ) (accounts : AccountTable) (answer : Reply) (left : List (List ℕ)) (moment : ℕ)
       (fits : IsJudgedBy plan p a v o timestamp accounts answer) (shows : Shows s (judged_scene p a who v o c timestamp accounts answer left moment)) where
     judged_on : (found : ChannelJudgement) → judge question.Logon answer (standing.Open (after_call o timestamp)) p.meeting.caller.secret ≡ found → IsLogonJudged (info_in answer) (after_call o timestamp) found →
         GoesTo plan p NotYet s (onward s).state ⊎ IsLetIn plan p s

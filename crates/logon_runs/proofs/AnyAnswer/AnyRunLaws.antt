@@ -21,7 +21,7 @@ use Rattle.world_moves.specs.World.{IsPlan, first_ends, first_world}
 use Rattle.logon_runs.specs.AnyAnswer.AnyLogons.{AreBelow, DrawsUpTo, LogonRests}
 use Rattle.logon_runs.specs.Scenes.Others.{AreAmong, IsDialAmong, IsRoutedAmong, IsStepOn, OthersStay}
 use Rattle.logon_runs.specs.Rests.{AtRest, HasEnough, moved_by, three_in}
-use Rattle.logon_runs.specs.Phases.{Acked, Answers, Binds, BindsBefore, BindsHeld, Calls, Challenged, Coming, Dials, DialsBefore, DialsHeld, DrawsFew, Echoed, Echoes, Granted, Halved, HasThree, LogonPhase, Named, Proved, Sets, Third, scene_of}
+use Rattle.logon_runs.specs.Phases.{Acked, Answers, Binds, BindsBefore, BindsHeld, Calls, Challenged, Arrival, Dials, DialsBefore, DialsHeld, DrawsFew, Echoed, Echoes, Granted, Halved, HasThree, LogonPhase, Named, Proved, Sets, Third, scene_of}
 use Rattle.logon_runs.specs.Scenes.Staying.{HasSameEnds}
 use Rattle.logon_runs.specs.Scenes.WaitingUnits.{waiting}
 use Rattle.logon_runs.specs.AnyAnswer.AnyPhases.{AnyPhase, Away, IsAble, IsAnywhere, IsDone, IsHeard, IsLetIn, IsOnward, Judged, On, Setting, Told, any_scene}
@@ -46,7 +46,7 @@ pub moved_same : (moves : List Move) (s : State) → HasSameEnds s (moved_by mov
 moved_same [] s = ends_stay.none s
 moved_same (what ∷ moves) s = both_same s (act s what).state (moved_by moves (act s what).state) (ends_stay.acts s what) (moved_same moves (act s what).state)
 
-pub heard_still : (plan : Plan) (p : Coming) (s now : State) → IsHeard plan p s → HasSameEnds s now → IsHeard plan p now
+pub heard_still : (plan : Plan) (p : Arrival) (s now : State) → IsHeard plan p s → HasSameEnds s now → IsHeard plan p now
 heard_still plan p s now heard same = record {
   member = reach_still p.meeting.task.server (Member p.meeting.at_member) s now same heard.member;
   controller = elim heard.controller [
@@ -57,7 +57,7 @@ heard_still plan p s now heard same = record {
 
 -- ---- a phase's links are between the three, and so is the dial that waits
 
-module _ (plan : Plan) (p : Coming) (s : State) where
+module _ (plan : Plan) (p : Arrival) (s : State) where
   any_among : (phase : AnyPhase p) (left : List (List ℕ)) (moment : ℕ) → AreAmong (three_in p) (any_scene p phase left moment).opened
   any_among (On phase) left moment = links_among p phase left moment
   any_among (Told a who v client server credential status) left moment = turn_among p v
@@ -115,18 +115,18 @@ module _ (plan : Plan) (p : Coming) (s : State) where
 -- ---- the moves, one after the other
 
 -- what holds since the logon started at rest
-record IsGoing (plan : Plan) (p : Coming) (s now : State) : Type 0 where
+record IsGoing (plan : Plan) (p : Arrival) (s now : State) : Type 0 where
   others : OthersStay (three_in p) s now
   same : HasSameEnds s now
   at : IsAnywhere plan p now ⊎ IsDone plan p now
 
 -- once nothing waits
-record HasFinished (plan : Plan) (p : Coming) (s : State) (moves : ℕ) (now after : State) : Type 0 where
+record HasFinished (plan : Plan) (p : Arrival) (s : State) (moves : ℕ) (now after : State) : Type 0 where
   done : IsDone plan p after
   others : OthersStay (three_in p) s after
   draws : DrawsUpTo (3 * moves) now.chances.left after.chances.left
 
-done_so : (plan : Plan) (p : Coming) (now : State) → IsAnywhere plan p now ⊎ IsDone plan p now → now.dials ≡ [] → waiting now.bag ≡ [] → IsDone plan p now
+done_so : (plan : Plan) (p : Arrival) (now : State) → IsAnywhere plan p now ⊎ IsDone plan p now → now.dials ≡ [] → waiting now.bag ≡ [] → IsDone plan p now
 done_so plan p now (inl at) dials units = absurd (any_phases_go_on.waits plan p now at dials units)
 done_so plan p now (inr over) dials units = over
 
@@ -144,7 +144,7 @@ more_drawn moves before between after few more = record {
 pub none_up_to : (moves : ℕ) (before after : List (List ℕ)) → after ≡ before → DrawsUpTo (3 * moves) before after
 none_up_to moves before after same = record { front = []; few = omega arith; are = sym same }
 
-module _ (plan : Plan) (p : Coming) (s : State) (able : IsAble plan p) (heard : IsHeard plan p s) where
+module _ (plan : Plan) (p : Arrival) (s : State) (able : IsAble plan p) (heard : IsHeard plan p s) where
   -- the member lets the client in
   let_in_ends : (now : State) (moves : List Move) → IsLetIn plan p now → OthersStay (three_in p) s now → AllByRecursion IsStepOn moves →
       (moved_by moves (onward now).state).dials ≡ [] → waiting (moved_by moves (onward now).state).bag ≡ [] →
@@ -229,7 +229,7 @@ pub reached_rests : (plan : Plan) (s : State) (rest : AtRest plan s) (client mem
     (moved_by moves (start number s).state).dials ≡ [] → waiting (moved_by moves (start number s).state).bag ≡ [] →
     LogonRests plan s client three.task (length moves) (start number s).state (moved_by moves (start number s).state)
 reached_rests plan s rest client member controller three account number is forms same chosen to_member reaches moves steps below enough dials units =
-    let p : Coming = coming_from plan s rest client member controller three account account in
+    let p : Arrival = coming_from plan s rest client member controller three account account in
     let first : State = (start number s).state in
     let after : State = moved_by moves first in
     let started : HasStarted plan p first = any_logons_start.starts plan s rest client member controller three account account number is forms chosen in

@@ -20,11 +20,11 @@ use Rattle.logon_steps.proofs.GrantingLaws.{logons_are_granted}
 use Rattle.logon_steps.proofs.MemoCallLaws.{memo_calls_go}
 use Rattle.logon_steps.proofs.TellingLaws.{logons_are_short}
 use Rattle.logon_runs.specs.Scenes.LinkScenes.{its_link, unit_up}
-use Rattle.logon_runs.specs.Runs.{Asked, asked_at, message_for}
-use Rattle.logon_runs.specs.Phases.{Acked, Aim, Answers, Binds, BindsBefore, BindsHeld, Calls, Challenged, Coming, Dials, DialsBefore, DialsHeld, Echoed, Echoes, First, Granted, Halved, HasThree, IsAnswering, LogonPhase, Named, NotYet, Proved, Sets, Third, TurnAt, WhoAsked, key_at, own, own_keeping, progress_of, scene_of, standing_for, step_for, terms_at, turn_before, waits_for, with_its_controller}
+use Rattle.logon_runs.specs.Runs.{ClientAnswer, asked_at, message_for}
+use Rattle.logon_runs.specs.Phases.{Acked, Aim, Answers, Binds, BindsBefore, BindsHeld, Calls, Challenged, Arrival, Dials, DialsBefore, DialsHeld, Echoed, Echoes, First, Granted, Halved, HasThree, IsAnswering, LogonPhase, Named, NotYet, Proved, Sets, Third, TurnAt, WhoAsked, key_at, own, own_keeping, progress_of, scene_of, standing_for, step_for, terms_at, turn_before, waits_for, with_its_controller}
 use Rattle.logon_runs.specs.Scenes.Scene.{Shows}
 use Rattle.logon_runs.specs.Failing.TurnedAway.{AwayPhase, Faulted, Refused, Unheard, away_scene}
-use Rattle.logon_runs.specs.Scenes.TurnScenes.{Turn}
+use Rattle.logon_runs.specs.Scenes.TurnScenes.{TurnScene}
 use Rattle.logon_runs.specs.AnyAnswer.AnyPhases.{AnyPhase, Away, IsAble, GoesTo, IsLeft, IsReadyBy, IsTurningBy, Judged, MayAim, MayFit, MayFitAway, MayFitOn, MayStand, On, Setting, Told, any_scene, progress_in}
 use Rattle.logon_runs.proofs.Scenes.AskSceneLaws.{logons_are_seen}
 use Rattle.logon_runs.proofs.Failing.FailingLaws.{failings_are_seen}
@@ -44,19 +44,19 @@ no_channel = record { secret = []; client = []; server = []; flags = 0; kind = N
 
 -- ---- the phase that follows
 
-away_seen : (p : Coming) (s : State) (phase : AwayPhase p) (left : List (List ℕ)) (moment : ℕ) → Shows s (away_scene p phase left moment) → s.chances.left ≡ left
+away_seen : (p : Arrival) (s : State) (phase : AwayPhase p) (left : List (List ℕ)) (moment : ℕ) → Shows s (away_scene p phase left moment) → s.chances.left ≡ left
 away_seen p s (Refused a who v o c timestamp accounts status) left moment shows = shows.left
 away_seen p s (Unheard a who e) left moment shows = shows.left
 away_seen p s (Faulted a later e status) left moment shows = shows.left
 
-pub any_seen : (p : Coming) (s : State) (phase : AnyPhase p) (left : List (List ℕ)) (moment : ℕ) → Shows s (any_scene p phase left moment) → s.chances.left ≡ left
+pub any_seen : (p : Arrival) (s : State) (phase : AnyPhase p) (left : List (List ℕ)) (moment : ℕ) → Shows s (any_scene p phase left moment) → s.chances.left ≡ left
 any_seen p s (On phase) left moment shows = left_seen p s phase left moment shows
 any_seen p s (Told a who v client server credential status) left moment shows = shows.left
 any_seen p s (Setting a who v o c timestamp new accounts answer) left moment shows = shows.left
 any_seen p s (Judged a who v o c timestamp accounts answer) left moment shows = shows.left
 any_seen p s (Away phase) left moment shows = away_seen p s phase left moment shows
 
-module _ (plan : Plan) (p : Coming) (s : State) where
+module _ (plan : Plan) (p : Arrival) (s : State) where
   -- these challenges were drawn
   pub leads_less : (after : State) (phase : AnyPhase p) (front left : List (List ℕ)) (moment : ℕ) → length front ≤ 3 → s.chances.left ≡ front ++ left → MayFit plan p phase →
       Shows after (any_scene p phase left moment) → GoesTo plan p (progress_in phase) s after
@@ -77,7 +77,7 @@ module _ (plan : Plan) (p : Coming) (s : State) where
       leads _ (On Binds) left moment shows.left tt
       (meetings_are_seen.dialled s (with_its_controller p p.meeting) p.meeting.links left moment (got_last p.meeting.links (ToMember p.meeting.at_client p.meeting.at_member)) ready.heard.member shows)
 
-  lost_left : (a : Asked) (v : TurnAt) → IsTurningBy plan p a v → IsLeft plan p (lost_at p v)
+  lost_left : (a : ClientAnswer) (v : TurnAt) → IsTurningBy plan p a v → IsLeft plan p (lost_at p v)
   lost_left a v is = record {
     joined_so = is.joined_so;
     number_below = is.next_below;
@@ -92,10 +92,10 @@ module _ (plan : Plan) (p : Coming) (s : State) where
     stands = tt;
   }
 
-  module _ (a : Asked) (who : WhoAsked p a) (v : TurnAt) (aim : Aim) (left : List (List ℕ)) (moment : ℕ) (fits : IsTurningBy plan p a v × MayAim plan p v aim) where
+  module _ (a : ClientAnswer) (who : WhoAsked p a) (v : TurnAt) (aim : Aim) (left : List (List ℕ)) (moment : ℕ) (fits : IsTurningBy plan p a v × MayAim plan p v aim) where
     turn_connects_before : IsReadyBy plan p s → Shows s (scene_of p (DialsBefore a who v aim) left moment) → GoesTo plan p NotYet s (connect s).state
     turn_connects_before ready shows =
-        let t : Turn = turn_before p a who.later [] v in
+        let t : TurnScene = turn_before p a who.later [] v in
         elim ready.heard.controller [
           | inl there ↦
               leads _ (On (BindsBefore a who v aim)) left moment shows.left (fits.0, fits.1, there.0)
@@ -109,7 +109,7 @@ module _ (plan : Plan) (p : Coming) (s : State) where
 
     turn_connects : IsReadyBy plan p s → Shows s (scene_of p (DialsHeld a who v aim) left moment) → GoesTo plan p NotYet s (connect s).state
     turn_connects ready shows =
-        let t : Turn = turn_before p a who.later (who.sent ∷ []) v in
+        let t : TurnScene = turn_before p a who.later (who.sent ∷ []) v in
         elim ready.heard.controller [
           | inl there ↦
               leads _ (On (BindsHeld a who v aim)) left moment shows.left (fits.0, fits.1, there.0)
@@ -175,7 +175,7 @@ module _ (plan : Plan) (p : Coming) (s : State) where
       Shows s (scene_of p (Challenged challenge) left moment) → GoesTo plan p NotYet s (onward s).state
   any_challenged challenge left moment able ready block shows =
       let three : HasThree s.chances.left = ready.draws in
-      let a : Asked = asked_at challenge three.one three.two three.three moment in
+      let a : ClientAnswer = asked_at challenge three.one three.two three.three moment in
       let draws : AreDraws three.one three.two three.three = record { client = three.first.0; first = three.second.0; second = three.third.0 } in
       let who : WhoAsked p a =
       memo_calls_go.request 1 p.meeting.task.level 2 0 [] (terms_at p a).session (session_in (key_at p a) (flags_agreed p.meeting.task)) (omega arith) (omega arith) (omega arith) (omega arith)
@@ -191,7 +191,7 @@ module _ (plan : Plan) (p : Coming) (s : State) where
       (left_so s (λ (l : List (List ℕ)). scene_of p (Challenged challenge) l moment) left _ shows.left three.are shows))
 
   -- the first turn of the logon
-  turns_first : (a : Asked) → IsAble plan p → IsAnswering p a → IsTurningBy plan p a (turn_first_of p)
+  turns_first : (a : ClientAnswer) → IsAble plan p → IsAnswering p a → IsTurningBy plan p a (turn_first_of p)
   turns_first a able is = record {
     answering = is;
     joined_so = got_last p.meeting.links (ToMember p.meeting.at_client p.meeting.at_member);
@@ -205,7 +205,7 @@ module _ (plan : Plan) (p : Coming) (s : State) where
   }
 
   -- by how the member's channel stands
-  answers_by : (how : Standing) → p.meeting.how ≡ how → MayStand plan p p.computers how → (a : Asked) (who : WhoAsked p a) (left : List (List ℕ)) (moment : ℕ) → IsAble plan p → IsReadyBy plan p s →
+  answers_by : (how : Standing) → p.meeting.how ≡ how → MayStand plan p p.computers how → (a : ClientAnswer) (who : WhoAsked p a) (left : List (List ℕ)) (moment : ℕ) → IsAble plan p → IsReadyBy plan p s →
       IsAnswering p a → Shows s (scene_of p (Answers a who) left moment) → GoesTo plan p NotYet s (onward s).state
   answers_by standing.Nothing so stands a who left moment able ready is shows =
       let three : HasThree s.chances.left = ready.draws in
@@ -221,7 +221,7 @@ module _ (plan : Plan) (p : Coming) (s : State) where
       (logons_are_seen.asks_again s (own p) o (waits_for p a who.later) a.challenge a.one a.two a.three who.sent a.then_now p.table p.name p.computers left moment
       so (fits_own p able.given) able.can able.names is.draws shows)
 
-  pub any_answers : (a : Asked) (who : WhoAsked p a) (left : List (List ℕ)) (moment : ℕ) → IsAble plan p → IsReadyBy plan p s → IsAnswering p a →
+  pub any_answers : (a : ClientAnswer) (who : WhoAsked p a) (left : List (List ℕ)) (moment : ℕ) → IsAble plan p → IsReadyBy plan p s → IsAnswering p a →
       Shows s (scene_of p (Answers a who) left moment) → GoesTo plan p NotYet s (onward s).state
   any_answers a who left moment able ready is shows =
       answers_by p.meeting.how refl able.stands a who left moment able ready is shows

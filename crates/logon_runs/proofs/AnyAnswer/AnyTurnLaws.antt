@@ -58,11 +58,11 @@ use Rattle.logon_steps.proofs.ControllerTurnLaws.{controllers_step}
 use Rattle.logon_steps.proofs.SetTurnLaws.{controllers_set, set_units_go}
 use Rattle.logon_runs.specs.Failing.FailingSteps.{out_talk, who_fault}
 use Rattle.logon_runs.specs.Scenes.LinkScenes.{its_link, meeting_scene, unit_down}
-use Rattle.logon_runs.specs.Phases.{Acked, Aim, BindsBefore, BindsHeld, Calls, Coming, DialsBefore, DialsHeld, First, FitsStill, Fourth, Halved, HasThree, IsPlanned, IsToSet, NotYet, account_of_caller, own, own_keeping, progress_answered, progress_called, scene_of, Second, standing_for, step_for, terms_at, Third, turn_before, turn_on, TurnAt, waits_for, WasJudged, WasOpened, WasSet, WhoAsked}
-use Rattle.logon_runs.specs.Runs.{Asked, info_asked, message_for}
+use Rattle.logon_runs.specs.Phases.{Acked, Aim, BindsBefore, BindsHeld, Calls, Arrival, DialsBefore, DialsHeld, First, FitsStill, Fourth, Halved, HasThree, IsPlanned, IsToSet, NotYet, account_of_caller, own, own_keeping, progress_answered, progress_called, scene_of, Second, standing_for, step_for, terms_at, Third, turn_before, turn_on, TurnAt, waits_for, WasJudged, WasOpened, WasSet, WhoAsked}
+use Rattle.logon_runs.specs.Runs.{ClientAnswer, info_asked, message_for}
 use Rattle.logon_runs.specs.Scenes.Scene.{Shows}
 use Rattle.logon_runs.specs.Failing.TurnedAway.{away_scene, AwayPhase, Faulted, Refused, Settled, settled_in, Unheard}
-use Rattle.logon_runs.specs.Scenes.TurnScenes.{IsBetween, Turn, dial_scene, turn_scene, unit_back, with_accounts}
+use Rattle.logon_runs.specs.Scenes.TurnScenes.{IsBetween, TurnScene, dial_scene, turn_scene, unit_back, with_accounts}
 use Rattle.logon_runs.specs.AnyAnswer.AnyPhases.{Away, HasMachine, IsAble, IsLeft, GoesTo, IsOwn, IsReadyBy, IsSetRightly, IsThere, IsTurningBy, Judged, KeepsInStep, MayAim, MayFitAway, MaySet, MayStand, On, Setting, Told, proof_reply}
 use Rattle.logon_runs.specs.AnyAnswer.ControllerAnswers.{FindsAccount, ToldChallenge, ToldLogon, ToldProof}
 use Rattle.logon_runs.specs.AnyAnswer.SetAnswers.{ToldSet}
@@ -111,10 +111,10 @@ text_not is = absurd cc
 pub differ_not : {b : Bool} → b ≡ false → b ≡ true → ⊥
 differ_not is that = absurd (let never : false ≡ true = sym is ∙ that in cc)
 
-module _ (plan : Plan) (p : Coming) (s : State) where
+module _ (plan : Plan) (p : Arrival) (s : State) where
   -- ---- the bind, the answer and the call
 
-  module _ (a : Asked) (who : WhoAsked p a) (v : TurnAt) (aim : Aim) (left : List (List ℕ)) (moment : ℕ) (turning : IsTurningBy plan p a v) (aimed : MayAim plan p v aim) where
+  module _ (a : ClientAnswer) (who : WhoAsked p a) (v : TurnAt) (aim : Aim) (left : List (List ℕ)) (moment : ℕ) (turning : IsTurningBy plan p a v) (aimed : MayAim plan p v aim) where
     pub any_dials_held : Shows s (scene_of p (DialsBefore a who v aim) left moment) → GoesTo plan p NotYet s (onward s).state
     any_dials_held shows =
         leads plan p s _ (On (DialsHeld a who v aim)) left moment shows.left (turning, aimed)
@@ -126,7 +126,7 @@ module _ (plan : Plan) (p : Coming) (s : State) where
 
     pub any_binds_held : IsThere plan p → Shows s (scene_of p (BindsBefore a who v aim) left moment) → GoesTo plan p NotYet s (onward s).state
     any_binds_held there shows =
-        let t : Turn = turn_before p a who.later [] v in
+        let t : TurnScene = turn_before p a who.later [] v in
         leads plan p s _ (On (BindsHeld a who v aim)) left moment shows.left (turning, aimed, there)
         (logons_are_seen.held_within s (own p) (turn_on p a who.later [] v aim) v.next v.number 1 2 0 (step_for p a aim) v.computers _ [] _ _ who _
         left moment refl (turns_have_links.own (own p) t (standing_for aim) turning.joined_so) (turns_have_links.apart (own p) t turning.joined_so) shows)
@@ -144,7 +144,7 @@ module _ (plan : Plan) (p : Coming) (s : State) where
   -- ---- the controller answers
 
   -- the turn, with what the controller keeps then
-  turning_with : (a : Asked) (v : TurnAt) (later : Computers) → IsTurningBy plan p a v →
+  turning_with : (a : ClientAnswer) (v : TurnAt) (later : Computers) → IsTurningBy plan p a v →
       ((other : List ℕ) → same_name p.meeting.caller.computer other ≡ false → lookup same_name other later.channels ≡ lookup same_name other v.computers.channels) → IsThere plan p →
       IsTurningBy plan p a (record v { computers = later })
   turning_with a v later is kept there = record {
@@ -202,7 +202,7 @@ module _ (plan : Plan) (p : Coming) (s : State) where
         in_step = calls_are_answered.stays o step_so.channel timestamp step_so.in_step;
       }
 
-  module _ (a : Asked) (who : WhoAsked p a) (v : TurnAt) (left : List (List ℕ)) (moment : ℕ) (able : IsAble plan p) (turning : IsTurningBy plan p a v) (there : IsThere plan p) where
+  module _ (a : ClientAnswer) (who : WhoAsked p a) (v : TurnAt) (left : List (List ℕ)) (moment : ℕ) (able : IsAble plan p) (turning : IsTurningBy plan p a v) (there : IsThere plan p) where
     first_answered : (client : List ℕ) → IsReadyBy plan p s → MayAim plan p v (First client) → Shows s (scene_of p (Calls a who v (First client)) left moment) → GoesTo plan p NotYet s (onward s).state
     first_answered client ready aimed shows =
         let three : HasThree s.chances.left = ready.draws in
@@ -353,7 +353,7 @@ module _ (plan : Plan) (p : Coming) (s : State) where
     fourth_answered : (o c : SecureChannelState) (timestamp : ℕ) (new : List ℕ) → MayAim plan p v (Fourth o c timestamp new) →
         Shows s (scene_of p (Calls a who v (Fourth o c timestamp new)) left moment) → GoesTo plan p (WasSet o) s (onward s).state
     fourth_answered o c timestamp new aimed shows =
-        let t : Turn = turn_on p a who.later (who.sent ∷ []) v (Fourth o c timestamp new) in
+        let t : TurnScene = turn_on p a who.later (who.sent ∷ []) v (Fourth o c timestamp new) in
         let call : SetCall = change_call p.meeting.caller o timestamp new in
         let can : IsSetTurn call = set_units_go.call p.meeting.caller o timestamp new able.caller aimed.0 in
         let told : ToldSet v.table p.name v.computers (length v.links) moment v.next timestamp p.meeting.caller o new left =
@@ -382,7 +382,7 @@ module _ (plan : Plan) (p : Coming) (s : State) where
               (told.steps ∙ ap acts text.1) shows
         ])
 
-  pub any_calls : (a : Asked) (who : WhoAsked p a) (v : TurnAt) (aim : Aim) (left : List (List ℕ)) (moment : ℕ) → IsAble plan p → IsReadyBy plan p s → IsTurningBy plan p a v → MayAim plan p v aim →
+  pub any_calls : (a : ClientAnswer) (who : WhoAsked p a) (v : TurnAt) (aim : Aim) (left : List (List ℕ)) (moment : ℕ) → IsAble plan p → IsReadyBy plan p s → IsTurningBy plan p a v → MayAim plan p v aim →
       IsThere plan p → Shows s (scene_of p (Calls a who v aim) left moment) → GoesTo plan p (progress_answered a aim) s (onward s).state
   any_calls a who v (First client) left moment able ready turning aimed there shows = first_answered a who v left moment able turning there client ready aimed shows
   any_calls a who v (Second client server) left moment able ready turning aimed there shows = second_answered a who v left moment able turning there client server aimed shows
@@ -391,7 +391,7 @@ module _ (plan : Plan) (p : Coming) (s : State) where
 
   -- ---- the member takes the replies
 
-  pub turning_after : (a : Asked) (who : WhoAsked p a) (v : TurnAt) (aim : Aim) → IsTurningBy plan p a v → IsTurningBy plan p a (turn_after p v)
+  pub turning_after : (a : ClientAnswer) (who : WhoAsked p a) (v : TurnAt) (aim : Aim) → IsTurningBy plan p a v → IsTurningBy plan p a (turn_after p v)
   turning_after a who v aim is = record {
     answering = is.answering;
     joined_so = turns_have_links.met (own p) (turn_before p a who.later (who.sent ∷ []) v) (standing_for aim) is.joined_so;
@@ -404,11 +404,11 @@ module _ (plan : Plan) (p : Coming) (s : State) where
     fits = is.fits;
   }
 
-  pub any_halved : (a : Asked) (who : WhoAsked p a) (v : TurnAt) (client server : List ℕ) (left : List (List ℕ)) (moment : ℕ) → IsTurningBy plan p a v → IsBlock 8 server →
+  pub any_halved : (a : ClientAnswer) (who : WhoAsked p a) (v : TurnAt) (client server : List ℕ) (left : List (List ℕ)) (moment : ℕ) → IsTurningBy plan p a v → IsBlock 8 server →
       MayAim plan p v (Second client server) → Shows s (scene_of p (Halved a who v client server) left moment) → GoesTo plan p NotYet s (onward s).state
   any_halved a who v client server left moment turning block aimed shows =
-      let t : Turn = turn_before p a who.later (who.sent ∷ []) v in
-      let out : Turn = turn_on p a who.later (who.sent ∷ []) v (First client) in
+      let t : TurnScene = turn_before p a who.later (who.sent ∷ []) v in
+      let out : TurnScene = turn_on p a who.later (who.sent ∷ []) v (First client) in
       leads plan p s _ (On (DialsHeld a who (turn_after p v) (Second client server))) left moment shows.left (turning_after a who v (First client) turning, aimed)
       (subst (λ (map : OpenMap). Shows (onward s).state
       (dial_scene out map (standing.Half client server) (after (after v.next)) (after v.next) (auth_call p.meeting.caller client server) v.computers [] left moment))
@@ -417,11 +417,11 @@ module _ (plan : Plan) (p : Coming) (s : State) where
       turning.next_below refl (calls_can_go.challenged client server block) shows))
 
   -- what is left where the turn ends, with these secrets
-  abbrev pub left_with : SecretsState → (a : Asked) → WhoAsked p a → TurnAt → Aim → Standing → AccountTable → Settled
+  abbrev pub left_with : SecretsState → (a : ClientAnswer) → WhoAsked p a → TurnAt → Aim → Standing → AccountTable → Settled
   left_with secrets a who v aim how accounts =
       record { secrets = secrets; how = how; number = after v.next; links = (turn_on p a who.later (who.sent ∷ []) v aim).links; table = accounts; computers = v.computers }
 
-  module _ (a : Asked) (who : WhoAsked p a) (v : TurnAt) (aim : Aim) (left : List (List ℕ)) (moment : ℕ) (accounts : AccountTable) (turning : IsTurningBy plan p a v)
+  module _ (a : ClientAnswer) (who : WhoAsked p a) (v : TurnAt) (aim : Aim) (left : List (List ℕ)) (moment : ℕ) (accounts : AccountTable) (turning : IsTurningBy plan p a v)
       (differs : DifferInCounts v.table accounts) (ranged : InRangeTable accounts) where
     pub left_so_far : (how : Standing) → MayStand plan p v.computers how → ((o : SecureChannelState) → how ≡ standing.Open o → v.secrets.next ≡ None) →
         IsLeft plan p (left_with v.secrets a who v aim how accounts)
@@ -440,7 +440,7 @@ module _ (plan : Plan) (p : Coming) (s : State) where
     }
 
   -- where it is dropped, and the channel with it
-  pub dropped_left : (secrets : SecretsState) (a : Asked) (who : WhoAsked p a) (v : TurnAt) (aim : Aim) (before accounts : AccountTable) → IsTurningBy plan p a v → IsNextSecret secrets.next →
+  pub dropped_left : (secrets : SecretsState) (a : ClientAnswer) (who : WhoAsked p a) (v : TurnAt) (aim : Aim) (before accounts : AccountTable) → IsTurningBy plan p a v → IsNextSecret secrets.next →
       MaySet plan p before → DifferInCounts before accounts → InRangeTable accounts → (IsOwn plan p → FitsStill p accounts secrets) →
       IsLeft plan p (left_with secrets a who v aim standing.Nothing accounts)
   dropped_left secrets a who v aim before accounts turning next set differs ranged fits = record {
@@ -458,7 +458,7 @@ module _ (plan : Plan) (p : Coming) (s : State) where
   }
 
   -- what is seen then: the channel has the next secret that it was given
-  pub dropped_seen : (a : Asked) (who : WhoAsked p a) (v : TurnAt) (aim : Aim) (left : List (List ℕ)) (moment : ℕ) (denied : Bool) (accounts : AccountTable) (then_so : State) →
+  pub dropped_seen : (a : ClientAnswer) (who : WhoAsked p a) (v : TurnAt) (aim : Aim) (left : List (List ℕ)) (moment : ℕ) (denied : Bool) (accounts : AccountTable) (then_so : State) →
       Shows then_so (meeting_scene (settled_with (secrets_dropped denied v.secrets)
       (settled_at (own_keeping p v.secrets) accounts p.name v.computers standing.Nothing (after v.next) (turn_on p a who.later (who.sent ∷ []) v aim).links)) (waits_for p a who.later)
       (out_talk p.meeting.task rpc_s_server_unavailable) (unit_down (own p) (who_fault rpc_s_server_unavailable) ∷ []) left moment) →
@@ -469,7 +469,7 @@ module _ (plan : Plan) (p : Coming) (s : State) where
       (meeting_scene (record (settled_in p e) { given = record { secret = p.meeting.caller.secret; next = next } }) (waits_for p a who.later) (out_talk p.meeting.task rpc_s_server_unavailable)
       (unit_down (own p) (who_fault rpc_s_server_unavailable) ∷ []) left moment)) (next_dropped denied v.secrets) shows
 
-  module _ (a : Asked) (who : WhoAsked p a) (v : TurnAt) (aim : Aim) (left : List (List ℕ)) (moment : ℕ) (accounts : AccountTable) (turning : IsTurningBy plan p a v)
+  module _ (a : ClientAnswer) (who : WhoAsked p a) (v : TurnAt) (aim : Aim) (left : List (List ℕ)) (moment : ℕ) (accounts : AccountTable) (turning : IsTurningBy plan p a v)
       (differs : DifferInCounts v.table accounts) (ranged : InRangeTable accounts) where
     pub dropped_on : (q : Question) (r : Reply) (cause : DropCause) → (IsOwn plan p → FitsStill p accounts (secrets_dropped (is_denied cause) v.secrets)) → IsTurnReply q r →
         judge q r (standing_for aim) p.meeting.caller.secret ≡ judgement.Drop cause →
@@ -477,8 +477,8 @@ module _ (plan : Plan) (p : Coming) (s : State) where
         (unit_back (with_accounts accounts (turn_on p a who.later (who.sent ∷ []) v aim)) (reply_bytes v.next r) ∷ []) left moment) → GoesTo plan p NotYet s (onward s).state
     dropped_on q r cause fits goes judged shows =
         let how : Standing = standing_for aim in
-        let before : Turn = turn_before p a who.later (who.sent ∷ []) v in
-        let out : Turn = turn_on p a who.later (who.sent ∷ []) v aim in
+        let before : TurnScene = turn_before p a who.later (who.sent ∷ []) v in
+        let out : TurnScene = turn_on p a who.later (who.sent ∷ []) v aim in
         let secrets : SecretsState = secrets_dropped (is_denied cause) v.secrets in
         leads plan p s _ (Away (Faulted a who.later (left_with secrets a who v aim standing.Nothing accounts) rpc_s_server_unavailable)) left moment shows.left
         (dropped_left secrets a who v aim v.table accounts turning (form_dropped (is_denied cause) v.secrets turning.next) turning.set differs ranged fits, omega arith)
@@ -495,8 +495,8 @@ module _ (plan : Plan) (p : Coming) (s : State) where
         (unit_back (with_accounts accounts (turn_on p a who.later (who.sent ∷ []) v aim)) (reply_bytes v.next r) ∷ []) left moment) → GoesTo plan p NotYet s (onward s).state
     refused_on r o status goes judged stands one shows =
         let how : Standing = standing_for aim in
-        let before : Turn = turn_before p a who.later (who.sent ∷ []) v in
-        let out : Turn = turn_on p a who.later (who.sent ∷ []) v aim in
+        let before : TurnScene = turn_before p a who.later (who.sent ∷ []) v in
+        let out : TurnScene = turn_on p a who.later (who.sent ∷ []) v aim in
         leads plan p s _ (Away (Faulted a who.later (left_with v.secrets a who v aim (standing.Open o) accounts) error_access_denied)) left moment shows.left
         (left_so_far a who v aim left moment accounts turning differs ranged (standing.Open o) stands (λ state is. one), omega arith)
         (failings_are_seen.refused s (own_keeping p v.secrets) (waits_for p a who.later) out.info a.challenge (message_for (own p) a) accounts p.name how o out.links out.opened (length v.links)

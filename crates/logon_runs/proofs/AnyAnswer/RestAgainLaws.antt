@@ -35,7 +35,7 @@ use Rattle.logon_steps.specs.ClientSteps.{client_ended}
 use Rattle.logon_steps.specs.ControllerTurns.{controller_at}
 use Rattle.logon_runs.specs.Scenes.Others.{OthersStay}
 use Rattle.logon_runs.specs.Rests.{AtRest, ClientRests, ControllerRests, FitsSecretAt, HasOwnName, IsInStepAt, KeepsUsers, MemberRests, StandsWell, channel_account, three_of}
-use Rattle.logon_runs.specs.Phases.{Coming, FitsCaller}
+use Rattle.logon_runs.specs.Phases.{Arrival, FitsCaller}
 use Rattle.logon_runs.specs.AnyAnswer.AnyPhases.{IsDone, KeepsInStep, MaySet, MayStand}
 use Rattle.logon_runs.specs.AnyAnswer.AnyStarts.{AreThree, IsReachedOrNot, coming_from}
 use Rattle.logon_runs.proofs.FirstLogon.FirstTraceLaws.{after_below}
@@ -102,7 +102,7 @@ keeps_both old mid new first second user account found kind =
 keeps_counted : (old new : AccountTable) → DifferInCounts old new → KeepsUsers old new
 keeps_counted old new differ user account found kind = computers_are_known.stands old new user account differ found
 
-module _ (plan : Plan) (p : Coming) where
+module _ (plan : Plan) (p : Arrival) where
   set_states : (table : AccountTable) → MaySet plan p table → DifferInStates p.table table
   set_states table (inl same) = subst (DifferInStates p.table) (sym same) (states-none p.table)
   set_states table (inr set) = subst (DifferInStates p.table) (sym set.1.is) (with_hash-differs set.1.place set.1.hash p.table)
@@ -119,7 +119,7 @@ module _ (plan : Plan) (p : Coming) where
 
 -- the account that its controller has for its channel has the secret that the member tries
 module _ (plan : Plan) (s : State) (rest : AtRest plan s) (client member controller : ℕ) (three : AreThree plan client member controller) (account machine : Account) where
-  abbrev starting : Coming
+  abbrev starting : Arrival
   starting = coming_from plan s rest client member controller three account machine
 
   pub fits_now : HasOwnName plan member three.member_plan controller → FitsCaller starting.table starting.meeting.caller starting.meeting.plan.secrets
@@ -135,7 +135,7 @@ module _ (plan : Plan) (s : State) (rest : AtRest plan s) (client member control
 module _ (plan : Plan) (s : State) (rest : AtRest plan s) (client member controller : ℕ) (three : AreThree plan client member controller) (account machine : Account) (after : State)
     (reaches : IsReachedOrNot plan member three.member_plan controller) (others : OthersStay (three_of client member controller) s after)
     (over : IsDone plan (coming_from plan s rest client member controller three account machine) after) where
-  abbrev coming : Coming
+  abbrev coming : Arrival
   coming = coming_from plan s rest client member controller three account machine
 
   -- its own controller

@@ -20,7 +20,7 @@ use Rattle.logon_steps.specs.ClientSteps.{client_ended}
 use Rattle.logon_runs.specs.AnyAnswer.AnyLogons.{LogonRests}
 use Rattle.logon_runs.specs.Scenes.LinkScenes.{rest_scene}
 use Rattle.logon_runs.specs.Scenes.Others.{AreAmong, IsDialAmong, IsRoutedAmong, IsStepOn, OthersStay}
-use Rattle.logon_runs.specs.Phases.{Coming, Dials, scene_of, with_its_controller}
+use Rattle.logon_runs.specs.Phases.{Arrival, Dials, scene_of, with_its_controller}
 use Rattle.logon_runs.specs.Rests.{AtRest, ClientRests, moved_by, three_in}
 use Rattle.logon_runs.specs.Scenes.Scene.{Scene, Shows}
 use Rattle.logon_runs.specs.Scenes.Staying.{HasSameEnds}
@@ -39,17 +39,17 @@ use Rattle.logon_runs.proofs.SecretRestLaws.{same_or_not}
 use Rattle.wire_base.proofs.ListLaws.{some_is}
 
 -- the client has its outcome, and all else is as at rest
-abbrev pub unanswered : Coming → List (List ℕ) → ℕ → Scene
+abbrev pub unanswered : Arrival → List (List ℕ) → ℕ → Scene
 unanswered p left moment = rest_scene (with_its_controller p p.meeting) (client_ended p.meeting.task (NoAnswer no_answer.DialFailed)) p.meeting.links left moment []
 
 -- its dial waits, or nobody answered it; these challenges are left
-record IsCalling (p : Coming) (left : List (List ℕ)) (s now : State) : Type 0 where
+record IsCalling (p : Arrival) (left : List (List ℕ)) (s now : State) : Type 0 where
   moment : ℕ
   others : OthersStay (three_in p) s now
   same : HasSameEnds s now
   shows : Shows now (scene_of p Dials left moment) ⊎ Shows now (unanswered p left moment)
 
-module _ (p : Coming) (left : List (List ℕ)) (s : State) (nobody : route_to (Client p.meeting.at_client) (end_of_peer p.meeting.task.server s.ends) ≡ None) where
+module _ (p : Arrival) (left : List (List ℕ)) (s : State) (nobody : route_to (Client p.meeting.at_client) (end_of_peer p.meeting.task.server s.ends) ≡ None) where
   nobody_now : (now : State) → HasSameEnds s now → route_to (Client p.meeting.at_client) (end_of_peer p.meeting.task.server now.ends) ≡ None
   nobody_now now same = route_still (Client p.meeting.at_client) p.meeting.task.server s now same ∙ nobody
 
@@ -94,7 +94,7 @@ module _ (p : Coming) (left : List (List ℕ)) (s : State) (nobody : route_to (C
       })
 
 -- the dial waits no more
-answered_so : (p : Coming) (left : List (List ℕ)) (now : State) (moment : ℕ) → Shows now (scene_of p Dials left moment) ⊎ Shows now (unanswered p left moment) → now.dials ≡ [] →
+answered_so : (p : Arrival) (left : List (List ℕ)) (now : State) (moment : ℕ) → Shows now (scene_of p Dials left moment) ⊎ Shows now (unanswered p left moment) → now.dials ≡ [] →
     Shows now (unanswered p left moment)
 answered_so p left now moment (inl shows) none = absurd (one_waits now.dials _ [] shows.dials none)
 answered_so p left now moment (inr shows) none = shows
@@ -105,7 +105,7 @@ pub unreached_rests : (plan : Plan) (s : State) (rest : AtRest plan s) (client m
     (moves : List Move) → AllByRecursion IsStepOn moves → (moved_by moves (start number s).state).dials ≡ [] →
     LogonRests plan s client three.task (length moves) (start number s).state (moved_by moves (start number s).state)
 unreached_rests plan s rest client member controller three account number same chosen nobody moves steps dials =
-    let p : Coming = coming_from plan s rest client member controller three account account in
+    let p : Arrival = coming_from plan s rest client member controller three account account in
     let first : State = (start number s).state in
     let after : State = moved_by moves first in
     let begun : Shows first (scene_of p Dials s.chances.left s.moment) = begins_seen plan s rest client member controller three account account number chosen in

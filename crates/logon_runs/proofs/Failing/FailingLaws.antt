@@ -34,7 +34,7 @@ use Rattle.world_moves.specs.declared.links.EndId.TheVariants.{Client, Member}
 use Rattle.world_moves.specs.declared.links.Route.{Route}
 use Rattle.world_moves.specs.declared.state.State.{State}
 use Rattle.world_moves.specs.declared.state.WaitingDial.{WaitingDial}
-use Rattle.world_moves.specs.Acting.{Heard, done, hear, perform_all_quietly}
+use Rattle.world_moves.specs.Acting.{AfterHearing, done, hear, perform_all_quietly}
 use Rattle.world_moves.specs.Ends.{EndStates}
 use Rattle.world_moves.specs.Links.{OpenMap}
 use Rattle.world_moves.specs.Moving.{connect, connect_by, connect_first, end_of_peer, onward, route_to, without_first}
@@ -49,7 +49,7 @@ use Rattle.logon_runs.specs.Failing.FailingSteps.{out_talk, who_fault}
 use Rattle.logon_runs.specs.Failing.Failings.{failing_turn, FailingsAreSeen, settled_at, settled_with}
 use Rattle.logon_runs.specs.Scenes.LinkScenes.{given_caller, Meeting, meeting_scene, rest_scene, unit_down, unit_up}
 use Rattle.logon_runs.specs.Scenes.Scene.{IsNoClose, Scene, Shows, dials_made, units_sent, with_actions}
-use Rattle.logon_runs.specs.Scenes.TurnScenes.{Turn, unit_back}
+use Rattle.logon_runs.specs.Scenes.TurnScenes.{TurnScene, unit_back}
 use Rattle.logon_runs.specs.Scenes.WaitingUnits.{after_hearing, with_client_at, with_member_at}
 use Rattle.logon_runs.proofs.Failing.FailingStepLaws.{failings_step, fault_sends}
 use Rattle.logon_runs.proofs.Scenes.LinkSceneLaws.{closes_own, heard_down, heard_up, none_left, sent_down}
@@ -75,7 +75,7 @@ lands_failed s v end peer dials ends actions client member controller shows wait
     let is : (connect s).state ≡ s3 =
     ap (λ (d : List WaitingDial). (connect_first (slice_get d 0) (without_first s)).state) (shows.dials ∙ waits)
     ∙ ap (λ (r : Option Route). (connect_by r end (without_first s)).state) reaches
-    ∙ ap (λ (h : Heard). (done end h).state) heard
+    ∙ ap (λ (h : AfterHearing). (done end h).state) heard
     ∙ performed_quietly end actions s2 none_close in
     subst (λ (t : State). Shows t (with_actions end actions v.left (record v { client = client; member = member; controller = controller; dials = dials }))) (sym is) (record {
       client = ap (λ (e : EndStates). slice_get e.clients v.at_client) leaves.ends ∙ is_client;
@@ -127,7 +127,7 @@ failings_are_seen = record {
       (action.Told g.link (outcome.NoController drop_cause.DialFailed) ∷ action.Send g.link (who_fault rpc_s_server_unavailable) ∷ []) shows refl reaches (tt, (tt, tt))
       (failings_step.dial_fails_held g.plan g.caller how info g.place next number moment most what (logon_for g.link g.task challenge message) g.task one other left who));
   dropped = λ s g waits info challenge message table name how links opened link next number most q r cause computers one other left moment who below between is judged joined taken shows.
-      let t : Turn = failing_turn g waits info challenge message (who.sent ∷ []) table name how links opened link in
+      let t : TurnScene = failing_turn g waits info challenge message (who.sent ∷ []) table name how links opened link in
       let g1 : Meeting = settled_with (secrets_dropped (is_denied cause) g.plan.secrets) (settled_at g table name computers standing.Nothing next links) in
       let talk = out_talk g.task rpc_s_server_unavailable in
       subst (λ (now_open : OpenMap). Shows (onward s).state (record (meeting_scene g1 waits talk (unit_down g (who_fault rpc_s_server_unavailable) ∷ []) left moment) { opened = now_open })) taken
@@ -140,7 +140,7 @@ failings_are_seen = record {
       (failings_step.drops g.plan g.caller how info g.place next number link moment most q r cause (logon_for g.link g.task challenge message) g.task one other left below is judged who)
       (controllers_step.closed table name computers link moment _ left)));
   set_dropped = λ s g waits info challenge message table name how links opened link next number most r cause computers one other left moment who below between is judged joined taken shows.
-      let t : Turn = failing_turn g waits info challenge message (who.sent ∷ []) table name how links opened link in
+      let t : TurnScene = failing_turn g waits info challenge message (who.sent ∷ []) table name how links opened link in
       let g1 : Meeting = settled_with (secrets_dropped (is_denied cause) g.plan.secrets) (settled_at g table name computers standing.Nothing next links) in
       let talk = out_talk g.task rpc_s_server_unavailable in
       subst (λ (now_open : OpenMap). Shows (onward s).state (record (meeting_scene g1 waits talk (unit_down g (who_fault rpc_s_server_unavailable) ∷ []) left moment) { opened = now_open })) taken
@@ -153,7 +153,7 @@ failings_are_seen = record {
       (failings_step.set_drops g.plan g.caller how info g.place next number link moment most r cause (logon_for g.link g.task challenge message) g.task one other left below is judged who)
       (controllers_step.closed table name computers link moment _ left)));
   refused = λ s g waits info challenge message table name how o links opened link next number most status q r computers one other left moment who below between is judged joined taken shows.
-      let t : Turn = failing_turn g waits info challenge message (who.sent ∷ []) table name how links opened link in
+      let t : TurnScene = failing_turn g waits info challenge message (who.sent ∷ []) table name how links opened link in
       let g1 : Meeting = settled_at g table name computers (standing.Open o) next links in
       let talk = out_talk g.task error_access_denied in
       subst (λ (now_open : OpenMap). Shows (onward s).state (record (meeting_scene g1 waits talk (unit_down g (who_fault error_access_denied) ∷ []) left moment) { opened = now_open })) taken

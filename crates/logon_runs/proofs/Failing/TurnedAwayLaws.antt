@@ -59,10 +59,10 @@ use Rattle.logon_steps.proofs.KnowingLaws.{computers_are_known}
 use Rattle.logon_runs.specs.Scenes.LinkScenes.{rest_scene}
 use Rattle.logon_runs.specs.Scenes.Others.{IsStepOn}
 use Rattle.logon_client.specs.declared.outcome.ClientOutcome.TheVariants.{In}
-use Rattle.logon_runs.specs.Phases.{key_at, told_of, Aim, Calls, Coming, DialsBefore, DialsHeld, Fits, IsKnown, IsTurning, Third, TurnAt, WhoAsked, own, own_keeping, scene_of, standing_for, step_for, turn_before, turn_on, waits_for}
-use Rattle.logon_runs.specs.Runs.{Asked, info_asked, message_for, with_moved}
+use Rattle.logon_runs.specs.Phases.{key_at, told_of, Aim, Calls, Arrival, DialsBefore, DialsHeld, Fits, IsKnown, IsTurning, Third, TurnAt, WhoAsked, own, own_keeping, scene_of, standing_for, step_for, turn_before, turn_on, waits_for}
+use Rattle.logon_runs.specs.Runs.{ClientAnswer, info_asked, message_for, with_moved}
 use Rattle.logon_runs.specs.Scenes.Scene.{Shows}
-use Rattle.logon_runs.specs.Scenes.TurnScenes.{Turn}
+use Rattle.logon_runs.specs.Scenes.TurnScenes.{TurnScene}
 use Rattle.logon_runs.specs.Failing.TurnedAway.{AwayPhase, Faulted, FitsAway, IsAway, IsRefusal, IsSettled, HasEnded, LogonsAreTurnedAway, Refused, Settled, Unheard, away_scene, refusing, settled_in}
 use Rattle.logon_runs.specs.Scenes.WaitingUnits.{waiting}
 use Rattle.logon_runs.proofs.Failing.FailingLaws.{failings_are_seen}
@@ -129,7 +129,7 @@ verdict_refuses table name info now = routed_refuses (route_in table info.domain
 pub refusal_from : (found : Verdict) (status : ℕ) → IsRefusalOf found → found ≡ verdict.Status status → IsRefusal status
 refusal_from found status is same = subst IsRefusalOf same is
 
-refusals_so : (p : Coming) (table : AccountTable) (a : Asked) (moment status : ℕ) → verdict_of table p.name (info_asked (own p) a) moment ≡ verdict.Status status → IsRefusal status
+refusals_so : (p : Arrival) (table : AccountTable) (a : ClientAnswer) (moment status : ℕ) → verdict_of table p.name (info_asked (own p) a) moment ≡ verdict.Status status → IsRefusal status
 refusals_so p table a moment status is = refusal_from _ status (verdict_refuses table p.name (info_asked (own p) a) moment) is
 
 -- ---- the reply that refuses can be taken
@@ -160,11 +160,11 @@ refused_judged o timestamp status secret is =
     ∙ ap (λ (same : Bool). judge_awaited same status level_asked None (after_call o timestamp)) (same_bytes (return_of (key_of_channel o) o.seed timestamp))
     ∙ ap (λ (z : Bool). judge_status z status level_asked None (after_return true (after_call o timestamp))) is.not_zero
 
-judged_range : (p : Coming) (table : AccountTable) (a : Asked) (moment : ℕ) → InRangeTable table → InRangeTable (table_after table (info_asked (own p) a) moment)
+judged_range : (p : Arrival) (table : AccountTable) (a : ClientAnswer) (moment : ℕ) → InRangeTable table → InRangeTable (table_after table (info_asked (own p) a) moment)
 unfolding judgement_of
 judged_range p table a moment range = judged_table table p.name moment (info_asked (own p) a) level_asked range
 
-refuses_so : (p : Coming) (s : State) (a : Asked) (who : WhoAsked p a) (v : TurnAt) (o c : SecureChannelState) (timestamp : ℕ) (left : List (List ℕ)) (moment status : ℕ) → IsKnown p →
+refuses_so : (p : Arrival) (s : State) (a : ClientAnswer) (who : WhoAsked p a) (v : TurnAt) (o c : SecureChannelState) (timestamp : ℕ) (left : List (List ℕ)) (moment status : ℕ) → IsKnown p →
     Fits p (Calls a who v (Third o c timestamp)) → verdict_of v.table p.name (info_asked (own p) a) moment ≡ verdict.Status status →
     Shows s (scene_of p (Calls a who v (Third o c timestamp)) left moment) → IsAway p (onward s).state
 refuses_so p s a who v o c timestamp left moment status known fits is shows =
@@ -174,7 +174,7 @@ refuses_so p s a who v o c timestamp left moment status known fits is shows =
     let accounts : AccountTable = table_after v.table (info_asked (own p) a) moment in
     let rest : List (List ℕ × SecureChannelState) = take_out same_name name v.computers.channels in
     let link : ℕ = length v.links in
-    let out : Turn = turn_on p a who.later (who.sent ∷ []) v (Third o c timestamp) in
+    let out : TurnScene = turn_on p a who.later (who.sent ∷ []) v (Third o c timestamp) in
     record {
       phase = Refused a who (record v { computers = later }) o c timestamp accounts status;
       left = left;
@@ -211,13 +211,13 @@ refuses_so p s a who v o c timestamp left moment status known fits is shows =
 
 -- ---- a dial that reaches no controller
 
-abbrev pub lost_at : Coming → TurnAt → Settled
+abbrev pub lost_at : Arrival → TurnAt → Settled
 lost_at p v = record { secrets = v.secrets; how = standing.Nothing; number = v.next; links = v.links; table = v.table; computers = v.computers }
 
 pub nothing_not_open : (o : SecureChannelState) → standing.Nothing ≡ standing.Open o → ⊥
 nothing_not_open o is = absurd cc
 
-lost_so : (p : Coming) (a : Asked) (v : TurnAt) → InRangeTable p.table → IsTurning p a v → IsSettled p (lost_at p v)
+lost_so : (p : Arrival) (a : ClientAnswer) (v : TurnAt) → InRangeTable p.table → IsTurning p a v → IsSettled p (lost_at p v)
 lost_so p a v ranged is = record {
   joined_so = is.joined_so;
   number_below = is.next_below;
@@ -234,13 +234,13 @@ lost_so p a v ranged is = record {
 
 -- ---- a unit comes
 
-refused_on : (p : Coming) (s : State) (a : Asked) (who : WhoAsked p a) (v : TurnAt) (o c : SecureChannelState) (timestamp : ℕ) (accounts : AccountTable) (status : ℕ)
+refused_on : (p : Arrival) (s : State) (a : ClientAnswer) (who : WhoAsked p a) (v : TurnAt) (o c : SecureChannelState) (timestamp : ℕ) (accounts : AccountTable) (status : ℕ)
     (left : List (List ℕ)) (moment : ℕ) → FitsAway p (Refused a who v o c timestamp accounts status) → Shows s (away_scene p (Refused a who v o c timestamp accounts status) left moment) →
     IsAway p (onward s).state
 refused_on p s a who v o c timestamp accounts status left moment fits shows =
     let how : Standing = standing.Open (after_call o timestamp) in
-    let before : Turn = turn_before p a who.later (who.sent ∷ []) v in
-    let out : Turn = turn_on p a who.later (who.sent ∷ []) v (Third o c timestamp) in
+    let before : TurnScene = turn_before p a who.later (who.sent ∷ []) v in
+    let out : TurnScene = turn_on p a who.later (who.sent ∷ []) v (Third o c timestamp) in
     let o_then : SecureChannelState = after_return true (after_call o timestamp) in
     record {
       phase = Faulted a who.later (record { secrets = v.secrets; how = standing.Open o_then; number = after v.next; links = out.links; table = accounts; computers = v.computers }) error_access_denied;
@@ -269,7 +269,7 @@ refused_on p s a who v o c timestamp accounts status left moment fits shows =
           (turns_have_links.taken (own p) before how fits.0.joined_so) shows;
     }
 
-comes_on : (p : Coming) (s : State) (phase : AwayPhase p) (left : List (List ℕ)) (moment : ℕ) → FitsAway p phase → Shows s (away_scene p phase left moment) →
+comes_on : (p : Arrival) (s : State) (phase : AwayPhase p) (left : List (List ℕ)) (moment : ℕ) → FitsAway p phase → Shows s (away_scene p phase left moment) →
     IsAway p (onward s).state ⊎ HasEnded p (onward s).state
 comes_on p s (Refused a who v o c timestamp accounts status) left moment fits shows = inl (refused_on p s a who v o c timestamp accounts status left moment fits shows)
 comes_on p s (Unheard a who e) left moment fits shows =
@@ -292,18 +292,18 @@ comes_on p s (Faulted a later e status) left moment fits shows =
 
 -- ---- a move
 
-connects_on : (p : Coming) (s : State) (phase : AwayPhase p) (left : List (List ℕ)) (moment : ℕ) → Shows s (away_scene p phase left moment) → Shows (act s move.Connect).state (away_scene p phase left moment)
+connects_on : (p : Arrival) (s : State) (phase : AwayPhase p) (left : List (List ℕ)) (moment : ℕ) → Shows s (away_scene p phase left moment) → Shows (act s move.Connect).state (away_scene p phase left moment)
 connects_on p s (Refused a who v o c timestamp accounts status) left moment shows = starts_are_seen.no_dial s (away_scene p (Refused a who v o c timestamp accounts status) left moment) refl shows
 connects_on p s (Unheard a who e) left moment shows = starts_are_seen.no_dial s (away_scene p (Unheard a who e) left moment) refl shows
 connects_on p s (Faulted a later e status) left moment shows = starts_are_seen.no_dial s (away_scene p (Faulted a later e status) left moment) refl shows
 
-ticks_on : (p : Coming) (s : State) (phase : AwayPhase p) (left : List (List ℕ)) (moment more : ℕ) → Shows s (away_scene p phase left moment) →
+ticks_on : (p : Arrival) (s : State) (phase : AwayPhase p) (left : List (List ℕ)) (moment more : ℕ) → Shows s (away_scene p phase left moment) →
     Shows (act s (move.Tick more)).state (away_scene p phase left (moment_after more moment))
 ticks_on p s (Refused a who v o c timestamp accounts status) left moment more shows = scenes_turn.ticks s (away_scene p (Refused a who v o c timestamp accounts status) left moment) more shows
 ticks_on p s (Unheard a who e) left moment more shows = scenes_turn.ticks s (away_scene p (Unheard a who e) left moment) more shows
 ticks_on p s (Faulted a later e status) left moment more shows = scenes_turn.ticks s (away_scene p (Faulted a later e status) left moment) more shows
 
-goes_so : (p : Coming) (s : State) (what : Move) → IsStepOn what → IsAway p s → IsAway p (act s what).state ⊎ HasEnded p (act s what).state
+goes_so : (p : Arrival) (s : State) (what : Move) → IsStepOn what → IsAway p s → IsAway p (act s what).state ⊎ HasEnded p (act s what).state
 goes_so p s what steps at =
     by_step (λ (one : Move). IsAway p (act s one).state ⊎ HasEnded p (act s one).state)
     (inl (record { phase = at.phase; left = at.left; moment = at.moment; fits = at.fits; shows = connects_on p s at.phase at.left at.moment at.shows }))
@@ -314,21 +314,21 @@ goes_so p s what steps at =
 one_waits : {T : Type 0} (items : List T) (one : T) → items ≡ one ∷ [] → items ≡ [] → ⊥
 one_waits items one are none = absurd cc
 
-waits_so : (p : Coming) (s : State) (phase : AwayPhase p) (left : List (List ℕ)) (moment : ℕ) → Shows s (away_scene p phase left moment) → waiting s.bag ≡ [] → ⊥
+waits_so : (p : Arrival) (s : State) (phase : AwayPhase p) (left : List (List ℕ)) (moment : ℕ) → Shows s (away_scene p phase left moment) → waiting s.bag ≡ [] → ⊥
 waits_so p s (Refused a who v o c timestamp accounts status) left moment shows units = one_waits (waiting s.bag) _ shows.units units
 waits_so p s (Unheard a who e) left moment shows units = one_waits (waiting s.bag) _ shows.units units
 waits_so p s (Faulted a later e status) left moment shows units = one_waits (waiting s.bag) _ shows.units units
 
-over_at : (p : Coming) (s after : State) (at : HasEnded p s) (moment : ℕ) →
+over_at : (p : Arrival) (s after : State) (at : HasEnded p s) (moment : ℕ) →
     Shows after (rest_scene (settled_in p at.settled) (client_ended p.meeting.task at.outcome) at.settled.links at.left moment []) → HasEnded p after
 over_at p s after at moment shows = record { outcome = at.outcome; settled = at.settled; left = at.left; moment = moment; fits = at.fits; shows = shows }
 
-rests_so : (p : Coming) (s : State) (what : Move) → IsStepOn what → HasEnded p s → HasEnded p (act s what).state
+rests_so : (p : Arrival) (s : State) (what : Move) → IsStepOn what → HasEnded p s → HasEnded p (act s what).state
 rests_so p s what steps at =
     by_step (λ (one : Move). HasEnded p (act s one).state) (over_at p s _ at at.moment (starts_are_seen.no_dial s _ refl at.shows)) (over_at p s _ at at.moment (starts_are_seen.no_unit s _ refl at.shows))
     (λ more. over_at p s _ at (moment_after more at.moment) (scenes_turn.ticks s _ more at.shows)) what steps
 
-unreached_so : (p : Coming) (s : State) (a : Asked) (who : WhoAsked p a) (v : TurnAt) (aim : Aim) (left : List (List ℕ)) (moment : ℕ) → InRangeTable p.table → IsTurning p a v →
+unreached_so : (p : Arrival) (s : State) (a : ClientAnswer) (who : WhoAsked p a) (v : TurnAt) (aim : Aim) (left : List (List ℕ)) (moment : ℕ) → InRangeTable p.table → IsTurning p a v →
     route_to (Member p.meeting.at_member) (end_of_peer p.meeting.plan.controller s.ends) ≡ None →
     Shows s (scene_of p (DialsBefore a who v aim) left moment) → IsAway p (connect s).state
 unreached_so p s a who v aim left moment ranged is reaches shows = record {
@@ -340,7 +340,7 @@ unreached_so p s a who v aim left moment ranged is reaches shows = record {
       (standing_for aim) v.links v.next v.number (step_for p a aim) v.computers who.sent left moment reaches shows;
 }
 
-unreached_held_so : (p : Coming) (s : State) (a : Asked) (who : WhoAsked p a) (v : TurnAt) (aim : Aim) (left : List (List ℕ)) (moment : ℕ) → InRangeTable p.table → IsTurning p a v →
+unreached_held_so : (p : Arrival) (s : State) (a : ClientAnswer) (who : WhoAsked p a) (v : TurnAt) (aim : Aim) (left : List (List ℕ)) (moment : ℕ) → InRangeTable p.table → IsTurning p a v →
     route_to (Member p.meeting.at_member) (end_of_peer p.meeting.plan.controller s.ends) ≡ None →
     Shows s (scene_of p (DialsHeld a who v aim) left moment) → IsAway p (connect s).state
 unreached_held_so p s a who v aim left moment ranged is reaches shows = record {
@@ -354,43 +354,43 @@ unreached_held_so p s a who v aim left moment ranged is reaches shows = record {
 
 -- ---- no challenge is drawn
 
-away_left : (p : Coming) (phase : AwayPhase p) (left : List (List ℕ)) (moment : ℕ) → (away_scene p phase left moment).left ≡ left
+away_left : (p : Arrival) (phase : AwayPhase p) (left : List (List ℕ)) (moment : ℕ) → (away_scene p phase left moment).left ≡ left
 away_left p (Refused a who v o c timestamp accounts status) left moment = refl
 away_left p (Unheard a who e) left moment = refl
 away_left p (Faulted a later e status) left moment = refl
 
-left_there : (p : Coming) (s : State) (at : IsAway p s) → s.chances.left ≡ at.left
+left_there : (p : Arrival) (s : State) (at : IsAway p s) → s.chances.left ≡ at.left
 left_there p s at = at.shows.left ∙ away_left p at.phase at.left at.moment
 
 -- what is left where a move leads
-after_left : (p : Coming) (s : State) → IsAway p s ⊎ HasEnded p s → List (List ℕ)
+after_left : (p : Arrival) (s : State) → IsAway p s ⊎ HasEnded p s → List (List ℕ)
 after_left p s (inl at) = at.left
 after_left p s (inr over) = over.left
 
-after_is : (p : Coming) (s : State) (at : IsAway p s ⊎ HasEnded p s) → s.chances.left ≡ after_left p s at
+after_is : (p : Arrival) (s : State) (at : IsAway p s ⊎ HasEnded p s) → s.chances.left ≡ after_left p s at
 unfolding after_left
 after_is p s (inl at) = left_there p s at
 after_is p s (inr over) = over.shows.left
 
-comes_left : (p : Coming) (s : State) (phase : AwayPhase p) (left : List (List ℕ)) (moment : ℕ) (fits : FitsAway p phase) (shows : Shows s (away_scene p phase left moment)) →
+comes_left : (p : Arrival) (s : State) (phase : AwayPhase p) (left : List (List ℕ)) (moment : ℕ) (fits : FitsAway p phase) (shows : Shows s (away_scene p phase left moment)) →
     after_left p (onward s).state (comes_on p s phase left moment fits shows) ≡ left
 unfolding after_left comes_on refused_on
 comes_left p s (Refused a who v o c timestamp accounts status) left moment fits shows = refl
 comes_left p s (Unheard a who e) left moment fits shows = refl
 comes_left p s (Faulted a later e status) left moment fits shows = refl
 
-draws_none : (p : Coming) (s : State) (what : Move) (steps : IsStepOn what) (at : IsAway p s) → after_left p (act s what).state (goes_so p s what steps at) ≡ at.left
+draws_none : (p : Arrival) (s : State) (what : Move) (steps : IsStepOn what) (at : IsAway p s) → after_left p (act s what).state (goes_so p s what steps at) ≡ at.left
 unfolding after_left goes_so by_step
 draws_none p s what steps at =
     by_step (λ (one : Move). (on : IsStepOn one) → after_left p (act s one).state (goes_so p s one on at) ≡ at.left) (λ on. refl)
     (λ on. comes_left p s at.phase at.left at.moment at.fits at.shows) (λ more on. refl) what steps steps
 
-rests_left : (p : Coming) (s : State) (what : Move) (steps : IsStepOn what) (at : HasEnded p s) → (rests_so p s what steps at).left ≡ at.left
+rests_left : (p : Arrival) (s : State) (what : Move) (steps : IsStepOn what) (at : HasEnded p s) → (rests_so p s what steps at).left ≡ at.left
 unfolding rests_so over_at by_step
 rests_left p s what steps at =
     by_step (λ (one : Move). (on : IsStepOn one) → (rests_so p s one on at).left ≡ at.left) (λ on. refl) (λ on. refl) (λ more on. refl) what steps steps
 
-refuses_left : (p : Coming) (s : State) (a : Asked) (who : WhoAsked p a) (v : TurnAt) (o c : SecureChannelState) (timestamp : ℕ) (left : List (List ℕ)) (moment status : ℕ) (known : IsKnown p)
+refuses_left : (p : Arrival) (s : State) (a : ClientAnswer) (who : WhoAsked p a) (v : TurnAt) (o c : SecureChannelState) (timestamp : ℕ) (left : List (List ℕ)) (moment status : ℕ) (known : IsKnown p)
     (fits : Fits p (Calls a who v (Third o c timestamp))) (is : verdict_of v.table p.name (info_asked (own p) a) moment ≡ verdict.Status status)
     (shows : Shows s (scene_of p (Calls a who v (Third o c timestamp)) left moment)) → (refuses_so p s a who v o c timestamp left moment status known fits is shows).left ≡ left
 unfolding refuses_so

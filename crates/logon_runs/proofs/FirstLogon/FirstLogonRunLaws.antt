@@ -13,7 +13,7 @@ use Rattle.logon_steps.specs.MemoCalls.{ReplyGoes, RequestGoes}
 use Rattle.logon_steps.proofs.ClientStepLaws.{echo_are, echo_length}
 use Rattle.logon_steps.proofs.MemoCallLaws.{memo_calls_go}
 use Rattle.logon_runs.specs.Scenes.LinkScenes.{IsJoined, Meeting, joined}
-use Rattle.logon_runs.specs.Runs.{Asked, asked_at, goes}
+use Rattle.logon_runs.specs.Runs.{ClientAnswer, asked_at, goes}
 use Rattle.logon_runs.specs.FirstLogon.FirstTraces.{FirstLogonSeen}
 use Rattle.logon_runs.specs.FirstLogon.FirstLogonRuns.{FirstLogonsRun, after_first, first_turns}
 use Rattle.logon_runs.proofs.FirstLogon.FirstLogonTraceLaws.{first_logons_are_seen}
@@ -29,13 +29,13 @@ joined_still g links machine client server table name computers moment is =
 pub first_logons_run : FirstLogonsRun
 first_logons_run = record {
   named = λ s g number before links challenge one two three client server table name account machine computers left moment is none shows.
-      let a : Asked = asked_at challenge one two three moment in
+      let a : ClientAnswer = asked_at challenge one two three moment in
       let so : FirstLogonSeen s g number links a client server table name account machine computers left moment =
       first_logons_are_seen.logon s g number before links challenge one two three client server table name account machine computers left moment is shows in
       meetings_are_seen.ends_named (first_turns number s) (after_first g links machine client server table name computers moment) _ _ 2 so.who.next _ left moment
       (joined_still g links machine client server table name computers moment is.opened.joined) so.back (omega (arith, is.short)) is.units none so.granted;
   echoed = λ s g number before links challenge one two three client server table name account machine computers left moment is some shows.
-      let a : Asked = asked_at challenge one two three moment in
+      let a : ClientAnswer = asked_at challenge one two three moment in
       let end : Meeting = after_first g links machine client server table name computers moment in
       let so : FirstLogonSeen s g number links a client server table name account machine computers left moment =
       first_logons_are_seen.logon s g number before links challenge one two three client server table name account machine computers left moment is shows in

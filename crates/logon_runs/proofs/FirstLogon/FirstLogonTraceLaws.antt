@@ -16,7 +16,7 @@ use Rattle.logon_steps.specs.MemoCalls.{ReplyGoes, RequestGoes}
 use Rattle.logon_steps.proofs.MemoCallLaws.{memo_calls_go}
 use Rattle.logon_runs.specs.Scenes.AskScenes.{with_controller}
 use Rattle.logon_runs.specs.Scenes.LinkScenes.{Meeting, joined}
-use Rattle.logon_runs.specs.Runs.{Asked, asked_at, hidden, meets, on_for, sam_for, starts}
+use Rattle.logon_runs.specs.Runs.{ClientAnswer, asked_at, hidden, meets, on_for, sam_for, starts}
 use Rattle.logon_runs.specs.FirstLogon.FirstRuns.{opens_as}
 use Rattle.logon_runs.specs.FirstLogon.FirstTraces.{FirstLogonsAreSeen}
 use Rattle.logon_runs.proofs.FirstLogon.FirstTraceLaws.{first_turns_are_seen}
@@ -32,7 +32,7 @@ use Rattle.logon_runs.proofs.GrantLaws.{grants_are_told}
 pub first_logons_are_seen : FirstLogonsAreSeen
 first_logons_are_seen = record {
   logon = λ s g number before links challenge one two three client server table name account machine computers left moment is shows.
-      let a : Asked = asked_at challenge one two three moment in
+      let a : ClientAnswer = asked_at challenge one two three moment in
       let j : Meeting = joined g links in
       let k : Meeting = with_controller j table name computers in
       let o : SecureChannelState = opens_as g client server in

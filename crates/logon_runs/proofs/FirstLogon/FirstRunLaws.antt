@@ -15,7 +15,7 @@ use Rattle.member_server.specs.Turns.{timestamp_of}
 use Rattle.logon_steps.specs.Granting.{cleared}
 use Rattle.logon_steps.specs.Answering.{moved}
 use Rattle.logon_steps.proofs.AnsweringLaws.{calls_are_answered}
-use Rattle.logon_runs.specs.Scenes.TurnScenes.{Turn, with_accounts}
+use Rattle.logon_runs.specs.Scenes.TurnScenes.{TurnScene, with_accounts}
 use Rattle.logon_runs.specs.Scenes.TwoLinks.{HasMet}
 use Rattle.logon_runs.specs.FirstLogon.FirstTraces.{FirstTurnsSeen, asked_turn, turn_first, turn_second, turn_third}
 use Rattle.logon_runs.specs.FirstLogon.FirstRuns.{FirstTurnsRun, channel_as, opened_at, opens_as}
@@ -33,10 +33,10 @@ first_turns_run = record {
       let sam : SamInfo = sam_for g a table name account moment in
       let sent : List ℕ = who.sent in
       let n5 : ℕ = after (after (after (after (after g.number)))) in
-      let held : Turn = asked_turn g a waits (sent ∷ []) table name in
-      let t1 : Turn = turn_first g a waits sent table name in
-      let t2 : Turn = turn_second g a waits client server sent table name in
-      let t3 : Turn = turn_third g a waits client server sent table name stamp in
+      let held : TurnScene = asked_turn g a waits (sent ∷ []) table name in
+      let t1 : TurnScene = turn_first g a waits sent table name in
+      let t2 : TurnScene = turn_second g a waits client server sent table name in
+      let t3 : TurnScene = turn_third g a waits client server sent table name stamp in
       let half : Standing = standing.Half client server in
       let how : Standing = standing.Open (after_call o stamp) in
       let met2 : HasMet g t2 = turns_have_links.met g t1 half (turns_have_links.met g held standing.Nothing is.joined) in

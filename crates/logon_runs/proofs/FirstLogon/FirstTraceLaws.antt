@@ -32,7 +32,7 @@ use Rattle.logon_steps.proofs.AnsweringLaws.{calls_are_answered}
 use Rattle.logon_steps.proofs.CallingLaws.{calls_can_go}
 use Rattle.logon_steps.proofs.ControllerTurnLaws.{controllers_step}
 use Rattle.logon_runs.specs.Scenes.AskScenes.{turn_of, with_talk}
-use Rattle.logon_runs.specs.Scenes.TurnScenes.{Turn, dial_scene, next_turn}
+use Rattle.logon_runs.specs.Scenes.TurnScenes.{TurnScene, dial_scene, next_turn}
 use Rattle.logon_runs.specs.Scenes.TwoLinks.{HasMet}
 use Rattle.logon_runs.specs.FirstLogon.FirstTraces.{FirstTurnsAreSeen}
 use Rattle.logon_runs.specs.Scenes.LinkScenes.{its_link, unit_up}
@@ -78,12 +78,12 @@ first_turns_are_seen = record {
       let first_reply : Reply = reply.Challenge (record { challenge = server; status = 0 }) in
       let second_reply : Reply = reply.Authenticate (record { credential = server_credential g.caller.secret client server; flags = offered_flags; status = 0 }) in
       let third_reply : Reply = granting o stamp 0 1 (hidden o sam) in
-      let t : Turn = turn_of g waits (info_of (message_for g a) (flags_agreed g.task) a.challenge) (logon_for g.link g.task a.challenge (message_for g a))
+      let t : TurnScene = turn_of g waits (info_of (message_for g a) (flags_agreed g.task) a.challenge) (logon_for g.link g.task a.challenge (message_for g a))
       (asked_talk (bound_for g.task) g.place []) table name in
-      let held : Turn = with_talk g.link (asked_talk (bound_for g.task) g.place (who.sent ∷ [])) t in
-      let t1 : Turn = next_turn held (its_link g) standing.Nothing in
-      let t2 : Turn = next_turn t1 (its_link g) half in
-      let t3 : Turn = next_turn t2 (its_link g) how in
+      let held : TurnScene = with_talk g.link (asked_talk (bound_for g.task) g.place (who.sent ∷ [])) t in
+      let t1 : TurnScene = next_turn held (its_link g) standing.Nothing in
+      let t2 : TurnScene = next_turn t1 (its_link g) half in
+      let t3 : TurnScene = next_turn t2 (its_link g) how in
       let met1 : HasMet g t1 = turns_have_links.met g held standing.Nothing is.joined in
       let met2 : HasMet g t2 = turns_have_links.met g t1 half met1 in
       let paired : Computers = with_pair g client server computers in

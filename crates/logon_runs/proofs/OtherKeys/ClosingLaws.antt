@@ -22,7 +22,7 @@ use Rattle.world_moves.specs.declared.links.EndId.{EndId}
 use Rattle.world_moves.specs.declared.links.EndId.TheVariants.{Client, Controller, Member}
 use Rattle.world_moves.specs.declared.links.OpenLink.{OpenLink}
 use Rattle.world_moves.specs.declared.state.State.{State}
-use Rattle.world_moves.specs.Acting.{Heard, close_open, closed_at, done, done_quietly, hear, perform_all, shut_link}
+use Rattle.world_moves.specs.Acting.{AfterHearing, close_open, closed_at, done, done_quietly, hear, perform_all, shut_link}
 use Rattle.world_moves.specs.Ends.{EndStates}
 use Rattle.world_moves.specs.Links.{OpenMap}
 use Rattle.world_moves.specs.Moving.{onward, settle}
@@ -77,16 +77,16 @@ lands_closing_two s v unit later end one other ends ones others left link next a
     let s4 : State = (after_hearing others left [] (shut_link next s3)).state in
     let is : (onward s).state ≡ s4 =
     comes.state
-    ∙ ap (λ (h : Heard). (done end h).state) heard
+    ∙ ap (λ (h : AfterHearing). (done end h).state) heard
     ∙ ap (λ (list : List Action). (perform_all end list s2).state) are
     ∙ ap (λ (o : Option OpenLink). (perform_all end rest (close_open o end link s2).state).state) (ap (λ (o : OpenMap). lookup same_number link o) shows.opened ∙ closes.found)
     ∙ ap (λ (h : Option EndId). (perform_all end rest (closed_at h link (shut_link link s2)).state).state) closes.side
-    ∙ ap (λ (h : Heard). (perform_all end rest (done_quietly one h).state).state) heard_one
+    ∙ ap (λ (h : AfterHearing). (perform_all end rest (done_quietly one h).state).state) heard_one
     ∙ ap (λ (t : State). (perform_all end (action.Close next cause_too ∷ []) t).state) (idle_quiet end (action.Told tells what) s3 refl refl refl)
     ∙ ap (λ (o : Option OpenLink). (close_open o end next s3).state)
     (ap (λ (o : OpenMap). lookup same_number next (take_out same_number link o)) shows.opened ∙ closes_too.found)
     ∙ ap (λ (h : Option EndId). (closed_at h next (shut_link next s3)).state) closes_too.side
-    ∙ ap (λ (h : Heard). (done_quietly other h).state) heard_other in
+    ∙ ap (λ (h : AfterHearing). (done_quietly other h).state) heard_other in
     subst (λ (t : State). Shows t (shut_in next (shut_in link (record v { client = client; member = member; controller = controller; units = later; left = left })))) (sym is) (record {
       client = is_client;
       member = is_member;

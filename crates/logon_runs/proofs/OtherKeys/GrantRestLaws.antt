@@ -21,12 +21,12 @@ use Rattle.logon_runs.specs.OtherKeys.GrantRests.{CanGoOn, GrantsRest, HasSettle
 use Rattle.logon_runs.specs.OtherKeys.LetIn.{GoesOn, HasEndedAt}
 use Rattle.logon_runs.specs.Scenes.LinkScenes.{Meeting}
 use Rattle.logon_runs.specs.Scenes.Others.{AreAmong, IsStepOn, OthersStay}
-use Rattle.logon_runs.specs.Phases.{Coming, Third, TurnAt, WhoAsked, own, own_keeping, terms_at, turn_before, turn_on}
+use Rattle.logon_runs.specs.Phases.{Arrival, Third, TurnAt, WhoAsked, own, own_keeping, terms_at, turn_before, turn_on}
 use Rattle.logon_runs.specs.Rests.{moved_by, three_in}
-use Rattle.logon_runs.specs.Runs.{Asked, message_for}
+use Rattle.logon_runs.specs.Runs.{ClientAnswer, message_for}
 use Rattle.logon_runs.specs.Scenes.Scene.{Shows}
 use Rattle.logon_runs.specs.Failing.TurnedAway.{Settled, settled_in}
-use Rattle.logon_runs.specs.Scenes.TurnScenes.{Turn}
+use Rattle.logon_runs.specs.Scenes.TurnScenes.{TurnScene}
 use Rattle.logon_runs.specs.Scenes.WaitingUnits.{waiting}
 use Rattle.logon_runs.proofs.AmongLaws.{no_dial_among, turn_among}
 use Rattle.logon_runs.proofs.OtherKeys.LetInLaws.{grants_go_on}
@@ -37,11 +37,11 @@ use Rattle.logon_runs.proofs.Scenes.TwoLinkLaws.{turns_have_links}
 -- ---- the moves, one after the other
 
 -- what holds since the reply waited
-record IsGoing (p : Coming) (e : Settled) (left : List (List ℕ)) (s now : State) : Type 0 where
+record IsGoing (p : Arrival) (e : Settled) (left : List (List ℕ)) (s now : State) : Type 0 where
   others : OthersStay (three_in p) s now
   at : GoesOn (settled_in p e) left now
 
-going_on : (p : Coming) (e : Settled) (left : List (List ℕ)) (s now : State) (what : Move) → IsStepOn what → OthersStay (three_in p) s now → GoesOn (settled_in p e) left now →
+going_on : (p : Arrival) (e : Settled) (left : List (List ℕ)) (s now : State) (what : Move) → IsStepOn what → OthersStay (three_in p) s now → GoesOn (settled_in p e) left now →
     IsGoing p e left s (act now what).state
 going_on p e left s now what steps others (inl at) =
     let alone = grants_go_on.alone (settled_in p e) left now at in
@@ -55,7 +55,7 @@ going_on p e left s now what steps others (inr over) = record {
   at = inr (grants_go_on.rests (settled_in p e) left now what steps over);
 }
 
-all_going : (p : Coming) (e : Settled) (left : List (List ℕ)) (s now : State) (moves : List Move) → AllByRecursion IsStepOn moves → IsGoing p e left s now → IsGoing p e left s (moved_by moves now)
+all_going : (p : Arrival) (e : Settled) (left : List (List ℕ)) (s now : State) (moves : List Move) → AllByRecursion IsStepOn moves → IsGoing p e left s now → IsGoing p e left s (moved_by moves now)
 all_going p e left s now [] steps going = going
 all_going p e left s now (what ∷ moves) steps going = all_going p e left s (act now what).state moves steps.1 (going_on p e left s now what steps.0 going.others going.at)
 
@@ -65,21 +65,21 @@ over_so g left now (inl at) units = absurd (grants_go_on.waits g left now at uni
 over_so g left now (inr over) units = over
 
 -- the reply comes, and lets the client in
-pub let_in_goes : (p : Coming) (s : State) (a : Asked) (who : WhoAsked p a) (v : TurnAt) (o c : SecureChannelState) (timestamp : ℕ) (accounts : AccountTable) (r : Reply)
+pub let_in_goes : (p : Arrival) (s : State) (a : ClientAnswer) (who : WhoAsked p a) (v : TurnAt) (o c : SecureChannelState) (timestamp : ℕ) (accounts : AccountTable) (r : Reply)
     (o_then : SecureChannelState) (sam : SamInfo) (left : List (List ℕ)) (moment : ℕ) → CanGoOn p a v → IsTurnReply question.Logon r → HasShortName sam →
     judge question.Logon r (standing.Open (after_call o timestamp)) p.meeting.caller.secret ≡ judgement.Answer o_then (verdict.Granted sam) →
     Shows s (judged_scene p a who v o c timestamp accounts r left moment) → GoesOn (settled_in p (judged_rest p a who v o c timestamp accounts o_then)) left (onward s).state
 let_in_goes p s a who v o c timestamp accounts r o_then sam left moment can reply_is short granted shows =
     let how : Standing = standing.Open (after_call o timestamp) in
-    let before : Turn = turn_before p a who.later (who.sent ∷ []) v in
-    let out : Turn = turn_on p a who.later (who.sent ∷ []) v (Third o c timestamp) in
+    let before : TurnScene = turn_before p a who.later (who.sent ∷ []) v in
+    let out : TurnScene = turn_on p a who.later (who.sent ∷ []) v (Third o c timestamp) in
     let asked = grants_go_on.asked p a who in
     grants_go_on.granted s (own_keeping p v.secrets) (record (terms_at p a) { session = who.later }) out.info a.challenge (message_for (own p) a) who.sent accounts p.name how o_then out.links out.opened (length v.links)
     (next_number v.next) v.next question.Logon r sam v.computers left moment can.can asked.0 asked.1 short.short short.units can.next_below
     (between_still out accounts (turns_have_links.between (own p) before how can.joined_so)) reply_is granted (turns_have_links.met (own p) before how can.joined_so)
     (turns_have_links.taken (own p) before how can.joined_so) shows
 
-rests_so : (p : Coming) (s : State) (a : Asked) (who : WhoAsked p a) (v : TurnAt) (o c : SecureChannelState) (timestamp : ℕ) (accounts : AccountTable) (r : Reply)
+rests_so : (p : Arrival) (s : State) (a : ClientAnswer) (who : WhoAsked p a) (v : TurnAt) (o c : SecureChannelState) (timestamp : ℕ) (accounts : AccountTable) (r : Reply)
     (o_then : SecureChannelState) (sam : SamInfo) (left : List (List ℕ)) (moment : ℕ) → CanGoOn p a v → IsTurnReply question.Logon r → HasShortName sam →
     judge question.Logon r (standing.Open (after_call o timestamp)) p.meeting.caller.secret ≡ judgement.Answer o_then (verdict.Granted sam) →
     Shows s (judged_scene p a who v o c timestamp accounts r left moment) →

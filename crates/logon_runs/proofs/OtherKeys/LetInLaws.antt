@@ -65,11 +65,11 @@ use Rattle.logon_runs.specs.OtherKeys.Differing.{AreTerms, AsksEcho, HasItsOutco
 use Rattle.logon_runs.specs.OtherKeys.LetIn.{Asks, FitsLetIn, GoesOn, GrantsGoOn, HasEndedAt, Hears, IsOnLink, LetInPhase, answered_by, asked_by, let_in_scene}
 use Rattle.logon_runs.specs.Scenes.LinkScenes.{given_caller, IsJoined, its_link, Meeting, meeting_scene, rest_scene, unit_down, unit_up}
 use Rattle.logon_runs.specs.Scenes.Others.{AreAmong, IsStepOn}
-use Rattle.logon_runs.specs.Phases.{Coming, WhoAsked, key_at, terms_at}
+use Rattle.logon_runs.specs.Phases.{Arrival, WhoAsked, key_at, terms_at}
 use Rattle.logon_runs.specs.Rests.{three_of}
-use Rattle.logon_runs.specs.Runs.{Asked}
+use Rattle.logon_runs.specs.Runs.{ClientAnswer}
 use Rattle.logon_runs.specs.Scenes.Scene.{Shows}
-use Rattle.logon_runs.specs.Scenes.TurnScenes.{IsBetween, Turn, turn_scene, unit_back}
+use Rattle.logon_runs.specs.Scenes.TurnScenes.{IsBetween, TurnScene, turn_scene, unit_back}
 use Rattle.logon_runs.specs.Scenes.Turnings.{ClosesTo, shut_in}
 use Rattle.logon_runs.specs.Scenes.WaitingUnits.{waiting}
 use Rattle.logon_runs.proofs.OtherKeys.ClosingLaws.{member_shuts, member_shuts_both}
@@ -251,7 +251,7 @@ let_in_new g challenge message sam short units = record {
 
 module _ (s : State) (g : Meeting) (terms : Terms) (info : NetworkInfo) (challenge : List ℕ) (message : Authenticate) (bytes : List ℕ) (table : AccountTable) (name : List ℕ) (how : Standing) (o : SecureChannelState)
     (links : List Route) (opened : OpenMap) (link next number : ℕ) (q : Asking) (r : Reply) (sam : SamInfo) (computers : Computers) (left : List (List ℕ)) (moment : ℕ) where
-  abbrev its_turn : Turn
+  abbrev its_turn : TurnScene
   its_turn = failing_turn g (client_phase.Asked terms client_question.Who) info challenge message (bytes ∷ []) table name how links opened link
 
   abbrev after_it : Meeting
@@ -307,7 +307,7 @@ module _ (s : State) (g : Meeting) (terms : Terms) (info : NetworkInfo) (challen
 abbrev IsSent : Sending → Type 0
 IsSent sending = IsRequest client.who_number client.who_opnum sending.bytes × HasSent 1 sending.session
 
-asked_so : (p : Coming) (a : Asked) (who : WhoAsked p a) → IsRequest client.who_number client.who_opnum who.sent × AreTerms 1 (record (terms_at p a) { session = who.later })
+asked_so : (p : Arrival) (a : ClientAnswer) (who : WhoAsked p a) → IsRequest client.who_number client.who_opnum who.sent × AreTerms 1 (record (terms_at p a) { session = who.later })
 asked_so p a who =
     let asks : AsksBy p.meeting.task.level 2 0 [] (terms_at p a).session 0 =
     asks_by p.meeting.task.level 2 0 [] (terms_at p a).session 0 (omega arith) (omega arith) (omega arith) (omega arith)

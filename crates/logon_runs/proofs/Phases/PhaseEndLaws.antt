@@ -42,11 +42,11 @@ use Rattle.logon_steps.proofs.GrantingLaws.{logons_are_granted}
 use Rattle.logon_steps.proofs.MemoCallLaws.{memo_calls_go}
 use Rattle.logon_runs.specs.Grants.{CanBeTold}
 use Rattle.logon_runs.specs.Scenes.LinkScenes.{meeting_scene, rest_scene, unit_down}
-use Rattle.logon_runs.specs.Phases.{WasTold, Coming, Ending, Fits, IsEnding, IsKnown, IsSetOrNot, Third, TurnAt, WhoAsked, key_at, meeting_at, own, own_keeping, scene_of, terms_at, told_of, turn_before, turn_on, waits_for}
+use Rattle.logon_runs.specs.Phases.{WasTold, Arrival, Ending, Fits, IsEnding, IsKnown, IsSetOrNot, Third, TurnAt, WhoAsked, key_at, meeting_at, own, own_keeping, scene_of, terms_at, told_of, turn_before, turn_on, waits_for}
 use Rattle.logon_runs.specs.Phases.{Echoed, Echoes, Granted, Named}
-use Rattle.logon_runs.specs.Runs.{Asked, hidden, message_for, on_for, sam_for}
+use Rattle.logon_runs.specs.Runs.{ClientAnswer, hidden, message_for, on_for, sam_for}
 use Rattle.logon_runs.specs.Scenes.Scene.{Scene, Shows}
-use Rattle.logon_runs.specs.Scenes.TurnScenes.{Turn, turn_scene, unit_back, with_accounts}
+use Rattle.logon_runs.specs.Scenes.TurnScenes.{TurnScene, turn_scene, unit_back, with_accounts}
 use Rattle.logon_runs.proofs.Scenes.AskSceneLaws.{logons_are_seen}
 use Rattle.logon_runs.proofs.FirstLogon.FirstTraceLaws.{after_below}
 use Rattle.logon_runs.proofs.GrantLaws.{grants_are_told}
@@ -64,13 +64,13 @@ use Rattle.logon_runs.proofs.Phases.PhaseStartLaws.{ComesBy, under, zero_so}
 
 -- ---- the reply that grants it can be taken, whenever the call was made
 
-base_block : (p : Coming) (a : Asked) → IsBlock 16 (base_key p.meeting.task (message_for (own p) a))
+base_block : (p : Arrival) (a : ClientAnswer) → IsBlock 16 (base_key p.meeting.task (message_for (own p) a))
 base_block p a = (
   length-base_key_of p.meeting.task.hash p.meeting.task.user p.meeting.task.domain (message_for (own p) a).nt,
   bytes_from_all (base_key p.meeting.task (message_for (own p) a)) (All-base_key_of p.meeting.task.hash p.meeting.task.user p.meeting.task.domain (message_for (own p) a).nt),
 )
 
-module _ (p : Coming) (a : Asked) (v : TurnAt) (o : SecureChannelState) (timestamp judged_at : ℕ) (known : IsKnown p) (ranged : InRangeTable v.table) where
+module _ (p : Arrival) (a : ClientAnswer) (v : TurnAt) (o : SecureChannelState) (timestamp judged_at : ℕ) (known : IsKnown p) (ranged : InRangeTable v.table) where
   pub reply_then : judged_at < 2 ^ 64 → IsTurnReply question.Logon (granting o timestamp 0 1 (hidden o (sam_for (own p) a v.table p.name p.account judged_at)))
   reply_then below =
       subst (λ (k : List ℕ). IsTurnReply question.Logon (granting o timestamp 0 1 (record (sam_for (own p) a v.table p.name p.account judged_at) { key = crypt_key (key_of_channel o) k })))
@@ -82,7 +82,7 @@ module _ (p : Coming) (a : Asked) (v : TurnAt) (o : SecureChannelState) (timesta
   told_then below = grants_are_told.told (own p) a o v.table p.name p.account judged_at ranged.domain ranged.sid known.named known.account_so below
 
 -- a hash that is set leaves the domain's name
-pub domain_same : (p : Coming) (table : AccountTable) → IsSetOrNot p table → table.domain ≡ p.table.domain
+pub domain_same : (p : Arrival) (table : AccountTable) → IsSetOrNot p table → table.domain ≡ p.table.domain
 unfolding with_hash
 domain_same p table (inl is) = ap AccountTable.domain is
 domain_same p table (inr set) = ap AccountTable.domain set.is
@@ -92,14 +92,14 @@ pub sent_same : (one other : Sending) → Some one ≡ Some other → one ≡ ot
 sent_same one other is = cc
 
 -- the turn's reply waits, with what the client sent and its session since
-abbrev pub granted_scene : Coming → Asked → Sending → TurnAt → SecureChannelState → SecureChannelState → ℕ → ℕ → AccountTable → List (List ℕ) → ℕ → Scene
+abbrev pub granted_scene : Arrival → ClientAnswer → Sending → TurnAt → SecureChannelState → SecureChannelState → ℕ → ℕ → AccountTable → List (List ℕ) → ℕ → Scene
 granted_scene p a sending v o c timestamp judged_at accounts left moment =
     turn_scene (with_accounts accounts (turn_on p a sending.session (sending.bytes ∷ []) v (Third o c timestamp))) (after v.next) v.next (step.Reply question.Logon) v.computers
     (turn_link (length v.links))
     (unit_back (with_accounts accounts (turn_on p a sending.session (sending.bytes ∷ []) v (Third o c timestamp)))
     (reply_bytes v.next (granting o timestamp 0 1 (hidden o (sam_for (own p) a v.table p.name p.account judged_at)))) ∷ []) left moment
 
-abbrev ending_of : Coming → TurnAt → SecureChannelState → ℕ → AccountTable → Ending
+abbrev ending_of : Arrival → TurnAt → SecureChannelState → ℕ → AccountTable → Ending
 ending_of p v o timestamp accounts = record {
   secrets = v.secrets;
   member = after_return true (after_call o timestamp);
@@ -109,7 +109,7 @@ ending_of p v o timestamp accounts = record {
   computers = v.computers;
 }
 
-pub granted_on : (p : Coming) (s : State) (a : Asked) (who : WhoAsked p a) (v : TurnAt) (o c : SecureChannelState) (timestamp judged_at : ℕ) (accounts : AccountTable)
+pub granted_on : (p : Arrival) (s : State) (a : ClientAnswer) (who : WhoAsked p a) (v : TurnAt) (o c : SecureChannelState) (timestamp judged_at : ℕ) (accounts : AccountTable)
     (left : List (List ℕ)) (moment : ℕ) → IsKnown p → Fits p (Granted a who v o c timestamp judged_at accounts) →
     Shows s (scene_of p (Granted a who v o c timestamp judged_at accounts) left moment) → ComesBy p (WasTold a) s (onward s).state
 granted_on p s a who v o c timestamp judged_at accounts left moment known fits shows =
@@ -127,8 +127,8 @@ granted_on p s a who v o c timestamp judged_at accounts left moment known fits s
     let now_shows : Shows s (granted_scene p a sending v o c timestamp judged_at accounts left moment) =
     subst (λ (sent_so : Sending). Shows s (granted_scene p a sent_so v o c timestamp judged_at accounts left moment)) same shows in
     let how : Standing = standing.Open (after_call o timestamp) in
-    let before : Turn = turn_before p a again.later (again.sent ∷ []) v in
-    let out : Turn = turn_on p a again.later (again.sent ∷ []) v (Third o c timestamp) in
+    let before : TurnScene = turn_before p a again.later (again.sent ∷ []) v in
+    let out : TurnScene = turn_on p a again.later (again.sent ∷ []) v (Third o c timestamp) in
     let end : Ending = ending_of p v o timestamp accounts in
     let name_told : List ℕ = told_of p in
     let short : length name_told ≤ 129 = subst (λ (n : List ℕ). length n ≤ 129) domain_told told.short in
@@ -162,13 +162,13 @@ granted_on p s a who v o c timestamp judged_at accounts left moment known fits s
 -- ---- the client hears its name, and its echo
 
 -- the name of the domain and of the account
-told_short : (p : Coming) → IsKnown p → (length (told_of p) ≤ 129) × AreUnits (told_of p)
+told_short : (p : Arrival) → IsKnown p → (length (told_of p) ≤ 129) × AreUnits (told_of p)
 told_short p known =
     let told : CanBeTold (own p) (record { challenge = []; one = []; two = []; three = []; then_now = 0 }) (fresh_channel [] [] [] 0) p.table p.name p.account 0 =
     grants_are_told.told (own p) _ _ p.table p.name p.account 0 known.ranged.domain known.ranged.sid known.named known.account_so (omega arith) in
     (subst (λ (n : List ℕ). length n ≤ 129) told.found told.short, subst AreUnits told.found told.units)
 
-over : (p : Coming) (s after : State) (a : Asked) (e : Ending) (left : List (List ℕ)) (moment : ℕ) → s.chances.left ≡ left → IsEnding p e →
+over : (p : Arrival) (s after : State) (a : ClientAnswer) (e : Ending) (left : List (List ℕ)) (moment : ℕ) → s.chances.left ≡ left → IsEnding p e →
     Shows after (rest_scene (meeting_at p e) (client_ended p.meeting.task (In (told_of p) (key_at p a) p.meeting.task.echo)) e.links left moment []) → ComesBy p (WasTold a) s after
 over p s after a e left moment same fits shows = (
   inr (record { asked = a; ending = e; left = left; moment = moment; fits = fits; shows = shows }, refl),
@@ -176,7 +176,7 @@ over p s after a e left moment same fits shows = (
 )
 
 -- a client that echoes nothing ends where its name comes, and another one asks for the echo
-named_by : (silent : Bool) (p : Coming) (s : State) (a : Asked) (e : Ending) (on : LoggedOn) (one other : Option SessionState)
+named_by : (silent : Bool) (p : Arrival) (s : State) (a : ClientAnswer) (e : Ending) (on : LoggedOn) (one other : Option SessionState)
     (back : ReplyGoes 2 p.meeting.task.level 2 (written_who_reply (told_of p)) other one) (left : List (List ℕ)) (moment : ℕ) → IsKnown p → (p.meeting.task.echo == 0) ≡ silent →
     Fits p (Named a e on one other back) → Shows s (scene_of p (Named a e on one other back) left moment) → ComesBy p (WasTold a) s (onward s).state
 named_by true p s a e on one other back left moment known silent fits shows =
@@ -196,13 +196,13 @@ named_by false p s a e on one other back left moment known silent fits shows =
     (meetings_are_seen.named s (meeting_at p e) (with_session (terms_at p a) one) (told_of p) 2 other (record { bytes = asks.sent; session = asks.later }) (logged_on on back.later) left moment
     fits.0.joined_so back (omega (arith, short.0)) short.1 silent refl asks.goes shows)
 
-pub named_on : (p : Coming) (s : State) (a : Asked) (e : Ending) (on : LoggedOn) (one other : Option SessionState)
+pub named_on : (p : Arrival) (s : State) (a : ClientAnswer) (e : Ending) (on : LoggedOn) (one other : Option SessionState)
     (back : ReplyGoes 2 p.meeting.task.level 2 (written_who_reply (told_of p)) other one) (left : List (List ℕ)) (moment : ℕ) → IsKnown p →
     Fits p (Named a e on one other back) → Shows s (scene_of p (Named a e on one other back) left moment) → ComesBy p (WasTold a) s (onward s).state
 named_on p s a e on one other back left moment known fits shows =
     named_by (p.meeting.task.echo == 0) p s a e on one other back left moment known refl fits shows
 
-pub echoes_on : (p : Coming) (s : State) (a : Asked) (e : Ending) (on : LoggedOn) (one : Option SessionState)
+pub echoes_on : (p : Arrival) (s : State) (a : ClientAnswer) (e : Ending) (on : LoggedOn) (one : Option SessionState)
     (asks : RequestGoes 3 p.meeting.task.level 3 1 (written_echo_request (client.echo_bytes p.meeting.task.echo)) one on.session) (left : List (List ℕ)) (moment : ℕ) → IsKnown p →
     Fits p (Echoes a e on one asks) → Shows s (scene_of p (Echoes a e on one asks) left moment) → ComesBy p (WasTold a) s (onward s).state
 echoes_on p s a e on one asks left moment known fits shows =
@@ -215,7 +215,7 @@ echoes_on p s a e on one asks left moment known fits shows =
     (meetings_are_seen.echoes s (meeting_at p e) (client_phase.Asked (with_session (terms_at p a) asks.later) (client_question.Echo (told_of p))) 3 on bytes one left moment fits.0.joined_so
     fits.1 few (echo_are p.meeting.task.echo) asks again shows)
 
-pub echoed_on : (p : Coming) (s : State) (a : Asked) (e : Ending) (talk : Talk) (one other : Option SessionState)
+pub echoed_on : (p : Arrival) (s : State) (a : ClientAnswer) (e : Ending) (talk : Talk) (one other : Option SessionState)
     (back : ReplyGoes 4 p.meeting.task.level 3 (written_echo_reply (client.echo_bytes p.meeting.task.echo)) other one) (left : List (List ℕ)) (moment : ℕ) → IsKnown p →
     IsEnding p e → Shows s (scene_of p (Echoed a e talk one other back) left moment) → ComesBy p (WasTold a) s (onward s).state
 echoed_on p s a e talk one other back left moment known fits shows =

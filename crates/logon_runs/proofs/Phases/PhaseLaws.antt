@@ -15,10 +15,10 @@ use Rattle.world_moves.specs.declared.moves.Move.{Move}
 use Rattle.world_moves.specs.declared.moves.Move.TheVariants as move
 use Rattle.world_moves.specs.declared.state.State.{State}
 use Rattle.world_moves.specs.Moving.{act, moment_after, onward, tick}
-use Rattle.logon_runs.specs.Phases.{Aim, ArrivesAt, ComesSoFar, ComesTo, Coming, First, Fits, Fourth, HasUser, HasUserAt, HasUserIn, IsKnown, IsOver, IsReady, IsSetOrNot, IsUnderWay, LogonPhase, MayLogOnAt, PhasesGoOn, Progress, Second, Third, TurnAt, WhoAsked, key_at, meeting_at, progress_after, progress_of, progress_onward, scene_of, told_of, with_its_controller}
+use Rattle.logon_runs.specs.Phases.{Aim, ArrivesAt, ComesSoFar, ComesTo, Arrival, First, Fits, Fourth, HasUser, HasUserAt, HasUserIn, IsKnown, IsOver, IsReady, IsSetOrNot, IsUnderWay, LogonPhase, MayLogOnAt, PhasesGoOn, Progress, Second, Third, TurnAt, WhoAsked, key_at, meeting_at, progress_after, progress_of, progress_onward, scene_of, told_of, with_its_controller}
 use Rattle.logon_runs.specs.Phases.{Acked, Answers, Binds, BindsBefore, BindsHeld, Calls, Challenged, Dials, DialsBefore, DialsHeld, Echoed, Echoes, Granted, Halved, Named, Proved, Sets}
 use Rattle.logon_runs.specs.Scenes.Others.{IsStepOn, is_onward}
-use Rattle.logon_runs.specs.Runs.{Asked}
+use Rattle.logon_runs.specs.Runs.{ClientAnswer}
 use Rattle.logon_runs.specs.Scenes.Scene.{Scene, Shows}
 use Rattle.logon_runs.specs.Scenes.WaitingUnits.{waiting}
 use Rattle.logon_runs.specs.Scenes.LinkScenes.{rest_scene}
@@ -34,11 +34,11 @@ use Rattle.logon_client.specs.declared.outcome.ClientOutcome.TheVariants.{In}
 -- ---- a unit comes
 
 -- where none waits
-stays_heard : (p : Coming) (s : State) (phase : LogonPhase p) (left : List (List ℕ)) (moment : ℕ) → Fits p phase → (scene_of p phase left moment).units ≡ [] →
+stays_heard : (p : Arrival) (s : State) (phase : LogonPhase p) (left : List (List ℕ)) (moment : ℕ) → Fits p phase → (scene_of p phase left moment).units ≡ [] →
     Shows s (scene_of p phase left moment) → ComesBy p (progress_of phase) s (onward s).state
 stays_heard p s phase left moment fits none shows = under p s _ phase left moment (left_seen p s phase left moment shows) fits (starts_are_seen.no_unit s (scene_of p phase left moment) none shows)
 
-comes_on : (p : Coming) (s : State) (phase : LogonPhase p) (left : List (List ℕ)) (moment : ℕ) → IsKnown p → IsReady p s → Fits p phase → HasUserAt p s phase move.Onward → ArrivesAt p phase move.Onward →
+comes_on : (p : Arrival) (s : State) (phase : LogonPhase p) (left : List (List ℕ)) (moment : ℕ) → IsKnown p → IsReady p s → Fits p phase → HasUserAt p s phase move.Onward → ArrivesAt p phase move.Onward →
     Shows s (scene_of p phase left moment) → ComesBy p (progress_onward phase) s (onward s).state
 comes_on p s Dials left moment known ready fits user arrives shows = stays_heard p s Dials left moment fits refl shows
 comes_on p s Binds left moment known ready fits user arrives shows = binds_on p s left moment known ready shows
@@ -65,7 +65,7 @@ comes_on p s (Echoed a e talk one other back) left moment known ready fits user 
 abbrev pub at_moment : ℕ → Scene → Scene
 at_moment moment v = record v { moment = moment }
 
-pub same_scene : (p : Coming) (phase : LogonPhase p) (left : List (List ℕ)) (moment later : ℕ) → at_moment later (scene_of p phase left moment) ≡ scene_of p phase left later
+pub same_scene : (p : Arrival) (phase : LogonPhase p) (left : List (List ℕ)) (moment later : ℕ) → at_moment later (scene_of p phase left moment) ≡ scene_of p phase left later
 same_scene p Dials left moment later = refl
 same_scene p Binds left moment later = refl
 same_scene p (Challenged challenge) left moment later = refl
@@ -84,7 +84,7 @@ same_scene p (Named a e on one other back) left moment later = refl
 same_scene p (Echoes a e on one asks) left moment later = refl
 same_scene p (Echoed a e talk one other back) left moment later = refl
 
-ticks_on : (p : Coming) (s : State) (phase : LogonPhase p) (left : List (List ℕ)) (moment more : ℕ) → Fits p phase → Shows s (scene_of p phase left moment) → ComesBy p (progress_of phase) s (tick more s)
+ticks_on : (p : Arrival) (s : State) (phase : LogonPhase p) (left : List (List ℕ)) (moment more : ℕ) → Fits p phase → Shows s (scene_of p phase left moment) → ComesBy p (progress_of phase) s (tick more s)
 ticks_on p s phase left moment more fits shows =
     under p s _ phase left (moment_after more (scene_of p phase left moment).moment) (left_seen p s phase left moment shows) fits
     (subst (λ (v : Scene). Shows (tick more s) v) (same_scene p phase left moment (moment_after more (scene_of p phase left moment).moment))
@@ -92,7 +92,7 @@ ticks_on p s phase left moment more fits shows =
 
 -- ---- a move
 
-goes_so : (p : Coming) (s : State) (what : Move) → IsKnown p → IsReady p s → IsStepOn what → (at : IsUnderWay p s) → HasUserAt p s at.phase what → ArrivesAt p at.phase what →
+goes_so : (p : Arrival) (s : State) (what : Move) → IsKnown p → IsReady p s → IsStepOn what → (at : IsUnderWay p s) → HasUserAt p s at.phase what → ArrivesAt p at.phase what →
     ComesBy p (progress_after what at.phase) s (act s what).state
 goes_so p s what known ready goes at =
     by_step (λ (one : Move). HasUserAt p s at.phase one → ArrivesAt p at.phase one → ComesBy p (progress_after one at.phase) s (act s one).state)
@@ -103,18 +103,18 @@ goes_so p s what known ready goes at =
 -- ---- once it is over
 
 -- so it is later, at another moment
-over_at : (p : Coming) (s after : State) (over : IsOver p s) (moment : ℕ) →
+over_at : (p : Arrival) (s after : State) (over : IsOver p s) (moment : ℕ) →
     Shows after (rest_scene (meeting_at p over.ending) (client_ended p.meeting.task (In (told_of p) (key_at p over.asked) p.meeting.task.echo)) over.ending.links over.left moment []) →
     (later : IsOver p after) × (later.asked ≡ over.asked)
 over_at p s after over moment shows = (record { asked = over.asked; ending = over.ending; left = over.left; moment = moment; fits = over.fits; shows = shows }, refl)
 
-rests_so : (p : Coming) (s : State) (what : Move) → IsStepOn what → (over : IsOver p s) → (later : IsOver p (act s what).state) × (later.asked ≡ over.asked)
+rests_so : (p : Arrival) (s : State) (what : Move) → IsStepOn what → (over : IsOver p s) → (later : IsOver p (act s what).state) × (later.asked ≡ over.asked)
 rests_so p s what goes over =
     by_step (λ (one : Move). (later : IsOver p (act s one).state) × (later.asked ≡ over.asked)) (over_at p s _ over over.moment (starts_are_seen.no_dial s _ refl over.shows))
     (over_at p s _ over over.moment (starts_are_seen.no_unit s _ refl over.shows)) (λ more. over_at p s _ over (moment_after more over.moment) (scenes_turn.ticks s _ more over.shows)) what goes
 
 -- whatever is told
-comes_of : (p : Coming) (far : Progress) (s : State) → ComesSoFar p far s → ComesTo p s
+comes_of : (p : Arrival) (far : Progress) (s : State) → ComesSoFar p far s → ComesTo p s
 comes_of p far s (inl at) = inl at.0
 comes_of p far s (inr over) = inr over.0
 
@@ -123,7 +123,7 @@ comes_of p far s (inr over) = inr over.0
 pub one_waits : {T : Type 0} (items : List T) (one : T) (more : List T) → items ≡ one ∷ more → items ≡ [] → ⊥
 one_waits items one more are none = absurd cc
 
-pub waits_so : (p : Coming) (s : State) (phase : LogonPhase p) (left : List (List ℕ)) (moment : ℕ) → Shows s (scene_of p phase left moment) → s.dials ≡ [] → waiting s.bag ≡ [] → ⊥
+pub waits_so : (p : Arrival) (s : State) (phase : LogonPhase p) (left : List (List ℕ)) (moment : ℕ) → Shows s (scene_of p phase left moment) → s.dials ≡ [] → waiting s.bag ≡ [] → ⊥
 waits_so p s Dials left moment shows dials units = one_waits s.dials _ [] shows.dials dials
 waits_so p s Binds left moment shows dials units = one_waits (waiting s.bag) _ [] shows.units units
 waits_so p s (Challenged challenge) left moment shows dials units = one_waits (waiting s.bag) _ [] shows.units units
@@ -151,7 +151,7 @@ kind_so None policy computer now is = is
 kind_so (Some account) policy computer now is = is.user
 
 -- a hash that is set is no user's
-user_then : (p : Coming) (table : AccountTable) (now : ℕ) → IsSetOrNot p table → HasUser p → MayLogOn table (info_told p.meeting.task) now → HasUserIn p table
+user_then : (p : Arrival) (table : AccountTable) (now : ℕ) → IsSetOrNot p table → HasUser p → MayLogOn table (info_told p.meeting.task) now → HasUserIn p table
 user_then p table now (inl is) user may = record {
   found = subst (λ (t : AccountTable). account_in t.accounts p.meeting.task.user ≡ Some p.account) (sym is) user.found;
   hash = user.hash;
@@ -166,8 +166,8 @@ user_then p table now (inr set) user may =
       hash = user.hash;
     }
 
-module _ (p : Coming) (s : State) (left : List (List ℕ)) (moment : ℕ) (user : HasUser p) (may : MayLogOnAt p s) where
-  user_at_call : (a : Asked) (who : WhoAsked p a) (v : TurnAt) (aim : Aim) (what : Move) → Fits p (Calls a who v aim) → Shows s (scene_of p (Calls a who v aim) left moment) →
+module _ (p : Arrival) (s : State) (left : List (List ℕ)) (moment : ℕ) (user : HasUser p) (may : MayLogOnAt p s) where
+  user_at_call : (a : ClientAnswer) (who : WhoAsked p a) (v : TurnAt) (aim : Aim) (what : Move) → Fits p (Calls a who v aim) → Shows s (scene_of p (Calls a who v aim) left moment) →
       HasUserAt p s (Calls a who v aim) what
   user_at_call a who v (First client) what fits shows = tt
   user_at_call a who v (Second client server) what fits shows = tt

@@ -62,12 +62,12 @@ use Rattle.logon_steps.proofs.AskingLaws.{same_bytes}
 use Rattle.domain_controller.proofs.WholeParts.{hash_table}
 use Rattle.logon_runs.specs.Grants.{KeyArrives}
 use Rattle.logon_runs.specs.Scenes.LinkScenes.{its_link}
-use Rattle.logon_runs.specs.Phases.{NotYet, Fourth, IsSetAt, WasJudged, WasOpened, WasSet, progress_called, progress_onward, Aim, ArrivesAt, Coming, First, Fits, HasThree, IsAimed, IsPlanned, IsReady, IsTurning, HasUserAt, HasUserIn, MayLogOnAt, IsKnown, Second, Third, TurnAt, WhoAsked, own, scene_of, standing_for, step_for, turn_before, turn_on}
+use Rattle.logon_runs.specs.Phases.{NotYet, Fourth, IsSetAt, WasJudged, WasOpened, WasSet, progress_called, progress_onward, Aim, ArrivesAt, Arrival, First, Fits, HasThree, IsAimed, IsPlanned, IsReady, IsTurning, HasUserAt, HasUserIn, MayLogOnAt, IsKnown, Second, Third, TurnAt, WhoAsked, own, scene_of, standing_for, step_for, turn_before, turn_on}
 use Rattle.logon_runs.specs.Phases.{Acked, BindsBefore, BindsHeld, Calls, DialsBefore, DialsHeld, Granted, Halved, Proved, Sets}
-use Rattle.logon_runs.specs.Runs.{Asked, hidden, info_asked, sam_for, with_moved}
+use Rattle.logon_runs.specs.Runs.{ClientAnswer, hidden, info_asked, sam_for, with_moved}
 use Rattle.logon_runs.specs.FirstLogon.FirstRuns.{with_pair}
 use Rattle.logon_runs.specs.Scenes.Scene.{Shows}
-use Rattle.logon_runs.specs.Scenes.TurnScenes.{IsBetween, Turn, dial_scene, waiting_scene, with_accounts, with_secrets}
+use Rattle.logon_runs.specs.Scenes.TurnScenes.{IsBetween, TurnScene, dial_scene, waiting_scene, with_accounts, with_secrets}
 use Rattle.logon_runs.proofs.Scenes.AskSceneLaws.{logons_are_seen}
 use Rattle.logon_runs.proofs.FirstLogon.FirstTraceLaws.{after_below}
 use Rattle.logon_runs.proofs.Scenes.LinkSceneLaws.{found_here}
@@ -81,7 +81,7 @@ use Rattle.logon_runs.proofs.Phases.PhaseStartLaws.{ComesBy, under_less, left_so
 -- ---- the bind, the answer and the call
 
 -- the bind is answered, and the call goes out, whichever it is
-pub asks_for : (p : Coming) (s : State) (a : Asked) (who : WhoAsked p a) (v : TurnAt) (aim : Aim) (left : List (List ℕ)) (moment : ℕ) →
+pub asks_for : (p : Arrival) (s : State) (a : ClientAnswer) (who : WhoAsked p a) (v : TurnAt) (aim : Aim) (left : List (List ℕ)) (moment : ℕ) →
     IsBetween (turn_on p a who.later (who.sent ∷ []) v aim) → v.number < 2 ^ 32 → Shows s (scene_of p (Acked a who v aim) left moment) →
     Shows (onward s).state (scene_of p (Calls a who v aim) left moment)
 asks_for p s a who v (First client) left moment between below shows =
@@ -94,7 +94,7 @@ asks_for p s a who v (Third o c timestamp) left moment between below shows =
 asks_for p s a who v (Fourth o c timestamp new) left moment between below shows =
     sets_are_seen.asks s (turn_on p a who.later (who.sent ∷ []) v (Fourth o c timestamp new)) v.next v.number (change_call p.meeting.caller o timestamp new) v.computers left moment between below shows
 
-module _ (p : Coming) (s : State) (a : Asked) (who : WhoAsked p a) (v : TurnAt) (aim : Aim) (left : List (List ℕ)) (moment : ℕ) (fits : IsTurning p a v × IsAimed p v aim) where
+module _ (p : Arrival) (s : State) (a : ClientAnswer) (who : WhoAsked p a) (v : TurnAt) (aim : Aim) (left : List (List ℕ)) (moment : ℕ) (fits : IsTurning p a v × IsAimed p v aim) where
   pub dials_held : Shows s (scene_of p (DialsBefore a who v aim) left moment) → ComesBy p NotYet s (onward s).state
   dials_held shows =
       under p s _ (DialsHeld a who v aim) left moment shows.left fits
@@ -103,7 +103,7 @@ module _ (p : Coming) (s : State) (a : Asked) (who : WhoAsked p a) (v : TurnAt) 
 
   pub binds_held : Shows s (scene_of p (BindsBefore a who v aim) left moment) → ComesBy p NotYet s (onward s).state
   binds_held shows =
-      let t : Turn = turn_before p a who.later [] v in
+      let t : TurnScene = turn_before p a who.later [] v in
       under p s _ (BindsHeld a who v aim) left moment shows.left fits
       (logons_are_seen.held_within s (own p) (turn_on p a who.later [] v aim) v.next v.number 1 2 0 (step_for p a aim) v.computers _ [] _ _ who _
       left moment refl (turns_have_links.own (own p) t (standing_for aim) fits.0.joined_so) (turns_have_links.apart (own p) t fits.0.joined_so) shows)
@@ -123,10 +123,10 @@ module _ (p : Coming) (s : State) (a : Asked) (who : WhoAsked p a) (v : TurnAt) 
 -- ---- the controller answers
 
 -- what holds of the accounts with which the logon began
-pub of_table : (p : Coming) (v : TurnAt) (Holds : AccountTable → Type 0) → IsPlanned p v → Holds p.table → Holds v.table
+pub of_table : (p : Arrival) (v : TurnAt) (Holds : AccountTable → Type 0) → IsPlanned p v → Holds p.table → Holds v.table
 of_table p v Holds planned is = subst Holds (sym planned.1) is
 
-first_answered : (p : Coming) (s : State) (a : Asked) (who : WhoAsked p a) (v : TurnAt) (client : List ℕ) (left : List (List ℕ)) (moment : ℕ) → IsKnown p → IsReady p s →
+first_answered : (p : Arrival) (s : State) (a : ClientAnswer) (who : WhoAsked p a) (v : TurnAt) (client : List ℕ) (left : List (List ℕ)) (moment : ℕ) → IsKnown p → IsReady p s →
     IsTurning p a v × IsAimed p v (First client) → Shows s (scene_of p (Calls a who v (First client)) left moment) → ComesBy p NotYet s (onward s).state
 first_answered p s a who v client left moment known ready fits shows =
     let three : HasThree s.chances.left = ready.draws in
@@ -156,17 +156,17 @@ first_answered p s a who v client left moment known ready fits shows =
     (left_so s (λ (l : List (List ℕ)). scene_of p (Calls a who v (First client)) l moment) left _ shows.left three.are shows))
 
 -- the channel stands, and others are as they were
-abbrev stands_at : Coming → List ℕ → List ℕ → SecureChannelState
+abbrev stands_at : Arrival → List ℕ → List ℕ → SecureChannelState
 stands_at p client server = channel_for p.machine (pair_of client server) (auth_value p.meeting.caller client server)
 
-abbrev with_stands : Coming → List ℕ → List ℕ → Computers → Computers
+abbrev with_stands : Arrival → List ℕ → List ℕ → Computers → Computers
 with_stands p client server computers = record {
   pending = take_out same_name p.meeting.caller.computer computers.pending;
   channels = put same_name p.meeting.caller.computer (stands_at p client server) computers.channels;
   sessions = computers.sessions;
 }
 
-second_answered : (p : Coming) (s : State) (a : Asked) (who : WhoAsked p a) (v : TurnAt) (client server : List ℕ) (left : List (List ℕ)) (moment : ℕ) → IsKnown p →
+second_answered : (p : Arrival) (s : State) (a : ClientAnswer) (who : WhoAsked p a) (v : TurnAt) (client server : List ℕ) (left : List (List ℕ)) (moment : ℕ) → IsKnown p →
     IsTurning p a v × IsAimed p v (Second client server) → Shows s (scene_of p (Calls a who v (Second client server)) left moment) → ComesBy p (WasOpened client server) s (onward s).state
 second_answered p s a who v client server left moment known fits shows =
     let can : IsTurnCall (auth_call p.meeting.caller client server) = calls_can_go.authenticate p.meeting.caller client server known.caller in
@@ -210,7 +210,7 @@ cleared_range : (table : AccountTable) (user : List ℕ) → InRangeTable table 
 cleared_range table user is = cleared_at_range (place_in table.accounts user) table is
 
 -- what the controller makes of the logon's call
-pub grants_then : (p : Coming) (a : Asked) (v : TurnAt) (o c : SecureChannelState) (timestamp moment : ℕ) (left : List (List ℕ)) → IsKnown p → HasUserIn p v.table → IsTurning p a v →
+pub grants_then : (p : Arrival) (a : ClientAnswer) (v : TurnAt) (o c : SecureChannelState) (timestamp moment : ℕ) (left : List (List ℕ)) → IsKnown p → HasUserIn p v.table → IsTurning p a v →
     IsAimed p v (Third o c timestamp) → MayLogOn v.table (info_told p.meeting.task) moment → IsTurnCall (logon_call p.meeting.caller o timestamp (info_asked (own p) a)) →
     let sam : SamInfo = sam_for (own p) a v.table p.name p.account moment in
     controller_step_of (controller_at v.table p.name v.computers (turn_link (length v.links)))
@@ -233,7 +233,7 @@ grants_then p a v o c timestamp moment left known user is aimed may can =
     ∙ ap (λ (r : Reply). whole_step left left (action.Judged (judged.Passed 0) ∷ action.Send link (reply_bytes v.next r) ∷ [])
     (controller_at (cleared v.table p.meeting.task.user) p.name later (turn_link link))) (logons_are_granted.reply o timestamp sam)
 
-third_answered : (p : Coming) (s : State) (a : Asked) (who : WhoAsked p a) (v : TurnAt) (o c : SecureChannelState) (timestamp : ℕ) (left : List (List ℕ)) (moment : ℕ) → IsKnown p → HasUserIn p v.table → MayLogOnAt p s →
+third_answered : (p : Arrival) (s : State) (a : ClientAnswer) (who : WhoAsked p a) (v : TurnAt) (o c : SecureChannelState) (timestamp : ℕ) (left : List (List ℕ)) (moment : ℕ) → IsKnown p → HasUserIn p v.table → MayLogOnAt p s →
     IsReady p s → IsTurning p a v × IsAimed p v (Third o c timestamp) → KeyArrives (own p) a o → Shows s (scene_of p (Calls a who v (Third o c timestamp)) left moment) →
     ComesBy p (WasJudged a o) s (onward s).state
 third_answered p s a who v o c timestamp left moment known user may_log ready fits arrives shows =
@@ -283,7 +283,7 @@ place_found items (Some place) item is = record { place = place; is = refl }
 pub some_not_none : (next : Option Next) (one : Next) → next ≡ Some one → next ≡ None → ⊥
 some_not_none next one is none = absurd cc
 
-fourth_answered : (p : Coming) (s : State) (a : Asked) (who : WhoAsked p a) (v : TurnAt) (o c : SecureChannelState) (timestamp : ℕ) (new : List ℕ) (left : List (List ℕ)) (moment : ℕ) →
+fourth_answered : (p : Arrival) (s : State) (a : ClientAnswer) (who : WhoAsked p a) (v : TurnAt) (o c : SecureChannelState) (timestamp : ℕ) (new : List ℕ) (left : List (List ℕ)) (moment : ℕ) →
     IsKnown p → IsTurning p a v × IsAimed p v (Fourth o c timestamp new) → Shows s (scene_of p (Calls a who v (Fourth o c timestamp new)) left moment) → ComesBy p (WasSet o) s (onward s).state
 fourth_answered p s a who v o c timestamp new left moment known fits shows =
     let can : IsSetTurn (change_call p.meeting.caller o timestamp new) = set_units_go.call p.meeting.caller o timestamp new known.caller fits.1.0 in
@@ -322,7 +322,7 @@ fourth_answered p s a who v o c timestamp new left moment known fits shows =
     (controllers_set.set v.table p.name v.computers (length v.links) moment v.next timestamp there.place p.meeting.caller o c new left fits.0.next_below can is_secret fits.1.1 fits.1.2
     found) shows)
 
-pub calls_on : (p : Coming) (s : State) (a : Asked) (who : WhoAsked p a) (v : TurnAt) (aim : Aim) (left : List (List ℕ)) (moment : ℕ) → IsKnown p → IsReady p s →
+pub calls_on : (p : Arrival) (s : State) (a : ClientAnswer) (who : WhoAsked p a) (v : TurnAt) (aim : Aim) (left : List (List ℕ)) (moment : ℕ) → IsKnown p → IsReady p s →
     IsTurning p a v × IsAimed p v aim → HasUserAt p s (Calls a who v aim) move.Onward → ArrivesAt p (Calls a who v aim) move.Onward → Shows s (scene_of p (Calls a who v aim) left moment) → ComesBy p (progress_onward {p = p} (Calls a who v aim)) s (onward s).state
 calls_on p s a who v (First client) left moment known ready fits user arrives shows = first_answered p s a who v client left moment known ready fits shows
 calls_on p s a who v (Second client server) left moment known ready fits user arrives shows = second_answered p s a who v client server left moment known fits shows
@@ -333,7 +333,7 @@ calls_on p s a who v (Fourth o c timestamp new) left moment known ready fits use
 -- ---- the member takes the replies that open the channel
 
 -- the turn that follows
-abbrev pub turn_after : Coming → TurnAt → TurnAt
+abbrev pub turn_after : Arrival → TurnAt → TurnAt
 turn_after p v = record {
   computers = v.computers;
   number = after v.next;
@@ -343,7 +343,7 @@ turn_after p v = record {
   table = v.table;
 }
 
-pub turning_after : (p : Coming) (a : Asked) (who : WhoAsked p a) (v : TurnAt) (aim : Aim) → IsTurning p a v → IsTurning p a (turn_after p v)
+pub turning_after : (p : Arrival) (a : ClientAnswer) (who : WhoAsked p a) (v : TurnAt) (aim : Aim) → IsTurning p a v → IsTurning p a (turn_after p v)
 turning_after p a who v aim is = record {
   answering = is.answering;
   joined_so = turns_have_links.met (own p) (turn_before p a who.later (who.sent ∷ []) v) (standing_for aim) is.joined_so;
@@ -356,11 +356,11 @@ turning_after p a who v aim is = record {
   fits = is.fits;
 }
 
-pub halved_on : (p : Coming) (s : State) (a : Asked) (who : WhoAsked p a) (v : TurnAt) (client server : List ℕ) (left : List (List ℕ)) (moment : ℕ) →
+pub halved_on : (p : Arrival) (s : State) (a : ClientAnswer) (who : WhoAsked p a) (v : TurnAt) (client server : List ℕ) (left : List (List ℕ)) (moment : ℕ) →
     Fits p (Halved a who v client server) → Shows s (scene_of p (Halved a who v client server) left moment) → ComesBy p NotYet s (onward s).state
 halved_on p s a who v client server left moment fits shows =
-    let t : Turn = turn_before p a who.later (who.sent ∷ []) v in
-    let out : Turn = turn_on p a who.later (who.sent ∷ []) v (First client) in
+    let t : TurnScene = turn_before p a who.later (who.sent ∷ []) v in
+    let out : TurnScene = turn_on p a who.later (who.sent ∷ []) v (First client) in
     under p s _ (DialsHeld a who (turn_after p v) (Second client server)) left moment shows.left (turning_after p a who v (First client) fits.0, fits.2)
     (subst (λ (map : OpenMap). Shows (onward s).state
     (dial_scene out map (standing.Half client server) (after (after v.next)) (after v.next) (auth_call p.meeting.caller client server) v.computers [] left moment))
@@ -368,15 +368,15 @@ halved_on p s a who v client server left moment fits shows =
     (turns_are_seen.half s out (after v.next) v.next client server v.computers left moment (turns_have_links.between (own p) t standing.Nothing fits.0.joined_so)
     fits.0.next_below refl (calls_can_go.challenged client server fits.1) shows))
 
-module _ (p : Coming) (s : State) (a : Asked) (who : WhoAsked p a) (v : TurnAt) (client server : List ℕ) (left : List (List ℕ)) (moment : ℕ) (fits : Fits p (Proved a who v client server))
+module _ (p : Arrival) (s : State) (a : ClientAnswer) (who : WhoAsked p a) (v : TurnAt) (client server : List ℕ) (left : List (List ℕ)) (moment : ℕ) (fits : Fits p (Proved a who v client server))
     (shows : Shows s (scene_of p (Proved a who v client server) left moment)) where
-  abbrev before : Turn
+  abbrev before : TurnScene
   before = turn_before p a who.later (who.sent ∷ []) v
 
   abbrev half : Standing
   half = standing.Half client server
 
-  abbrev out : Turn
+  abbrev out : TurnScene
   out = turn_on p a who.later (who.sent ∷ []) v (Second client server)
 
   abbrev fresh : SecureChannelState
@@ -444,13 +444,13 @@ module _ (p : Coming) (s : State) (a : Asked) (who : WhoAsked p a) (v : TurnAt) 
 
 -- ---- the member takes the reply that sets the secret
 
-pub sets_on : (p : Coming) (s : State) (a : Asked) (who : WhoAsked p a) (v : TurnAt) (o c : SecureChannelState) (timestamp : ℕ) (new : List ℕ) (accounts : AccountTable) (left : List (List ℕ)) (moment : ℕ) →
+pub sets_on : (p : Arrival) (s : State) (a : ClientAnswer) (who : WhoAsked p a) (v : TurnAt) (o c : SecureChannelState) (timestamp : ℕ) (new : List ℕ) (accounts : AccountTable) (left : List (List ℕ)) (moment : ℕ) →
     Fits p (Sets a who v o c timestamp new accounts) → Shows s (scene_of p (Sets a who v o c timestamp new accounts) left moment) → ComesBy p NotYet s (onward s).state
 sets_on p s a who v o c timestamp new accounts left moment fits shows =
-    let t : Turn = turn_before p a who.later (who.sent ∷ []) v in
+    let t : TurnScene = turn_before p a who.later (who.sent ∷ []) v in
     let how : Standing = standing.Open (after_call o timestamp) in
     let later : SecureChannelState = after_return true (after_call o timestamp) in
-    let out : Turn = turn_on p a who.later (who.sent ∷ []) v (Fourth o c timestamp new) in
+    let out : TurnScene = turn_on p a who.later (who.sent ∷ []) v (Fourth o c timestamp new) in
     let turned : IsTurning p a (turn_after p v) = turning_after p a who v (Fourth o c timestamp new) fits.0 in
     let next : v.secrets.next ≡ Some (record { secret = new; is_tried = false }) = ap (λ (k : SecretsState). k.next) fits.3.0 ∙ fits.4 in
     under p s _ (DialsHeld a who (record (turn_after p v) { secrets = alone new; table = accounts }) (Third later (moved c timestamp) (timestamp_of moment))) left moment shows.left (

@@ -55,7 +55,7 @@ use Rattle.logon_steps.proofs.TurningLaws.{response_comes, unit_comes}
 use Rattle.logon_runs.specs.Scenes.AskScenes.{LogonsAreSeen, turn_within, with_controller, with_talk}
 use Rattle.logon_runs.specs.Scenes.LinkScenes.{given_after, given_caller, its_link, Meeting, meeting_scene, unit_down, unit_up}
 use Rattle.logon_runs.specs.Scenes.Scene.{Shows}
-use Rattle.logon_runs.specs.Scenes.TurnScenes.{IsBetween, Turn, turn_scene, unit_back, waiting_scene}
+use Rattle.logon_runs.specs.Scenes.TurnScenes.{IsBetween, TurnScene, turn_scene, unit_back, waiting_scene}
 use Rattle.logon_runs.proofs.Scenes.LinkSceneLaws.{heard_up, sent_down}
 use Rattle.logon_runs.proofs.Scenes.SceneLaws.{scenes_go_on}
 use Rattle.logon_runs.proofs.Scenes.TurningSceneLaws.{scenes_turn}
@@ -69,7 +69,7 @@ granted_at : (s : State) (g : Meeting) (info : NetworkInfo) (table : AccountTabl
     let logon : Logon = logon_for g.link g.task challenge message in
     let on : LoggedOn = let_in g.task shown logon in
     (who : RequestGoes most g.task.level 2 0 [] one on.session) (back : ReplyGoes (most + 1) g.task.level 2 (written_who_reply (name_in shown)) who.next who.later) →
-    let t : Turn = turn_within g waits info logon (asked_talk (bound_for g.task) g.place (who.sent ∷ [])) table name (standing.Open (after_call o timestamp)) links opened link in
+    let t : TurnScene = turn_within g waits info logon (asked_talk (bound_for g.task) g.place (who.sent ∷ [])) table name (standing.Open (after_call o timestamp)) links opened link in
     number < 2 ^ 32 → IsBetween t → IsTurnReply question.Logon (granting o timestamp stamp authoritative sam) → length (name_in shown) ≤ 32767 →
     slice_get links g.link ≡ Some (ToMember g.at_client g.at_member) → take_out same_number link opened ≡ its_link g →
     Shows s (turn_scene t next number (step.Reply question.Logon) computers (turn_link link) (unit_back t (reply_bytes number (granting o timestamp stamp authoritative sam)) ∷ []) left moment) →
@@ -85,7 +85,7 @@ granted_at s g info table name links opened link o waits challenge message sam n
     let shown : SamInfo = sam_shown o sam in
     let logon : Logon = logon_for g.link g.task challenge message in
     let on : LoggedOn = let_in g.task shown logon in
-    let t : Turn = turn_within g waits info logon (asked_talk (bound_for g.task) g.place (who.sent ∷ [])) table name (standing.Open (after_call o timestamp)) links opened link in
+    let t : TurnScene = turn_within g waits info logon (asked_talk (bound_for g.task) g.place (who.sent ∷ [])) table name (standing.Open (after_call o timestamp)) links opened link in
     let g1 : Meeting = record (with_controller g table name computers) {
       given = given_after g;
       how = standing.Open (after_return true (after_call o timestamp));
@@ -160,6 +160,6 @@ logons_are_seen = record {
   granted = λ s g t o waits challenge message sam next number timestamp stamp authoritative most computers one left moment below between own is short who back written_out joined taken shows.
       granted_at s g t.info t.table t.name t.links t.opened t.link o waits challenge message sam next number timestamp stamp authoritative most computers one left moment who back below
       (subst IsBetween written_out between) is short joined taken
-      (subst (λ (u : Turn). Shows s (turn_scene u next number (step.Reply question.Logon) computers (turn_link u.link)
+      (subst (λ (u : TurnScene). Shows s (turn_scene u next number (step.Reply question.Logon) computers (turn_link u.link)
       (unit_back u (reply_bytes number (granting o timestamp stamp authoritative sam)) ∷ []) left moment)) written_out shows);
 }

@@ -21,7 +21,7 @@ use Rattle.world_moves.specs.declared.links.Route.TheVariants.{Between, Stranger
 use Rattle.world_moves.specs.declared.moves.Move.{Move}
 use Rattle.world_moves.specs.declared.state.State.{State}
 use Rattle.world_moves.specs.declared.state.WaitingDial.{WaitingDial}
-use Rattle.world_moves.specs.Acting.{Heard, close_open, closed_at, forget, hear, hear_and_act, hear_and_act_if, heard_by, link_closed, perform, perform_all, perform_all_quietly, perform_by, perform_quietly, piece_comes, pieces_come, shut_link}
+use Rattle.world_moves.specs.Acting.{AfterHearing, close_open, closed_at, forget, hear, hear_and_act, hear_and_act_if, heard_by, link_closed, perform, perform_all, perform_all_quietly, perform_by, perform_quietly, piece_comes, pieces_come, shut_link}
 use Rattle.world_moves.specs.Bag.{first_waiting, pieces_of}
 use Rattle.world_moves.specs.Ends.{EndStep, client_done, controller_done, member_done}
 use Rattle.world_moves.specs.Links.{OpenMap, accepted, acceptor_of, answered, dialler_of, end_if, forget_end, hearer_of, hearer_on, is_accepted_by, other_hearer}
@@ -174,7 +174,7 @@ closed_stays : (t : Three) (end : Option EndId) (link : ℕ) (s : State) → IsO
 unfolding IsOneIf
 closed_stays t None link s is are = staying t s are
 closed_stays t (Some end) link s is are =
-    let heard : Heard = hear end (event.Closed link) s in
+    let heard : AfterHearing = hear end (event.Closed link) s in
     let first : OthersStay t s heard.state = heard_stays t (event.Closed link) s are end is in
     both_stay t s heard.state _ first (all_quiet_stays t end heard.actions heard.state first.links)
 
@@ -200,7 +200,7 @@ actions_stay t end (what ∷ actions) s are =
 
 hears_stay : (t : Three) (end : EndId) (what : Event) (s : State) → IsOneOf t end → AreAmong t s.open_links → OthersStay t s (hear_and_act end what s).state
 hears_stay t end what s is are =
-    let heard : Heard = hear end what s in
+    let heard : AfterHearing = hear end what s in
     let first : OthersStay t s heard.state = heard_stays t what s are end is in
     both_stay t s heard.state _ first (actions_stay t end heard.actions heard.state first.links)
 
@@ -280,7 +280,7 @@ steps_stay t s what steps are is =
 start_by_stays : (t : Three) (plan : Option ClientPlan) (s : State) → s.open_links ≡ [] → OthersStay t s (start_by plan t.client s).state
 start_by_stays t None s none = staying t s (subst (AreAmong t) (sym none) tt)
 start_by_stays t (Some plan) s none =
-    let heard : Heard = begun t.client plan (forget (Client t.client) s) in
+    let heard : AfterHearing = begun t.client plan (forget (Client t.client) s) in
     let first : OthersStay t s heard.state = record {
       controllers = λ at apart. refl;
       members = λ at apart. refl;

@@ -22,7 +22,7 @@ use Rattle.world_moves.specs.declared.links.EndId.TheVariants.{Controller, Membe
 use Rattle.world_moves.specs.declared.links.Route.{Route}
 use Rattle.world_moves.specs.declared.state.State.{State}
 use Rattle.world_moves.specs.declared.state.WaitingDial.{WaitingDial}
-use Rattle.world_moves.specs.Acting.{Heard, dials_of_action, done, hear, link_closed, perform_all, perform_all_quietly, perform_by, perform_quietly, unit_on, units_of_action}
+use Rattle.world_moves.specs.Acting.{AfterHearing, dials_of_action, done, hear, link_closed, perform_all, perform_all_quietly, perform_by, perform_quietly, unit_on, units_of_action}
 use Rattle.world_moves.specs.Ends.{EndStates}
 use Rattle.world_moves.specs.Links.{OpenMap}
 use Rattle.world_moves.specs.Moving.{onward, settle}
@@ -107,7 +107,7 @@ lands s v unit later end ends left actions client member controller shows comes 
     let s2 : State = (after_hearing ends left actions s1).state in
     let s3 : State = perform_all_quietly end actions s2 in
     let leaves : Leaves end actions s2 s3 = quietly_leave end actions s2 in
-    let is : (onward s).state ≡ s3 = comes.state ∙ ap (λ (h : Heard). (done end h).state) heard ∙ performed_quietly end actions s2 none_close in
+    let is : (onward s).state ≡ s3 = comes.state ∙ ap (λ (h : AfterHearing). (done end h).state) heard ∙ performed_quietly end actions s2 none_close in
     subst (λ (t : State). Shows t (with_actions end actions left (seen client member controller later v))) (sym is) (record {
       client = ap (λ (e : EndStates). slice_get e.clients v.at_client) leaves.ends ∙ is_client;
       member = ap (λ (e : EndStates). slice_get e.members v.at_member) leaves.ends ∙ is_member;

@@ -52,7 +52,7 @@ use Rattle.world_moves.specs.declared.links.OpenLink.{OpenLink}
 use Rattle.world_moves.specs.declared.links.Route.{Route}
 use Rattle.world_moves.specs.declared.state.State.{State}
 use Rattle.world_moves.specs.declared.state.WaitingDial.{WaitingDial}
-use Rattle.world_moves.specs.Acting.{Heard, close_open, closed_at, done, done_quietly, hear, perform_all, perform_all_quietly, perform_quietly, shut_link}
+use Rattle.world_moves.specs.Acting.{AfterHearing, close_open, closed_at, done, done_quietly, hear, perform_all, perform_all_quietly, perform_quietly, shut_link}
 use Rattle.world_moves.specs.Ends.{EndStates}
 use Rattle.world_moves.specs.Links.{OpenMap}
 use Rattle.world_moves.specs.Moving.{onward, settle}
@@ -67,7 +67,7 @@ use Rattle.logon_steps.proofs.TurningLaws.{response_comes, turn_ack_sends, unit_
 use Rattle.logon_runs.specs.Scenes.Scene.{HasFirst, IsNoClose, Scene, Shows, dials_made, units_sent, with_actions}
 use Rattle.logon_runs.specs.Scenes.SetScenes.{SetsAreSeen}
 use Rattle.logon_runs.specs.Scenes.Turnings.{ClosesTo, shut_in}
-use Rattle.logon_runs.specs.Scenes.TurnScenes.{IsBetween, Turn, dial_scene, turn_scene, unit_back, unit_there, waiting_scene, with_accounts, with_secrets}
+use Rattle.logon_runs.specs.Scenes.TurnScenes.{IsBetween, TurnScene, dial_scene, turn_scene, unit_back, unit_there, waiting_scene, with_accounts, with_secrets}
 use Rattle.logon_runs.specs.Scenes.WaitingUnits.{Comes, after_hearing, waiting, with_controller_at, with_member_at}
 use Rattle.logon_runs.proofs.Scenes.SceneLaws.{Leaves, first_comes, performed_quietly, quietly_leave, scenes_go_on, sends_leave}
 use Rattle.logon_runs.proofs.Scenes.TurnSceneLaws.{closes_turn, heard_back, heard_there, sent_back, sent_there}
@@ -100,10 +100,10 @@ keeps_and_closes s v unit later end other ends others left link cause text actio
     let leaves : Leaves end actions s3 s4 = quietly_leave end actions s3 in
     let is : (onward s).state ≡ s4 =
     comes.state
-    ∙ ap (λ (h : Heard). (done end h).state) heard
+    ∙ ap (λ (h : AfterHearing). (done end h).state) heard
     ∙ ap (λ (o : Option OpenLink). (perform_all end actions (close_open o end link kept).state).state) (ap (λ (o : OpenMap). lookup same_number link o) shows.opened ∙ closes.found)
     ∙ ap (λ (h : Option EndId). (perform_all end actions (closed_at h link (shut_link link kept)).state).state) closes.side
-    ∙ ap (λ (h : Heard). (perform_all end actions (done_quietly other h).state).state) heard_too
+    ∙ ap (λ (h : AfterHearing). (perform_all end actions (done_quietly other h).state).state) heard_too
     ∙ performed_quietly end actions s3 none_close in
     subst (λ (t : State). Shows t (with_actions end actions left (shut_in link (record v { client = client; member = member; controller = controller; units = later })))) (sym is) (record {
       client = ap (λ (e : EndStates). slice_get e.clients v.at_client) leaves.ends ∙ is_client;
@@ -147,11 +147,11 @@ abbrev two : List ℕ → List ℕ → Bool → SecretsState
 two current new is_tried = record { current = current; next = Some (record { secret = new; is_tried = is_tried }) }
 
 -- the turn's member, with that standing and those secrets
-abbrev member_of : Turn → Standing → SecretsState → ℕ → ℕ → Step → MemberState
+abbrev member_of : TurnScene → Standing → SecretsState → ℕ → ℕ → Step → MemberState
 member_of t how secrets next number what =
     member_at (logons_keeping (plan_with secrets t.plan) t.caller how t.info t.place next number what t.asked) t.accepted (on_turn t.link)
 
-module _ (s : State) (t : Turn) (next number flags : ℕ) (client server current new : List ℕ) (computers : Computers) (left : List (List ℕ)) (moment : ℕ) (between : IsBetween t) (below : number < 2 ^ 32)
+module _ (s : State) (t : TurnScene) (next number flags : ℕ) (client server current new : List ℕ) (computers : Computers) (left : List (List ℕ)) (moment : ℕ) (between : IsBetween t) (below : number < 2 ^ 32)
     (half : t.how ≡ standing.Half client server) (fits : (has_flag offered_flags flags && has_flag flags rc4_flag) ≡ true) where
   abbrev opening : Reply
   opening = reply.Authenticate (record { credential = server_credential t.caller.secret client server; flags = flags; status = 0 })
@@ -193,7 +193,7 @@ module _ (s : State) (t : Turn) (next number flags : ℕ) (client server current
 
 -- ---- the bind, the call and the reply
 
-asks_on : (s : State) (t : Turn) (next number : ℕ) (c : SetCall) (computers : Computers) (left : List (List ℕ)) (moment : ℕ) → IsBetween t → number < 2 ^ 32 →
+asks_on : (s : State) (t : TurnScene) (next number : ℕ) (c : SetCall) (computers : Computers) (left : List (List ℕ)) (moment : ℕ) → IsBetween t → number < 2 ^ 32 →
     Shows s (turn_scene t next number (step.Set (set_step.Bind c)) computers (turn_link t.link) (unit_back t (written (turn_ack number)) ∷ []) left moment) →
     Shows (onward s).state
     (turn_scene t (after next) next (step.Set set_step.Reply) computers (turn_link t.link) (unit_there t (bytes_of_call (set_request next c) 5840) ∷ []) left moment)
@@ -221,7 +221,7 @@ set_by plan caller o later r info place next number link now current new asked l
     ∙ ap (λ (outcome : SetOutcome). step_by actions_in state_in halted_state left
     (next_turn now ((take_by (settle_set outcome s) None at).0.work, keep_turn (take_by (settle_set outcome s) None at).1 [] link) left)) judged
 
-set_on : (s : State) (t : Turn) (o later : SecureChannelState) (r : SetReply) (next number : ℕ) (current new : List ℕ) (computers : Computers) (left : List (List ℕ)) (moment : ℕ) → IsBetween t →
+set_on : (s : State) (t : TurnScene) (o later : SecureChannelState) (r : SetReply) (next number : ℕ) (current new : List ℕ) (computers : Computers) (left : List (List ℕ)) (moment : ℕ) → IsBetween t →
     number < 2 ^ 32 → InRangeSetReply r → t.how ≡ standing.Open o → judge_set r (standing.Open o) ≡ Ok later → t.plan.secrets ≡ two current new false →
     Shows s (turn_scene t next number (step.Set set_step.Reply) computers (turn_link t.link) (unit_back t (set_reply_bytes number r) ∷ []) left moment) →
     Shows (onward s).state

@@ -9,7 +9,7 @@ use Rattle.world_moves.specs.declared.links.EndId.TheVariants.{Client}
 use Rattle.world_moves.specs.declared.state.State.{State}
 use Rattle.world_moves.specs.declared.state.WaitingDial.{WaitingDial}
 use Rattle.world_moves.specs.declared.bag.BagUnit.{BagUnit}
-use Rattle.world_moves.specs.Acting.{Acted, Heard, done, forget, is_of_other}
+use Rattle.world_moves.specs.Acting.{Acted, AfterHearing, done, forget, is_of_other}
 use Rattle.world_moves.specs.Counting.{add_counts, counts_of}
 use Rattle.world_moves.specs.Ends.{with_client}
 use Rattle.world_moves.specs.Links.{OpenMap, forget_end}
@@ -24,7 +24,7 @@ use Rattle.logon_runs.proofs.Scenes.WaitingLaws.{waiting_comes}
 use Rattle.domain_controller.proofs.TurnOutLaws.{got_set}
 
 -- the client begins so
-abbrev pub begun_so : ℕ → Beginning → State → Heard
+abbrev pub begun_so : ℕ → Beginning → State → AfterHearing
 begun_so at beginning s = record {
   state = record s { ends = with_client at beginning.state s.ends; counts = add_counts s.counts (counts_of beginning.actions) };
   actions = beginning.actions;

@@ -45,14 +45,14 @@ use Rattle.logon_steps.proofs.MemberTurnLaws.{turns_step}
 use Rattle.logon_steps.proofs.StreamLaws.{same}
 use Rattle.logon_steps.proofs.TurningLaws.{ComesAtOnce, request_comes, response_comes, turn_ack_sends, turn_bind_sends, unit_comes}
 use Rattle.logon_runs.specs.Scenes.Scene.{HasFirst, Shows}
-use Rattle.logon_runs.specs.Scenes.TurnScenes.{IsBetween, Turn, TurnsAreSeen, dial_scene, next_turn, turn_scene, unit_back, unit_there, waiting_scene, with_accounts}
+use Rattle.logon_runs.specs.Scenes.TurnScenes.{IsBetween, TurnScene, TurnsAreSeen, dial_scene, next_turn, turn_scene, unit_back, unit_there, waiting_scene, with_accounts}
 use Rattle.logon_runs.specs.Scenes.Turnings.{ClosesTo}
 use Rattle.logon_runs.proofs.Scenes.SceneLaws.{scenes_go_on}
 use Rattle.logon_runs.proofs.Scenes.TurningSceneLaws.{scenes_turn}
 
 -- ---- who hears what is on the link of the turn
 
-pub heard_there : (t : Turn) (bytes : List ℕ) (next number : ℕ) (what : Step) (computers : Computers) (links : LinkMap) (left : List (List ℕ)) (moment : ℕ) → IsBetween t → ComesAtOnce bytes →
+pub heard_there : (t : TurnScene) (bytes : List ℕ) (next number : ℕ) (what : Step) (computers : Computers) (links : LinkMap) (left : List (List ℕ)) (moment : ℕ) → IsBetween t → ComesAtOnce bytes →
     HasFirst (turn_scene t next number what computers links (unit_there t bytes ∷ []) left moment) (unit_there t bytes) [] (Controller t.at_controller)
 heard_there t bytes next number what computers links left moment between comes = record {
   units = refl;
@@ -63,7 +63,7 @@ heard_there t bytes next number what computers links left moment between comes =
   hearer = refl;
 }
 
-pub heard_back : (t : Turn) (bytes : List ℕ) (next number : ℕ) (what : Step) (computers : Computers) (links : LinkMap) (left : List (List ℕ)) (moment : ℕ) → IsBetween t → ComesAtOnce bytes →
+pub heard_back : (t : TurnScene) (bytes : List ℕ) (next number : ℕ) (what : Step) (computers : Computers) (links : LinkMap) (left : List (List ℕ)) (moment : ℕ) → IsBetween t → ComesAtOnce bytes →
     HasFirst (turn_scene t next number what computers links (unit_back t bytes ∷ []) left moment) (unit_back t bytes) [] (Member t.at_member)
 heard_back t bytes next number what computers links left moment between comes = record {
   units = refl;
@@ -76,17 +76,17 @@ heard_back t bytes next number what computers links left moment between comes = 
 
 -- ---- what is sent on it
 
-pub sent_back : (t : Turn) (bytes : List ℕ) → IsBetween t → sent_if (slice_get t.links t.link) (Controller t.at_controller) t.link bytes ≡ unit_back t bytes ∷ []
+pub sent_back : (t : TurnScene) (bytes : List ℕ) → IsBetween t → sent_if (slice_get t.links t.link) (Controller t.at_controller) t.link bytes ≡ unit_back t bytes ∷ []
 sent_back t bytes between =
     ap (λ (r : Option Route). sent_if r (Controller t.at_controller) t.link bytes) between.route
     ∙ ap (λ (b : Bool). record { bytes = bytes; link = t.link; kind = kind.ToController; back = b; is_settled = false } ∷ []) (same t.at_controller)
 
-pub sent_there : (t : Turn) (bytes : List ℕ) → IsBetween t → sent_if (slice_get t.links t.link) (Member t.at_member) t.link bytes ≡ unit_there t bytes ∷ []
+pub sent_there : (t : TurnScene) (bytes : List ℕ) → IsBetween t → sent_if (slice_get t.links t.link) (Member t.at_member) t.link bytes ≡ unit_there t bytes ∷ []
 sent_there t bytes between = ap (λ (r : Option Route). sent_if r (Member t.at_member) t.link bytes) between.route
 
 -- ---- a turn that is done
 
-pub closes_turn : (t : Turn) (next number : ℕ) (what : Step) (computers : Computers) (units : List BagUnit) (left : List (List ℕ)) (moment : ℕ) → IsBetween t →
+pub closes_turn : (t : TurnScene) (next number : ℕ) (what : Step) (computers : Computers) (units : List BagUnit) (left : List (List ℕ)) (moment : ℕ) → IsBetween t →
     ClosesTo (turn_scene t next number what computers (turn_link t.link) units left moment) (Member t.at_member) (Controller t.at_controller) t.link
 closes_turn t next number what computers units left moment between = record {
   there = record { route = ToController t.at_member t.at_controller; dialler = true; acceptor = true };
@@ -94,7 +94,7 @@ closes_turn t next number what computers units left moment between = record {
   side = refl;
 }
 
-half_ends : (s : State) (t : Turn) (how : Standing) (next number : ℕ) (client server : List ℕ) (computers : Computers) (left : List (List ℕ)) (moment : ℕ) → t.how ≡ standing.Nothing → IsBetween t → number < 2 ^ 32 →
+half_ends : (s : State) (t : TurnScene) (how : Standing) (next number : ℕ) (client server : List ℕ) (computers : Computers) (left : List (List ℕ)) (moment : ℕ) → t.how ≡ standing.Nothing → IsBetween t → number < 2 ^ 32 →
     let r : Reply = reply.Challenge (record { challenge = server; status = 0 }) in
     IsTurnReply (question.Challenge client) r →
     Shows s (turn_scene t next number (step.Reply (question.Challenge client)) computers (turn_link t.link) (unit_back t (reply_bytes number r) ∷ []) left moment) →
@@ -114,7 +114,7 @@ half_ends s t how next number client server computers left moment is_nothing bet
 abbrev pub with_next : Option Next → SecretsState → SecretsState
 with_next next secrets = record secrets { next = next }
 
-opened_ends : (s : State) (t : Turn) (how : Standing) (next number flags : ℕ) (client server : List ℕ) (computers : Computers) (left : List (List ℕ)) (moment : ℕ) → t.how ≡ standing.Half client server → t.plan.secrets.next ≡ None → IsBetween t →
+opened_ends : (s : State) (t : TurnScene) (how : Standing) (next number flags : ℕ) (client server : List ℕ) (computers : Computers) (left : List (List ℕ)) (moment : ℕ) → t.how ≡ standing.Half client server → t.plan.secrets.next ≡ None → IsBetween t →
     number < 2 ^ 32 → (has_flag offered_flags flags && has_flag flags rc4_flag) ≡ true →
     let r : Reply = reply.Authenticate (record { credential = server_credential t.caller.secret client server; flags = flags; status = 0 }) in
     let o : SecureChannelState = fresh_channel t.caller.secret client server offered_flags in
@@ -141,7 +141,7 @@ opened_ends s t how next number flags client server computers left moment is_hal
 pub turns_are_seen : TurnsAreSeen
 turns_are_seen = record {
   dialled = λ s t opened how next number what computers units left moment reach found new between shows.
-      let later : Turn = next_turn t opened how in
+      let later : TurnScene = next_turn t opened how in
       subst (λ (more : List BagUnit). Shows (connect s).state (turn_scene later next number what computers (one_link (length t.links) first_talk) (units ++ (more ++ [])) left moment))
       (sent_there later (written (bind_of netlogon_syntax number)) between)
       (scenes_turn.member_dials s (waiting_scene t opened how next number what computers units left moment) t.plan.controller [] _ _ (action.Send (length t.links) (written (bind_of netlogon_syntax number)) ∷ [])

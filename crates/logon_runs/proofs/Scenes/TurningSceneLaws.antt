@@ -25,7 +25,7 @@ use Rattle.world_moves.specs.declared.links.Route.{Route}
 use Rattle.world_moves.specs.declared.links.Route.TheVariants.{ToMember, ToController}
 use Rattle.world_moves.specs.declared.state.State.{State}
 use Rattle.world_moves.specs.declared.state.WaitingDial.{WaitingDial}
-use Rattle.world_moves.specs.Acting.{Heard, close_open, closed_at, done, done_quietly, hear, perform_all, perform_all_quietly, shut_link}
+use Rattle.world_moves.specs.Acting.{AfterHearing, close_open, closed_at, done, done_quietly, hear, perform_all, perform_all_quietly, shut_link}
 use Rattle.world_moves.specs.Ends.{EndStates}
 use Rattle.world_moves.specs.Links.{OpenMap, accepted, acceptor_of, answered}
 use Rattle.world_moves.specs.Moving.{answer, answer_by, answered_link, connect, connect_by, connect_first, end_of_peer, moment_after, onward, route_to, settle, with_link, without_first}
@@ -59,10 +59,10 @@ lands_closing s v unit later end other ends others left link cause actions clien
     let leaves : Leaves end actions s3 s4 = quietly_leave end actions s3 in
     let is : (onward s).state ≡ s4 =
     comes.state
-    ∙ ap (λ (h : Heard). (done end h).state) heard
+    ∙ ap (λ (h : AfterHearing). (done end h).state) heard
     ∙ ap (λ (o : Option OpenLink). (perform_all end actions (close_open o end link s2).state).state) (ap (λ (o : OpenMap). lookup same_number link o) shows.opened ∙ closes.found)
     ∙ ap (λ (h : Option EndId). (perform_all end actions (closed_at h link (shut_link link s2)).state).state) closes.side
-    ∙ ap (λ (h : Heard). (perform_all end actions (done_quietly other h).state).state) heard_too
+    ∙ ap (λ (h : AfterHearing). (perform_all end actions (done_quietly other h).state).state) heard_too
     ∙ performed_quietly end actions s3 none_close in
     subst (λ (t : State). Shows t (with_actions end actions left (shut_in link (record v { client = client; member = member; controller = controller; units = later })))) (sym is) (record {
       client = ap (λ (e : EndStates). slice_get e.clients v.at_client) leaves.ends ∙ is_client;
@@ -103,10 +103,10 @@ lands_dialled s v end peer dials route acceptors ends actions client member cont
     let is : (connect s).state ≡ s5 =
     ap (λ (d : List WaitingDial). (connect_first (slice_get d 0) (without_first s)).state) (shows.dials ∙ waits)
     ∙ ap (λ (r : Option Route). (connect_by r end (without_first s)).state) reaches
-    ∙ ap (λ (h : Heard). (answer end n (done (acceptor_of route) h).state).state) opens
+    ∙ ap (λ (h : AfterHearing). (answer end n (done (acceptor_of route) h).state).state) opens
     ∙ ap (λ (o : Option OpenLink). (answer_by o end n s2).state)
     (ap₂ (λ (o : OpenMap) (l : List Route). lookup same_number (length l) o) open_is shows.links ∙ found)
-    ∙ ap (λ (h : Heard). (done end h).state) dialled
+    ∙ ap (λ (h : AfterHearing). (done end h).state) dialled
     ∙ performed_quietly end actions s4 none_close in
     subst (λ (t : State). Shows t (with_actions end actions v.left (connect_route route dials (record v { client = client; member = member; controller = controller })))) (sym is) (record {
       client = ap (λ (e : EndStates). slice_get e.clients v.at_client) leaves.ends ∙ is_client;

@@ -9,7 +9,7 @@ use Rattle.world_moves.specs.declared.links.Route.TheVariants.{ToController, ToM
 use Rattle.world_moves.specs.Links.{OpenMap, accepted, answered}
 use Rattle.logon_steps.proofs.StreamLaws.{same}
 use Rattle.logon_runs.specs.Scenes.LinkScenes.{Meeting}
-use Rattle.logon_runs.specs.Scenes.TurnScenes.{Turn}
+use Rattle.logon_runs.specs.Scenes.TurnScenes.{TurnScene}
 use Rattle.logon_runs.specs.Scenes.TwoLinks.{HasMet, TurnsHaveLinks}
 use Rattle.domain_controller.proofs.TurnOutLaws.{got_inside}
 
@@ -48,13 +48,13 @@ module _ {V : Type 0} (one other : ℕ) (there new done : V) (is : eqb one other
 abbrev there_of : Meeting → OpenLink
 there_of g = record { route = ToMember g.at_client g.at_member; dialler = true; acceptor = true }
 
-abbrev new_of : Turn → OpenLink
+abbrev new_of : TurnScene → OpenLink
 new_of t = accepted (ToController t.at_member t.at_controller)
 
-below : (g : Meeting) (t : Turn) → HasMet g t → g.link < length t.links
+below : (g : Meeting) (t : TurnScene) → HasMet g t → g.link < length t.links
 below g t is = got_inside t.links g.link (ToMember g.at_client g.at_member) is
 
-apart_so : (g : Meeting) (t : Turn) → HasMet g t → eqb (length t.links) g.link ≡ false
+apart_so : (g : Meeting) (t : TurnScene) → HasMet g t → eqb (length t.links) g.link ≡ false
 apart_so g t is = differs (length t.links) g.link (below g t is)
 
 pub turns_have_links : TurnsHaveLinks

@@ -15,7 +15,7 @@ use Rattle.world_moves.specs.World.{IsPlan, first_ends}
 use Rattle.logon_steps.specs.ControllerTurns.{controller_at}
 use Rattle.logon_steps.specs.MemberTurns.{plan_with}
 use Rattle.logon_runs.specs.Scenes.Others.{OthersStay}
-use Rattle.logon_runs.specs.Phases.{Coming}
+use Rattle.logon_runs.specs.Phases.{Arrival}
 use Rattle.logon_runs.specs.Rests.{AtRest, ControllerRests, MemberRests, caller_with, secret_at, three_of}
 use Rattle.logon_runs.specs.AnyAnswer.AnyPhases.{IsAble, IsAnywhere, IsDone}
 
@@ -29,7 +29,7 @@ pub record AreThree (plan : Plan) (client member controller : ℕ) : Type 0 wher
   pub is_table : slice_get plan.tables controller ≡ Some table
 
 -- what is there when the client starts at rest; nothing is asked of the two accounts
-abbrev pub coming_from : (plan : Plan) (s : State) → AtRest plan s → (client member controller : ℕ) → AreThree plan client member controller → Account → Account → Coming
+abbrev pub coming_from : (plan : Plan) (s : State) → AtRest plan s → (client member controller : ℕ) → AreThree plan client member controller → Account → Account → Arrival
 coming_from plan s rest client member controller three account machine =
     let work : MemberRests plan s member three.member_plan = rest.members member three.member_plan three.is_member_plan in
     let desk : ControllerRests plan s controller three.table = rest.controllers controller three.table three.is_table in
@@ -62,7 +62,7 @@ IsReachedOrNot plan member work controller =
     (end_of_peer work.controller (first_ends plan) ≡ Some (Controller controller)) ⊎ (route_to (Member member) (end_of_peer work.controller (first_ends plan)) ≡ None)
 
 -- it can go on, and is in a phase
-pub record HasStarted (plan : Plan) (p : Coming) (s : State) : Type 0 where
+pub record HasStarted (plan : Plan) (p : Arrival) (s : State) : Type 0 where
   pub able : IsAble plan p
   pub at : IsAnywhere plan p s
 

@@ -52,10 +52,10 @@ use Rattle.logon_runs.specs.Scenes.AskScenes.{turn_within, with_controller}
 use Rattle.logon_runs.specs.Failing.FailingSteps.{out_talk, who_fault}
 use Rattle.logon_runs.specs.Scenes.LinkScenes.{given_after, IsJoined, its_link, Meeting, meeting_scene, rest_scene, unit_down, unit_up}
 use Rattle.logon_runs.specs.Scenes.Scene.{Shows}
-use Rattle.logon_runs.specs.Scenes.TurnScenes.{IsBetween, Turn, turn_scene, unit_back, waiting_scene}
+use Rattle.logon_runs.specs.Scenes.TurnScenes.{IsBetween, TurnScene, turn_scene, unit_back, waiting_scene}
 
 -- the member's turn for that logon, whose channel stands so, with these held
-abbrev pub failing_turn : Meeting → ClientPhase → NetworkInfo → List ℕ → Authenticate → List (List ℕ) → AccountTable → List ℕ → Standing → List Route → OpenMap → ℕ → Turn
+abbrev pub failing_turn : Meeting → ClientPhase → NetworkInfo → List ℕ → Authenticate → List (List ℕ) → AccountTable → List ℕ → Standing → List Route → OpenMap → ℕ → TurnScene
 failing_turn g waits info challenge message held table name how links opened link =
     turn_within g waits info (logon_for g.link g.task challenge message) (asked_talk (bound_for g.task) g.place held) table name how links opened link
 
@@ -96,7 +96,7 @@ pub record FailingsAreSeen : Type 0 where
   pub dropped : (s : State) (g : Meeting) (waits : ClientPhase) (info : NetworkInfo) (challenge : List ℕ) (message : Authenticate) (table : AccountTable) (name : List ℕ)
       (how : Standing) (links : List Route) (opened : OpenMap) (link next number most : ℕ) (q : Question) (r : Reply) (cause : DropCause) (computers : Computers) (one other : Option SessionState)
       (left : List (List ℕ)) (moment : ℕ) → (who : RequestGoes most g.task.level 2 0 [] one other) →
-      let t : Turn = failing_turn g waits info challenge message (who.sent ∷ []) table name how links opened link in
+      let t : TurnScene = failing_turn g waits info challenge message (who.sent ∷ []) table name how links opened link in
       number < 2 ^ 32 → IsBetween t → IsTurnReply q r → judge q r how g.caller.secret ≡ judgement.Drop cause →
       slice_get links g.link ≡ Some (ToMember g.at_client g.at_member) → take_out same_number link opened ≡ its_link g →
       Shows s (turn_scene t next number (step.Reply q) computers (turn_link link) (unit_back t (reply_bytes number r) ∷ []) left moment) →
@@ -106,7 +106,7 @@ pub record FailingsAreSeen : Type 0 where
   pub set_dropped : (s : State) (g : Meeting) (waits : ClientPhase) (info : NetworkInfo) (challenge : List ℕ) (message : Authenticate) (table : AccountTable) (name : List ℕ)
       (how : Standing) (links : List Route) (opened : OpenMap) (link next number most : ℕ) (r : SetReply) (cause : DropCause) (computers : Computers) (one other : Option SessionState)
       (left : List (List ℕ)) (moment : ℕ) → (who : RequestGoes most g.task.level 2 0 [] one other) →
-      let t : Turn = failing_turn g waits info challenge message (who.sent ∷ []) table name how links opened link in
+      let t : TurnScene = failing_turn g waits info challenge message (who.sent ∷ []) table name how links opened link in
       number < 2 ^ 32 → IsBetween t → InRangeSetReply r → judge_set r how ≡ Err cause →
       slice_get links g.link ≡ Some (ToMember g.at_client g.at_member) → take_out same_number link opened ≡ its_link g →
       Shows s (turn_scene t next number (step.Set set_step.Reply) computers (turn_link link) (unit_back t (set_reply_bytes number r) ∷ []) left moment) →
@@ -115,7 +115,7 @@ pub record FailingsAreSeen : Type 0 where
   pub refused : (s : State) (g : Meeting) (waits : ClientPhase) (info : NetworkInfo) (challenge : List ℕ) (message : Authenticate) (table : AccountTable) (name : List ℕ)
       (how : Standing) (o : SecureChannelState) (links : List Route) (opened : OpenMap) (link next number most status : ℕ) (q : Question) (r : Reply) (computers : Computers) (one other : Option SessionState)
       (left : List (List ℕ)) (moment : ℕ) → (who : RequestGoes most g.task.level 2 0 [] one other) →
-      let t : Turn = failing_turn g waits info challenge message (who.sent ∷ []) table name how links opened link in
+      let t : TurnScene = failing_turn g waits info challenge message (who.sent ∷ []) table name how links opened link in
       number < 2 ^ 32 → IsBetween t → IsTurnReply q r → judge q r how g.caller.secret ≡ judgement.Answer o (verdict.Status status) →
       slice_get links g.link ≡ Some (ToMember g.at_client g.at_member) → take_out same_number link opened ≡ its_link g →
       Shows s (turn_scene t next number (step.Reply q) computers (turn_link link) (unit_back t (reply_bytes number r) ∷ []) left moment) →

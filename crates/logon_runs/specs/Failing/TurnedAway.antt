@@ -34,8 +34,8 @@ use Rattle.logon_runs.specs.Failing.FailingSteps.{out_talk, who_fault}
 use Rattle.logon_runs.specs.Failing.Failings.{settled_at}
 use Rattle.logon_runs.specs.Scenes.LinkScenes.{Meeting, meeting_scene, rest_scene, unit_down, unit_up}
 use Rattle.logon_runs.specs.Scenes.Others.{IsStepOn}
-use Rattle.logon_runs.specs.Phases.{Aim, Calls, Coming, DialsBefore, DialsHeld, Fits, FitsStill, HasJoined, IsKnown, IsOver, IsSetOrNot, IsTurning, KeepsOthers, Third, TurnAt, WhoAsked, own, own_keeping, scene_of, turn_on, waits_for}
-use Rattle.logon_runs.specs.Runs.{Asked, StandsInStep, info_asked}
+use Rattle.logon_runs.specs.Phases.{Aim, Calls, Arrival, DialsBefore, DialsHeld, Fits, FitsStill, HasJoined, IsKnown, IsOver, IsSetOrNot, IsTurning, KeepsOthers, Third, TurnAt, WhoAsked, own, own_keeping, scene_of, turn_on, waits_for}
+use Rattle.logon_runs.specs.Runs.{ClientAnswer, StandsInStep, info_asked}
 use Rattle.logon_runs.specs.Scenes.Scene.{Scene, Shows}
 use Rattle.logon_runs.specs.Scenes.TurnScenes.{turn_scene, unit_back, with_accounts}
 use Rattle.logon_runs.specs.Scenes.WaitingUnits.{waiting}
@@ -50,7 +50,7 @@ pub record Settled : Type 0 where
   pub table : AccountTable
   pub computers : Computers
 
-abbrev pub settled_in : Coming → Settled → Meeting
+abbrev pub settled_in : Arrival → Settled → Meeting
 settled_in p e = settled_at (own_keeping p e.secrets) e.table p.name e.computers e.how e.number e.links
 
 -- the reply that refuses
@@ -58,12 +58,12 @@ abbrev pub refusing : SecureChannelState → ℕ → ℕ → Reply
 refusing o timestamp status = passed_reply (key_of_channel o) (return_of (key_of_channel o) o.seed timestamp) (verdict.Status status)
 
 -- the phases: the reply that refuses waits; WhoAmI does, where nobody is let in; the fault does
-pub data AwayPhase (p : Coming) : Type 0 where
-  Refused : (a : Asked) (who : WhoAsked p a) (v : TurnAt) (o c : SecureChannelState) (timestamp : ℕ) (accounts : AccountTable) (status : ℕ) → AwayPhase p
-  Unheard : (a : Asked) (who : WhoAsked p a) (e : Settled) → AwayPhase p
-  Faulted : (a : Asked) (later : Option SessionState) (e : Settled) (status : ℕ) → AwayPhase p
+pub data AwayPhase (p : Arrival) : Type 0 where
+  Refused : (a : ClientAnswer) (who : WhoAsked p a) (v : TurnAt) (o c : SecureChannelState) (timestamp : ℕ) (accounts : AccountTable) (status : ℕ) → AwayPhase p
+  Unheard : (a : ClientAnswer) (who : WhoAsked p a) (e : Settled) → AwayPhase p
+  Faulted : (a : ClientAnswer) (later : Option SessionState) (e : Settled) (status : ℕ) → AwayPhase p
 
-abbrev pub away_scene : (p : Coming) → AwayPhase p → List (List ℕ) → ℕ → Scene
+abbrev pub away_scene : (p : Arrival) → AwayPhase p → List (List ℕ) → ℕ → Scene
 away_scene p (Refused a who v o c timestamp accounts status) left moment =
     turn_scene (with_accounts accounts (turn_on p a who.later (who.sent ∷ []) v (Third o c timestamp))) (after v.next) v.next (step.Reply question.Logon) v.computers
     (turn_link (length v.links))
@@ -75,7 +75,7 @@ away_scene p (Faulted a later e status) left moment =
 
 -- The channel is none, or both ends are in step and no secret is next. The accounts differ from those of the turn in
 -- counts of bad passwords alone.
-pub record IsSettled (p : Coming) (e : Settled) : Type 0 where
+pub record IsSettled (p : Arrival) (e : Settled) : Type 0 where
   pub joined_so : HasJoined p e.links
   pub number_below : e.number < 2 ^ 32
   pub next : IsNextSecret e.secrets.next
@@ -94,14 +94,14 @@ pub record IsRefusal (status : ℕ) : Type 0 where
   pub not_zero : (status == 0) ≡ false
   pub not_denied : (status == access_denied) ≡ false
 
-abbrev pub FitsAway : (p : Coming) → AwayPhase p → Type 0
+abbrev pub FitsAway : (p : Arrival) → AwayPhase p → Type 0
 FitsAway p (Refused a who v o c timestamp accounts status) =
     IsTurning p a v × IsRefusal status × DifferInCounts v.table accounts × InRangeTable accounts
     × (lookup same_name p.meeting.caller.computer v.computers.channels ≡ Some (moved c timestamp)) × IsInStep o c × (v.secrets.next ≡ None)
 FitsAway p (Unheard a who e) = IsSettled p e
 FitsAway p (Faulted a later e status) = IsSettled p e × (status < 2 ^ 32)
 
-pub record IsAway (p : Coming) (s : State) : Type 0 where
+pub record IsAway (p : Arrival) (s : State) : Type 0 where
   pub phase : AwayPhase p
   pub left : List (List ℕ)
   pub moment : ℕ
@@ -109,7 +109,7 @@ pub record IsAway (p : Coming) (s : State) : Type 0 where
   pub shows : Shows s (away_scene p phase left moment)
 
 -- it is over: the client has its outcome, no link is open, and nothing waits
-pub record HasEnded (p : Coming) (s : State) : Type 0 where
+pub record HasEnded (p : Arrival) (s : State) : Type 0 where
   pub outcome : ClientOutcome
   pub settled : Settled
   pub left : List (List ℕ)
@@ -119,29 +119,29 @@ pub record HasEnded (p : Coming) (s : State) : Type 0 where
 
 pub record LogonsAreTurnedAway : Type 0 where
   -- each status of a verdict is such a one
-  pub refusals : (p : Coming) (a : Asked) (moment status : ℕ) → verdict_of p.table p.name (info_asked (own p) a) moment ≡ verdict.Status status → IsRefusal status
+  pub refusals : (p : Arrival) (a : ClientAnswer) (moment status : ℕ) → verdict_of p.table p.name (info_asked (own p) a) moment ≡ verdict.Status status → IsRefusal status
   -- the controller refuses the logon; its table then has other counts of bad passwords
-  pub refuses : (p : Coming) (s : State) (a : Asked) (who : WhoAsked p a) (v : TurnAt) (o c : SecureChannelState) (timestamp : ℕ) (left : List (List ℕ)) (moment status : ℕ) → IsKnown p →
+  pub refuses : (p : Arrival) (s : State) (a : ClientAnswer) (who : WhoAsked p a) (v : TurnAt) (o c : SecureChannelState) (timestamp : ℕ) (left : List (List ℕ)) (moment status : ℕ) → IsKnown p →
       Fits p (Calls a who v (Third o c timestamp)) → verdict_of v.table p.name (info_asked (own p) a) moment ≡ verdict.Status status →
       Shows s (scene_of p (Calls a who v (Third o c timestamp)) left moment) → IsAway p (onward s).state
   -- the member reaches no controller, before WhoAmI is held or once it is
-  pub unreached : (p : Coming) (s : State) (a : Asked) (who : WhoAsked p a) (v : TurnAt) (aim : Aim) (left : List (List ℕ)) (moment : ℕ) → InRangeTable p.table → IsTurning p a v →
+  pub unreached : (p : Arrival) (s : State) (a : ClientAnswer) (who : WhoAsked p a) (v : TurnAt) (aim : Aim) (left : List (List ℕ)) (moment : ℕ) → InRangeTable p.table → IsTurning p a v →
       route_to (Member p.meeting.at_member) (end_of_peer p.meeting.plan.controller s.ends) ≡ None →
       Shows s (scene_of p (DialsBefore a who v aim) left moment) → IsAway p (connect s).state
-  pub unreached_held : (p : Coming) (s : State) (a : Asked) (who : WhoAsked p a) (v : TurnAt) (aim : Aim) (left : List (List ℕ)) (moment : ℕ) → InRangeTable p.table → IsTurning p a v →
+  pub unreached_held : (p : Arrival) (s : State) (a : ClientAnswer) (who : WhoAsked p a) (v : TurnAt) (aim : Aim) (left : List (List ℕ)) (moment : ℕ) → InRangeTable p.table → IsTurning p a v →
       route_to (Member p.meeting.at_member) (end_of_peer p.meeting.plan.controller s.ends) ≡ None →
       Shows s (scene_of p (DialsHeld a who v aim) left moment) → IsAway p (connect s).state
   -- a logon that is over has ended so, also where the client is in
-  pub over : (p : Coming) (s : State) → IsOver p s → HasEnded p s
+  pub over : (p : Arrival) (s : State) → IsOver p s → HasEnded p s
   -- each move leads on, or to the end
-  pub goes_on : (p : Coming) (s : State) (what : Move) → IsStepOn what → IsAway p s → IsAway p (act s what).state ⊎ HasEnded p (act s what).state
+  pub goes_on : (p : Arrival) (s : State) (what : Move) → IsStepOn what → IsAway p s → IsAway p (act s what).state ⊎ HasEnded p (act s what).state
   -- it draws no challenge, from the judgement on
-  pub judged_draws : (p : Coming) (s : State) (a : Asked) (who : WhoAsked p a) (v : TurnAt) (o c : SecureChannelState) (timestamp : ℕ) (left : List (List ℕ)) (moment status : ℕ) →
+  pub judged_draws : (p : Arrival) (s : State) (a : ClientAnswer) (who : WhoAsked p a) (v : TurnAt) (o c : SecureChannelState) (timestamp : ℕ) (left : List (List ℕ)) (moment status : ℕ) →
       (known : IsKnown p) (fits : Fits p (Calls a who v (Third o c timestamp))) → (is : verdict_of v.table p.name (info_asked (own p) a) moment ≡ verdict.Status status) →
       Shows s (scene_of p (Calls a who v (Third o c timestamp)) left moment) → (onward s).state.chances.left ≡ s.chances.left
-  pub draws : (p : Coming) (s : State) (what : Move) → IsStepOn what → IsAway p s → (act s what).state.chances.left ≡ s.chances.left
-  pub over_draws : (p : Coming) (s : State) (what : Move) → IsStepOn what → HasEnded p s → (act s what).state.chances.left ≡ s.chances.left
+  pub draws : (p : Arrival) (s : State) (what : Move) → IsStepOn what → IsAway p s → (act s what).state.chances.left ≡ s.chances.left
+  pub over_draws : (p : Arrival) (s : State) (what : Move) → IsStepOn what → HasEnded p s → (act s what).state.chances.left ≡ s.chances.left
   -- something waits
-  pub waits : (p : Coming) (s : State) → IsAway p s → s.dials ≡ [] → waiting s.bag ≡ [] → ⊥
+  pub waits : (p : Arrival) (s : State) → IsAway p s → s.dials ≡ [] → waiting s.bag ≡ [] → ⊥
   -- once it is over, moves change nothing of it
-  pub rests : (p : Coming) (s : State) (what : Move) → IsStepOn what → HasEnded p s → HasEnded p (act s what).state
+  pub rests : (p : Arrival) (s : State) (what : Move) → IsStepOn what → HasEnded p s → HasEnded p (act s what).state

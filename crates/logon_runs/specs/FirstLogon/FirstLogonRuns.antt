@@ -24,7 +24,7 @@ use Rattle.logon_steps.specs.MemberAnswers.{sam_shown}
 use Rattle.logon_runs.specs.Scenes.AskScenes.{with_controller}
 use Rattle.logon_runs.specs.Grants.{KeyArrives}
 use Rattle.logon_runs.specs.Scenes.LinkScenes.{Meeting, joined, rest_scene}
-use Rattle.logon_runs.specs.Runs.{Asked, asked_at, goes, hidden, meets, sam_for, with_moved}
+use Rattle.logon_runs.specs.Runs.{ClientAnswer, asked_at, goes, hidden, meets, sam_for, with_moved}
 use Rattle.logon_runs.specs.FirstLogon.FirstRuns.{IsToBeOpened, channel_as, opened_at, opens_as, rested_first, go_through_turn}
 use Rattle.logon_runs.specs.Scenes.Scene.{Shows}
 
@@ -33,7 +33,7 @@ abbrev pub first_turns : ℕ → State → State
 first_turns number s = go_through_turn (go_through_turn (go_through_turn (goes (goes (meets number s)))))
 
 -- which client starts, whom it reaches, and that its logon is granted on the next link
-pub record ComesInFirst (s : State) (g : Meeting) (number : ℕ) (links : List Route) (a : Asked) (client server : List ℕ) (table : AccountTable) (name : List ℕ) (account machine : Account)
+pub record ComesInFirst (s : State) (g : Meeting) (number : ℕ) (links : List Route) (a : ClientAnswer) (client server : List ℕ) (table : AccountTable) (name : List ℕ) (account machine : Account)
     (moment : ℕ) : Type 0 where
   pub chosen : chosen_place number (length s.ends.clients) ≡ Some g.at_client
   pub planned : slice_get s.client_plans g.at_client ≡ Some g.task
@@ -55,7 +55,7 @@ pub record FirstLogonsRun : Type 0 where
   -- the client is in, with its own key, the name that the member found, and what it echoed
   pub named : (s : State) (g : Meeting) (number : ℕ) (before : ClientState) (links : List Route) (challenge one two three client server : List ℕ)
       (table : AccountTable) (name : List ℕ) (account machine : Account) (computers : Computers) (left : List (List ℕ)) (moment : ℕ) →
-      let a : Asked = asked_at challenge one two three moment in
+      let a : ClientAnswer = asked_at challenge one two three moment in
       let sam : SamInfo = sam_for (joined g links) a table name account moment in
       let o : SecureChannelState = opens_as g client server in
       let end : Meeting = after_first g links machine client server table name computers moment in
@@ -65,7 +65,7 @@ pub record FirstLogonsRun : Type 0 where
       (rest_scene end (client_ended g.task (In (name_in (sam_shown o (hidden o sam))) (answer_for g.plan g.task challenge moment (drawn_of one two three)).key 0)) end.links left moment [])
   pub echoed : (s : State) (g : Meeting) (number : ℕ) (before : ClientState) (links : List Route) (challenge one two three client server : List ℕ)
       (table : AccountTable) (name : List ℕ) (account machine : Account) (computers : Computers) (left : List (List ℕ)) (moment : ℕ) →
-      let a : Asked = asked_at challenge one two three moment in
+      let a : ClientAnswer = asked_at challenge one two three moment in
       let sam : SamInfo = sam_for (joined g links) a table name account moment in
       let o : SecureChannelState = opens_as g client server in
       let end : Meeting = after_first g links machine client server table name computers moment in

@@ -39,7 +39,7 @@ use Rattle.logon_steps.specs.MemoCalls.{ReplyGoes, RequestGoes, logged_on}
 use Rattle.logon_steps.specs.Turning.{IsTurnReply}
 use Rattle.logon_runs.specs.Scenes.AskScenes.{with_controller}
 use Rattle.logon_runs.specs.Scenes.LinkScenes.{FitsGiven, given_after, IsJoined, Meeting, meeting_scene, unit_down, unit_up}
-use Rattle.logon_runs.specs.Runs.{Asked, StandsInStep, connects, goes, hidden, info_asked, message_for, on_for, sam_for, with_moved}
+use Rattle.logon_runs.specs.Runs.{ClientAnswer, StandsInStep, connects, goes, hidden, info_asked, message_for, on_for, sam_for, with_moved}
 use Rattle.logon_runs.specs.Scenes.Scene.{Shows}
 
 -- the channel as it opens, at the member and at the controller
@@ -50,7 +50,7 @@ abbrev pub channel_as : Meeting → Account → List ℕ → List ℕ → Secure
 channel_as g machine client server = channel_for machine (pair_of client server) (auth_value g.caller client server)
 
 -- the member has no channel, the controller knows the computer and its secret, and grants the logon
-pub record IsToBeOpened (g : Meeting) (a : Asked) (client server : List ℕ) (table : AccountTable) (name : List ℕ) (account machine : Account) (moment : ℕ) : Type 0 where
+pub record IsToBeOpened (g : Meeting) (a : ClientAnswer) (client server : List ℕ) (table : AccountTable) (name : List ℕ) (account machine : Account) (moment : ℕ) : Type 0 where
   pub joined : IsJoined g
   pub can : CanLogOn g.task
   pub units : HasUnits g.task
@@ -108,7 +108,7 @@ rested_first g o timestamp = record g {
 }
 
 pub record FirstTurnsRun : Type 0 where
-  pub granted : (s : State) (g : Meeting) (a : Asked) (client server : List ℕ) (table : AccountTable) (name : List ℕ) (account machine : Account) (computers : Computers)
+  pub granted : (s : State) (g : Meeting) (a : ClientAnswer) (client server : List ℕ) (table : AccountTable) (name : List ℕ) (account machine : Account) (computers : Computers)
       (waits : ClientPhase) (left : List (List ℕ)) (moment : ℕ) → IsToBeOpened g a client server table name account machine moment →
       end_of_peer g.plan.controller s.ends ≡ Some (Controller g.at_controller) →
       let o : SecureChannelState = opens_as g client server in

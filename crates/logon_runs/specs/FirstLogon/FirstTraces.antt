@@ -46,15 +46,15 @@ use Rattle.logon_runs.specs.Scenes.AskScenes.{turn_of, with_controller}
 use Rattle.logon_runs.specs.FirstLogon.FirstLogonRuns.{ComesInFirst, after_first, first_turns}
 use Rattle.logon_runs.specs.FirstLogon.FirstRuns.{IsToBeOpened, channel_as, opened_at, opens_as, go_through_turn, with_pair}
 use Rattle.logon_runs.specs.Scenes.LinkScenes.{Meeting, its_link, joined, meeting_scene, rest_scene, unit_down, unit_up}
-use Rattle.logon_runs.specs.Runs.{Asked, asked_at, connects, goes, hidden, info_asked, meets, message_for, on_for, sam_for, starts, with_moved}
+use Rattle.logon_runs.specs.Runs.{ClientAnswer, asked_at, connects, goes, hidden, info_asked, meets, message_for, on_for, sam_for, starts, with_moved}
 use Rattle.logon_runs.specs.Scenes.Scene.{Shows}
-use Rattle.logon_runs.specs.Scenes.TurnScenes.{Turn, dial_scene, next_turn, turn_scene, unit_back, unit_there, with_accounts}
+use Rattle.logon_runs.specs.Scenes.TurnScenes.{TurnScene, dial_scene, next_turn, turn_scene, unit_back, unit_there, with_accounts}
 
 -- ---- a turn
 
 -- Its bind, the answer, its call and the reply, by a move each. With the reply the controller keeps this of computers,
 -- and has the accounts of the later turn.
-pub record TurnSeen (s : State) (t later : Turn) (next number : ℕ) (c : Call) (r : Reply) (computers kept : Computers) (left rest : List (List ℕ)) (moment : ℕ) : Type 0 where
+pub record TurnSeen (s : State) (t later : TurnScene) (next number : ℕ) (c : Call) (r : Reply) (computers kept : Computers) (left rest : List (List ℕ)) (moment : ℕ) : Type 0 where
   pub bind : Shows (connects s)
       (turn_scene t next number (step.Bind c) computers (one_link t.link first_talk) (unit_there t (written (bind_of netlogon_syntax number)) ∷ []) left moment)
   pub ack : Shows (goes (connects s))
@@ -67,23 +67,23 @@ pub record TurnSeen (s : State) (t later : Turn) (next number : ℕ) (c : Call) 
 -- ---- the three turns
 
 -- the logon is asked, and these requests are held
-abbrev pub asked_turn : Meeting → Asked → ClientPhase → List (List ℕ) → AccountTable → List ℕ → Turn
+abbrev pub asked_turn : Meeting → ClientAnswer → ClientPhase → List (List ℕ) → AccountTable → List ℕ → TurnScene
 asked_turn g a waits held table name =
     turn_of g waits (info_of (message_for g a) (flags_agreed g.task) a.challenge) (logon_for g.link g.task a.challenge (message_for g a))
     (asked_talk (bound_for g.task) g.place held) table name
 
-abbrev pub turn_first : Meeting → Asked → ClientPhase → List ℕ → AccountTable → List ℕ → Turn
+abbrev pub turn_first : Meeting → ClientAnswer → ClientPhase → List ℕ → AccountTable → List ℕ → TurnScene
 turn_first g a waits sent table name = next_turn (asked_turn g a waits (sent ∷ []) table name) (its_link g) standing.Nothing
 
-abbrev pub turn_second : Meeting → Asked → ClientPhase → List ℕ → List ℕ → List ℕ → AccountTable → List ℕ → Turn
+abbrev pub turn_second : Meeting → ClientAnswer → ClientPhase → List ℕ → List ℕ → List ℕ → AccountTable → List ℕ → TurnScene
 turn_second g a waits client server sent table name = next_turn (turn_first g a waits sent table name) (its_link g) (standing.Half client server)
 
-abbrev pub turn_third : Meeting → Asked → ClientPhase → List ℕ → List ℕ → List ℕ → AccountTable → List ℕ → ℕ → Turn
+abbrev pub turn_third : Meeting → ClientAnswer → ClientPhase → List ℕ → List ℕ → List ℕ → AccountTable → List ℕ → ℕ → TurnScene
 turn_third g a waits client server sent table name timestamp =
     next_turn (turn_second g a waits client server sent table name) (its_link g) (standing.Open (after_call (opens_as g client server) timestamp))
 
 -- from the AUTHENTICATE on, where those are the bytes of WhoAmI
-pub record FirstTurnsSeen (s : State) (g : Meeting) (a : Asked) (client server : List ℕ) (table : AccountTable) (name : List ℕ) (account machine : Account) (computers : Computers)
+pub record FirstTurnsSeen (s : State) (g : Meeting) (a : ClientAnswer) (client server : List ℕ) (table : AccountTable) (name : List ℕ) (account machine : Account) (computers : Computers)
     (waits : ClientPhase) (sent : List ℕ) (left : List (List ℕ)) (moment : ℕ) : Type 0 where
   -- the logon is asked, and WhoAmI is held
   pub asked : Shows (goes s)
@@ -114,7 +114,7 @@ pub record FirstTurnsSeen (s : State) (g : Meeting) (a : Asked) (client server :
       (with_moved g (channel_as g machine client server) (timestamp_of moment) (opened_at g machine client server computers)) left left moment
 
 pub record FirstTurnsAreSeen : Type 0 where
-  pub turns : (s : State) (g : Meeting) (a : Asked) (client server : List ℕ) (table : AccountTable) (name : List ℕ) (account machine : Account) (computers : Computers)
+  pub turns : (s : State) (g : Meeting) (a : ClientAnswer) (client server : List ℕ) (table : AccountTable) (name : List ℕ) (account machine : Account) (computers : Computers)
       (waits : ClientPhase) (one other : Option SessionState) (left : List (List ℕ)) (moment : ℕ) → IsToBeOpened g a client server table name account machine moment →
       end_of_peer g.plan.controller s.ends ≡ Some (Controller g.at_controller) → (who : RequestGoes 1 g.task.level 2 0 [] one other) →
       Shows s (meeting_scene (with_controller g table name computers) waits (challenged_talk g.task a.challenge)
@@ -128,7 +128,7 @@ abbrev pub waits_for_name : Terms → Option SessionState → ClientPhase
 waits_for_name terms session = client_phase.Asked (with_session terms session) client_question.Who
 
 -- From the start on: WhoAmI and its answer, and what is seen at each move.
-pub record FirstLogonSeen (s : State) (g : Meeting) (number : ℕ) (links : List Route) (a : Asked) (client server : List ℕ) (table : AccountTable) (name : List ℕ)
+pub record FirstLogonSeen (s : State) (g : Meeting) (number : ℕ) (links : List Route) (a : ClientAnswer) (client server : List ℕ) (table : AccountTable) (name : List ℕ)
     (account machine : Account) (computers : Computers) (left : List (List ℕ)) (moment : ℕ) : Type 0 where
   pub who : RequestGoes 1 g.task.level 2 0 [] (terms_for g.plan g.task a.challenge a.then_now (drawn_of a.one a.two a.three)).session
       (on_for (joined g links) a (opens_as g client server) (sam_for (joined g links) a table name account moment)).session

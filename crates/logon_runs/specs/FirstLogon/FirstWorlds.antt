@@ -33,7 +33,7 @@ use Rattle.logon_runs.specs.FirstLogon.FirstRuns.{opens_as}
 use Rattle.logon_runs.specs.FirstLogon.FirstTraces.{FirstLogonSeen}
 use Rattle.logon_runs.specs.Grants.{KeyArrives}
 use Rattle.logon_runs.specs.Scenes.LinkScenes.{Meeting, joined, rest_scene}
-use Rattle.logon_runs.specs.Runs.{Asked, asked_at}
+use Rattle.logon_runs.specs.Runs.{ClientAnswer, asked_at}
 use Rattle.logon_runs.specs.Scenes.Scene.{Shows}
 
 -- ---- the moves
@@ -91,7 +91,7 @@ abbrev pub left_then : Plan → List (List ℕ)
 left_then plan = challenges_from plan.seed 0 6 (most_draws - 6)
 
 -- the member's challenge, the client's, and both halves of the exported key
-abbrev pub first_asked : Plan → Asked
+abbrev pub first_asked : Plan → ClientAnswer
 first_asked plan = asked_at (draw plan 0) (draw plan 1) (draw plan 2) (draw plan 3) plan.now
 
 -- ---- what it comes to

@@ -26,27 +26,27 @@ use Rattle.logon_steps.specs.Meeting.{HasShortNames}
 use Rattle.logon_steps.specs.Turning.{IsTurnReply}
 use Rattle.logon_runs.specs.Scenes.LinkScenes.{rest_scene}
 use Rattle.logon_runs.specs.Scenes.Others.{IsStepOn, OthersStay}
-use Rattle.logon_runs.specs.Phases.{Coming, HasJoined, Third, TurnAt, WhoAsked, turn_on}
+use Rattle.logon_runs.specs.Phases.{Arrival, HasJoined, Third, TurnAt, WhoAsked, turn_on}
 use Rattle.logon_runs.specs.Rests.{moved_by, three_in}
-use Rattle.logon_runs.specs.Runs.{Asked}
+use Rattle.logon_runs.specs.Runs.{ClientAnswer}
 use Rattle.logon_runs.specs.Scenes.Scene.{Scene, Shows}
 use Rattle.logon_runs.specs.Failing.TurnedAway.{Settled, settled_in}
-use Rattle.logon_runs.specs.Scenes.TurnScenes.{Turn, turn_scene, unit_back, with_accounts}
+use Rattle.logon_runs.specs.Scenes.TurnScenes.{TurnScene, turn_scene, unit_back, with_accounts}
 use Rattle.logon_runs.specs.Scenes.WaitingUnits.{waiting}
 
 -- the turn of the logon's own call, whose controller has these accounts by then; the channel's state at the controller
 -- isn't used
-abbrev pub judged_turn : (p : Coming) (a : Asked) → WhoAsked p a → TurnAt → SecureChannelState → SecureChannelState → ℕ → AccountTable → Turn
+abbrev pub judged_turn : (p : Arrival) (a : ClientAnswer) → WhoAsked p a → TurnAt → SecureChannelState → SecureChannelState → ℕ → AccountTable → TurnScene
 judged_turn p a who v o c timestamp accounts = with_accounts accounts (turn_on p a who.later (who.sent ∷ []) v (Third o c timestamp))
 
 -- the reply to it waits, whichever it is
-abbrev pub judged_scene : (p : Coming) (a : Asked) → WhoAsked p a → TurnAt → SecureChannelState → SecureChannelState → ℕ → AccountTable → Reply → List (List ℕ) → ℕ → Scene
+abbrev pub judged_scene : (p : Arrival) (a : ClientAnswer) → WhoAsked p a → TurnAt → SecureChannelState → SecureChannelState → ℕ → AccountTable → Reply → List (List ℕ) → ℕ → Scene
 judged_scene p a who v o c timestamp accounts r left moment =
     turn_scene (judged_turn p a who v o c timestamp accounts) (next_number v.next) v.next (step.Reply question.Logon) v.computers (turn_link (length v.links))
     (unit_back (judged_turn p a who v o c timestamp accounts) (reply_bytes v.next r) ∷ []) left moment
 
 -- what is left of it then: the member's channel has that state
-abbrev pub judged_rest : (p : Coming) (a : Asked) → WhoAsked p a → TurnAt → SecureChannelState → SecureChannelState → ℕ → AccountTable → SecureChannelState → Settled
+abbrev pub judged_rest : (p : Arrival) (a : ClientAnswer) → WhoAsked p a → TurnAt → SecureChannelState → SecureChannelState → ℕ → AccountTable → SecureChannelState → Settled
 judged_rest p a who v o c timestamp accounts o_then = record {
   secrets = v.secrets;
   how = standing.Open o_then;
@@ -57,7 +57,7 @@ judged_rest p a who v o c timestamp accounts o_then = record {
 }
 
 -- the client and its member can go on
-pub record CanGoOn (p : Coming) (a : Asked) (v : TurnAt) : Type 0 where
+pub record CanGoOn (p : Arrival) (a : ClientAnswer) (v : TurnAt) : Type 0 where
   pub can : CanLogOn p.meeting.task
   pub units : HasUnits p.meeting.task
   pub names : HasShortNames p.meeting.plan
@@ -71,7 +71,7 @@ pub record HasShortName (sam : SamInfo) : Type 0 where
   pub units : AreUnits (name_in sam)
 
 -- the client has an outcome, no link is open, nothing waits, the others are as they were, and no challenge was drawn
-pub record HasSettled (p : Coming) (s : State) (e : Settled) (after : State) : Type 0 where
+pub record HasSettled (p : Arrival) (s : State) (e : Settled) (after : State) : Type 0 where
   pub outcome : ClientOutcome
   pub left : List (List ℕ)
   pub moment : ℕ
@@ -81,7 +81,7 @@ pub record HasSettled (p : Coming) (s : State) (e : Settled) (after : State) : T
 
 pub record GrantsRest : Type 0 where
   -- the reply comes, and the member lets the client in by it, with whatever key
-  pub rests : (p : Coming) (s : State) (a : Asked) (who : WhoAsked p a) (v : TurnAt) (o c : SecureChannelState) (timestamp : ℕ) (accounts : AccountTable) (r : Reply)
+  pub rests : (p : Arrival) (s : State) (a : ClientAnswer) (who : WhoAsked p a) (v : TurnAt) (o c : SecureChannelState) (timestamp : ℕ) (accounts : AccountTable) (r : Reply)
       (o_then : SecureChannelState) (sam : SamInfo) (left : List (List ℕ)) (moment : ℕ) → CanGoOn p a v → IsTurnReply question.Logon r → HasShortName sam →
       judge question.Logon r (standing.Open (after_call o timestamp)) p.meeting.caller.secret ≡ judgement.Answer o_then (verdict.Granted sam) →
       Shows s (judged_scene p a who v o c timestamp accounts r left moment) →

@@ -41,11 +41,11 @@ use Rattle.logon_runs.specs.Failing.Failings.{failing_turn, settled_at}
 use Rattle.logon_runs.specs.OtherKeys.Differing.{AreTerms, IsLetIn, IsSingle, IsRequest}
 use Rattle.logon_runs.specs.Scenes.LinkScenes.{IsJoined, Meeting, its_link, meeting_scene, rest_scene, unit_down, unit_up}
 use Rattle.logon_runs.specs.Scenes.Others.{AreAmong, IsStepOn}
-use Rattle.logon_runs.specs.Phases.{Coming, WhoAsked, terms_at}
+use Rattle.logon_runs.specs.Phases.{Arrival, WhoAsked, terms_at}
 use Rattle.logon_runs.specs.Rests.{three_of}
-use Rattle.logon_runs.specs.Runs.{Asked}
+use Rattle.logon_runs.specs.Runs.{ClientAnswer}
 use Rattle.logon_runs.specs.Scenes.Scene.{Scene, Shows}
-use Rattle.logon_runs.specs.Scenes.TurnScenes.{IsBetween, Turn, turn_scene, unit_back}
+use Rattle.logon_runs.specs.Scenes.TurnScenes.{IsBetween, TurnScene, turn_scene, unit_back}
 use Rattle.logon_runs.specs.Scenes.WaitingUnits.{waiting}
 
 -- the phases once somebody is let in on the client's link: its request waits, or the member's reply does
@@ -100,13 +100,13 @@ GoesOn g left s = IsOnLink g left s ⊎ HasEndedAt g left s
 
 pub record GrantsGoOn : Type 0 where
   -- what a client sent and its terms since
-  pub asked : (p : Coming) (a : Asked) (who : WhoAsked p a) →
+  pub asked : (p : Arrival) (a : ClientAnswer) (who : WhoAsked p a) →
       IsRequest client.who_number client.who_opnum who.sent × AreTerms 1 (record (terms_at p a) { session = who.later })
   -- the turn's reply comes, and the member takes it as one that grants the logon, with whatever key
   pub granted : (s : State) (g : Meeting) (terms : Terms) (info : NetworkInfo) (challenge : List ℕ) (message : Authenticate) (bytes : List ℕ) (table : AccountTable) (name : List ℕ)
       (how : Standing) (o : SecureChannelState) (links : List Route) (opened : OpenMap) (link next number : ℕ) (q : Asking) (r : Reply) (sam : SamInfo) (computers : Computers)
       (left : List (List ℕ)) (moment : ℕ) →
-      let t : Turn = failing_turn g (client_phase.Asked terms client_question.Who) info challenge message (bytes ∷ []) table name how links opened link in
+      let t : TurnScene = failing_turn g (client_phase.Asked terms client_question.Who) info challenge message (bytes ∷ []) table name how links opened link in
       CanLogOn g.task → IsRequest client.who_number client.who_opnum bytes → AreTerms 1 terms → length (name_in sam) ≤ 129 → AreUnits (name_in sam) →
       number < 2 ^ 32 → IsBetween t → IsTurnReply q r → judge q r how g.caller.secret ≡ judgement.Answer o (verdict.Granted sam) →
       slice_get links g.link ≡ Some (ToMember g.at_client g.at_member) → take_out same_number link opened ≡ its_link g →

@@ -44,14 +44,14 @@ use Rattle.logon_steps.specs.MemoCalls.{ReplyGoes, RequestGoes, logged_on}
 use Rattle.logon_steps.specs.Turning.{IsTurnReply}
 use Rattle.logon_runs.specs.Scenes.LinkScenes.{FitsGiven, given_after, IsJoined, its_link, Meeting, meeting_scene, unit_down, unit_up}
 use Rattle.logon_runs.specs.Scenes.Scene.{Shows}
-use Rattle.logon_runs.specs.Scenes.TurnScenes.{IsBetween, Turn, dial_scene, turn_scene, unit_back, waiting_scene}
+use Rattle.logon_runs.specs.Scenes.TurnScenes.{IsBetween, TurnScene, dial_scene, turn_scene, unit_back, waiting_scene}
 
 -- the controller is at rest, with these accounts and that name, and keeps this of computers
 abbrev pub with_controller : Meeting → AccountTable → List ℕ → Computers → Meeting
 with_controller g table name computers = record g { controller = controller_at table name computers [] }
 
 -- the member's turn for that logon, while the client waits so far on its link
-abbrev pub turn_of : Meeting → ClientPhase → NetworkInfo → Logon → Talk → AccountTable → List ℕ → Turn
+abbrev pub turn_of : Meeting → ClientPhase → NetworkInfo → Logon → Talk → AccountTable → List ℕ → TurnScene
 turn_of g waits info logon talk table name = record {
   at_client = g.at_client;
   at_member = g.at_member;
@@ -72,7 +72,7 @@ turn_of g waits info logon talk table name = record {
 }
 
 -- and with that standing of the channel, on a link that is open already
-abbrev pub turn_within : Meeting → ClientPhase → NetworkInfo → Logon → Talk → AccountTable → List ℕ → Standing → List Route → OpenMap → ℕ → Turn
+abbrev pub turn_within : Meeting → ClientPhase → NetworkInfo → Logon → Talk → AccountTable → List ℕ → Standing → List Route → OpenMap → ℕ → TurnScene
 turn_within g waits info logon talk table name how links opened link = record {
   at_client = g.at_client;
   at_member = g.at_member;
@@ -93,7 +93,7 @@ turn_within g waits info logon talk table name how links opened link = record {
 }
 
 -- the same with another talk on the member's link
-abbrev pub with_talk : ℕ → Talk → Turn → Turn
+abbrev pub with_talk : ℕ → Talk → TurnScene → TurnScene
 with_talk link talk t = record t { accepted = one_link link talk }
 
 -- the client's link is among those that are open
@@ -123,18 +123,18 @@ pub record LogonsAreSeen : Type 0 where
       (standing.Open (after_call o (timestamp_of moment))) (after g.number) g.number (logon_call g.caller o (timestamp_of moment) (info_at g.place info)) computers
       (unit_up g sent ∷ []) left moment)
   -- WhoAmI is held, while the turn's dial waits or once it is answered
-  pub held_before : (s : State) (g : Meeting) (t : Turn) (opened : OpenMap) (how : Standing) (next number most call opnum : ℕ) (what : Step) (computers : Computers) (stub : List ℕ)
+  pub held_before : (s : State) (g : Meeting) (t : TurnScene) (opened : OpenMap) (how : Standing) (next number most call opnum : ℕ) (what : Step) (computers : Computers) (stub : List ℕ)
       (one other : Option SessionState) (goes : RequestGoes most g.task.level call opnum stub one other) (later : List BagUnit) (left : List (List ℕ)) (moment : ℕ) →
       t.at_member ≡ g.at_member → HasOwnLink g opened →
       Shows s (waiting_scene (with_talk g.link (asked_talk (bound_for g.task) t.place []) t) opened how next number what computers (unit_up g goes.sent ∷ later) left moment) →
       Shows (onward s).state (waiting_scene (with_talk g.link (asked_talk (bound_for g.task) t.place (goes.sent ∷ [])) t) opened how next number what computers later left moment)
-  pub held_within : (s : State) (g : Meeting) (t : Turn) (next number most call opnum : ℕ) (what : Step) (computers : Computers) (there : LinkMap) (stub : List ℕ)
+  pub held_within : (s : State) (g : Meeting) (t : TurnScene) (next number most call opnum : ℕ) (what : Step) (computers : Computers) (there : LinkMap) (stub : List ℕ)
       (one other : Option SessionState) (goes : RequestGoes most g.task.level call opnum stub one other) (later : List BagUnit) (left : List (List ℕ)) (moment : ℕ) →
       t.at_member ≡ g.at_member → HasOwnLink g t.opened → t.link ≢ g.link →
       Shows s (turn_scene (with_talk g.link (asked_talk (bound_for g.task) t.place []) t) next number what computers there (unit_up g goes.sent ∷ later) left moment) →
       Shows (onward s).state (turn_scene (with_talk g.link (asked_talk (bound_for g.task) t.place (goes.sent ∷ [])) t) next number what computers there later left moment)
   -- the logon is granted, and WhoAmI is answered
-  pub granted : (s : State) (g : Meeting) (t : Turn) (o : SecureChannelState) (waits : ClientPhase) (challenge : List ℕ) (message : Authenticate) (sam : SamInfo)
+  pub granted : (s : State) (g : Meeting) (t : TurnScene) (o : SecureChannelState) (waits : ClientPhase) (challenge : List ℕ) (message : Authenticate) (sam : SamInfo)
       (next number timestamp stamp authoritative most : ℕ) (computers : Computers) (one : Option SessionState) (left : List (List ℕ)) (moment : ℕ) → number < 2 ^ 32 → IsBetween t → IsJoined g →
       let shown : SamInfo = sam_shown o sam in
       let logon : Logon = logon_for g.link g.task challenge message in

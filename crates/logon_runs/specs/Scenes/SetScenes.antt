@@ -43,7 +43,7 @@ use Rattle.logon_steps.specs.SetTurns.{IsSetTurn, set_reply_bytes, set_request}
 use Rattle.logon_steps.specs.Turning.{IsTurnReply, turn_ack}
 use Rattle.logon_runs.specs.Scenes.Scene.{HasFirst, IsNoClose, Scene, Shows, with_actions}
 use Rattle.logon_runs.specs.Scenes.Turnings.{ClosesTo, shut_in}
-use Rattle.logon_runs.specs.Scenes.TurnScenes.{IsBetween, Turn, dial_scene, turn_scene, unit_back, unit_there, waiting_scene, with_accounts, with_secrets}
+use Rattle.logon_runs.specs.Scenes.TurnScenes.{IsBetween, TurnScene, dial_scene, turn_scene, unit_back, unit_there, waiting_scene, with_accounts, with_secrets}
 
 pub record SetsAreSeen : Type 0 where
   -- a member keeps a text, closes the link of its turn, and then does other things
@@ -54,7 +54,7 @@ pub record SetsAreSeen : Type 0 where
       controller_step_of v.controller (event.Closed link) v.moment left ≡ whole_step left left [] controller →
       Shows (onward s).state (with_actions (Member v.at_member) actions left (shut_in link (record v { member = after; controller = controller; units = later })))
   -- the channel opens under the current secret, and the turn that sets the next one is dialled
-  pub opened : (s : State) (t : Turn) (next number flags : ℕ) (client server current new : List ℕ) (computers : Computers) (left : List (List ℕ)) (moment : ℕ) → IsBetween t → number < 2 ^ 32 →
+  pub opened : (s : State) (t : TurnScene) (next number flags : ℕ) (client server current new : List ℕ) (computers : Computers) (left : List (List ℕ)) (moment : ℕ) → IsBetween t → number < 2 ^ 32 →
       t.how ≡ standing.Half client server → t.plan.secrets ≡ record { current = current; next = Some (record { secret = new; is_tried = false }) } →
       (has_flag offered_flags flags && has_flag flags rc4_flag) ≡ true →
       let r : Reply = reply.Authenticate (record { credential = server_credential t.caller.secret client server; flags = flags; status = 0 }) in
@@ -65,7 +65,7 @@ pub record SetsAreSeen : Type 0 where
       (waiting_scene t (take_out same_number t.link t.opened) (standing.Open (after_call o (timestamp_of moment))) (after next) next
       (step.Set (set_step.Bind (change_call t.caller o (timestamp_of moment) new))) computers [] left moment)
   -- it opens under the next one, which is the one secret then
-  pub opened_next : (s : State) (t : Turn) (next number flags : ℕ) (client server current new : List ℕ) (computers : Computers) (left : List (List ℕ)) (moment : ℕ) → IsBetween t → number < 2 ^ 32 →
+  pub opened_next : (s : State) (t : TurnScene) (next number flags : ℕ) (client server current new : List ℕ) (computers : Computers) (left : List (List ℕ)) (moment : ℕ) → IsBetween t → number < 2 ^ 32 →
       t.how ≡ standing.Half client server → t.plan.secrets ≡ record { current = current; next = Some (record { secret = new; is_tried = true }) } →
       (has_flag offered_flags flags && has_flag flags rc4_flag) ≡ true →
       let r : Reply = reply.Authenticate (record { credential = server_credential t.caller.secret client server; flags = flags; status = 0 }) in
@@ -76,26 +76,26 @@ pub record SetsAreSeen : Type 0 where
       (dial_scene (with_secrets (alone new) t) (take_out same_number t.link t.opened) (standing.Open (after_call o (timestamp_of moment))) (after next) next
       (logon_call t.caller o (timestamp_of moment) (info_at t.place t.info)) computers [] left moment)
   -- the bind is answered, and the member's call goes out
-  pub asks : (s : State) (t : Turn) (next number : ℕ) (c : SetCall) (computers : Computers) (left : List (List ℕ)) (moment : ℕ) → IsBetween t → number < 2 ^ 32 →
+  pub asks : (s : State) (t : TurnScene) (next number : ℕ) (c : SetCall) (computers : Computers) (left : List (List ℕ)) (moment : ℕ) → IsBetween t → number < 2 ^ 32 →
       Shows s (turn_scene t next number (step.Set (set_step.Bind c)) computers (turn_link t.link) (unit_back t (written (turn_ack number)) ∷ []) left moment) →
       Shows (onward s).state
       (turn_scene t (after next) next (step.Set set_step.Reply) computers (turn_link t.link) (unit_there t (bytes_of_call (set_request next c) 5840) ∷ []) left moment)
   -- the controller answers it: it tells how it judged, behind the text where the secret is set, and has its accounts or
   -- others then
-  pub sets : (s : State) (t : Turn) (next number : ℕ) (what : Step) (c : SetCall) (r : SetReply) (how : Judged) (text : List ℕ) (computers later : Computers) (accounts : AccountTable)
+  pub sets : (s : State) (t : TurnScene) (next number : ℕ) (what : Step) (c : SetCall) (r : SetReply) (how : Judged) (text : List ℕ) (computers later : Computers) (accounts : AccountTable)
       (left rest : List (List ℕ)) (moment : ℕ) → IsBetween t → IsSetTurn c →
       controller_step_of (controller_at t.table t.name computers (turn_link t.link)) (event.Bytes t.link (bytes_of_call (set_request number c) 5840)) moment left
       ≡ whole_step left rest (action.Keep text ∷ action.Judged how ∷ action.Send t.link (set_reply_bytes number r) ∷ []) (controller_at accounts t.name later (turn_link t.link)) →
       Shows s (turn_scene t next number what computers (turn_link t.link) (unit_there t (bytes_of_call (set_request number c) 5840) ∷ []) left moment) →
       Shows (onward s).state (turn_scene (with_accounts accounts t) next number what later (turn_link t.link) (unit_back t (set_reply_bytes number r) ∷ []) rest moment)
-  pub refuses : (s : State) (t : Turn) (next number : ℕ) (what : Step) (c : SetCall) (r : SetReply) (how : Judged) (computers later : Computers) (accounts : AccountTable)
+  pub refuses : (s : State) (t : TurnScene) (next number : ℕ) (what : Step) (c : SetCall) (r : SetReply) (how : Judged) (computers later : Computers) (accounts : AccountTable)
       (left rest : List (List ℕ)) (moment : ℕ) → IsBetween t → IsSetTurn c →
       controller_step_of (controller_at t.table t.name computers (turn_link t.link)) (event.Bytes t.link (bytes_of_call (set_request number c) 5840)) moment left
       ≡ whole_step left rest (action.Judged how ∷ action.Send t.link (set_reply_bytes number r) ∷ []) (controller_at accounts t.name later (turn_link t.link)) →
       Shows s (turn_scene t next number what computers (turn_link t.link) (unit_there t (bytes_of_call (set_request number c) 5840) ∷ []) left moment) →
       Shows (onward s).state (turn_scene (with_accounts accounts t) next number what later (turn_link t.link) (unit_back t (set_reply_bytes number r) ∷ []) rest moment)
   -- the reply takes it: the next secret is the one secret then, and the logon's own turn is dialled
-  pub set : (s : State) (t : Turn) (o later : SecureChannelState) (r : SetReply) (next number : ℕ) (current new : List ℕ) (computers : Computers) (left : List (List ℕ)) (moment : ℕ) → IsBetween t →
+  pub set : (s : State) (t : TurnScene) (o later : SecureChannelState) (r : SetReply) (next number : ℕ) (current new : List ℕ) (computers : Computers) (left : List (List ℕ)) (moment : ℕ) → IsBetween t →
       number < 2 ^ 32 → InRangeSetReply r → t.how ≡ standing.Open o → judge_set r (standing.Open o) ≡ Ok later →
       t.plan.secrets ≡ record { current = current; next = Some (record { secret = new; is_tried = false }) } →
       Shows s (turn_scene t next number (step.Set set_step.Reply) computers (turn_link t.link) (unit_back t (set_reply_bytes number r) ∷ []) left moment) →

@@ -50,7 +50,7 @@ use Rattle.logon_steps.specs.Turning.{IsTurnCall, IsTurnReply, turn_ack, turn_re
 use Rattle.logon_runs.specs.Scenes.Scene.{Scene, Shows}
 
 -- what stays during a turn
-pub record Turn : Type 0 where
+pub record TurnScene : Type 0 where
   pub at_client : ℕ
   pub at_member : ℕ
   pub at_controller : ℕ
@@ -72,20 +72,20 @@ pub record Turn : Type 0 where
   pub link : ℕ
 
 -- the link of the turn is open between both
-pub record IsBetween (t : Turn) : Type 0 where
+pub record IsBetween (t : TurnScene) : Type 0 where
   pub route : slice_get t.links t.link ≡ Some (ToController t.at_member t.at_controller)
   pub opened : lookup same_number t.link t.opened
       ≡ Some (record { route = ToController t.at_member t.at_controller; dialler = true; acceptor = true })
 
 -- a unit on it, towards the controller and back
-abbrev pub unit_there : Turn → List ℕ → BagUnit
+abbrev pub unit_there : TurnScene → List ℕ → BagUnit
 unit_there t bytes = record { bytes = bytes; link = t.link; kind = kind.ToController; back = false; is_settled = false }
 
-abbrev pub unit_back : Turn → List ℕ → BagUnit
+abbrev pub unit_back : TurnScene → List ℕ → BagUnit
 unit_back t bytes = record { bytes = bytes; link = t.link; kind = kind.ToController; back = true; is_settled = false }
 
 -- the turn waits for the answer to its bind or call of that number, and this is on its link
-abbrev pub turn_scene : Turn → ℕ → ℕ → Step → Computers → LinkMap → List BagUnit → List (List ℕ) → ℕ → Scene
+abbrev pub turn_scene : TurnScene → ℕ → ℕ → Step → Computers → LinkMap → List BagUnit → List (List ℕ) → ℕ → Scene
 turn_scene t next number what computers there units left moment = record {
   at_client = t.at_client;
   at_member = t.at_member;
@@ -102,7 +102,7 @@ turn_scene t next number what computers there units left moment = record {
 }
 
 -- the turn's dial waits, behind no other; the links that are open, and the channel's standing
-abbrev pub waiting_scene : Turn → OpenMap → Standing → ℕ → ℕ → Step → Computers → List BagUnit → List (List ℕ) → ℕ → Scene
+abbrev pub waiting_scene : TurnScene → OpenMap → Standing → ℕ → ℕ → Step → Computers → List BagUnit → List (List ℕ) → ℕ → Scene
 waiting_scene t opened how next number what computers units left moment = record {
   at_client = t.at_client;
   at_member = t.at_member;
@@ -119,11 +119,11 @@ waiting_scene t opened how next number what computers units left moment = record
 }
 
 -- the same where it is for a call of a logon
-abbrev pub dial_scene : Turn → OpenMap → Standing → ℕ → ℕ → Call → Computers → List BagUnit → List (List ℕ) → ℕ → Scene
+abbrev pub dial_scene : TurnScene → OpenMap → Standing → ℕ → ℕ → Call → Computers → List BagUnit → List (List ℕ) → ℕ → Scene
 dial_scene t opened how next number c computers units left moment = waiting_scene t opened how next number (step.Bind c) computers units left moment
 
 -- the turn on the next link
-abbrev pub next_turn : Turn → OpenMap → Standing → Turn
+abbrev pub next_turn : TurnScene → OpenMap → Standing → TurnScene
 next_turn t opened how = record t {
   how = how;
   links = t.links ++ ToController t.at_member t.at_controller ∷ [];
@@ -133,16 +133,16 @@ next_turn t opened how = record t {
 }
 
 -- the member keeps other secrets
-abbrev pub with_secrets : SecretsState → Turn → Turn
+abbrev pub with_secrets : SecretsState → TurnScene → TurnScene
 with_secrets secrets t = record t { plan = plan_with secrets t.plan }
 
 -- the controller's accounts are others
-abbrev pub with_accounts : AccountTable → Turn → Turn
+abbrev pub with_accounts : AccountTable → TurnScene → TurnScene
 with_accounts accounts t = record t { table = accounts }
 
 pub record TurnsAreSeen : Type 0 where
   -- a dial is answered on the next link, and the bind goes out behind what waits, whichever call the turn is for
-  pub dialled : (s : State) (t : Turn) (opened : OpenMap) (how : Standing) (next number : ℕ) (what : Step) (computers : Computers) (units : List BagUnit) (left : List (List ℕ)) (moment : ℕ) →
+  pub dialled : (s : State) (t : TurnScene) (opened : OpenMap) (how : Standing) (next number : ℕ) (what : Step) (computers : Computers) (units : List BagUnit) (left : List (List ℕ)) (moment : ℕ) →
       end_of_peer t.plan.controller s.ends ≡ Some (Controller t.at_controller) →
       lookup same_number (length t.links) (opened ++ (length t.links, accepted (ToController t.at_member t.at_controller)) ∷ [])
       ≡ Some (accepted (ToController t.at_member t.at_controller)) →
@@ -153,14 +153,14 @@ pub record TurnsAreSeen : Type 0 where
       (units ++ unit_there (next_turn t opened how) (written (bind_of netlogon_syntax number)) ∷ []) left moment)
   -- after the first call that opens the channel, and at a member with one secret after the second, the link is closed,
   -- and the next turn is dialled
-  pub half : (s : State) (t : Turn) (next number : ℕ) (client server : List ℕ) (computers : Computers) (left : List (List ℕ)) (moment : ℕ) → IsBetween t → number < 2 ^ 32 →
+  pub half : (s : State) (t : TurnScene) (next number : ℕ) (client server : List ℕ) (computers : Computers) (left : List (List ℕ)) (moment : ℕ) → IsBetween t → number < 2 ^ 32 →
       t.how ≡ standing.Nothing →
       let r : Reply = reply.Challenge (record { challenge = server; status = 0 }) in
       IsTurnReply (question.Challenge client) r →
       Shows s (turn_scene t next number (step.Reply (question.Challenge client)) computers (turn_link t.link) (unit_back t (reply_bytes number r) ∷ []) left moment) →
       Shows (onward s).state
       (dial_scene t (take_out same_number t.link t.opened) (standing.Half client server) (after next) next (auth_call t.caller client server) computers [] left moment)
-  pub opened : (s : State) (t : Turn) (next number flags : ℕ) (client server : List ℕ) (computers : Computers) (left : List (List ℕ)) (moment : ℕ) → IsBetween t → number < 2 ^ 32 →
+  pub opened : (s : State) (t : TurnScene) (next number flags : ℕ) (client server : List ℕ) (computers : Computers) (left : List (List ℕ)) (moment : ℕ) → IsBetween t → number < 2 ^ 32 →
       t.how ≡ standing.Half client server → t.plan.secrets.next ≡ None → (has_flag offered_flags flags && has_flag flags rc4_flag) ≡ true →
       let r : Reply = reply.Authenticate (record { credential = server_credential t.caller.secret client server; flags = flags; status = 0 }) in
       let o : SecureChannelState = fresh_channel t.caller.secret client server offered_flags in
@@ -170,22 +170,22 @@ pub record TurnsAreSeen : Type 0 where
       (dial_scene t (take_out same_number t.link t.opened) (standing.Open (after_call o (timestamp_of moment))) (after next) next
       (logon_call t.caller o (timestamp_of moment) (record t.info { logon_id = t.place })) computers [] left moment)
   -- the controller answers the bind, whichever call the turn is for
-  pub bound : (s : State) (t : Turn) (next number : ℕ) (what : Step) (computers : Computers) (left : List (List ℕ)) (moment : ℕ) → IsBetween t → number < 2 ^ 32 →
+  pub bound : (s : State) (t : TurnScene) (next number : ℕ) (what : Step) (computers : Computers) (left : List (List ℕ)) (moment : ℕ) → IsBetween t → number < 2 ^ 32 →
       Shows s (turn_scene t next number what computers (one_link t.link first_talk) (unit_there t (written (bind_of netlogon_syntax number)) ∷ []) left moment) →
       Shows (onward s).state (turn_scene t next number what computers (turn_link t.link) (unit_back t (written (turn_ack number)) ∷ []) left moment)
   -- the member's call goes out
-  pub asks : (s : State) (t : Turn) (next number : ℕ) (c : Call) (computers : Computers) (left : List (List ℕ)) (moment : ℕ) → IsBetween t → number < 2 ^ 32 →
+  pub asks : (s : State) (t : TurnScene) (next number : ℕ) (c : Call) (computers : Computers) (left : List (List ℕ)) (moment : ℕ) → IsBetween t → number < 2 ^ 32 →
       Shows s (turn_scene t next number (step.Bind c) computers (turn_link t.link) (unit_back t (written (turn_ack number)) ∷ []) left moment) →
       Shows (onward s).state
       (turn_scene t (after next) next (step.Reply (question_of c)) computers (turn_link t.link) (unit_there t (bytes_of_call (turn_request next c) 5840) ∷ []) left moment)
   -- the controller answers it, telling nothing or how it judged, and keeps its accounts or others then
-  pub answers : (s : State) (t : Turn) (next number : ℕ) (what : Step) (c : Call) (r : Reply) (computers later : Computers) (left rest : List (List ℕ)) (moment : ℕ) →
+  pub answers : (s : State) (t : TurnScene) (next number : ℕ) (what : Step) (c : Call) (r : Reply) (computers later : Computers) (left rest : List (List ℕ)) (moment : ℕ) →
       IsBetween t → IsTurnCall c →
       controller_step_of (controller_at t.table t.name computers (turn_link t.link)) (event.Bytes t.link (bytes_of_call (turn_request number c) 5840)) moment left
       ≡ whole_step left rest (action.Send t.link (reply_bytes number r) ∷ []) (controller_at t.table t.name later (turn_link t.link)) →
       Shows s (turn_scene t next number what computers (turn_link t.link) (unit_there t (bytes_of_call (turn_request number c) 5840) ∷ []) left moment) →
       Shows (onward s).state (turn_scene t next number what later (turn_link t.link) (unit_back t (reply_bytes number r) ∷ []) rest moment)
-  pub judges : (s : State) (t : Turn) (next number : ℕ) (what : Step) (c : Call) (r : Reply) (how : Judged) (computers later : Computers) (accounts : AccountTable) (left rest : List (List ℕ))
+  pub judges : (s : State) (t : TurnScene) (next number : ℕ) (what : Step) (c : Call) (r : Reply) (how : Judged) (computers later : Computers) (accounts : AccountTable) (left rest : List (List ℕ))
       (moment : ℕ) → IsBetween t → IsTurnCall c →
       controller_step_of (controller_at t.table t.name computers (turn_link t.link)) (event.Bytes t.link (bytes_of_call (turn_request number c) 5840)) moment left
       ≡ whole_step left rest (action.Judged how ∷ action.Send t.link (reply_bytes number r) ∷ []) (controller_at accounts t.name later (turn_link t.link)) →

@@ -21,7 +21,7 @@ use Rattle.world_moves.specs.declared.links.EndId.TheVariants.{Controller, Membe
 use Rattle.world_moves.specs.declared.links.OpenLink.{OpenLink}
 use Rattle.world_moves.specs.declared.links.Route.{Route}
 use Rattle.world_moves.specs.declared.state.State.{State}
-use Rattle.world_moves.specs.Acting.{Heard, hear, hear_and_act, nothing_done, perform, unit_on}
+use Rattle.world_moves.specs.Acting.{AfterHearing, hear, hear_and_act, nothing_done, perform, unit_on}
 use Rattle.world_moves.specs.Bag.{first_waiting, is_waiting, settle_at}
 use Rattle.world_moves.specs.Counting.{add_counts, counts_of}
 use Rattle.world_moves.specs.Ends.{EndStates, drawn_on}
@@ -57,7 +57,7 @@ abbrev pub with_client_at : ℕ → ClientState → EndStates → EndStates
 with_client_at at client ends = record ends { clients = slice_set ends.clients at client }
 
 -- the world once an end has heard something, before its actions are done
-abbrev pub after_hearing : EndStates → List (List ℕ) → List Action → State → Heard
+abbrev pub after_hearing : EndStates → List (List ℕ) → List Action → State → AfterHearing
 after_hearing ends left actions s = record {
   state = record s {
     ends = ends;

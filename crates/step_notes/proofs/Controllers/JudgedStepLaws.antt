@@ -16,7 +16,7 @@ use Rattle.domain_controller.specs.Laws.{IsNext}
 use Rattle.domain_controller.specs.Machine.{Desk, answer_judged}
 use Rattle.controller_calls.specs.Calls.{asked_of, computer_named, given_in}
 use Rattle.controller_calls.specs.Doing.{Done, done_by, kept_asked}
-use Rattle.controller_calls.specs.Passing.{IsKeep}
+use Rattle.controller_calls.specs.Passing.{IsKeep, is_passed}
 use Rattle.controller_calls.specs.declared.calls.JudgedCall.{JudgedCall}
 use Rattle.controller_calls.specs.declared.line.Line.{Line}
 use Rattle.controller_calls.specs.declared.state.Computers.{Computers}
@@ -120,7 +120,7 @@ refused_right c computers how channels (Barred by is back) not =
       fails = λ passes. absurd (let never : false ≡ true = sym by.fails ∙ (bytes_eq-Decides _ _).1 passes in cc);
     }))
 
-told_by : (c : JudgedCall) (name : List ℕ) (now : ℕ) (line : Line) (d after : Desk) → JudgedComes c name now line d after →
+pub told_by : (c : JudgedCall) (name : List ℕ) (now : ℕ) (line : Line) (d after : Desk) → JudgedComes c name now line d after →
     Told line d.work.actions after.work.actions (checked_on (computer_named c) d.work.computers) (given_in c)
 told_by c name now line d after (PassesNext next is) =
     let checks : Option SecureChannelState = checked_on (computer_named c) d.work.computers in
@@ -142,6 +142,26 @@ told_by c name now line d after (Refused how away) = record {
   is = away.actions;
   right = refused_right c d.work.computers how after.work.computers.channels away.why (λ next. away.not_next (next_of (computer_named c) d.work.computers (given_in c) next));
 }
+
+-- a call that is judged here isn't handed on
+abbrev pub NotForwarded : Judged → Type 0
+NotForwarded (judged.Passed status) = Unit {0}
+NotForwarded judged.Forwarded = ⊥
+NotForwarded (judged.Answered status) = Unit {0}
+NotForwarded judged.Barred = Unit {0}
+NotForwarded judged.NoChannel = Unit {0}
+
+refused_here : (how : Judged) → is_passed how ≡ false → NotForwarded how
+refused_here (judged.Passed status) not = tt
+refused_here judged.Forwarded not = absurd (let x = not in cc)
+refused_here (judged.Answered status) not = tt
+refused_here judged.Barred not = tt
+refused_here judged.NoChannel not = tt
+
+pub told_here : (c : JudgedCall) (name : List ℕ) (now : ℕ) (line : Line) (d after : Desk) (comes : JudgedComes c name now line d after) → NotForwarded (told_by c name now line d after comes).how
+unfolding told_by
+told_here c name now line d after (PassesNext next is) = tt
+told_here c name now line d after (Refused how is) = refused_here how is.not_passed
 
 -- of a call, by what it names and shows
 pub told_call : (c : JudgedCall) (name : List ℕ) (now : ℕ) (line : Line) (d : Desk) →

@@ -24,23 +24,24 @@ use Rattle.world_moves.specs.declared.links.EndId.TheVariants.{Controller, Clien
 use Rattle.world_moves.specs.declared.moves.Move.{Move}
 use Rattle.world_moves.specs.declared.plan.Plan.{Plan}
 use Rattle.world_moves.specs.declared.state.State.{State}
-use Rattle.world_moves.specs.Acting.{Given, Heard}
+use Rattle.world_moves.specs.Acting.{Given, AfterHearing}
 use Rattle.world_moves.specs.Forms.{IsSchedule}
 use Rattle.world_moves.specs.Links.{acceptor_of}
 use Rattle.world_moves.specs.Moving.{begun, with_link, changed}
 use Rattle.world_moves.specs.Alone.{HandsNothingOn, hear_alone as hear}
 use Rattle.domain_world.specs.Accepting.Carried.{IsJudgedAsCarried, JudgedAsCarried}
 use Rattle.domain_world.specs.Accepting.ReadBack.{RepliesAreReadBack}
-use Rattle.domain_world.specs.Past.{Coming, Past, answers_of, at_controller, judged_of, note_at, note_controller, numbers_on, past, plain_form}
+use Rattle.domain_world.specs.Past.{Delivery, Past, at_controller, judged_of, numbers_on, past, plain_form}
 use Rattle.wire_base.proofs.ListLaws.{got_nothing}
 use Rattle.domain_world.specs.Schedules.{OfSchedules}
+use Rattle.domain_world.proofs.Frames.AloneNoteLaws.{alone_answers as answers_of, note_alone as note_at, note_controller_alone as note_controller}
 use Rattle.domain_world.proofs.Frames.AloneStepLaws.{act_alone as hear_and_act}
 use Rattle.domain_world.proofs.Accepting.Heard.JudgedUnitLaws.{AllHeardSo, AnyAction, CarriedIf, HeardSo, IsCarriedCall, IsJudgedWell, IsWholeCarried, JudgedFact, JudgedStand, acts_stand, answer_holds, any_actions, any_heard, running_so, settled_stand, unit_so, whole_carried}
 use Rattle.domain_world.proofs.Quiet.QuietStepLaws.{ControllerIsQuiet, QuietAction, QuietFact, QuietState}
 use Rattle.domain_world.proofs.Quiet.QuietRunLaws.{has_bytes, quiet_first, quiet_keeps}
 use Rattle.domain_world.proofs.Moves.ComingLaws.{CameFrom}
 use Rattle.domain_world.proofs.Moves.OpenMadeLaws.{IsAtSide}
-use Rattle.domain_world.proofs.Frames.StepFrameLaws.{BothFacts, BothFine, HasHeard, HoldsAfterRun, Keeps, join, run_keeps}
+use Rattle.domain_world.proofs.Frames.StepFrameLaws.{BothFacts, BothFine, HasHeard, HoldsAfterRun, StepKeeps, join, run_keeps}
 use Rattle.domain_world.proofs.Frames.EndNoteLaws.{book_by, judged_so}
 use Rattle.domain_world.proofs.Judgements.JudgedLaws.{HoldsIf, are_if_taken, judged_hold, onto_hold}
 use Rattle.domain_world.proofs.Moves.PlainFormLaws.{heard_plain}
@@ -70,7 +71,7 @@ served_carried bag w link (unit ∷ units) all = (
 )
 
 -- by where the bytes come from
-units_so : (source : Source) (c : ControllerState) (at : ℕ) (s : State) (w : Coming) (piece : List ℕ) → w.source ≡ source → QuietState s → JudgedStand s.bag [] → ControllerIsQuiet s.links c →
+units_so : (source : Source) (c : ControllerState) (at : ℕ) (s : State) (w : Delivery) (piece : List ℕ) → w.source ≡ source → QuietState s → JudgedStand s.bag [] → ControllerIsQuiet s.links c →
     IsAtSide s.links w.link w.back (Controller at) → CameFrom source s w piece → AreBytes piece →
     AllHeardSo (CarriedIf s.bag w.source) w.link (units_by c.running w.link piece c s.moment s.chances.left)
 units_so Outside c at s w piece is quiet stand own side came bytes =
@@ -79,7 +80,7 @@ units_so (InUnit number) c at s w piece is quiet stand own side came bytes =
     let whole : IsWholeCarried s number w piece = whole_carried s number at w piece quiet.bag stand.kinds side came in
     running_so c s w piece number whole (CarriedIf s.bag w.source) (λ n asked numbered carries. unit_so s number w piece whole is bytes n asked numbered carries) c.running own.well
 
-module _ (at : ℕ) (w : Coming) (piece : List ℕ) (s after : State) (quiet : QuietState s) where
+module _ (at : ℕ) (w : Delivery) (piece : List ℕ) (s after : State) (quiet : QuietState s) where
   controller_stand : (c : ControllerState) (b : Book) → slice_get s.ends.controllers at ≡ Some c → JudgedStand s.bag b.judged → IsAtSide s.links w.link w.back (Controller at) →
       CameFrom w.source s w piece → AreBytes piece → AllByRecursion (IsJudgedWell s.bag) (note_controller (Some c) at w piece s after b).judged
   controller_stand c b is stand side came bytes =
@@ -99,7 +100,7 @@ module _ (at : ℕ) (w : Coming) (piece : List ℕ) (s after : State) (quiet : Q
       (replies_are_read.judged c w.at at w.source w.link piece s.moment s.chances.left own.range quiet.moment quiet.blocks)))
       stand.judged
 
-end_stand : (end : EndId) (w : Coming) (piece : List ℕ) (s after : State) (b : Book) → QuietState s → JudgedStand s.bag b.judged → IsAtSide s.links w.link w.back end → CameFrom w.source s w piece →
+end_stand : (end : EndId) (w : Delivery) (piece : List ℕ) (s after : State) (b : Book) → QuietState s → JudgedStand s.bag b.judged → IsAtSide s.links w.link w.back end → CameFrom w.source s w piece →
     AreBytes piece → JudgedStand s.bag (note_at (Some end) w piece s after b).judged
 end_stand end w piece s after b quiet stand side came bytes =
     book_by (λ (one : EndId) (now : Book). IsAtSide s.links w.link w.back one → JudgedStand s.bag now.judged) w piece s after b (λ one at_side. stand)
@@ -108,10 +109,10 @@ end_stand end w piece s after b quiet stand side came bytes =
 
 -- ---- all moves
 
-heard_stand : (n : ℕ) (end : EndId) (what : Heard) (given : Given) (b : Book) → JudgedStand what.state.bag b.judged → HasHeard JudgedFact AnyAction n end what given b
+heard_stand : (n : ℕ) (end : EndId) (what : AfterHearing) (given : Given) (b : Book) → JudgedStand what.state.bag b.judged → HasHeard JudgedFact AnyAction n end what given b
 heard_stand n end what given b stand = record { holds = stand; fine = any_actions end what.state.links what.actions }
 
-pub judged_keeps : Keeps QuietFact JudgedFact AnyAction
+pub judged_keeps : StepKeeps QuietFact JudgedFact AnyAction
 judged_keeps = record {
   calm = λ n end what s given b calm quiet stand. heard_stand (n + 1) end (hear end what s) given b stand;
   dialled = λ n end link s given b side quiet stand. heard_stand (n + 1) end (hear end (event.Dialled link) s) given b stand;

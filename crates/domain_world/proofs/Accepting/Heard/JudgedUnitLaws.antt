@@ -43,7 +43,7 @@ use Rattle.world_moves.specs.Links.{is_own, kind_of}
 use Rattle.world_moves.proofs.QuietLaws.{units_by as sent_by}
 use Rattle.domain_world.specs.Accepting.Carried.{IsWholeUnit, call_carried, call_judged}
 use Rattle.domain_world.specs.Accepting.Runs.{IsOfMember}
-use Rattle.domain_world.specs.Past.{Coming}
+use Rattle.domain_world.specs.Past.{Delivery}
 use Rattle.wire_base.proofs.ListLaws.{at_end, got_append, some_is}
 use Rattle.domain_world.proofs.Accepting.Heard.HeardUnitLaws.{heard_level}
 use Rattle.domain_world.proofs.Quiet.QuietListenLaws.{ListensWell, WellUnlessStopped, entries_found}
@@ -157,14 +157,14 @@ route_of false (ToMember one server) at apart is own = absurd cc
 route_of true (ToMember one server) at apart is own = absurd cc
 
 -- the piece is a whole unit of the bag, on a link that a member dialled
-pub record IsWholeCarried (s : State) (number : ℕ) (w : Coming) (piece : List ℕ) : Type 0 where
+pub record IsWholeCarried (s : State) (number : ℕ) (w : Delivery) (piece : List ℕ) : Type 0 where
   pub unit : BagUnit
   pub there : slice_get s.bag number ≡ Some unit
   pub same : unit.bytes ≡ piece
   pub send : IsWholeSend unit.bytes
   pub own : IsOfMember s.links w.link
 
-pub whole_carried : (s : State) (number at : ℕ) (w : Coming) (piece : List ℕ) → WholeBag s.bag → AreOwn s.bag → IsAtSide s.links w.link w.back (Controller at) → IsPieceOf s number w piece →
+pub whole_carried : (s : State) (number at : ℕ) (w : Delivery) (piece : List ℕ) → WholeBag s.bag → AreOwn s.bag → IsAtSide s.links w.link w.back (Controller at) → IsPieceOf s number w piece →
     IsWholeCarried s number w piece
 whole_carried s number at w piece whole own side came =
     let same_route : side.route ≡ came.route = some_is side.route came.route (sym side.made ∙ came.made) in
@@ -232,7 +232,7 @@ each_heard So link unit [] so all = tt
 each_heard So link unit (served ∷ units) so all = (heard_of So unit (hear_unit link served.bytes served.talk) so all.0, each_heard So link unit units so all.1)
 
 -- the call of a whole unit of the bag is carried by it
-pub unit_so : (s : State) (number : ℕ) (w : Coming) (piece : List ℕ) (is : IsWholeCarried s number w piece) → w.source ≡ InUnit number → AreBytes piece → (n : ℕ) (asked : JudgedCall) →
+pub unit_so : (s : State) (number : ℕ) (w : Delivery) (piece : List ℕ) (is : IsWholeCarried s number w piece) → w.source ≡ InUnit number → AreBytes piece → (n : ℕ) (asked : JudgedCall) →
     n ≡ is.send.unit.call → call_carried is.send.unit.body ≡ Some (call_judged asked) → CarriedIf s.bag w.source n asked
 unit_so s number w piece is came bytes n asked numbered carries other there =
     let same : number ≡ other = some_is number other (ap unit_in (sym came ∙ there)) in
@@ -248,7 +248,7 @@ unit_so s number w piece is came bytes n asked numbered carries other there =
           (carries ∙ ap (λ (a : JudgedCall). Some (call_judged a)) kind));
     })
 
-module _ (c : ControllerState) (s : State) (w : Coming) (piece : List ℕ) (number : ℕ) (is : IsWholeCarried s number w piece)
+module _ (c : ControllerState) (s : State) (w : Delivery) (piece : List ℕ) (number : ℕ) (is : IsWholeCarried s number w piece)
     (So : ℕ → JudgedCall → Type 0) (so : (n : ℕ) (asked : JudgedCall) → n ≡ is.send.unit.call → call_carried is.send.unit.body ≡ Some (call_judged asked) → So n asked) where
   link_so : (found : Option (LinkState Talk)) (running : Running) →
       ((link : LinkState Talk) → found ≡ Some link → ListensWell (IsOfMember s.links) (IsMade s.links) w.link link) →

@@ -78,8 +78,9 @@ use Rattle.step_notes.proofs.Members.RequestOrderLaws.{requests_first}
 use Rattle.step_notes.proofs.Members.TurnHeardLaws.{members_take}
 use Rattle.world_moves.specs.declared.state.State.{State}
 use Rattle.world_moves.specs.Ends.{actions_by}
-use Rattle.domain_world.specs.Past.{Coming, answers_of}
+use Rattle.domain_world.specs.Past.{Delivery}
 use Rattle.wire_base.proofs.ListLaws.{got_nothing, some_is}
+use Rattle.domain_world.proofs.Frames.AloneNoteLaws.{alone_answers as answers_of}
 use Rattle.domain_world.proofs.Accepting.Heard.BoundOpeningLaws.{BindsItsOpening, IsItsOpening}
 use Rattle.domain_world.proofs.Quiet.QuietTurnLaws.{IfOn, IsOneUnit, IsRested}
 use Rattle.domain_world.proofs.Frames.BagFrameLaws.{controller_marks}
@@ -180,13 +181,13 @@ all_answers : (answers : List Answered) (sent : List (List ℕ)) → AreSentFor 
 all_answers [] sent is = none_sent CarriesMark sent
 all_answers (one ∷ answers) sent is = first_answer one.sends one answers sent (λ rest each. all_answers answers rest each) is
 
-by_answer : (answer : Result (List Action) StepRefused) (c : ControllerState) (at : ℕ) (w : Coming) (piece : List ℕ) (s : State) →
+by_answer : (answer : Result (List Action) StepRefused) (c : ControllerState) (at : ℕ) (w : Delivery) (piece : List ℕ) (s : State) →
     (controller_step_of c (event.Bytes w.link piece) s.moment s.chances.left).answer ≡ answer → AtSent (controller_marks at c w piece s) (sends_in (actions_by answer))
 by_answer (Err why) c at w piece s is = λ place mark bytes marked sends. absurd (got_nothing place bytes sends)
 by_answer (Ok actions) c at w piece s is =
     all_answers (answers_of at c w piece s) (sends_in actions) (replies_sent c w.at at w.source w.link piece s.moment s.chances.left actions is)
 
-pub controller_sends : (c : ControllerState) (at : ℕ) (w : Coming) (piece : List ℕ) (s : State) →
+pub controller_sends : (c : ControllerState) (at : ℕ) (w : Delivery) (piece : List ℕ) (s : State) →
     AtSent (controller_marks at c w piece s) (sends_in (actions_by (controller_step_of c (event.Bytes w.link piece) s.moment s.chances.left).answer))
 controller_sends c at w piece s = by_answer (controller_step_of c (event.Bytes w.link piece) s.moment s.chances.left).answer c at w piece s refl
 

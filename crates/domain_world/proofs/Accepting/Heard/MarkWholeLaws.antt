@@ -28,6 +28,7 @@ use Rattle.channel_client.specs.declared.caller.Caller.{Caller}
 use Rattle.step_notes.specs.CallLogons.{AsksUnlessStopped}
 use Rattle.member_server.specs.Machine.{account_of}
 use Rattle.domain_world.specs.Schedules.{OfSchedules}
+use Rattle.domain_world.proofs.Frames.AloneNoteLaws.{note_alone as note_at, note_controller_alone as note_controller}
 use Rattle.domain_world.proofs.Frames.AloneStepLaws.{act_alone as hear_and_act}
 use Rattle.domain_world.proofs.Accepting.CarriedLaws.{one_whole}
 use Rattle.channel_events.specs.Marks.{Mark, Plain, Opening, Opened, Calling, ReplyTo}
@@ -45,7 +46,7 @@ use Rattle.world_moves.specs.declared.links.Route.TheVariants.{ToController}
 use Rattle.world_moves.specs.declared.moves.Move.{Move}
 use Rattle.world_moves.specs.declared.plan.Plan.{Plan}
 use Rattle.world_moves.specs.declared.state.State.{State}
-use Rattle.world_moves.specs.Acting.{Given, Heard, done, heard_by}
+use Rattle.world_moves.specs.Acting.{Given, AfterHearing, done, heard_by}
 use Rattle.world_moves.specs.Ends.{EndStep, client_step, member_step}
 use Rattle.world_moves.specs.Forms.{IsSchedule}
 use Rattle.world_moves.specs.Links.{is_own, kind_of}
@@ -53,7 +54,7 @@ use Rattle.world_moves.specs.Alone.{HandsNothingOn, alone_controller_step as con
 use Rattle.world_moves.proofs.LinkFrameLaws.{IsOnLink, actions_stay}
 use Rattle.domain_world.specs.Accepting.Carried.{IsAsMarked, IsNoAnswer, IsPlain, MarkedUnitsAreWhole, IsNotJudged, call_judged}
 use Rattle.domain_world.specs.Claims.Replies.{IsReplyOfOne}
-use Rattle.domain_world.specs.Past.{Coming, at_controller, marks_of, note_at, note_controller, note_given, note_member, note_messages, past, sent_at, controller_asked}
+use Rattle.domain_world.specs.Past.{Delivery, at_controller, marks_of, note_given, note_member, note_messages, past, sent_at, controller_asked}
 use Rattle.wire_base.proofs.ListLaws.{got_append, got_nothing, some_is}
 use Rattle.domain_world.proofs.Accepting.Heard.HeardFrontLaws.{IsOfRequest, of_request, opens_no_logon, reply_no_call}
 use Rattle.domain_world.proofs.Accepting.Heard.HeardUnitLaws.{heard_stub}
@@ -150,12 +151,12 @@ controller_kind links unit link back at on here side =
     let route = route_of back side.route at side.apart side.side (ap (λ (r : Route). is_own (kind_of r)) (sym same) ∙ on.own) in
     member_kind links unit link route.0 at on here (side.made ∙ ap (λ (r : Route). Some r) route.1)
 
-controller_fits : (c : ControllerState) (at : ℕ) (w : Coming) (piece : List ℕ) (s : State) (b : Book) → IsAtSide s.links w.link w.back (Controller at) → length b.sent ≡ length s.bag →
+controller_fits : (c : ControllerState) (at : ℕ) (w : Delivery) (piece : List ℕ) (s : State) (b : Book) → IsAtSide s.links w.link w.back (Controller at) → length b.sent ≡ length s.bag →
     MarksFit s.bag b →
     let after : State = (done (Controller at) (heard_by (controller_step (Some c) at (event.Bytes w.link piece) s.moment s.ends s.chances) s)).state in
     MarksFit after.bag (note_controller (Some c) at w piece s after b)
 controller_fits c at w piece s b side same each =
-    let heard : Heard = heard_by (controller_step (Some c) at (event.Bytes w.link piece) s.moment s.ends s.chances) s in
+    let heard : AfterHearing = heard_by (controller_step (Some c) at (event.Bytes w.link piece) s.moment s.ends s.chances) s in
     let after : State = (done (Controller at) heard).state in
     let more : IsMore s.links s.bag after.links after.bag = actions_stay (MoreOf s.links s.bag) (goes_on s.links s.bag) (Controller at) heard.actions heard.state (no_more s.links s.bag) in
     fit_more s.bag after.bag more.units b.sent w.link true (controller_marks at c w piece s) w.at more.is same
@@ -183,12 +184,12 @@ known_running links k None running is quiet asks bound = absurd (let never = is 
 known_running links k (Some one) running is quiet asks bound =
     subst (λ (x : Running). FitsWell x.logons.channel × IfOn (IsDialledBy links k) x.dialling) (some_is one running is) ((quiet.range.channel, named_well one asks bound), quiet.turn)
 
-member_fits : (m : MemberState) (at : ℕ) (w : Coming) (piece : List ℕ) (s : State) (b : Book) → slice_get s.ends.members at ≡ Some m → QuietState s → AsksSo m → CameFrom w.source s w piece →
+member_fits : (m : MemberState) (at : ℕ) (w : Delivery) (piece : List ℕ) (s : State) (b : Book) → slice_get s.ends.members at ≡ Some m → QuietState s → AsksSo m → CameFrom w.source s w piece →
     length b.sent ≡ length s.bag → MarksFit s.bag b →
     let after : State = (done (Member at) (heard_by (member_step (Some m) at (event.Bytes w.link piece) s.moment s.ends s.chances) s)).state in
     MarksFit after.bag (note_member (Some m) at w piece s after b)
 member_fits m at w piece s b is quiet asks came same each =
-    let heard : Heard = heard_by (member_step (Some m) at (event.Bytes w.link piece) s.moment s.ends s.chances) s in
+    let heard : AfterHearing = heard_by (member_step (Some m) at (event.Bytes w.link piece) s.moment s.ends s.chances) s in
     let after : State = (done (Member at) heard).state in
     let marks : List Mark = member_marks at m w piece s in
     let more : IsMore s.links s.bag after.links after.bag = actions_stay (MoreOf s.links s.bag) (goes_on s.links s.bag) (Member at) heard.actions heard.state (no_more s.links s.bag) in
@@ -215,7 +216,7 @@ member_fits m at w piece s b is quiet asks came same each =
       ]
     ]) each)
 
-end_fits : (end : EndId) (w : Coming) (piece : List ℕ) (s : State) (b : Book) → IsAtSide s.links w.link w.back end → CameFrom w.source s w piece → (IsServer end → length b.sent ≡ length s.bag) →
+end_fits : (end : EndId) (w : Delivery) (piece : List ℕ) (s : State) (b : Book) → IsAtSide s.links w.link w.back end → CameFrom w.source s w piece → (IsServer end → length b.sent ≡ length s.bag) →
     QuietState s → AllAskSo s.ends.members → MarksFit s.bag b →
     MarksFit (hear_and_act end (event.Bytes w.link piece) s).state.bag (note_at (Some end) w piece s (hear_and_act end (event.Bytes w.link piece) s).state b)
 end_fits end w piece s b side came same quiet asks each =
@@ -223,7 +224,7 @@ end_fits end w piece s b side came same quiet asks each =
     IsAtSide s.links w.link w.back one → (IsServer one → length b.sent ≡ length s.bag) → MarksFit after.bag now) w piece s b (λ one here even. each)
     (λ at c is here even. controller_fits c at w piece s b here (even refl) each) (λ at m is here even. member_fits m at w piece s b is quiet (one_asks_so s.ends.members at m is asks) came (even refl) each)
     (λ at c is here even.
-    let heard : Heard = heard_by (client_step (Some c) at (event.Bytes w.link piece) s.moment s.ends s.chances) s in
+    let heard : AfterHearing = heard_by (client_step (Some c) at (event.Bytes w.link piece) s.moment s.ends s.chances) s in
     let after : State = (done (Client at) heard).state in
     let more : IsMore s.links s.bag after.links after.bag = actions_stay (MoreOf s.links s.bag) (goes_on s.links s.bag) (Client at) heard.actions heard.state (no_more s.links s.bag) in
     still_fit s.bag after.bag b

@@ -33,15 +33,16 @@ use Rattle.world_moves.specs.declared.links.Route.TheVariants.{ToMember, ToContr
 use Rattle.world_moves.specs.declared.plan.Plan.{Plan}
 use Rattle.world_moves.specs.declared.moves.Move.{Move}
 use Rattle.world_moves.specs.declared.state.State.{State}
-use Rattle.world_moves.specs.Acting.{Heard}
+use Rattle.world_moves.specs.Acting.{AfterHearing}
 use Rattle.world_moves.specs.Forms.{IsSchedule}
 use Rattle.world_moves.specs.Links.{is_own, kind_of}
 use Rattle.world_moves.specs.Alone.{HandsNothingOn, hear_alone as hear}
 use Rattle.world_moves.proofs.LinkFrameLaws.{actions_stay}
 use Rattle.domain_world.specs.Accepting.Carried.{IsWholeUnit, call_carried}
 use Rattle.domain_world.specs.Accepting.Runs.{IsOfMember}
-use Rattle.domain_world.specs.Past.{Coming, accepted_of, answers_of, at_controller, first_of, later_of, note_at, note_controller, numbers_on, past, replied_with}
+use Rattle.domain_world.specs.Past.{Delivery, accepted_of, at_controller, first_of, later_of, numbers_on, past, replied_with}
 use Rattle.wire_base.proofs.ListLaws.{all_weaker, got_append, some_is}
+use Rattle.domain_world.proofs.Frames.AloneNoteLaws.{alone_answers as answers_of, note_alone as note_at, note_controller_alone as note_controller}
 use Rattle.domain_world.proofs.Frames.AloneStepLaws.{act_alone as hear_and_act}
 use Rattle.domain_world.proofs.Accepting.Heard.JudgedRunLaws.{judged_first, judged_keeps}
 use Rattle.domain_world.proofs.Accepting.Heard.JudgedUnitLaws.{AnyAction, AreOwn, IsWholeCarried, JudgedFact, whole_carried}
@@ -53,7 +54,7 @@ use Rattle.domain_world.proofs.Frames.BagStepLaws.{BagKeeps, BookFact, run_fits}
 use Rattle.domain_world.proofs.Moves.ComingLaws.{CameFrom, IsPieceOf, IsStill, StillHas}
 use Rattle.domain_world.proofs.Frames.EndNoteLaws.{accepted_so, book_by}
 use Rattle.domain_world.proofs.Moves.OpenMadeLaws.{IsApart, IsAtSide, IsMore, MoreOf, goes_on, no_more, side_of}
-use Rattle.domain_world.proofs.Frames.StepFrameLaws.{BothFacts, BothFine, Keeps, NoFact, join}
+use Rattle.domain_world.proofs.Frames.StepFrameLaws.{BothFacts, BothFine, StepKeeps, NoFact, join}
 use Rattle.domain_world.proofs.Judgements.JudgedLaws.{are_if_taken}
 use Rattle.domain_world.proofs.Judgements.Openings.OpeningMarkLaws.{onto_all}
 
@@ -169,7 +170,7 @@ each_opens : (So : ℕ → Type 0) (link : ℕ) (unit : RpcUnit) (units : List (
 each_opens So link unit [] so all = tt
 each_opens So link unit (served ∷ units) so all = (opens_of So unit (hear_unit link served.bytes served.talk) so all.0, each_opens So link unit units so all.1)
 
-module _ (c : ControllerState) (s : State) (w : Coming) (piece : List ℕ) (number : ℕ) (is : IsWholeCarried s number w piece) (So : ℕ → Type 0)
+module _ (c : ControllerState) (s : State) (w : Delivery) (piece : List ℕ) (number : ℕ) (is : IsWholeCarried s number w piece) (So : ℕ → Type 0)
     (so : (n : ℕ) (asked : AuthCall) → n ≡ is.send.unit.call → call_carried is.send.unit.body ≡ Some (call.Authenticate asked) → So n) where
   link_opens : (found : Option (LinkState Talk)) (running : Running) →
       ((link : LinkState Talk) → found ≡ Some link → ListensWell (IsOfMember s.links) (IsMade s.links) w.link link) →
@@ -199,7 +200,7 @@ to_it true (ToController member controller) at apart is own = absurd cc
 to_it false (ToMember one server) at apart is own = absurd cc
 to_it true (ToMember one server) at apart is own = absurd cc
 
-unit_opens : (s : State) (number at : ℕ) (w : Coming) (piece : List ℕ) (is : IsWholeCarried s number w piece) → AreOwn s.bag → IsAtSide s.links w.link w.back (Controller at) →
+unit_opens : (s : State) (number at : ℕ) (w : Delivery) (piece : List ℕ) (is : IsWholeCarried s number w piece) → AreOwn s.bag → IsAtSide s.links w.link w.back (Controller at) →
     IsPieceOf s number w piece → w.source ≡ InUnit number → (n : ℕ) (asked : AuthCall) → n ≡ is.send.unit.call →
     call_carried is.send.unit.body ≡ Some (call.Authenticate asked) → OpenedIf s.bag w.source n
 unit_opens s number at w piece is own side came from n asked numbered carries other there =
@@ -219,7 +220,7 @@ unit_opens s number at w piece is own side came from n asked numbered carries ot
     })
 
 -- by where the bytes come from
-units_open : (source : Source) (c : ControllerState) (at : ℕ) (s : State) (w : Coming) (piece : List ℕ) → w.source ≡ source → QuietState s → AreOwn s.bag → ControllerIsQuiet s.links c →
+units_open : (source : Source) (c : ControllerState) (at : ℕ) (s : State) (w : Delivery) (piece : List ℕ) → w.source ≡ source → QuietState s → AreOwn s.bag → ControllerIsQuiet s.links c →
     IsAtSide s.links w.link w.back (Controller at) → CameFrom source s w piece → AllOpenSo (OpenedIf s.bag w.source) w.link (units_by c.running w.link piece c s.moment s.chances.left)
 units_open Outside c at s w piece is quiet kinds own side came =
     any_opens (OpenedIf s.bag w.source) w.link (units_by c.running w.link piece c s.moment s.chances.left) (λ number n there. absurd (let never = sym is ∙ there in cc))
@@ -248,7 +249,7 @@ accepted_well bag [] numbers all = tt
 accepted_well bag (one ∷ answers) numbers all =
     replied_well bag one.accepted (first_of numbers) (accepted_of answers (later_of one.sends numbers)) all.0 (accepted_well bag answers (later_of one.sends numbers) all.1)
 
-controller_fits : (at : ℕ) (w : Coming) (piece : List ℕ) (s after : State) (c : ControllerState) (b : Book) → slice_get s.ends.controllers at ≡ Some c → QuietState s → AreOwn s.bag →
+controller_fits : (at : ℕ) (w : Delivery) (piece : List ℕ) (s after : State) (c : ControllerState) (b : Book) → slice_get s.ends.controllers at ≡ Some c → QuietState s → AreOwn s.bag →
     IsAtSide s.links w.link w.back (Controller at) → CameFrom w.source s w piece → OpensFit s.bag b → OpensFit s.bag (note_controller (Some c) at w piece s after b)
 controller_fits at w piece s after c b is quiet kinds side came fits =
     let answers : List Answered = answers_of at c w piece s in
@@ -260,17 +261,17 @@ controller_fits at w piece s after c b is quiet kinds side came fits =
     onto_all (IsOpenedWell s.bag) (accepted_of answers numbers) b.accepted
     (accepted_well s.bag answers numbers (served_open s.bag (at_controller at c w s) w.link (units_of_controller c w.link piece s.moment s.chances.left) opens)) fits
 
-end_fits : (end : EndId) (w : Coming) (piece : List ℕ) (s after : State) (b : Book) → QuietState s → AreOwn s.bag → IsAtSide s.links w.link w.back end → CameFrom w.source s w piece →
+end_fits : (end : EndId) (w : Delivery) (piece : List ℕ) (s after : State) (b : Book) → QuietState s → AreOwn s.bag → IsAtSide s.links w.link w.back end → CameFrom w.source s w piece →
     OpensFit s.bag b → OpensFit s.bag (note_at (Some end) w piece s after b)
 end_fits end w piece s after b quiet kinds side came fits =
     book_by (λ (one : EndId) (now : Book). IsAtSide s.links w.link w.back one → OpensFit s.bag now) w piece s after b (λ one here. fits)
     (λ at c is here. controller_fits at w piece s after c b is quiet kinds here came fits)
     (λ at m is here. subst (λ (accepted : List ChannelAccepted). AllByRecursion (IsOpenedWell s.bag) accepted) (sym (accepted_so.members m at w piece s after b)) fits) (λ at c is here. fits) end side
 
-comes_fit : (n : ℕ) (end : EndId) (w : Coming) (piece : List ℕ) (s : State) (b : Book) → QuietState s → AreOwn s.bag → IsAtSide s.links w.link w.back end → CameFrom w.source s w piece →
+comes_fit : (n : ℕ) (end : EndId) (w : Delivery) (piece : List ℕ) (s : State) (b : Book) → QuietState s → AreOwn s.bag → IsAtSide s.links w.link w.back end → CameFrom w.source s w piece →
     OpensFit s.bag b → OpensFit (hear_and_act end (event.Bytes w.link piece) s).state.bag (note_at (Some end) w piece s (hear_and_act end (event.Bytes w.link piece) s).state b)
 comes_fit n end w piece s b quiet kinds side came fits =
-    let what : Heard = hear end (event.Bytes w.link piece) s in
+    let what : AfterHearing = hear end (event.Bytes w.link piece) s in
     let after : State = (hear_and_act end (event.Bytes w.link piece) s).state in
     let more : IsMore s.links s.bag after.links after.bag = actions_stay (MoreOf s.links s.bag) (goes_on s.links s.bag) end what.actions what.state (no_more s.links s.bag) in
     opens_still s.bag after.bag (note_at (Some end) w piece s after b)
@@ -289,6 +290,6 @@ opens_keep = record {
 
 pub openings_carried : (plan : Plan) (moves : List Move) → HandsNothingOn plan → IsSchedule plan moves → OpensFit (past plan moves).world.state.bag (past plan moves).book
 openings_carried plan moves nobody is =
-    let both : Keeps NoFact (BothFacts QuietFact JudgedFact) (BothFine QuietAction AnyAction) = join QuietFact JudgedFact QuietAction AnyAction quiet_keeps judged_keeps in
+    let both : StepKeeps NoFact (BothFacts QuietFact JudgedFact) (BothFine QuietAction AnyAction) = join QuietFact JudgedFact QuietAction AnyAction quiet_keeps judged_keeps in
     run_fits (BothFacts QuietFact JudgedFact) (BothFine QuietAction AnyAction) both no_part no_side nothing_written OpensFit opens_keep plan moves nobody (has_bytes plan moves nobody is)
     (quiet_first plan is.start is.forms, judged_first) tt tt

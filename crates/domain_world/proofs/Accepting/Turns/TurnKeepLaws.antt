@@ -30,7 +30,8 @@ use Rattle.world_moves.specs.World.{World, first_world}
 use Rattle.world_moves.specs.Alone.{HandsNothingOn, alone_controller_step as controller_step, hear_alone as hear}
 use Rattle.domain_world.specs.Accepting.Carried.{IsAnswerFor, IsAnsweredInTurn, IsTakenInTurn}
 use Rattle.domain_world.specs.Accepting.ReadBack.{IsLetInInTurn, IsToldInTurn, TurnsAreHeard}
-use Rattle.domain_world.specs.Past.{Coming, Past, answers_of, any_clash, note_at, note_client, note_controller, note_given, past, told_in}
+use Rattle.domain_world.specs.Past.{Delivery, Past, any_clash, note_client, note_given, past, told_in}
+use Rattle.domain_world.proofs.Frames.AloneNoteLaws.{alone_answers as answers_of, note_alone as note_at, note_controller_alone as note_controller}
 use Rattle.domain_world.proofs.Frames.AloneStepLaws.{act_alone as hear_and_act, renewed_alone as renewed}
 use Rattle.domain_world.proofs.Accepting.Turns.TurnFactLaws.{Any, AreApart, GrowsTo, HasFree, IsAnswered, IsKnown, KeepFree, MarksAreKnown, SameEnds, TurnFacts, apart_from, let_in_stays, marks_before, past_at, taken_stays, told_stays, world_in}
 use Rattle.domain_world.proofs.Accepting.Turns.TurnNotedLaws.{or_false}
@@ -40,7 +41,7 @@ use Rattle.domain_world.proofs.Accepting.Turns.TurnSideLaws.{TurnSide, member_co
 use Rattle.domain_world.proofs.Messages.MessageApartLaws.{links_in, messages_apart}
 use Rattle.domain_world.proofs.Moves.ComingLaws.{CameFrom, StillHas, kept_same, kept_settled}
 use Rattle.domain_world.proofs.Moves.OpenMadeLaws.{IsAtSide}
-use Rattle.domain_world.proofs.Frames.StepFrameLaws.{AnyAction, all_any, HasHeard, Keeps, RunFact}
+use Rattle.domain_world.proofs.Frames.StepFrameLaws.{AnyAction, all_any, HasHeard, StepKeeps, RunFact}
 use Rattle.domain_world.proofs.Frames.EndFrameLaws.{IsCalm, by_calm}
 use Rattle.domain_world.proofs.Frames.EndNoteLaws.{noted_by}
 use Rattle.world_moves.proofs.KeptLaws.{plans_alike}
@@ -97,7 +98,7 @@ module _ (plan : Plan) where
       let grows : GrowsTo s (heard_by step s).state b d = record { bag = kept_same s.bag; sent = sent; ends = same } in
       others_hear plan s (heard_by step s).state b d given (given_by end step.actions) grows members told none (facts (marks_before s (heard_by step s).state b d grows marks))
 
-  end_comes : (end : EndId) (n : ℕ) (w : Coming) (piece : List ℕ) (s after : State) (given : Given) (b : Book) → IsAtSide s.links w.link w.back end → CameFrom w.source s w piece → TurnSide plan s b →
+  end_comes : (end : EndId) (n : ℕ) (w : Delivery) (piece : List ℕ) (s after : State) (given : Given) (b : Book) → IsAtSide s.links w.link w.back end → CameFrom w.source s w piece → TurnSide plan s b →
       TurnsHold plan n s given b → HasHeard (TurnsHold plan) AnyAction (n + 1) end (hear end (event.Bytes w.link piece) s) given (note_at (Some end) w piece s after b)
   end_comes end n w piece s after given b side came rests holds =
       let what : Event = event.Bytes w.link piece in
@@ -168,7 +169,7 @@ module _ (plan : Plan) where
   }
 
   -- through all moves
-  pub turns_keep : Keeps (TurnsRestOn plan) (TurnsHold plan) AnyAction
+  pub turns_keep : StepKeeps (TurnsRestOn plan) (TurnsHold plan) AnyAction
   turns_keep = record {
     calm = λ n end what s given b calm rests holds. quietly n end what s given b (calm_dials what calm) holds;
     dialled = λ n end link s given b side rests holds. quietly n end (event.Dialled link) s given b tt holds;

@@ -29,7 +29,7 @@ use Rattle.world_moves.specs.declared.links.EndId.{EndId}
 use Rattle.world_moves.specs.declared.links.EndId.TheVariants.{Controller, Member, Client}
 use Rattle.world_moves.specs.declared.plan.Plan.{Plan}
 use Rattle.world_moves.specs.declared.state.State.{State}
-use Rattle.world_moves.specs.Acting.{Given, Heard, given_by, heard_by, perform_quietly}
+use Rattle.world_moves.specs.Acting.{Given, AfterHearing, given_by, heard_by, perform_quietly}
 use Rattle.world_moves.specs.Counting.{is_in}
 use Rattle.world_moves.specs.Ends.{EndStates, EndStep, actions_by, client_step, member_step, no_step}
 use Rattle.world_moves.specs.Moving.{changed}
@@ -162,10 +162,10 @@ free_put members at new messages free kept k m there =
 module _ (plan : Plan) where
   member_hears : (m : MemberState) (at : ℕ) (what : Event) (s : State) (given : Given) (b : Book) → slice_get s.ends.members at ≡ Some m → Dials Any what →
       TurnFacts plan s b b.messages b.answers (told_yet given b) →
-      let t : Heard = heard_by (member_step (Some m) at what s.moment s.ends s.chances) s in
+      let t : AfterHearing = heard_by (member_step (Some m) at what s.moment s.ends s.chances) s in
       SameEnds s.ends t.state.ends → TurnFacts plan t.state b b.messages b.answers (told_yet (given ++ given_by (Member at) t.actions) b)
   member_hears m at what s given b is dials facts same =
-      let t : Heard = heard_by (member_step (Some m) at what s.moment s.ends s.chances) s in
+      let t : AfterHearing = heard_by (member_step (Some m) at what s.moment s.ends s.chances) s in
       member_heard plan s t.state b b given (given_by (Member at) t.actions) (record { bag = kept_same s.bag; sent = λ k one there. there; ends = same }) refl
       (member_silent (λ (one : OutcomeTold). OneOf (λ (message : MessageTaken). IsLetInInTurn (past_at plan t.state b) one message) b.messages) m.running m at what s.moment s.chances.left refl
       (calm_silent Any m.running what dials))
@@ -244,7 +244,7 @@ change_free at secret s messages free =
 pub change_stays : (plan : Plan) (at : ℕ) (secret : List ℕ) (s : State) (given : Given) (b : Book) → TurnFacts plan s b b.messages b.answers (told_yet given b) →
     TurnFacts plan (changed at secret s).state b b.messages b.answers (told_yet (given ++ given_by (Member at) (changed at secret s).actions) b)
 change_stays plan at secret s given b facts =
-    let t : Heard = changed at secret s in
+    let t : AfterHearing = changed at secret s in
     member_heard plan s t.state b b given (given_by (Member at) t.actions) (record { bag = kept_same s.bag; sent = λ k one there. there; ends = change_same at secret s }) refl
     (subst (λ (new : List OutcomeTold). AllByRecursion (IsKnown plan t.state b b.messages) new) (sym (change_tells at secret s)) tt) (change_free at secret s b.messages facts.free) facts
 

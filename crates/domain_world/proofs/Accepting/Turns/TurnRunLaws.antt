@@ -28,7 +28,7 @@ use Rattle.domain_world.proofs.Quiet.QuietStepLaws.{QuietAction, QuietFact}
 use Rattle.domain_world.proofs.Accepting.Turns.TurnFactLaws.{past_at}
 use Rattle.domain_world.proofs.Accepting.Turns.TurnKeepLaws.{TurnsHold, TurnsRestOn, turns_begin, turns_keep, turns_of}
 use Rattle.domain_world.proofs.Moves.DrawnRunLaws.{all_of, end_all, given_all}
-use Rattle.domain_world.proofs.Frames.StepFrameLaws.{ActionFact, AnyAction, BothFacts, BothFine, HoldsAfterRun, Keeps, NoFact, RunFact, WhileFew, all_any, join, run_keeps, while_few, with_side}
+use Rattle.domain_world.proofs.Frames.StepFrameLaws.{ActionFact, AnyAction, BothFacts, BothFine, HoldsAfterRun, StepKeeps, NoFact, RunFact, WhileFew, all_any, join, run_keeps, while_few, with_side}
 use Rattle.domain_world.proofs.Calls.CallFrameLaws.{CallsKept, QuietSide, calls_keep, first_calls, out_at}
 use Rattle.domain_world.proofs.Calls.CallHoldsLaws.{CallsHold, differ_front, mark_there, marks_in}
 use Rattle.domain_world.proofs.Calls.CallStepLaws.{most_steps}
@@ -39,7 +39,7 @@ use Rattle.domain_world.proofs.Calls.OutStepLaws.{HasOne}
 abbrev DrawnOf : Plan → RunFact
 DrawnOf plan n s given b = all_of s.chances ≡ given_all plan
 
-drawn_keep : (plan : Plan) → Keeps NoFact (DrawnOf plan) AnyAction
+drawn_keep : (plan : Plan) → StepKeeps NoFact (DrawnOf plan) AnyAction
 drawn_keep plan = record {
   calm = λ n end what s given b calm none is. record { holds = end_all end what s.moment s.ends s.chances ∙ is; fine = all_any (hear end what s).actions };
   dialled = λ n end link s given b at none is. record { holds = end_all end (event.Dialled link) s.moment s.ends s.chances ∙ is; fine = all_any (hear end (event.Dialled link) s).actions };
@@ -75,7 +75,7 @@ abbrev pub KnownAction : ActionFact
 KnownAction = BothFine (BothFine QuietAction AnyAction) AnyAction
 
 -- it is kept
-pub known_keep : (plan : Plan) → Keeps NoFact (Known plan) KnownAction
+pub known_keep : (plan : Plan) → StepKeeps NoFact (Known plan) KnownAction
 known_keep plan =
     join (BothFacts QuietFact CallsKept) (DrawnOf plan) (BothFine QuietAction AnyAction) AnyAction
     (join QuietFact CallsKept QuietAction AnyAction quiet_keeps (with_side QuietSide QuietFact CallsKept AnyAction (λ n s given b quiet. is_quiet s quiet) calls_keep))
@@ -109,7 +109,7 @@ TurnSide plan = BothFacts (Known plan) (WhileFew most_steps (TurnsHold plan))
 abbrev pub TurnAction : ActionFact
 TurnAction = BothFine KnownAction AnyAction
 
-pub side_keeps : (plan : Plan) → Keeps NoFact (TurnSide plan) TurnAction
+pub side_keeps : (plan : Plan) → StepKeeps NoFact (TurnSide plan) TurnAction
 side_keeps plan =
     join (Known plan) (WhileFew most_steps (TurnsHold plan)) KnownAction AnyAction (known_keep plan)
     (with_side (WhileFew most_steps (TurnsRestOn plan)) (Known plan) (WhileFew most_steps (TurnsHold plan)) AnyAction (rests_on plan)

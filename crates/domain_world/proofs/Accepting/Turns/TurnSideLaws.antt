@@ -42,7 +42,7 @@ use Rattle.world_moves.specs.declared.links.Route.{Route}
 use Rattle.world_moves.specs.declared.links.Route.TheVariants.{ToController}
 use Rattle.world_moves.specs.declared.plan.Plan.{Plan}
 use Rattle.world_moves.specs.declared.state.State.{State}
-use Rattle.world_moves.specs.Acting.{Given, Heard, given_by, heard_by}
+use Rattle.world_moves.specs.Acting.{Given, AfterHearing, given_by, heard_by}
 use Rattle.world_moves.specs.Ends.{EndStates, actions_by, member_step}
 use Rattle.world_moves.specs.Links.{kind_of}
 use Rattle.world_moves.specs.MemberPlans.{AreAlikeButSecrets}
@@ -51,7 +51,7 @@ use Rattle.domain_world.specs.Accepting.Carried.{CallsHaveNumbers, IsWholeUnit}
 use Rattle.domain_world.specs.Accepting.ReadBack.{IsLetInInTurn}
 use Rattle.domain_world.specs.Accepting.Runs.{AskedIsOut, IsOut, IsQuiet, IsQuietTurn}
 use Rattle.domain_world.specs.Claims.{HasController}
-use Rattle.domain_world.specs.Past.{Coming, answers_by, at_member, controller_number, controller_of_plan, first_of, note_member, note_messages, numbers_on, told_in, controller_asked}
+use Rattle.domain_world.specs.Past.{Delivery, answers_by, at_member, controller_number, controller_of_plan, first_of, note_member, note_messages, numbers_on, told_in, controller_asked}
 use Rattle.domain_world.proofs.Accepting.Heard.AnswerReadLaws.{HearsWhole}
 use Rattle.domain_world.proofs.Accepting.LetInStepLaws.{IsAcceptedBy, IsDialledBy}
 use Rattle.domain_world.proofs.Quiet.QuietRunLaws.{one_piece}
@@ -129,7 +129,7 @@ other_units (Some running) link piece left is = on_units running.dialling link p
 
 -- ---- what the notes of a turn leave
 
-pub turns_clash : (who : RequesterId) (w : Coming) (units : List (ServedUnit AtTurn TurnTalk)) (s after : State) (b : Book) → (asked_book who w units s after b).clash ≡ false → b.clash ≡ false
+pub turns_clash : (who : RequesterId) (w : Delivery) (units : List (ServedUnit AtTurn TurnTalk)) (s after : State) (b : Book) → (asked_book who w units s after b).clash ≡ false → b.clash ≡ false
 turns_clash who w units s after b none =
     asked_keep who w units s after b (λ (later : Book). later.clash ≡ false → b.clash ≡ false) (λ note served number later so apart. so (or_false later.clash _ apart).0) (λ apart. apart) none
 
@@ -150,7 +150,7 @@ part_cases (Err why) = inr (why, refl)
 
 -- ---- bytes come at a member
 
-module _ (plan : Plan) (k : ℕ) (w : Coming) (piece : List ℕ) (s after : State) (given : Given) (b : Book) where
+module _ (plan : Plan) (k : ℕ) (w : Delivery) (piece : List ℕ) (s after : State) (given : Given) (b : Book) where
   abbrev pub what : Event
   what = event.Bytes w.link piece
 
@@ -167,7 +167,7 @@ module _ (plan : Plan) (k : ℕ) (w : Coming) (piece : List ℕ) (s after : Stat
   abbrev pub stepped : Option Running → Stepped MemberState
   stepped r = step_of (member r) what s.moment s.chances.left
 
-  abbrev pub heard : Option Running → Heard
+  abbrev pub heard : Option Running → AfterHearing
   heard r = heard_by (member_step (Some (member r)) k what s.moment s.ends s.chances) s
 
   abbrev pub new_in : Option Running → List MessageTaken

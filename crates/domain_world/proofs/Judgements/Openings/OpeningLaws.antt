@@ -18,6 +18,9 @@ use Rattle.domain_controller.specs.Machine.{Desk, account_for, answer_authentica
 use Rattle.controller_calls.specs.declared.line.Line.{Line}
 use Rattle.controller_calls.specs.declared.state.Computers.{Computers}
 use Rattle.controller_calls.specs.declared.state.Work.{Work}
+use Rattle.outside.specs.declared.action.Judged.{Judged}
+use Rattle.outside.specs.declared.action.Judged.TheVariants as judged
+use Rattle.step_notes.specs.TrustNotes.{trust_judging_by}
 use Rattle.step_notes.specs.ControllerNotes.{Where, accepting, channel_in, identity_by, judging_by, opening, passing}
 use Rattle.step_notes.specs.KeptNotes.{Accepts, IsKeptBy, KeepsNoMore, WaitsAnew, WaitsIfKnown, keeps_in, waits_in}
 use Rattle.step_notes.specs.Records.{ChannelAccepted, Judging, computer_named}
@@ -283,6 +286,14 @@ passing_none (Some channel) j = refl
 pub judging_none : (passed : Bool) (j : Judging) → (judging_by passed j).accepted ≡ None
 judging_none false j = refl
 judging_none true j = passing_none (channel_in j.controller (computer_named j.asked) j.checks) j
+
+pub trust_none : (how : Option Judged) (j : Judging) → (trust_judging_by how j).accepted ≡ None
+trust_none None j = refl
+trust_none (Some (judged.Passed status)) j = judging_none true j
+trust_none (Some judged.Forwarded) j = refl
+trust_none (Some (judged.Answered status)) j = refl
+trust_none (Some judged.Barred) j = refl
+trust_none (Some judged.NoChannel) j = refl
 
 module _ (accepted : List ChannelAccepted) (w : Where) (d : Desk) where
   pub opening_goes : (found : Option ChannelIdentity) (number : ℕ) (computer : List ℕ) (reply : Option ℕ) (left : List (List ℕ)) (after : Computers) → IsKeptBy w.controller computer found d.work.computers after →

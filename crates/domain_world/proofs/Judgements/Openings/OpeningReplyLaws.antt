@@ -29,8 +29,9 @@ use Rattle.world_moves.specs.Acting.{done, heard_by}
 use Rattle.world_moves.specs.Ends.{member_step}
 use Rattle.world_moves.specs.Alone.{HandsNothingOn}
 use Rattle.domain_world.specs.Claims.OpeningReplies.{IsAcceptedIn, IsReplyOfOpening, RepliesAnswerOpenings}
-use Rattle.domain_world.specs.Past.{Coming, accepted_of, answers_of, at_controller, first_of, is_sent_on, later_of, marks_by, marks_of, note_at, note_member, numbers_on, onto, past, replied_with}
+use Rattle.domain_world.specs.Past.{Delivery, accepted_of, at_controller, first_of, is_sent_on, later_of, marks_by, marks_of, note_member, numbers_on, onto, past, replied_with}
 use Rattle.wire_base.proofs.ListLaws.{got_nothing, one_behind, some_is}
+use Rattle.domain_world.proofs.Frames.AloneNoteLaws.{alone_answers as answers_of, note_alone as note_at}
 use Rattle.domain_world.proofs.Frames.BagFrameLaws.{IsOfUnit, MarksStay, UnitFact, member_marks, run_stays_marked}
 use Rattle.domain_world.proofs.Frames.EndNoteLaws.{accepted_so, acceptings_of, book_by}
 use Rattle.domain_world.proofs.Frames.FrameLaws.{Fact, StaysWritten}
@@ -175,7 +176,7 @@ nothing_else = record {
   given = λ at given after b. refl;
 }
 
-end_grows : (end : EndId) (w : Coming) (piece : List ℕ) (s after : State) (b : Book) (number : ℕ) (mark : Mark) → IsReplyOfOpening b.accepted number mark →
+end_grows : (end : EndId) (w : Delivery) (piece : List ℕ) (s after : State) (b : Book) (number : ℕ) (mark : Mark) → IsReplyOfOpening b.accepted number mark →
     IsReplyOfOpening (note_at (Some end) w piece s after b).accepted number mark
 end_grows end w piece s after b number mark is =
     book_by (λ (one : EndId) (now : Book). IsReplyOfOpening now.accepted number mark) w piece s after b (λ one. is)

@@ -1,48 +1,73 @@
 -- In every run openings are accepted in order, through each step of a controller. It serves `Proved.openings`.
 use Rattle.std.proofs.Common.{◌≡◌, Bool, ◌≢◌, ◌⊎◌, ℕ, ◌-◌, zero, suc, true, List, [], ◌∷◌, ◌++◌, Option, Some, None, refl, sym, ap, subst, ◌∙◌, inl, inr, arith, slice_get, slice_set}
-use Rattle.wire_base.specs.Maps.{IsMap}
+use Rattle.wire_base.specs.Maps.{IsMap, lookup}
 use Rattle.wire_base.specs.Names.{SameName, same_name}
 use Rattle.outside.specs.Counter.{most_draws}
 use Rattle.outside.specs.Drawing.{IsRest}
 use Rattle.outside.specs.declared.event.Event.{Event}
 use Rattle.outside.specs.declared.event.Event.TheVariants as event
 use Rattle.outside.proofs.CounterLaws.{challenges_from-distinct}
-use Rattle.outside.proofs.DrawLaws.{IsRest-nothing, IsRest-refl}
+use Rattle.outside.proofs.DrawLaws.{IsRest-nothing, IsRest-refl, IsRest-trans}
 use Rattle.account_table.specs.AccountTable.{AccountTable}
 use Rattle.account_table.specs.LookUps.{knows_in}
 use Rattle.authenticators.specs.Channels.{ChannelIdentity}
+use Rattle.domain_controller.specs.Forwarding.{TrustDesk, base_desk}
 use Rattle.domain_controller.specs.Machine.{Desk, answer_authenticate, answer_challenge, answer_judged}
 use Rattle.domain_controller.specs.State.{State as ControllerState}
-use Rattle.domain_controller.specs.TrustStep.{first_trust_state}
+use Rattle.domain_controller.specs.TrustStep.{first_trust_state, trust_step_of}
 use Rattle.domain_controller.specs.Step.{first_state, state_after, step_of}
 use Rattle.domain_controller.specs.declared.state.Running.{Running}
+use Rattle.controller_calls.proofs.DoneLaws.{does_what_passes}
 use Rattle.controller_calls.proofs.OutcomeLaws.{judged_comes}
+use Rattle.controller_calls.specs.declared.calls.JudgedCall.{JudgedCall}
+use Rattle.controller_calls.specs.declared.line.Line.{Line}
 use Rattle.controller_calls.specs.declared.state.Computers.{Computers}
-use Rattle.step_notes.specs.ControllerNotes.{Answered, Where, has_passed, judged_answer, judging_of, opened_by, opening, plain, silent}
-use Rattle.step_notes.specs.KeptNotes.{waits_in}
+use Rattle.step_notes.specs.ControllerNotes.{Answered, Where, has_passed, identity_by, judged_answer, judging_of, opened_by, opening, plain, silent}
+use Rattle.step_notes.specs.KeptNotes.{KeepsNoMore, server_in, waits_in}
 use Rattle.step_notes.specs.Records.{ChannelAccepted, Judging}
 use Rattle.world_moves.specs.declared.moves.Move.{Move}
 use Rattle.world_moves.specs.declared.plan.Plan.{Plan}
 use Rattle.world_moves.specs.declared.state.State.{State}
 use Rattle.world_moves.specs.World.{first_controllers, first_world}
-use Rattle.world_moves.specs.Alone.{HandsNothingOn}
 use Rattle.world_moves.specs.Ends.{fresh_controller}
 use Rattle.domain_world.specs.Claims.Openings.{IsLastAccepted, IsUnused, OpeningsAreInOrder, last_accepted}
-use Rattle.domain_world.specs.Past.{Coming, accepted_of, answers_of, at_controller, first_of, later_of, numbers_on, onto, past, replied_with}
+use Rattle.step_notes.specs.TrustNotes.{trust_judged_answer}
+use Rattle.domain_world.specs.Past.{Delivery, accepted_of, answers_of as trusting_answers, at_controller, first_of, later_of, numbers_on, onto, past, replied_with}
 use Rattle.wire_base.proofs.ListLaws.{no_some}
 use Rattle.step_notes.proofs.Controllers.ComputerLaws.{judged_pending}
 use Rattle.step_notes.proofs.Controllers.KeptNoteLaws.{calls_are_kept}
 use Rattle.step_notes.proofs.Controllers.NotedLaws.{NotedFact, StaysThrough, step_says}
+use Rattle.step_notes.proofs.Controllers.TrustNotedLaws.{trust_step_says}
+use Rattle.step_notes.proofs.Controllers.TrustedStepLaws.{IsTrusted, OfBase, StaysWithTrusts, trusting_stays}
+use Rattle.domain_world.proofs.Frames.AloneNoteLaws.{alone_answers as answers_of}
 use Rattle.domain_world.proofs.Frames.AloneStepLaws.{fresh_by}
 use Rattle.domain_world.proofs.Messages.MessageOnceLaws.{set_cases}
-use Rattle.domain_world.proofs.Frames.ControllerFrameLaws.{AmongControllers, ControllersFact, KeepsControllers, controllers_written}
+use Rattle.domain_world.proofs.Frames.ControllerFrameLaws.{ControllersFact, KeepsControllers}
 use Rattle.domain_world.proofs.Frames.EndNoteLaws.{accepted_so, acceptings_of}
-use Rattle.domain_world.proofs.Frames.FrameLaws.{run_stays}
+use Rattle.domain_world.proofs.Frames.TrustingFrameLaws.{KeepsTrusting, controllers_after}
 use Rattle.domain_world.proofs.Moves.NoBytesLaws.{DoesNothingElse, IsNoBytes, KeepsComputers, does_nothing_else}
-use Rattle.domain_world.proofs.Judgements.Openings.OpeningLaws.{AreOpened, AreOrdered, Goes, authenticate_map, challenge_goes, challenge_map, goes_on, judging_none, no_more_goes, opening_goes, ordered_rest, stays, with_accepted}
+use Rattle.domain_world.proofs.Moves.TrustNoBytesLaws.{HearsNoCall, KeepsUnlessEnded, hears_no_call}
+use Rattle.domain_world.proofs.Judgements.JudgedLaws.{trusted_judging}
+use Rattle.domain_world.proofs.Judgements.Openings.OpeningLaws.{AreOpened, AreOrdered, Goes, authenticate_map, challenge_goes, challenge_map, goes_on, judging_none, no_more_goes, opening_goes, ordered_rest, stays, with_accepted, trust_none}
 use Rattle.domain_world.proofs.Judgements.ReplayLaws.{apart_from}
 use Rattle.domain_world.proofs.Judgements.SeedLaws.{IsSpent}
 use Rattle.domain_world.proofs.Judgements.SeedStepLaws.{numbers_left, spent_rest}
+
+-- ---- a logon for a trust
+
+-- what would come of it here keeps no more, and so does what comes of it
+trusted_no_more : (w : Where) (line : Line) (c : JudgedCall) (d after : TrustDesk) → IsTrusted c d after → KeepsNoMore w.controller d.work.work.computers after.work.work.computers
+trusted_no_more w line c d after is =
+    let done = does_what_passes.passed c w.name w.moment line (base_desk d) is.goes.next in
+    let here : KeepsNoMore w.controller d.work.work.computers (answer_judged c w.name w.moment line (base_desk d)).work.computers =
+    calls_are_kept.judged w.controller c w.name w.moment line (base_desk d) in
+    record {
+      waits = λ name challenge at.
+          here.waits name challenge (ap (λ pending. server_in (lookup same_name name pending)) (done.pending ∙ sym (ap (λ (now : Computers). now.pending) is.computers)) ∙ at);
+      keeps = λ name channel at.
+          here.keeps name channel
+          (ap (λ channels. identity_by w.controller name (lookup same_name name channels)) (done.channels ∙ sym (ap (λ (now : Computers). now.channels) is.computers)) ∙ at);
+    }
 
 -- ---- the units of a stream
 
@@ -105,6 +130,21 @@ module _ (w : Where) (accepted : List ChannelAccepted) (left : List (List ℕ)) 
         (subst (λ entries. IsMap same_name entries) (sym pending) goes.kept.map) goes.order goes.kept));
   }
 
+  -- so it is of a controller that may hand logons on
+  goes_trusting : (link : ℕ) → StaysWithTrusts w link GoesOn
+  goes_trusting link = record {
+    base = goes_stay link;
+    trusted = λ answers d after some line c on is goes.
+        let j : Judging = trusted_judging w line c d after in
+        let before : Computers = d.work.work.computers in
+        let now : Computers = after.work.work.computers in
+        further answers (trust_judged_answer j) (base_desk d) now some some goes
+        (subst (λ (o : Option ChannelAccepted). Goes (written answers) (with_accepted o (first_of (numbers_left answers numbers)) (written answers)) some some w.controller
+        (λ name. waits_in before name) now) (sym (trust_none j.how j))
+        (no_more_goes (written answers) some w.controller before now (trusted_no_more w line c d after is)
+        (subst (λ (computers : Computers). IsMap same_name computers.pending) (sym is.computers) goes.kept.map) goes.order goes.kept));
+  }
+
 -- ---- a step of a controller
 
 -- of a controller that hasn't stopped
@@ -149,7 +189,7 @@ step_ends accepted left controller waited order = record {
   others = λ at name differs. refl;
 }
 
-bytes_step : (controller : ℕ) (c : ControllerState) (accepted : List ChannelAccepted) (w : Coming) (piece : List ℕ) (s : State) (numbers : List ℕ) → AreOrdered accepted s.chances.left →
+bytes_step : (controller : ℕ) (c : ControllerState) (accepted : List ChannelAccepted) (w : Delivery) (piece : List ℕ) (s : State) (numbers : List ℕ) → AreOrdered accepted s.chances.left →
     AreOpenedIf accepted s.chances.left controller c.running →
     StepGoes accepted (onto (accepted_of (answers_of controller c w piece s) numbers) accepted) s.chances.left (step_of c (event.Bytes w.link piece) s.moment s.chances.left).left controller
     (λ name. waits_if c.running name) (step_of c (event.Bytes w.link piece) s.moment s.chances.left).state.running
@@ -276,7 +316,7 @@ drawn_follow accepted left rest controllers is follow = record {
 }
 
 -- a controller hears bytes
-bytes_follow : (c : ControllerState) (accepted : List ChannelAccepted) (controller : ℕ) (w : Coming) (piece : List ℕ) (s : State) (numbers : List ℕ) →
+bytes_follow : (c : ControllerState) (accepted : List ChannelAccepted) (controller : ℕ) (w : Delivery) (piece : List ℕ) (s : State) (numbers : List ℕ) →
     slice_get s.ends.controllers controller ≡ Some c → OpeningsFollow accepted s.chances.left s.ends.controllers →
     OpeningsFollow (onto (accepted_of (answers_of controller c w piece s) numbers) accepted) (step_of c (event.Bytes w.link piece) s.moment s.chances.left).left
     (slice_set s.ends.controllers controller (step_of c (event.Bytes w.link piece) s.moment s.chances.left).state)
@@ -292,6 +332,68 @@ quiet_follow c accepted controller what now controllers left is none follow =
     let kept : AreOpenedIf accepted left controller c.running = follow.each controller c is in
     controller_put accepted accepted left _ controllers controller c (step_of c what now left).state is follow (quiet_step what accepted controller c now left none follow.order kept)
 
+-- ---- a step of a controller that may hand logons on
+
+-- a turn draws, where it dials
+step_fewer : (accepted now : List ChannelAccepted) (left rest last : List (List ℕ)) (controller : ℕ) (waited : List ℕ → Option (List ℕ)) (running : Option Running) → IsRest last rest →
+    StepGoes accepted now left rest controller waited running → StepGoes accepted now left last controller waited running
+step_fewer accepted now left rest last controller waited running fewer goes = record {
+  order = ordered_rest now last rest fewer goes.order;
+  kept = kept_apart now now last rest controller running fewer (λ name server waits. (waiting_of now rest controller running name server goes.kept waits).1) (λ name. refl) goes.kept;
+  fewer = IsRest-trans last rest left fewer goes.fewer;
+  came = goes.came;
+  fresh = goes.fresh;
+  others = goes.others;
+}
+
+trusting_step : (controller : ℕ) (c : ControllerState) (accepted : List ChannelAccepted) (w : Delivery) (piece : List ℕ) (s : State) (numbers : List ℕ) → AreOrdered accepted s.chances.left →
+    AreOpenedIf accepted s.chances.left controller c.running →
+    StepGoes accepted (onto (accepted_of (trusting_answers controller c w piece s) numbers) accepted) s.chances.left (trust_step_of c (event.Bytes w.link piece) s.moment s.chances.left).left controller
+    (λ name. waits_if c.running name) (trust_step_of c (event.Bytes w.link piece) s.moment s.chances.left).state.running
+trusting_step controller c accepted w piece s numbers order kept =
+    let at : Where = at_controller controller c w s in
+    let left : List (List ℕ) = s.chances.left in
+    let Holds : Running → NotedFact = λ running. GoesOn at accepted left (λ name. waits_in running.computers name) numbers in
+    let kept_at : (running : Running) → c.running ≡ Some running → AreOpened accepted left controller running.computers =
+    λ running runs. subst (λ (r : Option Running). AreOpenedIf accepted left controller r) runs kept in
+    trust_step_says at w.link c piece s.moment left (λ running. OfBase (Holds running))
+    (λ answers stepped. StepGoes accepted (onto (accepted_of answers numbers) accepted) left stepped.left controller (λ name. waits_if c.running name) stepped.state.running) (record {
+      stays = λ running. trusting_stays at w.link (Holds running) (goes_trusting at accepted left (λ name. waits_in running.computers name) numbers w.link);
+      first = λ running runs. stays accepted left controller running.computers order (kept_at running runs);
+      stopped = λ ends. step_stays accepted left controller (λ name. waits_if c.running name) c.running order kept (λ name server is. is);
+      spent = step_ends accepted left controller (λ name. waits_if c.running name) order;
+      turn = λ running actions last links t runs on all fewer.
+          let new : Option Running = Some (record { computers = running.computers; links = links }) in
+          step_fewer accepted accepted left left last controller (λ name. waits_if c.running name) new fewer
+          (step_stays accepted left controller (λ name. waits_if c.running name) new order (kept_at running runs)
+          (λ name server waits. ap (λ (r : Option Running). waits_if r name) runs ∙ waits));
+      taken = λ running answers d rest last links dial t runs goes fewer.
+          let new : Option Running = Some (record { computers = d.work.work.computers; links = links }) in
+          let now : List ChannelAccepted = onto (accepted_of answers numbers) accepted in
+          subst (λ (r : Option Running). StepGoes accepted now left last controller (λ name. waits_if r name) new) (sym runs)
+          (step_fewer accepted now left rest last controller (λ name. waits_if (Some running) name) new fewer
+          (record { order = goes.order; kept = goes.kept; fewer = goes.fewer; came = goes.came; fresh = goes.fresh; others = goes.others }));
+    })
+
+-- what is kept of computers is so, unless the controller stops
+ended_stays : (after before : Option Running) (accepted : List ChannelAccepted) (left : List (List ℕ)) (controller : ℕ) → KeepsUnlessEnded after before → AreOrdered accepted left →
+    AreOpenedIf accepted left controller before → StepGoes accepted accepted left left controller (λ name. waits_if before name) after
+ended_stays None before accepted left controller same order kept =
+    step_stays accepted left controller (λ name. waits_if before name) None order tt (λ name server at. absurd (no_some server at))
+ended_stays (Some after) None accepted left controller same order kept = absurd same
+ended_stays (Some after) (Some before) accepted left controller same order kept =
+    step_stays accepted left controller (λ name. waits_in before.computers name) (Some after) order (subst (λ computers. AreOpened accepted left controller computers) (sym same) kept)
+    (λ name server waits. sym (ap (λ computers. waits_in computers name) same) ∙ waits)
+
+no_call_step : (what : Event) (accepted : List ChannelAccepted) (controller : ℕ) (c : ControllerState) (now : ℕ) (left : List (List ℕ)) → IsNoBytes what → AreOrdered accepted left →
+    AreOpenedIf accepted left controller c.running →
+    StepGoes accepted accepted left (trust_step_of c what now left).left controller (λ name. waits_if c.running name) (trust_step_of c what now left).state.running
+no_call_step what accepted controller c now left none order kept =
+    let stays : HearsNoCall c what now left = hears_no_call c what now left none in
+    let after : Option Running = (trust_step_of c what now left).state.running in
+    step_fewer accepted accepted left left (trust_step_of c what now left).left controller (λ name. waits_if c.running name) after stays.rest
+    (ended_stays after c.running accepted left controller stays.keeps order kept)
+
 -- ---- through the moves
 
 abbrev pub Follows : List ChannelAccepted → ControllersFact
@@ -306,6 +408,18 @@ fresh_opened accepted left controller = record {
   one = λ name other server waits also. absurd (no_some server waits);
 }
 
+fresh_goes : (accepted : List ChannelAccepted) (left : List (List ℕ)) (controller : ℕ) (waited : List ℕ → Option (List ℕ)) → AreOrdered accepted left →
+    StepGoes accepted accepted left left controller waited (Some (record { computers = record { pending = []; channels = []; sessions = [] }; links = [] }))
+fresh_goes accepted left controller waited order = record {
+  order = order;
+  kept = fresh_opened accepted left controller;
+  fewer = IsRest-refl left;
+  came = λ name server waits. absurd (no_some server waits);
+  fresh = λ server spent none unused. unused;
+  others = λ other name differs. refl;
+}
+
+-- where nobody is asked
 pub follow_on : KeepsControllers acceptings_of Follows
 follow_on = record {
   of = accepted_so;
@@ -315,14 +429,26 @@ follow_on = record {
   comes = λ c at w piece s after b is follow.
       bytes_follow c b.accepted at w piece s (numbers_on w.link true s.bag after.bag) is follow;
   anew = λ accepted c at controllers chances is follow.
-      controller_put accepted accepted chances.left chances.left controllers at c (first_state c.table c.name) is follow (record {
-        order = follow.order;
-        kept = fresh_opened accepted chances.left at;
-        fewer = record { front = []; is = refl };
-        came = λ name server waits. absurd (no_some server waits);
-        fresh = λ server spent none unused. unused;
-        others = λ other name differs. refl;
-      });
+      controller_put accepted accepted chances.left chances.left controllers at c (first_state c.table c.name) is follow
+      (fresh_goes accepted chances.left at (λ name. waits_if c.running name) follow.order);
+}
+
+-- in every world
+follow_trusting : KeepsTrusting acceptings_of Follows
+follow_trusting = record {
+  of = accepted_so;
+  given = λ at given after b. refl;
+  draws = λ accepted controllers chances later on follow. drawn_follow accepted chances.left later.left controllers on.rest follow;
+  hears = λ accepted c at what now controllers chances none is follow.
+      controller_put accepted accepted chances.left _ controllers at c (trust_step_of c what now chances.left).state is follow
+      (no_call_step what accepted at c now chances.left none follow.order (follow.each at c is));
+  comes = λ c at w piece s after b is follow.
+      controller_put b.accepted _ s.chances.left _ s.ends.controllers at c (trust_step_of c (event.Bytes w.link piece) s.moment s.chances.left).state is follow
+      (trusting_step at c b.accepted w piece s (numbers_on w.link true s.bag after.bag) follow.order (follow.each at c is));
+  anew = λ accepted c at hands_on controllers chances is follow.
+      controller_put accepted accepted chances.left chances.left controllers at c (fresh_controller hands_on c.table c.name) is follow
+      (fresh_by (λ (new : ControllerState). StepGoes accepted accepted chances.left chances.left at (λ name. waits_if c.running name) new.running) c.table c.name
+      (fresh_goes accepted chances.left at (λ name. waits_if c.running name) follow.order) (fresh_goes accepted chances.left at (λ name. waits_if c.running name) follow.order) hands_on);
 }
 
 -- ---- at first
@@ -350,15 +476,15 @@ first_follows plan =
           plan.controllers at c there waits);
     }
 
-openings_follow : (plan : Plan) (moves : List Move) → HandsNothingOn plan → OpeningsFollow (past plan moves).book.accepted (past plan moves).world.state.chances.left (past plan moves).world.state.ends.controllers
-openings_follow plan moves nobody = run_stays acceptings_of (AmongControllers acceptings_of Follows follow_on) (controllers_written acceptings_of Follows follow_on) plan moves nobody (first_follows plan)
+openings_follow : (plan : Plan) (moves : List Move) → OpeningsFollow (past plan moves).book.accepted (past plan moves).world.state.chances.left (past plan moves).world.state.ends.controllers
+openings_follow plan moves = controllers_after acceptings_of Follows follow_trusting plan moves (first_follows plan)
 
 -- in every run openings are accepted in order
-pub openings_in_order : (plan : Plan) (moves : List Move) → HandsNothingOn plan → OpeningsAreInOrder (past plan moves)
-openings_in_order plan moves nobody =
+pub openings_in_order : (plan : Plan) (moves : List Move) → OpeningsAreInOrder (past plan moves)
+openings_in_order plan moves =
     let accepted : List ChannelAccepted = (past plan moves).book.accepted in
     let left : List (List ℕ) = (past plan moves).world.state.chances.left in
-    let follow : OpeningsFollow accepted left (past plan moves).world.state.ends.controllers = openings_follow plan moves nobody in
+    let follow : OpeningsFollow accepted left (past plan moves).world.state.ends.controllers = openings_follow plan moves in
     record {
       once = follow.order.once;
       last = λ controller computer channel at.

@@ -5,6 +5,9 @@ use Rattle.std.specs.List.{AllByRecursion}
 use Rattle.authenticators.specs.Channels.{ChannelIdentity}
 use Rattle.controller_calls.specs.declared.calls.ControllerCall.TheVariants as call
 use Rattle.end_links.specs.Serving.{ServedUnit}
+use Rattle.outside.specs.declared.action.Judged.{Judged}
+use Rattle.outside.specs.declared.action.Judged.TheVariants as judged
+use Rattle.domain_controller.specs.Forwarding.{TrustDesk, base_desk}
 use Rattle.domain_controller.specs.Hearing.{hear}
 use Rattle.domain_controller.specs.Machine.{Desk}
 use Rattle.domain_controller.specs.State.{State as ControllerState}
@@ -12,20 +15,21 @@ use Rattle.domain_controller.specs.declared.hearing.Heard.{Heard}
 use Rattle.domain_controller.specs.declared.hearing.Heard.TheVariants as heard
 use Rattle.domain_controller.specs.declared.state.Talk.{Talk}
 use Rattle.member_server.specs.State.{State as MemberState}
-use Rattle.step_notes.specs.ControllerNotes.{Answered, Where, answer_on, channel_in, has_passed, heard_answer, judging_by, judging_of, opened_by, opening, passing, units_of_controller}
+use Rattle.step_notes.specs.ControllerNotes.{Answered, Where, channel_in, judging_by, judging_of, opened_by, opening, passing}
 use Rattle.step_notes.specs.Marking.{clashes}
 use Rattle.step_notes.specs.MemberNotes.{turn_units}
 use Rattle.step_notes.specs.Records.{Book, ChannelAccepted, Judging, Sent, Source, computer_named, unit_in, OfMember}
 use Rattle.step_notes.specs.Served.{work_after}
+use Rattle.step_notes.specs.TrustNotes.{base_after, trust_answer_on, trust_heard_answer, trust_judging_by, trust_units_of}
 use Rattle.world_moves.specs.declared.links.EndId.{EndId}
 use Rattle.world_moves.specs.declared.moves.Move.{Move}
 use Rattle.world_moves.specs.declared.plan.Plan.{Plan}
 use Rattle.world_moves.specs.declared.state.State.{State}
 use Rattle.domain_world.specs.Claims.OpeningReplies.{OpeningsAreUnclashed}
-use Rattle.domain_world.specs.Past.{Coming, accepted_of, answers_of, any_clash, at_controller, first_of, later_of, note_at, note_controller, note_member, note_messages, numbers_on, onto, past, replied_with}
+use Rattle.domain_world.specs.Past.{Delivery, accepted_of, answers_of, any_clash, at_controller, first_of, later_of, note_at, note_controller, note_member, note_messages, numbers_on, onto, past, replied_with}
 use Rattle.wire_base.proofs.ListLaws.{all_weaker}
 use Rattle.domain_world.proofs.Frames.BookFrameLaws.{book_holds}
-use Rattle.domain_world.proofs.Frames.EndNoteLaws.{book_by}
+use Rattle.domain_world.proofs.Frames.EveryStepLaws.{every_book as book_by}
 use Rattle.domain_world.proofs.Judgements.UnclashedLaws.{clashes_more, or_false}
 use Rattle.domain_world.proofs.Frames.TurnFrameLaws.{asked_book, asked_keep}
 
@@ -63,22 +67,30 @@ judging_noted : (source : Source) (passed : Bool) (j : Judging) → IsNoted sour
 judging_noted source false j = tt
 judging_noted source true j = passing_noted source (channel_in j.controller (computer_named j.asked) j.checks) j
 
+by_noted : (source : Source) (how : Option Judged) (j : Judging) → IsNoted source (trust_judging_by how j)
+by_noted source None j = tt
+by_noted source (Some (judged.Passed status)) j = judging_noted source true j
+by_noted source (Some judged.Forwarded) j = tt
+by_noted source (Some (judged.Answered status)) j = tt
+by_noted source (Some judged.Barred) j = tt
+by_noted source (Some judged.NoChannel) j = tt
+
 opening_noted : (channel : Option ChannelIdentity) (w : Where) (number : ℕ) → IsNoted w.source (opening channel w number)
 opening_noted None w number = tt
 opening_noted (Some channel) w number = (refl, refl)
 
-heard_noted : (what : Heard) (w : Where) (d : Desk) (after : Option Desk) → IsNoted w.source (heard_answer what w d after)
+heard_noted : (what : Heard) (w : Where) (d : Desk) (after : Option Desk) → IsNoted w.source (trust_heard_answer what w d after)
 heard_noted (heard.Close cause) w d after = tt
 heard_noted (heard.Answer bytes talk) w d after = tt
 heard_noted (heard.Waits talk) w d after = tt
 heard_noted (heard.Asked line (call.Challenge c) talk) w d after = tt
 heard_noted (heard.Asked line (call.Authenticate c) talk) w d after = opening_noted (opened_by w.controller c d) w line.call
 heard_noted (heard.Asked line (call.Judged c) talk) w d after =
-    judging_noted w.source (has_passed (judging_of w line c d after).how) (judging_of w line c d after)
+    by_noted w.source (judging_of w line c d after).how (judging_of w line c d after)
 
-answers_noted : (link : ℕ) (w : Where) (units : List (ServedUnit Desk Talk)) → AllByRecursion (IsNoted w.source) (map (answer_on link w) units)
+answers_noted : (link : ℕ) (w : Where) (units : List (ServedUnit TrustDesk Talk)) → AllByRecursion (IsNoted w.source) (map (trust_answer_on link w) units)
 answers_noted link w [] = tt
-answers_noted link w (unit ∷ units) = (heard_noted (hear link unit.bytes unit.talk) w unit.work (work_after unit.part), answers_noted link w units)
+answers_noted link w (unit ∷ units) = (heard_noted (hear link unit.bytes unit.talk) w (base_desk unit.work) (base_after (work_after unit.part)), answers_noted link w units)
 
 one_fits : (accepted : Option ChannelAccepted) (checked : Option ChannelIdentity) (source : Source) (number : Option ℕ) (sent : List Sent) (later : List ChannelAccepted) →
     IfNoted source checked accepted → clashes checked (unit_in source) sent ≡ false → AllByRecursion (Fits sent) later → AllByRecursion (Fits sent) (replied_with accepted number ++ later)
@@ -98,22 +110,22 @@ all_fit (one ∷ answers) source numbers sent noted none =
 
 -- ---- bytes that an end hears
 
-controller_unclashed : (c : ControllerState) (at : ℕ) (w : Coming) (piece : List ℕ) (s after : State) (b : Book) → AreUnclashed b → AreUnclashed (note_controller (Some c) at w piece s after b)
+controller_unclashed : (c : ControllerState) (at : ℕ) (w : Delivery) (piece : List ℕ) (s after : State) (b : Book) → AreUnclashed b → AreUnclashed (note_controller (Some c) at w piece s after b)
 controller_unclashed c at w piece s after b all = λ apart.
     let answers : List Answered = answers_of at c w piece s in
     let both = or_false b.clash (any_clash answers (unit_in w.source) b.sent) apart in
     let numbers : List ℕ = numbers_on w.link true s.bag after.bag in
     all_weaker (Fits b.sent) (Fits _) (onto (accepted_of answers numbers) b.accepted) (λ one fits. clashes_more (Some one.channel) (unit_in one.source) b.sent _ fits)
     (onto_fits b.sent (accepted_of answers numbers) b.accepted
-    (all_fit answers w.source numbers b.sent (answers_noted w.link (at_controller at c w s) (units_of_controller c w.link piece s.moment s.chances.left)) both.1) (all both.0))
+    (all_fit answers w.source numbers b.sent (answers_noted w.link (at_controller at c w s) (trust_units_of c w.link piece s.moment s.chances.left)) both.1) (all both.0))
 
-member_unclashed : (m : MemberState) (at : ℕ) (w : Coming) (piece : List ℕ) (s after : State) (b : Book) → AreUnclashed b → AreUnclashed (note_member (Some m) at w piece s after b)
+member_unclashed : (m : MemberState) (at : ℕ) (w : Delivery) (piece : List ℕ) (s after : State) (b : Book) → AreUnclashed b → AreUnclashed (note_member (Some m) at w piece s after b)
 member_unclashed m at w piece s after b all =
     sent_more (asked_book (OfMember at) w (turn_units m w.link piece s.moment s.chances.left) s after (note_messages at m w piece s b)) _
     (asked_keep (OfMember at) w (turn_units m w.link piece s.moment s.chances.left) s after (note_messages at m w piece s b) AreUnclashed
     (λ note served number later so apart. so (or_false later.clash (clashes note.checked (unit_in w.source) later.sent) apart).0) all)
 
-end_unclashed : (end : EndId) (w : Coming) (piece : List ℕ) (s after : State) (b : Book) → AreUnclashed b → AreUnclashed (note_at (Some end) w piece s after b)
+end_unclashed : (end : EndId) (w : Delivery) (piece : List ℕ) (s after : State) (b : Book) → AreUnclashed b → AreUnclashed (note_at (Some end) w piece s after b)
 end_unclashed end w piece s after b all =
     book_by (λ (one : EndId) (now : Book). AreUnclashed now) w piece s after b (λ one. all) (λ at c is. controller_unclashed c at w piece s after b all)
     (λ at m is. member_unclashed m at w piece s after b all) (λ at c is. all) end

@@ -20,7 +20,7 @@ use Rattle.world_moves.specs.declared.state.State.{State}
 use Rattle.world_moves.specs.Acting.{Given, given_by}
 use Rattle.world_moves.specs.Alone.{hear_alone as hear}
 use Rattle.world_moves.proofs.EndKindLaws.{of_member}
-use Rattle.domain_world.specs.Past.{Coming, at_member, marks_of, note_member, note_messages, sent_at, with_marks, with_taken}
+use Rattle.domain_world.specs.Past.{Delivery, at_member, marks_of, note_member, note_messages, sent_at, with_marks, with_taken}
 use Rattle.domain_world.proofs.Accepting.Turns.TurnFactLaws.{AreApart, apart_front}
 use Rattle.domain_world.proofs.Messages.MessageApartLaws.{links_append, links_in}
 use Rattle.domain_world.proofs.Calls.CallComesLaws.{if_none, no_requests_sent, other_none, units_in_none}
@@ -33,7 +33,7 @@ use Rattle.domain_world.proofs.Sequences.Own.OwnKeepLaws.{OwnHolds, own_hears}
 use Rattle.domain_world.proofs.Sequences.Own.OwnStayLaws.{HearsIf}
 use Rattle.domain_world.proofs.Frames.TurnFrameLaws.{asked_book, asked_notes, asked_marks}
 
-module _ (plan : Plan) (n at : ℕ) (w : Coming) (piece : List ℕ) (s t after : State) (given : Given) (b : Book) (m : MemberState) where
+module _ (plan : Plan) (n at : ℕ) (w : Delivery) (piece : List ℕ) (s t after : State) (given : Given) (b : Book) (m : MemberState) where
   abbrev NotedBy : List (ServedUnit AtTurn TurnTalk) → Type 0
   NotedBy units =
       OwnHolds plan n t given
@@ -57,7 +57,7 @@ module _ (plan : Plan) (n at : ℕ) (w : Coming) (piece : List ℕ) (s t after :
       (subst (λ (all : List Mark). slice_get all k ≡ Some (Calling e number timestamp)) (marks_append b.sent (map (sent_at w.at) new)) there)) holds)
 
 -- no unit comes on the link of its turn
-pub other_comes : (plan : Plan) (n at : ℕ) (w : Coming) (piece : List ℕ) (s after : State) (given : Given) (b : Book) (m : MemberState) →
+pub other_comes : (plan : Plan) (n at : ℕ) (w : Delivery) (piece : List ℕ) (s after : State) (given : Given) (b : Book) (m : MemberState) →
     slice_get s.ends.members at ≡ Some m → IsOther m.running w.link → OwnHolds plan n s given b →
     OwnHolds plan (n + 1) (hear (Member at) (event.Bytes w.link piece) s).state (given ++ given_by (Member at) (hear (Member at) (event.Bytes w.link piece) s).actions)
     (note_member (Some m) at w piece s after b)

@@ -37,7 +37,7 @@ use Rattle.world_moves.specs.Ends.{EndStates, renew_client, renew_member}
 use Rattle.world_moves.specs.World.{first_world}
 use Rattle.world_moves.specs.Alone.{HandsNothingOn}
 use Rattle.world_moves.proofs.EndKindLaws.{IfMember}
-use Rattle.domain_world.specs.Claims.SharedSequences.{SequencesAreOwn, Stands, timestamps_on}
+use Rattle.domain_world.specs.Claims.SharedSequences.{SequencesAreOwn, ChannelStands, timestamps_on}
 use Rattle.domain_world.specs.Past.{past, running_in, turns_by, turns_in, controller_asked}
 use Rattle.domain_world.proofs.Frames.AloneStepLaws.{renew_alone as renew, renew_alone_by as renew_by, renew_controller_alone as renew_controller}
 use Rattle.domain_world.proofs.Moves.DrawnRunLaws.{draws_differ}
@@ -336,7 +336,7 @@ pub turns_at : (s : State) (given : Given) (turns : List ChannelTurn) → TurnsH
 turns_at s given turns holds who = subst (λ (c : ℕ). TurnsIf who c None [] s.dials s.chances.drawn given turns (asker_in who s.ends)) (asked_now who s) (holds.asks who)
 
 own_seed : (s : State) (who : RequesterId) (channel : ChannelIdentity) (o : SecureChannelState) (turns : List ChannelTurn) → TurnsHold None [] s.member_plans s.ends s.dials s.chances.drawn [] turns →
-    Stands s who channel o → o.seed ≡ channel_seed channel (timestamps_on who channel turns)
+    ChannelStands s who channel o → o.seed ≡ channel_seed channel (timestamps_on who channel turns)
 own_seed s who channel o turns holds stands =
     let c : ℕ = controller_asked who s in
     let with : RunsWith (asker_in who s.ends) stands.requester = asker_runs who s stands.requester stands.at in

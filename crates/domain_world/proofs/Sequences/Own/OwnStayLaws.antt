@@ -15,7 +15,7 @@ use Rattle.step_notes.specs.Records.{Book, ChannelTurn, Sent, OfMember, Requeste
 use Rattle.world_moves.specs.declared.links.EndId.TheVariants.{Member}
 use Rattle.world_moves.specs.declared.plan.Plan.{Plan}
 use Rattle.world_moves.specs.declared.state.State.{State}
-use Rattle.world_moves.specs.Acting.{Given, Heard, given_by, heard_by}
+use Rattle.world_moves.specs.Acting.{Given, AfterHearing, given_by, heard_by}
 use Rattle.world_moves.specs.Ends.{actions_by, member_step, with_member}
 use Rattle.world_moves.specs.MemberPlans.{AreAlikeButSecrets}
 use Rattle.domain_world.specs.Accepting.SeenSteps.{Differ, HearsNone}
@@ -140,7 +140,7 @@ module _ (plan : Plan) (s : State) (given : Given) (b : Book) where
     own_quiet (IsTakenFor (past_at plan s b)) (marks_in b.sent) s.chances.drawn b.turns given controller who running what s.moment s.chances.left none old.0 old.1 differ,
   )
 
-  abbrev HeardBy : MemberState → ℕ → Event → Heard
+  abbrev HeardBy : MemberState → ℕ → Event → AfterHearing
   HeardBy m at what = heard_by (member_step (Some m) at what s.moment s.ends s.chances) s
 
   -- the others stay

@@ -21,7 +21,8 @@ use Rattle.world_moves.specs.Links.{acceptor_of}
 use Rattle.world_moves.specs.Moving.{answered_link, begun, settle, tick, with_link, without_first, changed as begun_change}
 use Rattle.world_moves.specs.Alone.{hear_alone as hear}
 use Rattle.world_moves.proofs.EndKindLaws.{by_member, is_member, no_member}
-use Rattle.domain_world.specs.Past.{Coming, answers_of, any_clash, at_controller, marks_of, note_at, note_client, note_controller, sent_at}
+use Rattle.domain_world.specs.Past.{Delivery, any_clash, at_controller, marks_of, note_client, sent_at}
+use Rattle.domain_world.proofs.Frames.AloneNoteLaws.{alone_answers as answers_of, note_alone as note_at, note_controller_alone as note_controller}
 use Rattle.domain_world.proofs.Frames.AloneStepLaws.{act_alone as hear_and_act}
 use Rattle.domain_world.proofs.Accepting.Turns.TurnNotedLaws.{or_false}
 use Rattle.domain_world.proofs.Accepting.Turns.TurnQuietLaws.{action_still}
@@ -49,7 +50,7 @@ no_unit end what s none at is = none_if (slice_get s.ends.members at) what none
 -- What is known is kept as bytes come at a member, by what the fact rests on.
 abbrev pub MemberComes : Plan → RunFact → Type 0
 MemberComes plan Side =
-    (n at : ℕ) (w : Coming) (piece : List ℕ) (s : State) (given : Given) (b : Book) → IsAtSide s.links w.link w.back (Member at) → CameFrom w.source s w piece → length b.sent ≡ length s.bag →
+    (n at : ℕ) (w : Delivery) (piece : List ℕ) (s : State) (given : Given) (b : Book) → IsAtSide s.links w.link w.back (Member at) → CameFrom w.source s w piece → length b.sent ≡ length s.bag →
     Side n s given b → OwnHolds plan n s given b →
     OwnHolds plan (n + 1) (hear (Member at) (event.Bytes w.link piece) s).state (given ++ given_by (Member at) (hear (Member at) (event.Bytes w.link piece) s).actions)
     (note_at (Some (Member at)) w piece s (hear_and_act (Member at) (event.Bytes w.link piece) s).state b)
@@ -60,7 +61,7 @@ module _ (plan : Plan) where
   heard_so n end what s given b none holds =
       record { holds = own_hears plan n end what s given b (no_unit end what s none) holds; fine = all_any (hear end what s).actions }
 
-  controller_noted : (c : ControllerState) (at n : ℕ) (w : Coming) (piece : List ℕ) (s t after : State) (given : Given) (b : Book) → OwnHolds plan n t given b →
+  controller_noted : (c : ControllerState) (at n : ℕ) (w : Delivery) (piece : List ℕ) (s t after : State) (given : Given) (b : Book) → OwnHolds plan n t given b →
       OwnHolds plan n t given (note_controller (Some c) at w piece s after b)
   controller_noted c at n w piece s t after given b holds =
       let marks : List Mark = answered_marks (answers_of at c w piece s) in
@@ -74,13 +75,13 @@ module _ (plan : Plan) where
       calls_before (marks_in b.sent) (marks_in (map (sent_at w.at) new)) (no_requests_sent w.at new (no_requests_marked w.link true (drop (length s.bag) after.bag) marks none)) k number timestamp e
       (subst (λ (all : List Mark). slice_get all k ≡ Some (Calling e number timestamp)) (marks_append b.sent (map (sent_at w.at) new)) there)) holds
 
-  client_noted : (c : ClientState) (at n : ℕ) (w : Coming) (piece : List ℕ) (s t : State) (given : Given) (b : Book) → OwnHolds plan n t given b →
+  client_noted : (c : ClientState) (at n : ℕ) (w : Delivery) (piece : List ℕ) (s t : State) (given : Given) (b : Book) → OwnHolds plan n t given b →
       OwnHolds plan n t given (note_client (Some c) at w piece s b)
   client_noted c at n w piece s t given b holds =
       book_changed plan n t given b (note_client (Some c) at w piece s b) (λ k one there. there) (λ unclashed. unclashed) (λ apart. apart) refl (λ k number timestamp e there. there) holds
 
   -- what is written down at an end that is no member
-  others_noted : (end : EndId) → is_member end ≡ false → (n : ℕ) (w : Coming) (piece : List ℕ) (s t after : State) (given : Given) (b : Book) → OwnHolds plan n t given b →
+  others_noted : (end : EndId) → is_member end ≡ false → (n : ℕ) (w : Delivery) (piece : List ℕ) (s t after : State) (given : Given) (b : Book) → OwnHolds plan n t given b →
       OwnHolds plan n t given (note_at (Some end) w piece s after b)
   others_noted end other n w piece s t after given b holds =
       book_by (λ (one : EndId) (now : Book). is_member one ≡ false → OwnHolds plan n t given now) w piece s after b (λ one none. holds)
@@ -88,7 +89,7 @@ module _ (plan : Plan) where
       (λ at c is none. client_noted c at n w piece s t given b holds) end other
 
   module _ (Side : RunFact) (member_comes : MemberComes plan Side) where
-    end_comes : (n : ℕ) (end : EndId) (w : Coming) (piece : List ℕ) (s : State) (given : Given) (b : Book) → IsAtSide s.links w.link w.back end → CameFrom w.source s w piece →
+    end_comes : (n : ℕ) (end : EndId) (w : Delivery) (piece : List ℕ) (s : State) (given : Given) (b : Book) → IsAtSide s.links w.link w.back end → CameFrom w.source s w piece →
         (IsServer end → length b.sent ≡ length s.bag) → Side n s given b → OwnHolds plan n s given b →
         OwnHolds plan (n + 1) (hear end (event.Bytes w.link piece) s).state (given ++ given_by end (hear end (event.Bytes w.link piece) s).actions)
         (note_at (Some end) w piece s (hear_and_act end (event.Bytes w.link piece) s).state b)

@@ -25,14 +25,14 @@ use Rattle.step_notes.specs.Records.{Book, ChannelTurn, Sent, unit_in, OfMember,
 use Rattle.world_moves.specs.declared.links.EndId.TheVariants.{Member}
 use Rattle.world_moves.specs.declared.plan.Plan.{Plan}
 use Rattle.world_moves.specs.declared.state.State.{State}
-use Rattle.world_moves.specs.Acting.{Given, Heard, given_by, heard_by, perform_all}
+use Rattle.world_moves.specs.Acting.{Given, AfterHearing, given_by, heard_by, perform_all}
 use Rattle.world_moves.specs.Ends.{actions_by, member_step}
 use Rattle.world_moves.specs.Alone.{hear_alone as hear}
 use Rattle.world_moves.proofs.EndKindLaws.{of_member}
 use Rattle.domain_world.specs.Accepting.SeenSteps.{Differ, IsPlaced, NoRequests, Placed, PlacedBy, seen_running}
 use Rattle.domain_world.specs.Accepting.Carried.{IsTakenInTurn}
 use Rattle.domain_world.specs.Accepting.Sequences.{IsTakenFor}
-use Rattle.domain_world.specs.Past.{Coming, note_member, sent_at, controller_asked, running_in}
+use Rattle.domain_world.specs.Past.{Delivery, note_member, sent_at, controller_asked, running_in}
 use Rattle.domain_world.specs.Accepting.Runs.{view_with}
 use Rattle.domain_world.proofs.Frames.AloneStepLaws.{act_alone as hear_and_act}
 use Rattle.domain_world.proofs.Accepting.CarriedLaws.{one_whole}
@@ -102,7 +102,7 @@ only_by true mark more placed so = only_one more mark (so refl)
 
 -- ---- the whole unit
 
-module _ (plan : Plan) (n at : ℕ) (w : Coming) (piece : List ℕ)
+module _ (plan : Plan) (n at : ℕ) (w : Delivery) (piece : List ℕ)
     (s after : State) (given : Given) (b : Book) (running : Running) (said : LinkState TurnTalk) (on : running.dialling ≡ dialling.On w.link said)
     (is : slice_get s.ends.members at ≡ Some (record { running = Some running })) (even : length b.sent ≡ length s.bag)
     (bag : after.bag
@@ -292,13 +292,13 @@ module _ (plan : Plan) (n at : ℕ) (w : Coming) (piece : List ℕ)
 
 -- ---- bytes come at a member
 
-module _ (plan : Plan) (n at : ℕ) (w : Coming) (piece : List ℕ) (s : State)
+module _ (plan : Plan) (n at : ℕ) (w : Delivery) (piece : List ℕ) (s : State)
     (given : Given) (b : Book) (at_side : IsAtSide s.links w.link w.back (Member at)) (came : CameFrom w.source s w piece) (even : length b.sent ≡ length s.bag) (side : TurnSide plan n s given b)
     (known : OwnHolds plan n s given b) where
   abbrev bytes : Event
   bytes = event.Bytes w.link piece
 
-  abbrev HeardBy : Option MemberState → Heard
+  abbrev HeardBy : Option MemberState → AfterHearing
   HeardBy found = heard_by (member_step found at bytes s.moment s.ends s.chances) s
 
   abbrev after_all : State
