@@ -56,7 +56,8 @@ use Rattle.wire_base.proofs.ListLaws.{got_nothing, some_is}
 use Rattle.step_notes.proofs.Controllers.GrantSendLaws.{grants_carry_their_key}
 use Rattle.step_notes.proofs.Controllers.GrantVerdictLaws.{not_zero}
 use Rattle.step_notes.proofs.Controllers.JudgedStepLaws.{same_status}
-use Rattle.domain_world.proofs.Judgements.GrantLaws.{call_status, is_granted_so}
+use Rattle.domain_world.proofs.Judgements.GrantLaws.{call_status}
+use Rattle.domain_world.proofs.Judgements.TrustGrantLaws.{is_granted_so}
 use Rattle.domain_world.proofs.Judgements.JudgedLaws.{calls_right}
 use Rattle.claim_examples.proofs.ClaimLaws.{next_at, no_channel}
 use Rattle.claim_examples.proofs.LogonLaws.{granted_small, not_long, not_response}

@@ -318,6 +318,12 @@ of_never_apart = record {
       not_among other_secret old_secret both_secrets.next other_is_old (λ is. other_is_new (sym (some_is new_secret other_secret is)))
       (held_so both_secrets both_secrets other_secret (set_passed ∷ []) refl claim);
   fails_held = λ claim. not_among old_secret new_secret None old_is_new (none_next old_secret new_secret) (held_so (alone new_secret) both_secrets old_secret [] refl claim);
+  fails_holding = λ claim.
+      not_among other_secret old_secret both_secrets.next other_is_old (λ is. other_is_new (sym (some_is new_secret other_secret is)))
+      (held_so both_secrets (alone other_secret) other_secret (set_passed ∷ []) refl claim);
+  fails_trying = λ claim.
+      not_among other_secret old_secret tried_secrets.next other_is_old (λ is. other_is_new (sym (some_is new_secret other_secret is)))
+      (held_so tried_secrets (alone other_secret) other_secret (set_passed ∷ []) refl claim);
   fails_confirmed = λ claim.
       not_among old_secret new_secret None old_is_new (none_next old_secret new_secret) (kept_so (member_holding both_secrets) (alone new_secret) old_secret [] refl claim);
   fails_kept = λ claim.
@@ -326,12 +332,15 @@ of_never_apart = record {
       not_among old_secret new_secret None old_is_new (none_next old_secret new_secret) (held_so (alone new_secret) (alone new_secret) old_secret (set_passed ∷ []) refl claim);
   fails_stopped = λ claim.
       not_among new_secret old_secret None (λ is. old_is_new (sym is)) (none_next new_secret old_secret) (kept_so stopped_member (alone old_secret) new_secret (set_passed ∷ []) refl claim);
+  fails_keeping = λ claim.
+      not_among other_secret old_secret both_secrets.next other_is_old (λ is. other_is_new (sym (some_is new_secret other_secret is)))
+      (kept_so stopped_member both_secrets other_secret (set_passed ∷ []) refl claim);
 }
 
 -- ---- a run, of which the claim is proved
 
 -- FILE1's account
-machine_form : (byte : ℕ) → byte < 256 → IsAccount (record machine_account { hash = replicate 16 byte })
+pub machine_form : (byte : ℕ) → byte < 256 → IsAccount (record machine_account { hash = replicate 16 byte })
 machine_form byte small = record {
   name = a_name (codes "FILE1$") (omega arith)
       ((omega arith, omega arith), ((omega arith, omega arith), ((omega arith, omega arith), ((omega arith, omega arith), ((omega arith, omega arith), ((omega arith, omega arith), tt))))));
@@ -366,7 +375,7 @@ change_table_form byte small = record {
   distinct_domains = refl;
 }
 
-member_form : (name : List ℕ) (byte number : ℕ) → IsName name → byte < 256 → number < 256 →
+pub member_form : (name : List ℕ) (byte number : ℕ) → IsName name → byte < 256 → number < 256 →
     IsMemberPlan (record (able_member (replicate 16 byte)) { computer = name; controller = number ∷ [] })
 member_form name byte number named small short = record {
   computer = named;
@@ -376,7 +385,7 @@ member_form name byte number named small short = record {
   controller = All-from_recursion IsByte (number ∷ []) (short, tt);
 }
 
-file1_named : IsName (codes "FILE1")
+pub file1_named : IsName (codes "FILE1")
 file1_named = a_name (codes "FILE1") (omega arith)
     ((omega arith, omega arith), ((omega arith, omega arith), ((omega arith, omega arith), ((omega arith, omega arith), ((omega arith, omega arith), tt)))))
 
@@ -425,7 +434,7 @@ of_proved_run = record {
   clear = change_clear;
   own = refl;
   begins = second_begins;
-  claimed = λ proved. proved.never_apart (plain_plan two_plan refl) change_schedule change_clear refl 1 second_begins;
+  claimed = λ proved. proved.never_apart (inl (plain_plan two_plan refl)) change_schedule change_clear refl 1 second_begins;
 }
 
 -- ---- the member of the run in which ann logs on

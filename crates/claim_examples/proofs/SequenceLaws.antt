@@ -14,7 +14,7 @@ use Rattle.domain_controller.specs.State.{State as ControllerState}
 use Rattle.domain_controller.specs.declared.state.Running.{Running as ControllerRunning}
 use Rattle.channel_events.specs.Seeds.{channel_seed}
 use Rattle.step_notes.specs.Records.{Book, InUnit, OfMember, Outside, blank, RequesterId}
-use Rattle.domain_world.specs.Claims.SharedSequences.{IsBeforeTurn, Keeps, SequencesAreShared, Stands, any_foreign, timestamps_on}
+use Rattle.domain_world.specs.Claims.SharedSequences.{IsBeforeTurn, ChannelIsKept, SequencesAreShared, ChannelStands, any_foreign, timestamps_on}
 use Rattle.domain_world.specs.Past.{controller_asked, requester_at}
 use Rattle.claim_examples.specs.ClaimExamples.{OfSequences, keeping_controller, keeping_running, one_turn, small_channel, open_running, passed_from, run_open, seed_after_one, seed_after_two, small_computers, small_name, small_seed, small_turn, turn_out, two_turns, world_open}
 use Rattle.channel_events.proofs.TimestampLaws.{moved_none}
@@ -38,7 +38,7 @@ one_asker turn seed other (OfMember zero) requester at = (refl, let one : Some (
 one_asker turn seed other (OfMember (suc member)) requester at = absurd (let never : None ≡ Some requester = at in cc)
 
 -- the channel that stands is this one, and it is the member's
-the_channel : (turn : Option Pending) (seed other : List ℕ) (who : RequesterId) (channel : ChannelIdentity) (o : SecureChannelState) → (stands : Stands (world_open turn seed other).state who channel o) →
+the_channel : (turn : Option Pending) (seed other : List ℕ) (who : RequesterId) (channel : ChannelIdentity) (o : SecureChannelState) → (stands : ChannelStands (world_open turn seed other).state who channel o) →
     (who ≡ OfMember 0) × (channel ≡ small_name) × (o.seed ≡ seed) × (stands.turn ≡ turn)
 the_channel turn seed other who channel o stands =
     let one = one_asker turn seed other who stands.requester stands.at in
@@ -52,10 +52,10 @@ the_channel turn seed other who channel o stands =
       sym (ap (λ (r : Requester). r.turn) one.1 ∙ stands.is_turn),
     )
 
-the_kept : (turn : Option Pending) (seed other : List ℕ) (channel : ChannelIdentity) (c : SecureChannelState) → channel ≡ small_name → Keeps (world_open turn seed other).state channel.controller channel.computer c → c.seed ≡ other
+the_kept : (turn : Option Pending) (seed other : List ℕ) (channel : ChannelIdentity) (c : SecureChannelState) → channel ≡ small_name → ChannelIsKept (world_open turn seed other).state channel.controller channel.computer c → c.seed ≡ other
 the_kept turn seed other channel c is keeps =
-    let kept : Keeps (world_open turn seed other).state 0 (codes "FILE1") c =
-    subst (λ (one : ChannelIdentity). Keeps (world_open turn seed other).state one.controller one.computer c) is keeps in
+    let kept : ChannelIsKept (world_open turn seed other).state 0 (codes "FILE1") c =
+    subst (λ (one : ChannelIdentity). ChannelIsKept (world_open turn seed other).state one.controller one.computer c) is keeps in
     let at : Some (keeping_controller other) ≡ Some kept.state = kept.at in
     let state : keeping_controller other ≡ kept.state = cc in
     let runs : Some (keeping_running other) ≡ Some kept.running = ap ControllerState.running state ∙ kept.runs in
@@ -65,11 +65,11 @@ the_kept turn seed other channel c is keeps =
     let one : small_channel other ≡ c = cc in
     ap SecureChannelState.seed (sym one)
 
-abbrev pub stands_small : (turn : Option Pending) (seed other : List ℕ) → Stands (world_open turn seed other).state (OfMember 0) small_name (small_channel seed)
+abbrev pub stands_small : (turn : Option Pending) (seed other : List ℕ) → ChannelStands (world_open turn seed other).state (OfMember 0) small_name (small_channel seed)
 stands_small turn seed other =
     record { requester = (open_running turn seed).logons.channel; at = refl; open_so = refl; is = refl; turn = turn; is_turn = refl }
 
-keeps_small : (turn : Option Pending) (seed other : List ℕ) → Keeps (world_open turn seed other).state 0 (codes "FILE1") (small_channel other)
+keeps_small : (turn : Option Pending) (seed other : List ℕ) → ChannelIsKept (world_open turn seed other).state 0 (codes "FILE1") (small_channel other)
 keeps_small turn seed other = record { state = keeping_controller other; running = keeping_running other; at = refl; runs = refl; kept = kept_small other }
 
 pub same_small : SameChannel small_name small_name

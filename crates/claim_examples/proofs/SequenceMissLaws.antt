@@ -23,7 +23,7 @@ use Rattle.world_moves.specs.declared.links.EndId.TheVariants.{Member, Client}
 use Rattle.world_moves.specs.declared.state.State.{State}
 use Rattle.domain_world.specs.Accepting.Sequences.{AnswersCall, AreSoFar, CallsOfTurns, HavePassed, IsMadeOn, IsPassedIn, TurnsAreCalled, stamps_of}
 use Rattle.channel_events.specs.Seeds.{channel_seed}
-use Rattle.domain_world.specs.Claims.SharedSequences.{HasOneTurnOut, IsBeforeTurn, Keeps, SequencesAreOwn, SequencesAreShared, Stands, any_foreign, dials_of, timestamps_on}
+use Rattle.domain_world.specs.Claims.SharedSequences.{HasOneTurnOut, IsBeforeTurn, ChannelIsKept, SequencesAreOwn, SequencesAreShared, ChannelStands, any_foreign, dials_of, timestamps_on}
 use Rattle.domain_world.specs.Past.{sent_at, controller_asked, requester_at}
 use Rattle.claim_examples.specs.ClaimExamples.{elsewhere, judged_as, on_channel, one_turn, small_channel, open_running, seed_after_one, small_name, small_seed, small_turn, turn_out}
 use Rattle.claim_examples.specs.SequenceMisses.{OfCalls, OfOneTurn, OfReplyCalls, OfSequenceMisses, SequencesTellApart, called_once, controller_on, empty_unit, in_unit, judged_outside, kept_whole, member_on, mixed_turns, moved_seed, passed_then, reply_past, replied_for, run_by, run_dials, run_small, sent_as, whole_name}
@@ -54,7 +54,7 @@ module _ (book : Book) (turn : Option Pending) (o : SecureChannelState) (name : 
   abbrev its_name : ChannelIdentity
   its_name = channel_of 0 (codes "FILE1") o
 
-  the_channel : (who : RequesterId) (channel : ChannelIdentity) (p : SecureChannelState) → (stands : Stands (run_by book turn o name c).world.state who channel p) →
+  the_channel : (who : RequesterId) (channel : ChannelIdentity) (p : SecureChannelState) → (stands : ChannelStands (run_by book turn o name c).world.state who channel p) →
       (who ≡ OfMember 0) × (channel ≡ its_name) × (o ≡ p) × (stands.turn ≡ turn)
   the_channel who channel p stands =
       let one = one_asker book turn o name c who stands.requester stands.at in
@@ -80,11 +80,11 @@ module _ (book : Book) (turn : Option Pending) (o : SecureChannelState) (name : 
       ∙ ap (λ (asks : RequesterId). channel_seed channel (timestamps_on asks channel book.turns)) (sym it.0)
 
   -- what is kept of it at the controller
-  the_kept : (channel : ChannelIdentity) (d : SecureChannelState) → channel ≡ its_name → Keeps (run_by book turn o name c).world.state channel.controller channel.computer d →
+  the_kept : (channel : ChannelIdentity) (d : SecureChannelState) → channel ≡ its_name → ChannelIsKept (run_by book turn o name c).world.state channel.controller channel.computer d →
       lookup same_name (codes "FILE1") ((name, c) ∷ []) ≡ Some d
   the_kept channel d is keeps =
-      let kept : Keeps (run_by book turn o name c).world.state 0 (codes "FILE1") d =
-      subst (λ (one : ChannelIdentity). Keeps (run_by book turn o name c).world.state one.controller one.computer d) is keeps in
+      let kept : ChannelIsKept (run_by book turn o name c).world.state 0 (codes "FILE1") d =
+      subst (λ (one : ChannelIdentity). ChannelIsKept (run_by book turn o name c).world.state one.controller one.computer d) is keeps in
       let at : Some (controller_on name c) ≡ Some kept.state = kept.at in
       let state : controller_on name c ≡ kept.state = cc in
       let runs : (controller_on name c).running ≡ Some kept.running = ap ControllerState.running state ∙ kept.runs in
@@ -286,7 +286,7 @@ of_one_turn = record {
 abbrev o_small : SecureChannelState
 o_small = small_channel seed_after_one
 
-abbrev stands_small : (book : Book) (turn : Option Pending) → Stands (run_small book turn).world.state (OfMember 0) small_name o_small
+abbrev stands_small : (book : Book) (turn : Option Pending) → ChannelStands (run_small book turn).world.state (OfMember 0) small_name o_small
 stands_small book turn = record { requester = (running_on turn o_small).logons.channel; at = refl; open_so = refl; is = refl; turn = turn; is_turn = refl }
 
 -- the calls of the one channel are those of all

@@ -19,7 +19,7 @@ use Rattle.domain_world.specs.Claims.Completeness.{IsPlainMove, OneAtATime, star
 use Rattle.domain_world.specs.Claims.Counts.{EachCallRaisesOnce}
 use Rattle.domain_world.specs.Claims.LetIn.{IsLetInBy}
 use Rattle.domain_world.specs.Claims.NeverApart.{BeginsAlike, MembersAreNeverApart}
-use Rattle.domain_world.specs.Claims.SharedSequences.{Keeps, SequencesAreShared, Stands}
+use Rattle.domain_world.specs.Claims.SharedSequences.{ChannelIsKept, SequencesAreShared, ChannelStands}
 use Rattle.domain_world.specs.Headline.{Proved}
 use Rattle.domain_world.specs.Past.{Past, past}
 
@@ -42,8 +42,8 @@ pub record HasSharedChannel (run : Past) : Type 0 where
   pub channel : ChannelIdentity
   pub o : SecureChannelState
   pub c : SecureChannelState
-  pub stands : Stands run.world.state who channel o
-  pub keeps : Keeps run.world.state channel.controller channel.computer c
+  pub stands : ChannelStands run.world.state who channel o
+  pub keeps : ChannelIsKept run.world.state channel.controller channel.computer c
   pub same : SameChannel (channel_of channel.controller channel.computer c) channel
   pub seed : c.seed ≡ o.seed
 

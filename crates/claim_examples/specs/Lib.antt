@@ -1,4 +1,5 @@
 pub mod AnnAccepted
+pub mod ChangeRuns
 pub mod ClaimExamples
 pub mod ClearRuns
 pub mod ClearSuccess

@@ -178,13 +178,17 @@ pub record OfNeverApart : Type 0 where
   -- not where a third secret is set, or the old one though only the new one is held
   pub fails_other : MembersAreNeverApart (holds_and_kept both_secrets both_secrets other_secret (set_passed ∷ [])) → ⊥
   pub fails_held : MembersAreNeverApart (holds_and_kept (alone new_secret) both_secrets old_secret []) → ⊥
+  -- nor where a third one is set and kept, and both others are held, of which the new one is tried or isn't
+  pub fails_holding : MembersAreNeverApart (holds_and_kept both_secrets (alone other_secret) other_secret (set_passed ∷ [])) → ⊥
+  pub fails_trying : MembersAreNeverApart (holds_and_kept tried_secrets (alone other_secret) other_secret (set_passed ∷ [])) → ⊥
   -- nor where one secret was kept before the controller had it, or the old one is kept though the new one was set
   pub fails_confirmed : MembersAreNeverApart (holds_and_kept both_secrets (alone new_secret) old_secret []) → ⊥
   pub fails_kept : MembersAreNeverApart (holds_and_kept both_secrets (alone old_secret) new_secret (set_passed ∷ [])) → ⊥
   -- nor where both were exchanged: the new one is held and kept alone, and the account has the old one
   pub fails_exchanged : MembersAreNeverApart (holds_and_kept (alone new_secret) (alone new_secret) old_secret (set_passed ∷ [])) → ⊥
-  -- a member that has stopped is asked for what it kept
+  -- a member that has stopped is asked for what it kept, one secret or both
   pub fails_stopped : MembersAreNeverApart (state_of stopped_member (alone old_secret) new_secret (set_passed ∷ [])) → ⊥
+  pub fails_keeping : MembersAreNeverApart (state_of stopped_member both_secrets other_secret (set_passed ∷ [])) → ⊥
 
 -- ---- a run
 

@@ -1,6 +1,7 @@
 //! No claim is true, or false, of everything that could be written down of a run.
 
 ghost use Rattle.claim_examples.specs.AnnAccepted.{AnnIsAccepted};
+ghost use Rattle.claim_examples.specs.ChangeRuns.{ChangeLeavesNoneApart};
 ghost use Rattle.claim_examples.specs.TellApart.{ClaimsTellApart};
 ghost use Rattle.claim_examples.specs.ClearRuns.{FirstLogonsAreClear};
 ghost use Rattle.claim_examples.specs.ClearSuccess.{AnnCanSucceed};
@@ -133,4 +134,13 @@ pub fn success_tells_apart()
 #[tactic(auto, using(crate::proofs::Runs::AnnAcceptedLaws::ann_is_accepted))]
 pub fn ann_is_accepted()
     ensures { AnnIsAccepted }
+{}
+
+/// What is proved of all runs says that a member and its controller are not apart at three states of a run in which the
+/// member replaces its secret, each with no premise left: where it keeps both and the controller has the old one, where
+/// the new one is set and the reply is lost, and where the member has learned of it. In between it begins anew, and its
+/// channel is denied under the old secret.
+#[tactic(auto, using(crate::proofs::Runs::ChangeRunLaws::change_leaves_none_apart))]
+pub fn a_change_leaves_none_apart()
+    ensures { ChangeLeavesNoneApart }
 {}

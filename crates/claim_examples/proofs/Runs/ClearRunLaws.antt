@@ -75,10 +75,10 @@ use Rattle.logon_runs.specs.FirstLogon.FirstRuns.{IsToBeOpened, channel_as, open
 use Rattle.logon_runs.specs.FirstLogon.FirstTraces.{FirstLogonSeen, asked_turn, turn_first, turn_second, turn_third, waits_for_name}
 use Rattle.logon_runs.specs.FirstLogon.FirstWorlds.{CanComeIn, FirstKeyArrives, draw, echo_moves, first_asked, first_meeting, left_then, logon_moves, no_computers, turn_moves}
 use Rattle.logon_runs.specs.Scenes.LinkScenes.{IsJoined, Meeting, its_link, joined, unit_down, unit_up}
-use Rattle.logon_runs.specs.Runs.{Asked, connects, goes, hidden, info_asked, meets, message_for, sam_for, starts, with_moved}
+use Rattle.logon_runs.specs.Runs.{ClientAnswer, connects, goes, hidden, info_asked, meets, message_for, sam_for, starts, with_moved}
 use Rattle.logon_runs.specs.Scenes.Scene.{HasFirst, Scene, Shows}
 use Rattle.logon_runs.specs.Scenes.Staying.{HasSameEnds}
-use Rattle.logon_runs.specs.Scenes.TurnScenes.{IsBetween, Turn, with_accounts}
+use Rattle.logon_runs.specs.Scenes.TurnScenes.{IsBetween, TurnScene, with_accounts}
 use Rattle.logon_runs.specs.Scenes.TwoLinks.{HasMet}
 use Rattle.logon_runs.specs.Scenes.Others.{IsStepOn}
 use Rattle.logon_runs.proofs.FirstLogon.ExampleLogonLaws.{an_example_logs_on}
@@ -187,7 +187,7 @@ module _ (plan : Plan) (client member controller : ℕ) (can : CanComeIn plan cl
   abbrev k_at : Meeting
   k_at = with_controller j can.table can.name no_computers
 
-  abbrev a : Asked
+  abbrev a : ClientAnswer
   a = first_asked plan
 
   abbrev one : List ℕ
@@ -279,10 +279,10 @@ module _ (plan : Plan) (client member controller : ℕ) (can : CanComeIn plan cl
       let half : Standing = standing.Half one other in
       let how : Standing = standing.Open (after_call o stamp) in
       let waits = waits_for_name (terms_for g.plan g.task a.challenge a.then_now (drawn_of a.one a.two a.three)) seen.who.later in
-      let held : Turn = asked_turn j a waits (sent ∷ []) can.table can.name in
-      let t1 : Turn = turn_first j a waits sent can.table can.name in
-      let t2 : Turn = turn_second j a waits one other sent can.table can.name in
-      let t3 : Turn = turn_third j a waits one other sent can.table can.name stamp in
+      let held : TurnScene = asked_turn j a waits (sent ∷ []) can.table can.name in
+      let t1 : TurnScene = turn_first j a waits sent can.table can.name in
+      let t2 : TurnScene = turn_second j a waits one other sent can.table can.name in
+      let t3 : TurnScene = turn_third j a waits one other sent can.table can.name stamp in
       let met1 : HasMet j t1 = turns_have_links.met j held standing.Nothing opened.joined in
       let met2 : HasMet j t2 = turns_have_links.met j t1 half met1 in
       let between1 : IsBetween t1 = turns_have_links.between j held standing.Nothing opened.joined in
@@ -453,7 +453,7 @@ first_logons_are_clear = record {
         sequences = proved.sequences alone schedule clear;
         called = proved.called alone schedule clear;
         answered = proved.answered alone schedule clear.apart;
-        never_apart = proved.never_apart (plain_plan ann_plan refl) schedule clear;
+        never_apart = proved.never_apart alone schedule clear;
       };
   begins = ann_begins;
   plain = ann_plain;

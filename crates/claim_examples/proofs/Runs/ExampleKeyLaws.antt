@@ -38,7 +38,7 @@ use Rattle.logon_runs.proofs.FirstLogon.ExampleLogonLaws.{ann_can}
 
 -- ---- what is drawn
 
-abbrev maker_key : List ℕ
+abbrev pub maker_key : List ℕ
 maker_key = 0x76 ∷ 0xB8 ∷ 0xE0 ∷ 0xAD ∷ 0xA0 ∷ 0xF1 ∷ 0x3D ∷ 0x90 ∷ 0x40 ∷ 0x5D ∷ 0x6A ∷ 0xE5 ∷ 0x53 ∷ 0x86 ∷ 0xBD ∷ 0x28 ∷ []
 
 -- the challenge of the member's CHALLENGE, the client's, both halves of the exported key, and those of the channel
@@ -60,7 +60,7 @@ of_computer = 0x4C ∷ 0x26 ∷ 0x3B ∷ 0xEC ∷ 0x95 ∷ 0x7D ∷ 0x39 ∷ 0x3
 abbrev of_controller : List ℕ
 of_controller = 0x75 ∷ 0x11 ∷ 0x96 ∷ 0x93 ∷ 0x2F ∷ 0xFF ∷ 0x64 ∷ 0xEE ∷ []
 
-maker_key_so : maker_key_of ann_plan.seed ≡ maker_key
+pub maker_key_so : maker_key_of ann_plan.seed ≡ maker_key
 unfolding maker_key_of block_word double_rounds diagonal_round column_round quarter_round u32_at
 maker_key_so = refl
 

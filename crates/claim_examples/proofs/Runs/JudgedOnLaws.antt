@@ -18,7 +18,8 @@ use Rattle.logon_steps.specs.Calling.{TravelsAsZeros as KeyTravels}
 use Rattle.domain_world.specs.Claims.{TravelsAsZeros, key_bytes}
 use Rattle.domain_world.specs.Past.{note}
 use Rattle.domain_world.proofs.Completeness.UnitNotedLaws.{Came, coming, state_then}
-use Rattle.domain_world.proofs.Frames.EndNoteLaws.{judged_so, judgings_of, others_of_controllers}
+use Rattle.domain_world.proofs.Frames.EndNoteLaws.{judged_so, judgings_of}
+use Rattle.domain_world.proofs.Frames.EveryStepLaws.{others_of_controllers}
 use Rattle.domain_world.proofs.Clear.NotedLaws.{world_at}
 use Rattle.world_moves.specs.declared.moves.Move.TheVariants as move
 use Rattle.world_moves.proofs.EndKindLaws.{is_controller}

@@ -53,7 +53,7 @@ use Rattle.logon_runs.specs.FirstLogon.FirstRuns.{go_through_turn}
 use Rattle.logon_runs.specs.FirstLogon.FirstTraces.{TurnSeen}
 use Rattle.logon_runs.specs.FirstLogon.FirstWorlds.{turn_moves}
 use Rattle.logon_runs.specs.Runs.{connects, goes}
-use Rattle.logon_runs.specs.Scenes.TurnScenes.{IsBetween, Turn, with_accounts}
+use Rattle.logon_runs.specs.Scenes.TurnScenes.{IsBetween, TurnScene, with_accounts}
 use Rattle.account_table.specs.AccountTable.{AccountTable}
 use Rattle.account_table.specs.LookUps.{account_in}
 use Rattle.ntlm_responses.specs.Verification.{base_key_of}
@@ -71,10 +71,10 @@ pub record FineSo (s : State) (count : ℕ) (Holds : Book → Type 0) (b : Book)
   pub holds : Holds b
 
 -- the session base key of what is asked in a turn, by the accounts then
-abbrev pub key_in_turn : Turn → NetworkInfo → List ℕ
+abbrev pub key_in_turn : TurnScene → NetworkInfo → List ℕ
 key_in_turn t info = base_key_of (hash_in (account_in t.table.accounts info.user)) info.user info.domain info.nt
 
-pub logon_trail : (s : State) (t : Turn) (accounts : AccountTable) (next number stamp : ℕ) (o state : SecureChannelState) (info : NetworkInfo) (sam : SamInfo) (how_judged : Judged) (computers kept : Computers)
+pub logon_trail : (s : State) (t : TurnScene) (accounts : AccountTable) (next number stamp : ℕ) (o state : SecureChannelState) (info : NetworkInfo) (sam : SamInfo) (how_judged : Judged) (computers kept : Computers)
     (left : List (List ℕ)) (moment : ℕ) (after_step : ControllerState) (Holds : Book → Type 0) →
     TurnSeen s t (with_accounts accounts t) next number (logon_call t.caller o stamp info) (granting o stamp 0 1 sam) computers kept left left moment → IsBetween t → number < 2 ^ 32 → next < 2 ^ 32 →
     Names s t → t.how ≡ standing.Open (after_call o stamp) → IsTurnCall (logon_call t.caller o stamp info) → IsTurnReply question.Logon (granting o stamp 0 1 sam) →

@@ -16,7 +16,7 @@ use Rattle.world_moves.specs.declared.links.EndId.{EndId}
 use Rattle.world_moves.specs.declared.links.EndId.TheVariants.{Member}
 use Rattle.world_moves.specs.declared.moves.Move.TheVariants as move
 use Rattle.world_moves.specs.declared.state.State.{State}
-use Rattle.world_moves.specs.Acting.{Given, Heard, done}
+use Rattle.world_moves.specs.Acting.{Given, AfterHearing, done}
 use Rattle.world_moves.specs.Counting.{is_in}
 use Rattle.world_moves.specs.Moving.{onward, settle}
 use Rattle.domain_world.specs.Past.{note, note_coming, told_in}
@@ -26,7 +26,7 @@ use Rattle.logon_runs.proofs.Scenes.SceneLaws.{first_comes}
 use Rattle.logon_runs.proofs.Scenes.WaitingLaws.{waiting_comes}
 use Rattle.domain_world.proofs.Clear.NotedLaws.{world_at}
 use Rattle.domain_world.proofs.Completeness.UnitNotedLaws.{Came, coming, state_then}
-use Rattle.domain_world.proofs.Frames.EndNoteLaws.{bytes_told}
+use Rattle.domain_world.proofs.Frames.EveryStepLaws.{bytes_told}
 
 -- somebody was let in
 abbrev pub IsTold : List OutcomeTold → Type 0
@@ -61,6 +61,6 @@ lets_in s v unit later after left closed link cause domain name key more shows f
     let heard = waiting_comes.member s1 v.at_member v.member after (event.Bytes unit.link unit.bytes) left actions shows.member
     (ap₂ (λ (now : ℕ) (l : List (List ℕ)). member_step_of v.member (event.Bytes unit.link unit.bytes) now l) shows.moment shows.left ∙ steps
     ∙ ap (λ (l : List (List ℕ)). whole_step l left actions after) (sym shows.left)) in
-    let given = comes.given ∙ ap (λ (h : Heard). (done (Member v.at_member) h).given) heard in
+    let given = comes.given ∙ ap (λ (h : AfterHearing). (done (Member v.at_member) h).given) heard in
     told_behind (note_coming move.Onward k s b).told (told_in (onward s).given k)
     (subst (λ (all : Given). IsTold (told_in all k)) (sym given) (inl refl))

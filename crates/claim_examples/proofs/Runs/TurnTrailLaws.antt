@@ -47,7 +47,7 @@ use Rattle.logon_runs.specs.FirstLogon.FirstTraces.{TurnSeen}
 use Rattle.logon_runs.specs.FirstLogon.FirstWorlds.{turn_moves}
 use Rattle.logon_runs.specs.Runs.{connects, goes}
 use Rattle.logon_runs.specs.Scenes.Staying.{HasSameEnds}
-use Rattle.logon_runs.specs.Scenes.TurnScenes.{IsBetween, Turn}
+use Rattle.logon_runs.specs.Scenes.TurnScenes.{IsBetween, TurnScene}
 use Rattle.logon_runs.proofs.Scenes.StayingLaws.{both_same, connects_same, goes_same, reach_still}
 use Rattle.domain_world.proofs.Completeness.HeardOnceLaws.{turn_line}
 use Rattle.domain_world.proofs.Clear.NotedLaws.{Fine, Leads, Trail, no_more_moves, then_on}
@@ -56,7 +56,7 @@ use Rattle.domain_world.proofs.Clear.UnitComesLaws.{Called, FineAnd, Names, ack_
 
 -- ---- the plans stay
 
-pub names_stay : (s after : State) (t : Turn) → HasSameEnds s after → Names s t → Names after t
+pub names_stay : (s after : State) (t : TurnScene) → HasSameEnds s after → Names s t → Names after t
 names_stay s after t same names = record {
   plan = ap (λ (plans : _). slice_get plans t.at_member) same.members ∙ names.plan;
   reach = reach_still t.plan.controller (Controller t.at_controller) s after same names.reach;
@@ -64,7 +64,7 @@ names_stay s after t same names = record {
 
 -- ---- a turn, by what comes of its call and of the reply
 
-pub turn_trail : (s : State) (t later : Turn) (next number : ℕ) (c : Call) (r : Reply) (computers kept : Computers) (left rest : List (List ℕ)) (moment count : ℕ) (mark : Mark) (called : Option ℕ)
+pub turn_trail : (s : State) (t later : TurnScene) (next number : ℕ) (c : Call) (r : Reply) (computers kept : Computers) (left rest : List (List ℕ)) (moment count : ℕ) (mark : Mark) (called : Option ℕ)
     (Replied After : Book → Type 0) → TurnSeen s t later next number c r computers kept left rest moment → IsBetween t → number < 2 ^ 32 → Names s t →
     asked_note (Some (step.Reply (question_of c))) t.how t.at_controller (channel_in_turn t next number (step.Bind c)) (wait_for (channel_in_turn t next number (step.Bind c)) t.place (step.Reply (question_of c))) ≡ request_note mark called →
     Leads (goes (goes (connects s))) move.Onward (FineAnd (goes (goes (connects s))) count (mark_channel mark)) Replied → Leads (goes (goes (goes (connects s)))) move.Onward Replied After →
@@ -84,7 +84,7 @@ turn_trail s t later next number c r computers kept left rest moment count mark 
     (then_on s3 move.Onward (move.Onward ∷ []) (FineAnd s3 count (mark_channel mark)) Replied After calls
     (then_on s4 move.Onward [] Replied After After replies (no_more_moves s5 After)))))
 
-pub replied_names : (s : State) (t : Turn) → Names s t → Names (goes (goes (goes (connects s)))) t
+pub replied_names : (s : State) (t : TurnScene) → Names s t → Names (goes (goes (goes (connects s)))) t
 replied_names s t names =
     let s1 : State = connects s in
     let s2 : State = goes s1 in
@@ -94,7 +94,7 @@ replied_names s t names =
 
 -- ---- NetrServerReqChallenge
 
-pub challenge_trail : (s : State) (t : Turn) (next number : ℕ) (client server : List ℕ) (computers kept : Computers) (left : List (List ℕ)) (moment : ℕ) →
+pub challenge_trail : (s : State) (t : TurnScene) (next number : ℕ) (client server : List ℕ) (computers kept : Computers) (left : List (List ℕ)) (moment : ℕ) →
     TurnSeen s t t next number (challenge_call t.caller client) (reply.Challenge (record { challenge = server; status = 0 })) computers kept (server ∷ left) left moment → IsBetween t → number < 2 ^ 32 → next < 2 ^ 32 →
     Names s t → t.how ≡ standing.Nothing → HasShortCaller t.caller → IsBlock 8 client → IsBlock 8 server → knows_in t.table.accounts t.caller.computer ≡ true →
     Trail s turn_moves (Fine s 0) (Fine (go_through_turn s) 0)
@@ -121,7 +121,7 @@ challenge_trail s t next number client server computers kept left moment seen be
 
 -- ---- NetrServerAuthenticate2
 
-pub opening_trail : (s : State) (t : Turn) (next number : ℕ) (client server : List ℕ) (account : Account) (computers kept : Computers) (left : List (List ℕ)) (moment : ℕ) →
+pub opening_trail : (s : State) (t : TurnScene) (next number : ℕ) (client server : List ℕ) (account : Account) (computers kept : Computers) (left : List (List ℕ)) (moment : ℕ) →
     TurnSeen s t t next number (auth_call t.caller client server)
     (reply.Authenticate (record { credential = server_credential t.caller.secret client server; flags = offered_flags; status = 0 })) computers kept left left moment → IsBetween t → number < 2 ^ 32 → next < 2 ^ 32 →
     Names s t → t.how ≡ standing.Half client server → HasShortCaller t.caller → account_for t.table (auth_value t.caller client server) ≡ Some account → account.hash ≡ t.caller.secret →
