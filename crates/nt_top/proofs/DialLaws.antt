@@ -51,10 +51,10 @@ steps_settled start last (step ∷ steps) are settled =
 
 -- ---- the run of a client whose dial is asked for first
 
-rises : (a b c : ℕ) → Rose a b → b ≤ c → Rose a c
+pub rises : (a b c : ℕ) → Rose a b → b ≤ c → Rose a c
 rises a b c one more = omega (arith, one, more)
 
-pub dials_once : (plan : ClientPlan) (happened : List Happening) → Performs [] (first_actions plan) happened →
+dials_once : (plan : ClientPlan) (happened : List Happening) → Performs [] (first_actions plan) happened →
     (link : Option ℕ) × (happened ≡ happening.Dialled plan.server link ∷ [])
 dials_once plan happened performs =
     let now = performs.2 in
@@ -78,7 +78,7 @@ by_link plan (Some link) before middle after left last steps first more are fail
     let kept = answered plan link left last steps are in absurd cc
 
 -- what happened at the port in such a run
-tells : {S : Type 0} (machine : Machine S) (file : Option (List ℕ)) (first : List Action) (old last : S) (most : ℕ) (opened ended : Sight) (begun : Begun machine file first old last most opened ended) →
+pub tells : {S : Type 0} (machine : Machine S) (file : Option (List ℕ)) (first : List Action) (old last : S) (most : ℕ) (opened ended : Sight) (begun : Begun machine file first old last most opened ended) →
     Appends opened.story ended.story (begun.happened ++ (story_of begun.run.ran.steps ++ begun.run.stop))
 tells machine file first old last most opened ended begun =
     let rest = Shows-trans begun.middle begun.run.middle ended (story_of begun.run.ran.steps) begun.run.stop (moments_of begun.run.ran.steps) [] (drawn_of begun.run.ran.steps) [] _ [] _ [] begun.run.ran.shows begun.run.shows in

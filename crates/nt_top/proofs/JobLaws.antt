@@ -1,9 +1,9 @@
 -- Which words ask for a service, for a check, a show or a drill, and what the words come to.
-use Rattle.std.proofs.Common.{◌≡◌, ◌⊎◌, inl, inr, ℕ, Bool, true, false, List, [], ◌∷◌, Result, Ok, Err, refl, sym, ap, subst, ◌∙◌, codes}
-use Rattle.std.proofs.lemmas.Bool.{cases_Bool}
+use Rattle.std.proofs.Common.{◌≡◌, ◌⊎◌, ◌||◌, inl, inr, ℕ, Bool, true, false, List, [], ◌∷◌, Result, Ok, Err, refl, sym, ap, subst, ◌∙◌, codes}
+use Rattle.std.proofs.lemmas.Bool.{cases_Bool, or_right}
 use Rattle.std.proofs.lemmas.Slice.Eq.{bytes_eq-Decides}
-use Rattle.nt_words.specs.Jobs.{CheckJob, ShowJob, DrillJob, controller_job, member_job, logon_job, drill_job, is_led_by}
-use Rattle.nt_words.specs.Roles.{check, show, command_from, service_from, job_of, member_by, logon_by, drill_by}
+use Rattle.nt_words.specs.Jobs.{CheckJob, ShowJob, DrillJob, controller_job, member_job, logon_job, station_job, drill_job, is_led_by}
+use Rattle.nt_words.specs.Roles.{check, show, command_from, service_from, job_of, member_by, logon_by, drill_by, station_by}
 use Rattle.nt_words.specs.declared.job.Command.{Command}
 use Rattle.nt_words.specs.declared.job.Command.TheVariants as commands
 use Rattle.nt_words.specs.declared.job.Job.{Job}
@@ -107,13 +107,17 @@ member_show : (led : Bool) (words : List (List ℕ)) (job : ShowJob) → member_
 member_show true words job e = checks words (jobs.Command (commands.Show job)) e
 member_show false words job e = no_command services.Member (member_job words) (commands.Show job) e
 
+station_none : (led : Bool) (words : List (List ℕ)) (command : Command) → station_by led words ≡ Ok (jobs.Command command) → ⊥
+station_none true words command e = no_command services.Station (station_job words) command e
+station_none false words command e = no_command services.Logon (logon_job words) command e
+
 drill_check : (led : Bool) (words : List (List ℕ)) (job : CheckJob) → drill_by led words ≡ Ok (jobs.Command (commands.Check job)) → ⊥
 drill_check true words job e = drills (drill_job words) (jobs.Command (commands.Check job)) e
-drill_check false words job e = no_command services.Logon (logon_job words) (commands.Check job) e
+drill_check false words job e = station_none (is_led_by (codes "station") words) words (commands.Check job) e
 
 drill_show : (led : Bool) (words : List (List ℕ)) (job : ShowJob) → drill_by led words ≡ Ok (jobs.Command (commands.Show job)) → ⊥
 drill_show true words job e = drills (drill_job words) (jobs.Command (commands.Show job)) e
-drill_show false words job e = no_command services.Logon (logon_job words) (commands.Show job) e
+drill_show false words job e = station_none (is_led_by (codes "station") words) words (commands.Show job) e
 
 logon_check : (led : Bool) (words : List (List ℕ)) (job : CheckJob) → logon_by led words ≡ Ok (jobs.Command (commands.Check job)) → ⊥
 logon_check true words job e = shows words (jobs.Command (commands.Check job)) e
@@ -143,7 +147,7 @@ member_drill false words job e = no_command services.Member (member_job words) (
 
 drill_led : (led : Bool) (words : List (List ℕ)) (job : DrillJob) → drill_by led words ≡ Ok (jobs.Command (commands.Drill job)) → led ≡ true
 drill_led true words job e = refl
-drill_led false words job e = absurd (no_command services.Logon (logon_job words) (commands.Drill job) e)
+drill_led false words job e = absurd (station_none (is_led_by (codes "station") words) words (commands.Drill job) e)
 
 logon_led : (led : Bool) (words : List (List ℕ)) (job : DrillJob) → logon_by led words ≡ Ok (jobs.Command (commands.Drill job)) → is_led_by (codes "drill") words ≡ true
 logon_led true words job e = absurd (shows words (jobs.Command (commands.Drill job)) e)
@@ -156,9 +160,9 @@ job_of_drill Logon words job e = (refl, logon_led (is_led_by (codes "show") word
 
 -- ---- a command's program and words don't use the port, and a service's do
 
-led_once : (words : List (List ℕ)) → is_led_by (codes "drill") words ≡ true → is_led_by (codes "logon") words ≡ false
+led_once : (words : List (List ℕ)) → is_led_by (codes "drill") words ≡ true → uses_port Logon words ≡ false
 led_once [] led = absurd (let wrong = led in cc)
-led_once (command ∷ words) led = subst (λ (c : List ℕ). is_led_by (codes "logon") (c ∷ words) ≡ false) (sym ((bytes_eq-Decides command (codes "drill")).0 led)) refl
+led_once (command ∷ words) led = subst (λ (c : List ℕ). uses_port Logon (c ∷ words) ≡ false) (sym ((bytes_eq-Decides command (codes "drill")).0 led)) refl
 
 pub acts_by_words : (role : Role) (words : List (List ℕ)) (command : Command) → job_of role words ≡ Ok (jobs.Command command) → ActsByWords role words
 acts_by_words role words (commands.Check job) e =
@@ -180,14 +184,18 @@ member_uses led true words service is e = refl
 member_uses true false words service is e = absurd (checks words (jobs.Service service) e)
 member_uses false false words service is e = absurd (unserved services.Member (member_job words) _ service (no_member words is) e)
 
-drill_uses : (led logon : Bool) (words : List (List ℕ)) (service : Service) → is_led_by (codes "logon") words ≡ logon → drill_by led words ≡ Ok (jobs.Service service) → logon ≡ true
-drill_uses led true words service is e = refl
-drill_uses true false words service is e = absurd (no_service commands.Drill (drill_job words) service e)
-drill_uses false false words service is e = absurd (unserved services.Logon (logon_job words) _ service (no_logon words is) e)
+station_uses : (station logon : Bool) (words : List (List ℕ)) (service : Service) → is_led_by (codes "logon") words ≡ logon → station_by station words ≡ Ok (jobs.Service service) → (logon || station) ≡ true
+station_uses true logon words service is e = or_right logon true refl
+station_uses false true words service is e = refl
+station_uses false false words service is e = absurd (unserved services.Logon (logon_job words) _ service (no_logon words is) e)
 
-logon_uses : (led : Bool) (words : List (List ℕ)) (service : Service) → logon_by led words ≡ Ok (jobs.Service service) → is_led_by (codes "logon") words ≡ true
+drill_uses : (led : Bool) (words : List (List ℕ)) (service : Service) → drill_by led words ≡ Ok (jobs.Service service) → uses_port Logon words ≡ true
+drill_uses true words service e = absurd (no_service commands.Drill (drill_job words) service e)
+drill_uses false words service e = station_uses (is_led_by (codes "station") words) (is_led_by (codes "logon") words) words service refl e
+
+logon_uses : (led : Bool) (words : List (List ℕ)) (service : Service) → logon_by led words ≡ Ok (jobs.Service service) → uses_port Logon words ≡ true
 logon_uses true words service e = absurd (shows words (jobs.Service service) e)
-logon_uses false words service e = drill_uses (is_led_by (codes "drill") words) (is_led_by (codes "logon") words) words service refl e
+logon_uses false words service e = drill_uses (is_led_by (codes "drill") words) words service e
 
 pub service_uses_port : (role : Role) (words : List (List ℕ)) (service : Service) → job_of role words ≡ Ok (jobs.Service service) → uses_port role words ≡ true
 service_uses_port Controller words service e = refl

@@ -8,9 +8,16 @@ pub mod JobLaws
 pub mod EndLaws
 pub mod ServeLaws
 pub mod PairLaws
+pub mod PlainRunLaws
+pub mod PlainServiceLaws
+pub mod WholeLaws
 pub mod DialLaws
 pub mod LinkLaws
 pub mod LogonLaws
+pub mod GrantLaws
+pub mod StationDialLaws
+pub mod StationLaws
 pub mod ServingLaws
 pub mod RunLaws
+pub mod UnsealedLaws
 pub mod WritesLaws

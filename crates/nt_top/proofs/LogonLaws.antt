@@ -1,13 +1,10 @@
 -- How a logon begins and ends.
-use Rattle.std.proofs.Common.{ℕ, ◌≡◌, ◌⊎◌, inl, inr, ◌<◌, List, [], ◌∷◌, ◌++◌, Option, Some, None, true, false, Err, refl, sym, ap, subst, ◌∙◌, append-nil}
+use Rattle.std.proofs.Common.{ℕ, ◌≡◌, ◌⊎◌, inl, inr, List, [], ◌∷◌, ◌++◌, Option, Some, None, true, false, refl, sym, ap, subst, ◌∙◌}
 use Rattle.std.specs.List.{flat_map}
-use Rattle.std.proofs.lemmas.List.{append_cancel_right}
-use Rattle.outside.specs.Causes.{Rose}
 use Rattle.outside.specs.Drawing.{Drawing}
 use Rattle.outside.specs.Telling.{Appends, AppendsFront}
 use Rattle.outside.specs.declared.action.Action.{Action}
 use Rattle.outside.specs.declared.action.Action.TheVariants as action
-use Rattle.outside.specs.declared.action.StepRefused.TheVariants as refusals
 use Rattle.outside.specs.declared.event.Event.{Event}
 use Rattle.outside.specs.declared.event.Event.TheVariants as event
 use Rattle.outside.specs.declared.event.Happening.{Happening}
@@ -15,32 +12,31 @@ use Rattle.outside.specs.declared.event.Happening.TheVariants as happening
 use Rattle.outside.proofs.TellingLaws.{Appends-trans, Appends-nothing, AppendsFront-append, AppendsFront-part}
 use Rattle.end_loop.specs.Acts.{next_line, puts}
 use Rattle.end_loop.specs.Begun.{Begun, BegunUntil}
-use Rattle.end_loop.specs.Runs.{RunState, Step, Chooses, Halts, RanInto, asked_by, lines_of, moments_of, step_story, story_of}
+use Rattle.end_loop.specs.Runs.{RunState, Step, Halts, RanInto, lines_of}
 use Rattle.end_loop.specs.Seen.{Sight, Shows}
 use Rattle.end_loop.specs.Writing.{FilesTold, Write}
 use Rattle.end_loop.specs.Serving.{Opens}
 use Rattle.end_loop.specs.declared.halt.Halt.{Halt}
 use Rattle.end_loop.specs.declared.halt.Halt.TheVariants as halts
-use Rattle.end_loop.proofs.RunLaws.{Shows-none}
 use Rattle.logon_client.specs.declared.outcome.ClientOutcome.{ClientOutcome}
 use Rattle.logon_client.specs.declared.outcome.ClientOutcome.TheVariants as outcomes
 use Rattle.logon_client.specs.declared.outcome.NoAnswerCause.TheVariants.{DialFailed, LinkClosed, NoController}
 use Rattle.logon_client.specs.declared.outcome.PeerFault.{PeerFault}
 use Rattle.logon_client.specs.declared.outcome.RefusedCause.{RefusedCause}
 use Rattle.logon_client.specs.declared.plan.ClientPlan.{ClientPlan}
-use Rattle.logon_client.specs.Losses.{is_dial_failed, is_link_closed}
-use Rattle.logon_client.specs.Machine.{client_machine, step_of}
+use Rattle.logon_client.proofs.LossLaws.{losses_come_of_events}
+use Rattle.logon_client.specs.Losses.{LinkGoes, is_dial_failed, is_link_closed}
+use Rattle.logon_client.specs.Machine.{client_machine, has_outcome, want_by}
 use Rattle.logon_client.specs.State.{State}
 use Rattle.nt_top.specs.declared.exit.Exit.{Exit}
 use Rattle.nt_top.specs.declared.exit.Exit.TheVariants.{Done, Refused, BadWords, FileFault, BadTable, BadInput, PortFault, SinkFault, NoMemory, NoAnswer, BadPeer, Spent}
 use Rattle.nt_top.specs.Logon.{Concludes, LogonEnds, Says, client_that_dials, first_actions, in_lines, most_answers, outcome_exit, outcome_lines}
 use Rattle.nt_top.specs.Serve.{GivesFewer, halt_exit}
-use Rattle.nt_top.specs.LogonExits.{ComesBy, FailsToDial, IsIn, RanTo, RanUntil, ComesTo, ComesToSpent, IsExcuse, IsOfClients, LogonLaws, LosesLink, Gone, SendFailed, Stopped, TookAll, Puts}
+use Rattle.nt_top.specs.LogonExits.{ComesBy, FailsToDial, IsIn, RanTo, RanUntil, ComesTo, ComesToSpent, IsExcuse, IsOfClients, LogonLaws, LosesLink, Puts, is_gone}
 use Rattle.nt_top.proofs.DialLaws.{dial_cause}
-use Rattle.nt_top.proofs.LinkLaws.{loses_link}
-use Rattle.nt_top.specs.Told.{begun_at, rest_at}
-use Rattle.nt_top.proofs.PairLaws.{both_whole, spent_not_whole}
-use Rattle.nt_top.proofs.ToldLaws.{Compared, Told, asks_not_closed, compare, fewer_begun, quiet_chooses, told_by}
+use Rattle.nt_top.proofs.LinkLaws.{LosesAtGone, loses_link, same_number}
+use Rattle.nt_top.specs.Told.{rest_at}
+use Rattle.nt_top.proofs.WholeLaws.{around, concluded, gives_fewer, halts_excused, loses_around, never_file, rose_around, same_end, spent_excused, spent_not_told}
 
 -- the challenges were started, and nothing else was done
 pub started : (story : Option (List Happening)) (faults : ℕ) (moments : Option (List ℕ)) (old new : Drawing) (taken : Option (List ℕ)) (files : FilesTold) (seed : List ℕ) (boot : ℕ) →
@@ -48,20 +44,6 @@ pub started : (story : Option (List Happening)) (faults : ℕ) (moments : Option
     Opens seed boot (record { story = story; link_faults = faults; moments = moments; drawing = old; taken = taken; files = files }) (record { story = story; link_faults = faults; moments = moments; drawing = new; taken = taken; files = files }) []
 started story faults moments old new taken files seed boot seed_is boot_is drawn =
     record { seed_is = seed_is; boot_is = boot_is; none_drawn = drawn; story = Appends-nothing story; link_faults = refl; moments = refl; taken = refl; files = refl }
-
--- ---- what a run shows, from the first actions on
-
-abbrev ToldClient : ClientPlan → Sight → Sight → List Step → RunState State → List Happening → List ℕ → Type 0
-ToldClient plan before after steps last later moments_later = Told client_machine (first_actions plan) (client_that_dials plan) [] before after steps last later moments_later
-
--- the one was spent, the other is whole
-spent_is_none : (plan : ClientPlan) (drawing : Drawing) (steps others : List Step) (last other : RunState State) (step : Step) (waiting : List Event) (stop : List Happening) →
-    Compared client_machine (client_that_dials plan) drawing steps others last other (step_story step) stop (step.moment ∷ []) [] → Chooses client_machine last.state last.queue step waiting →
-    (step_of last.state step.event step.moment last.left).answer ≡ Err refusals.Spent → ⊥
-spent_is_none plan drawing steps others last other step waiting stop same chooses spent =
-    let story : story_of steps ++ (step_story step ++ []) ≡ story_of others ++ stop = ap (λ (h : List Happening). story_of steps ++ h) (append-nil (step_story step)) ∙ same.story in
-    spent_not_whole client_machine (begun_at (client_that_dials plan) same.happened drawing) last other steps others step waiting [] stop same.are chooses spent same.others_are story
-    (same.moments ∙ append-nil (moments_of others))
 
 -- ---- the exit
 
@@ -79,123 +61,34 @@ says_exit outcome before now (NoAnswer cause) says = inl says.0
 says_exit outcome before now (BadPeer fault) says = inl says.0
 says_exit outcome before now Spent says = inl says.0
 
-concluded : (plan : ClientPlan) (seed : List ℕ) (boot : ℕ) (before opened after : Sight) (exit : Exit) (opens : Opens seed boot before opened []) (ends : Concludes plan opened after exit) →
-    ToldClient plan before after ends.run.run.ran.steps (rest_at ends.last ends.run.run.left) ends.run.run.stop []
-concluded plan seed boot before opened after exit opens ends =
-    subst (λ (s : Sight). ToldClient plan before s ends.run.run.ran.steps (rest_at ends.last ends.run.run.left) ends.run.run.stop []) (sym ends.only)
-    (let told = told_by client_machine (first_actions plan) (client_that_dials plan) [] seed boot before opened ends.run.middle ends.run.run.middle ends.ended ends.run.happened ends.run.run.ran.steps (rest_at ends.last ends.run.run.left) ends.run.run.stop [] [] _ _ [] _ _ [] opens
-    ends.run.performs ends.run.shows ends.run.run.ran.are ends.run.run.ran.shows ends.run.run.shows in
-    record { happened = told.happened; performs = told.performs; are = told.are; story = told.story; moments = told.moments })
-
-record Spends (plan : ClientPlan) (before after : Sight) : Type 0 where
-  steps : List Step
-  last : RunState State
-  step : Step
-  waiting : List Event
-  told : ToldClient plan before after steps last (step_story step) (step.moment ∷ [])
-  chooses : Chooses client_machine last.state last.queue step waiting
-  spent : (step_of last.state step.event step.moment last.left).answer ≡ Err refusals.Spent
-
-spends : (plan : ClientPlan) (seed : List ℕ) (boot : ℕ) (before opened after : Sight) → Opens seed boot before opened [] →
-    BegunUntil client_machine None (first_actions plan) (client_that_dials plan) most_answers opened after halts.Spent → Spends plan before after
-spends plan seed boot before opened after opens (inl cut) = absurd cut.0
-spends plan seed boot before opened after opens (inr half) = record {
-  steps = half.run.ran.steps;
-  last = half.run.last;
-  step = half.run.step;
-  waiting = half.run.begins.waiting;
-  told = told_by client_machine (first_actions plan) (client_that_dials plan) [] seed boot before opened half.middle half.run.middle after half.happened half.run.ran.steps half.run.last (step_story half.run.step) (half.run.step.moment ∷ []) half.run.step.drawn _ _ _ _ _ _ opens
-      half.performs half.shows half.run.ran.are half.run.ran.shows half.run.shows;
-  chooses = half.run.begins.chooses;
-  spent = half.run.begins.breaks.0;
-}
-
--- the run came to where it would ask for one more event
-record AsksStill (plan : ClientPlan) (before after : Sight) : Type 0 where
-  steps : List Step
-  last : RunState State
-  told : ToldClient plan before after steps last [] []
-  more : asked_by steps < most_answers
-  open_still : client_machine.is_over last.state ≡ false
-
-asks_still : (plan : ClientPlan) (seed : List ℕ) (boot : ℕ) (before opened after : Sight) → Opens seed boot before opened [] →
-    BegunUntil client_machine None (first_actions plan) (client_that_dials plan) most_answers opened after halts.PortFault → AsksStill plan before after
-asks_still plan seed boot before opened after opens (inl cut) = absurd cut.0
-asks_still plan seed boot before opened after opens (inr half) = record {
-  steps = half.run.ran.steps;
-  last = half.run.last;
-  told = told_by client_machine (first_actions plan) (client_that_dials plan) [] seed boot before opened half.middle after after half.happened half.run.ran.steps half.run.last [] [] [] _ _ _ _ _ _ opens
-      half.performs half.shows half.run.ran.are half.run.ran.shows (Shows-none after);
-  more = subst (λ (n : ℕ). n < most_answers) half.run.ran.count half.run.more;
-  open_still = half.run.open_still;
-}
-
--- a client keeps nothing, so that no write fails
-never_file : (plan : ClientPlan) (opened after : Sight) → BegunUntil client_machine None (first_actions plan) (client_that_dials plan) most_answers opened after halts.FileFault → ⊥
-never_file plan opened after (inl cut) = let is = cut.1.loses.name_is in cc
-never_file plan opened after (inr half) = let is = half.run.begins.loses.name_is in cc
-
-outcome_by : (plan : ClientPlan) (seed : List ℕ) (boot : ℕ) (before opened after : Sight) (exit : Exit) (outcome : Option ClientOutcome) → Opens seed boot before opened [] → ComesTo plan before after outcome →
-    (halt : Halt) → exit ≡ halt_exit halt → BegunUntil client_machine None (first_actions plan) (client_that_dials plan) most_answers opened after halt → (exit ≡ outcome_exit outcome) ⊎ IsExcuse exit
-outcome_by plan seed boot before opened after exit outcome opens comes halts.PortFault is run =
-    let asks = asks_still plan seed boot before opened after opens run in
-    let same = compare client_machine (first_actions plan) (client_that_dials plan) [] before after asks.steps comes.steps asks.last (rest_at comes.state comes.left) [] comes.stop [] [] asks.told comes.tells in
-    let whole = both_whole client_machine (begun_at (client_that_dials plan) same.happened after.drawing) asks.last (rest_at comes.state comes.left) asks.steps comes.steps [] comes.stop same.are same.others_are
-    same.story (append_cancel_right (moments_of asks.steps) (moments_of comes.steps) [] same.moments) in
-    absurd (asks_not_closed client_machine most_answers asks.steps comes.steps comes.state comes.left asks.last comes.stop (begun_at (client_that_dials plan) same.happened after.drawing) same.are same.others_are same.story whole.0 whole.1 asks.more asks.open_still comes.closes)
-outcome_by plan seed boot before opened after exit outcome opens comes halts.FileFault is run = absurd (never_file plan opened after run)
-outcome_by plan seed boot before opened after exit outcome opens comes halts.SinkFault is run = inr (subst IsExcuse (sym is) tt)
-outcome_by plan seed boot before opened after exit outcome opens comes halts.NoMemory is run = inr (subst IsExcuse (sym is) tt)
-outcome_by plan seed boot before opened after exit outcome opens comes halts.Spent is run =
-    let spent = spends plan seed boot before opened after opens run in
-    absurd (spent_is_none plan after.drawing spent.steps comes.steps spent.last (rest_at comes.state comes.left) spent.step spent.waiting comes.stop
-    (compare client_machine (first_actions plan) (client_that_dials plan) [] before after spent.steps comes.steps spent.last (rest_at comes.state comes.left) (step_story spent.step) comes.stop (spent.step.moment ∷ []) [] spent.told comes.tells) spent.chooses spent.spent)
-
 outcome_law : (plan : ClientPlan) (seed : List ℕ) (boot : ℕ) (before after : Sight) (exit : Exit) (outcome : Option ClientOutcome) →
     LogonEnds plan seed boot before after exit → ComesTo plan before after outcome → (exit ≡ outcome_exit outcome) ⊎ IsExcuse exit
 outcome_law plan seed boot before after exit outcome logon comes =
+    let first = first_actions plan in
+    let old = client_that_dials plan in
     elim logon.ends [
       | inl none ↦ inr (subst IsExcuse (sym none.0) tt)
       | inr begun ↦ elim begun [
-        | inl breaks ↦ outcome_by plan seed boot before logon.opened after exit outcome logon.opens comes breaks.halt breaks.exit_is breaks.run
+        | inl breaks ↦ inr (halts_excused client_machine first old most_answers seed boot before logon.opened after exit comes.steps comes.state comes.left comes.stop logon.opens comes.tells comes.closes breaks.halt breaks.exit_is breaks.run)
         | inr ends ↦
-            let told = concluded plan seed boot before logon.opened after exit logon.opens ends in
-            let same = compare client_machine (first_actions plan) (client_that_dials plan) [] before after ends.run.run.ran.steps comes.steps (rest_at ends.last ends.run.run.left) (rest_at comes.state comes.left) ends.run.run.stop comes.stop [] [] told comes.tells in
-            let whole = both_whole client_machine (begun_at (client_that_dials plan) same.happened after.drawing) (rest_at ends.last ends.run.run.left) (rest_at comes.state comes.left) ends.run.run.ran.steps comes.steps ends.run.run.stop comes.stop same.are same.others_are
-            same.story (append_cancel_right (moments_of ends.run.run.ran.steps) (moments_of comes.steps) [] same.moments) in
-            let outcome_is : ends.last.outcome ≡ outcome = ap (λ (s : RunState State). s.state.outcome) whole.0 ∙ comes.outcome_is in
+            let told = concluded client_machine first old ends.last most_answers seed boot before logon.opened ends.ended after logon.opens ends.run ends.only in
+            let same = same_end client_machine first old before after ends.run.run.ran.steps comes.steps ends.last comes.state ends.run.run.left comes.left ends.run.run.stop comes.stop told comes.tells in
+            let outcome_is : ends.last.outcome ≡ outcome = ap (λ (s : State). s.outcome) same ∙ comes.outcome_is in
             subst (λ (o : Option ClientOutcome). (exit ≡ outcome_exit o) ⊎ IsExcuse exit) outcome_is (says_exit ends.last.outcome ends.ended.taken after.taken exit ends.says)
       ]
     ]
 
--- a run that is told to come to a step that draws too many isn't whole
-spent_not_told : (plan : ClientPlan) (before after : Sight) (steps : List Step) (last : RunState State) (stop : List Happening) → ToldClient plan before after steps last stop [] → ComesToSpent plan before after → ⊥
-spent_not_told plan before after steps last stop told comes =
-    let same = compare client_machine (first_actions plan) (client_that_dials plan) [] before after steps comes.steps last comes.last stop comes.step.asked [] (comes.step.moment ∷ []) told comes.tells in
-    let quiet : Step = record comes.step { happened = [] } in
-    let story : story_of comes.steps ++ (step_story quiet ++ []) ≡ story_of steps ++ stop =
-    ap (λ (h : List Happening). story_of comes.steps ++ h) (append-nil (step_story quiet) ∙ append-nil comes.step.asked) ∙ sym same.story in
-    spent_not_whole client_machine (begun_at (client_that_dials plan) same.happened after.drawing) comes.last last comes.steps steps quiet comes.waiting [] stop
-    same.others_are (quiet_chooses client_machine comes.last.state comes.last.queue comes.step comes.waiting comes.chooses) comes.spent same.are story (sym same.moments ∙ append-nil (moments_of steps))
-
-spent_by : (plan : ClientPlan) (seed : List ℕ) (boot : ℕ) (before opened after : Sight) (exit : Exit) → Opens seed boot before opened [] → ComesToSpent plan before after →
-    (halt : Halt) → exit ≡ halt_exit halt → BegunUntil client_machine None (first_actions plan) (client_that_dials plan) most_answers opened after halt → (exit ≡ Spent) ⊎ IsExcuse exit
-spent_by plan seed boot before opened after exit opens comes halts.PortFault is run =
-    let asks = asks_still plan seed boot before opened after opens run in
-    absurd (spent_not_told plan before after asks.steps asks.last [] asks.told comes)
-spent_by plan seed boot before opened after exit opens comes halts.FileFault is run = absurd (never_file plan opened after run)
-spent_by plan seed boot before opened after exit opens comes halts.SinkFault is run = inr (subst IsExcuse (sym is) tt)
-spent_by plan seed boot before opened after exit opens comes halts.NoMemory is run = inr (subst IsExcuse (sym is) tt)
-spent_by plan seed boot before opened after exit opens comes halts.Spent is run = inl is
-
 spent_law : (plan : ClientPlan) (seed : List ℕ) (boot : ℕ) (before after : Sight) (exit : Exit) →
     LogonEnds plan seed boot before after exit → ComesToSpent plan before after → (exit ≡ Spent) ⊎ IsExcuse exit
 spent_law plan seed boot before after exit logon comes =
+    let first = first_actions plan in
+    let old = client_that_dials plan in
     elim logon.ends [
       | inl none ↦ inr (subst IsExcuse (sym none.0) tt)
       | inr begun ↦ elim begun [
-        | inl breaks ↦ spent_by plan seed boot before logon.opened after exit logon.opens comes breaks.halt breaks.exit_is breaks.run
-        | inr ends ↦ absurd (spent_not_told plan before after ends.run.run.ran.steps (rest_at ends.last ends.run.run.left) ends.run.run.stop (concluded plan seed boot before logon.opened after exit logon.opens ends) comes)
+        | inl breaks ↦ spent_excused client_machine first old most_answers seed boot before logon.opened after exit comes.steps comes.last comes.step comes.waiting logon.opens comes.tells comes.chooses comes.spent breaks.halt breaks.exit_is breaks.run
+        | inr ends ↦ absurd (spent_not_told client_machine first old before after ends.run.run.ran.steps comes.steps (rest_at ends.last ends.run.run.left) comes.last ends.run.run.stop comes.step comes.waiting
+            (concluded client_machine first old ends.last most_answers seed boot before logon.opened ends.ended after logon.opens ends.run ends.only) comes.tells comes.chooses comes.spent)
       ]
     ]
 
@@ -221,7 +114,7 @@ no_next : (rest : List Action) → next_line (puts client_machine) rest ≡ []
 no_next [] = refl
 no_next (what ∷ rest) = no_line what
 
-no_front : {X : Type 0} (part more : List X) → part ++ more ≡ [] → part ≡ []
+pub no_front : {X : Type 0} (part more : List X) → part ++ more ≡ [] → part ≡ []
 no_front [] more is = refl
 no_front (x ∷ part) more is = absurd cc
 
@@ -445,16 +338,9 @@ never_dial halts.SinkFault is = absurd cc
 never_dial halts.NoMemory is = absurd cc
 never_dial halts.Spent is = absurd cc
 
--- what happened at the port, told around that
-around : (seed : List ℕ) (boot : ℕ) (before opened ended after : Sight) (happened : List Happening) → Opens seed boot before opened [] → after ≡ record ended { taken = after.taken } →
-    Appends opened.story ended.story happened → Appends before.story after.story happened
-around seed boot before opened ended after happened opens only told =
-    subst (λ (s : Option (List Happening)). Appends before.story s happened) (sym (ap (λ (s : Sight). s.story) only))
-    (Appends-trans before.story opened.story ended.story [] happened opens.story told)
-
 fails_around : (server seed : List ℕ) (boot : ℕ) (before opened ended after : Sight) → Opens seed boot before opened [] → after ≡ record ended { taken = after.taken } → FailsToDial server opened ended → FailsToDial server before after
 fails_around server seed boot before opened ended after opens only fails = record {
-  rose = subst (λ (n : ℕ). Rose before.link_faults n) (sym (ap (λ (s : Sight). s.link_faults) only)) (subst (λ (n : ℕ). Rose n ended.link_faults) opens.link_faults fails.rose);
+  rose = rose_around seed boot before opened ended after opens only fails.rose;
   happened = fails.happened;
   told = around seed boot before opened ended after (happening.Dialled server None ∷ fails.happened) opens only fails.told;
 }
@@ -489,14 +375,27 @@ never_closed halts.SinkFault is = absurd cc
 never_closed halts.NoMemory is = absurd cc
 never_closed halts.Spent is = absurd cc
 
--- the challenges were started before, and the outcome was said after it
-loses_around : (seed : List ℕ) (boot : ℕ) (before opened ended after : Sight) → Opens seed boot before opened [] → after ≡ record ended { taken = after.taken } → LosesLink opened ended → LosesLink before after
-loses_around seed boot before opened ended after opens only (Gone happened told gone) = Gone happened (around seed boot before opened ended after happened opens only told) gone
-loses_around seed boot before opened ended after opens only (Stopped happened told stops) = Stopped happened (around seed boot before opened ended after happened opens only told) stops
-loses_around seed boot before opened ended after opens only (TookAll happened told all) = TookAll happened (around seed boot before opened ended after happened opens only told) all
-loses_around seed boot before opened ended after opens only (SendFailed happened told sends rose) =
-    SendFailed happened (around seed boot before opened ended after happened opens only told) sends
-    (subst (λ (n : ℕ). Rose before.link_faults n) (sym (ap (λ (s : Sight). s.link_faults) only)) (subst (λ (n : ℕ). Rose n ended.link_faults) opens.link_faults rose))
+over_none : (outcome : Option ClientOutcome) → outcome ≡ None → has_outcome outcome ≡ false
+over_none outcome none = rw none refl
+
+closed_lost : (outcome : Option ClientOutcome) → NoAnswer LinkClosed ≡ outcome_exit outcome → (has_outcome outcome ≡ false) ⊎ (is_link_closed outcome ≡ true)
+closed_lost outcome is =
+    elim (closed_by outcome is) [
+      | inl none ↦ inl (over_none outcome none)
+      | inr closed ↦ inr closed
+    ]
+
+goes_gone : (what : Event) (want : Option ℕ) → LinkGoes what want → is_gone what want ≡ true
+goes_gone (event.Closed link) want goes = subst (λ (w : Option ℕ). is_gone (event.Closed link) w ≡ true) (sym goes) (same_number link)
+goes_gone (event.Opened link) want goes = subst (λ (w : Option ℕ). is_gone (event.Opened link) w ≡ true) (sym goes) (same_number link)
+goes_gone (event.Bytes link bytes) want goes = absurd goes
+goes_gone (event.Dialled link) want goes = absurd goes
+goes_gone event.DialFailed want goes = absurd goes
+goes_gone event.Stop want goes = absurd goes
+
+-- a client finds its link closed only where the event shows that it is gone
+client_loses : LosesAtGone client_machine (λ s. is_link_closed s.outcome)
+client_loses = record { at = λ s what now left was is. goes_gone what (want_by s.running) (losses_come_of_events.closed s what now left was is) }
 
 closed_law : (plan : ClientPlan) (seed : List ℕ) (boot : ℕ) (before after : Sight) (exit : Exit) → LogonEnds plan seed boot before after exit → exit ≡ NoAnswer LinkClosed → LosesLink before after
 closed_law plan seed boot before after exit logon is =
@@ -506,28 +405,22 @@ closed_law plan seed boot before after exit logon is =
         | inl breaks ↦ absurd (never_closed breaks.halt (sym is ∙ breaks.exit_is))
         | inr ends ↦
             let says : Says ends.last.outcome ends.ended.taken after.taken (NoAnswer LinkClosed) = subst (λ (e : Exit). Says ends.last.outcome ends.ended.taken after.taken e) is ends.says in
-            loses_around seed boot before logon.opened ends.ended after logon.opens ends.only (loses_link plan ends.last logon.opened ends.ended ends.run (closed_by ends.last.outcome says.0))
+            loses_around seed boot before logon.opened ends.ended after logon.opens ends.only (loses_link client_machine (first_actions plan) (client_that_dials plan) ends.last (λ s. is_link_closed s.outcome) client_loses logon.opened ends.ended refl ends.run (closed_lost ends.last.outcome says.0))
       ]
     ]
 
 -- ---- a port that failed
 
-gives_fewer : (plan : ClientPlan) (seed : List ℕ) (boot : ℕ) (before opened after : Sight) → Opens seed boot before opened [] →
-    BegunUntil client_machine None (first_actions plan) (client_that_dials plan) most_answers opened after halts.PortFault → GivesFewer most_answers before after
-gives_fewer plan seed boot before opened after opens (inl cut) = absurd cut.0
-gives_fewer plan seed boot before opened after opens (inr half) =
-    fewer_begun client_machine None (first_actions plan) (client_that_dials plan) [] seed boot most_answers before opened after opens refl half
-
 port_law : (plan : ClientPlan) (seed : List ℕ) (boot : ℕ) (before after : Sight) (exit : Exit) → LogonEnds plan seed boot before after exit → exit ≡ PortFault → GivesFewer most_answers before after
 port_law plan seed boot before after exit logon is =
     let ran : RanUntil plan seed boot before after halts.PortFault = subst (λ (e : Exit). ComesBy e plan seed boot before after) is (comes_law plan seed boot before after exit logon) in
-    gives_fewer plan seed boot before ran.opened after ran.opens ran.run
+    gives_fewer client_machine (first_actions plan) (client_that_dials plan) most_answers seed boot before ran.opened after ran.opens ran.run
 
 -- ---- the exits of a client
 
 halt_is : (plan : ClientPlan) (opened after : Sight) (halt : Halt) → BegunUntil client_machine None (first_actions plan) (client_that_dials plan) most_answers opened after halt → IsOfClients (halt_exit halt)
 halt_is plan opened after halts.PortFault run = tt
-halt_is plan opened after halts.FileFault run = never_file plan opened after run
+halt_is plan opened after halts.FileFault run = never_file client_machine (first_actions plan) (client_that_dials plan) most_answers opened after run
 halt_is plan opened after halts.SinkFault run = tt
 halt_is plan opened after halts.NoMemory run = tt
 halt_is plan opened after halts.Spent run = tt

@@ -37,6 +37,8 @@ use Rattle.nt_top.specs.LogonExits.{IsAnswered, IsOfClients, LosesLink, Gone, Se
 use Rattle.nt_top.specs.Service.{IsBadOfFiles, IsOfContents, IsServedBy, IsServiceOfForm, ServiceAsked, ServiceBy, ServiceFollows, ServiceRuns, files_on, uses_port}
 use Rattle.nt_top.proofs.JobLaws.{acts_by_words}
 use Rattle.nt_top.proofs.LogonLaws.{logon_laws}
+use Rattle.nt_top.proofs.StationLaws.{station_exits, station_laws}
+use Rattle.nt_top.specs.Station.{station_plan}
 
 halt_serves : {S : Type 0} (machine : Machine S) (file : Option (List ℕ)) (first : List Action) (old : S) (address seed : List ℕ) (boot most : ℕ) (before after : Sight) (halt : Halt) →
     ServedUntil machine file first old address seed boot most before after halt → ServesTo machine file first old address seed boot most before after (halt_exit halt)
@@ -186,6 +188,7 @@ by_inputs : (setup : Setup) (before after : Sight) (exit : Exit) → IsOfInputs 
 by_inputs (setups.Controller job files) before after exit is serves = may_inputs _ _ _ _ _ _ _ _ before after exit is serves
 by_inputs (setups.Member job files) before after exit is serves = may_inputs _ _ _ _ _ _ _ _ before after exit is serves
 by_inputs (setups.Logon job files) before after exit is ends = client_inputs exit is (logon_laws.exits (plan_of job files) files.seed job.boot before after exit ends)
+by_inputs (setups.Station job files) before after exit is ends = client_inputs exit is (station_exits (station_plan job files) files.seed job.boot before after exit ends)
 
 follows_no_words : (read : Result Setup FilesRefused) (before after : Sight) (number : ℕ) → ServiceFollows read before after (exits.BadWords number) → ⊥
 follows_no_words (Err refused) before after number left = files_no_words refused number (sym left.0)
@@ -340,12 +343,15 @@ memory_served : (setup : Setup) (exit : Exit) → exit ≡ exits.NoMemory → Is
 memory_served (setups.Controller job files) exit is = subst IsServed (sym is) tt
 memory_served (setups.Member job files) exit is = subst IsServed (sym is) tt
 memory_served (setups.Logon job files) exit is = subst IsAnswered (sym is) tt
+memory_served (setups.Station job files) exit is = subst IsAnswered (sym is) tt
 
 by_served : (setup : Setup) (before after : Sight) (exit : Exit) → (exit ≡ exits.FileFault → ⊥) → (exit ≡ exits.PortFault → ⊥) → (exit ≡ exits.SinkFault → ⊥) → ServiceBy setup before after exit → IsServedBy setup exit
 by_served (setups.Controller job files) before after exit fault port sink serves = may_served _ _ _ _ _ _ _ _ before after exit fault port sink serves
 by_served (setups.Member job files) before after exit fault port sink serves = may_served _ _ _ _ _ _ _ _ before after exit fault port sink serves
 by_served (setups.Logon job files) before after exit fault port sink ends =
     client_answered exit (logon_laws.exits (plan_of job files) files.seed job.boot before after exit ends) port sink
+by_served (setups.Station job files) before after exit fault port sink ends =
+    client_answered exit (station_exits (station_plan job files) files.seed job.boot before after exit ends) port sink
 
 files_served : (read due : Result Setup FilesRefused) (setup : Setup) (before after : Sight) (exit : Exit) →
     due ≡ Ok setup → UpToFaults read due → (exit ≡ exits.FileFault → ⊥) → (exit ≡ exits.PortFault → ⊥) → (exit ≡ exits.SinkFault → ⊥) →
@@ -376,9 +382,9 @@ pub serve_done : (role : Role) (words : List (List ℕ)) (shelf shelf_after : Sh
 serve_done role words shelf shelf_after before after exit runs form file port sink =
     asked_served runs.job (job_of role words) form.service form.told form.setup shelf shelf_after before after exit runs.is form.job_is form.told_is form.setup_is file port sink runs.runs
 
--- ---- a client that has no answer
+-- ---- a client or a station that has no answer
 
--- what a client's exit without an answer shows
+-- what an exit without an answer shows
 abbrev ShowsCause : NoAnswerCause → Sight → Sight → Type 0
 ShowsCause DialFailed before after = Rose before.link_faults after.link_faults
 ShowsCause LinkClosed before after = LosesLink before after
@@ -388,6 +394,9 @@ by_cause : (setup : Setup) (cause : NoAnswerCause) (before after : Sight) → Se
 by_cause (setups.Logon job files) DialFailed before after ends = (logon_laws.dial (plan_of job files) files.seed job.boot before after _ ends refl).rose
 by_cause (setups.Logon job files) LinkClosed before after ends = logon_laws.closed (plan_of job files) files.seed job.boot before after _ ends refl
 by_cause (setups.Logon job files) NoController before after ends = tt
+by_cause (setups.Station job files) DialFailed before after ends = (station_laws.dial (station_plan job files) files.seed job.boot before after _ ends refl).rose
+by_cause (setups.Station job files) LinkClosed before after ends = station_laws.closed (station_plan job files) files.seed job.boot before after _ ends refl
+by_cause (setups.Station job files) NoController before after ends = tt
 by_cause (setups.Controller job files) cause before after (inl left) = absurd (let is = left.0 in cc)
 by_cause (setups.Controller job files) cause before after (inr serves) = absurd serves
 by_cause (setups.Member job files) cause before after (inl left) = absurd (let is = left.0 in cc)

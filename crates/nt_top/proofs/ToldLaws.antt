@@ -38,7 +38,7 @@ pub record Told {S : Type 0} (machine : Machine S) (first : List Action) (old : 
   pub moments : Appends before.moments after.moments (moments_of steps ++ moments_later)
 
 -- what was left at first is what was drawn and what is left
-left_is : (opened middle ended : Drawing) (draws : List (List ℕ)) → opened.drawn ≡ [] → DrawsAll opened middle [] → DrawsAll opened ended draws → middle.left ≡ ended.drawn ++ ended.left
+pub left_is : (opened middle ended : Drawing) (draws : List (List ℕ)) → opened.drawn ≡ [] → DrawsAll opened middle [] → DrawsAll opened ended draws → middle.left ≡ ended.drawn ++ ended.left
 left_is opened middle ended draws none first all =
     let drawn : ended.drawn ≡ draws = all.drawn ∙ ap (λ (d : List (List ℕ)). d ++ draws) none in
     sym first.left ∙ all.left ∙ ap (λ (d : List (List ℕ)). d ++ ended.left) (sym drawn)
@@ -115,7 +115,7 @@ quiet_chooses machine state (first ∷ later) step waiting chooses = chooses
 -- ---- a port that failed
 
 -- performing actions gives no event
-begun_events : (first : List Action) (happened later : List Happening) → Performs [] first happened → events_in (happened ++ later) ≡ events_in later
+pub begun_events : (first : List Action) (happened later : List Happening) → Performs [] first happened → events_in (happened ++ later) ≡ events_in later
 begun_events first happened later performs =
     flat_map-append event_of happened later ∙ ap (λ (e : List (Event × Option ℕ)). e ++ events_in later) (performs_silent [] first happened performs)
 

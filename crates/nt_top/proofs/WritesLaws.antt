@@ -23,7 +23,10 @@ use Rattle.nt_words.specs.declared.files.FilesRefused.{FilesRefused}
 use Rattle.nt_words.specs.declared.job.Service.{Service}
 use Rattle.nt_words.specs.declared.setup.Setup.{Setup}
 use Rattle.nt_words.specs.declared.setup.Setup.TheVariants as setups
+use Rattle.interactive_station.specs.Machine.{station_machine}
+use Rattle.interactive_station.specs.declared.plan.StationPlan.{StationPlan}
 use Rattle.nt_top.specs.Logon.{LogonEnds}
+use Rattle.nt_top.specs.Station.{StationEnds}
 use Rattle.nt_top.specs.Serve.{MayServe, ServesTo}
 use Rattle.nt_top.specs.Service.{ServiceBy, ServiceFollows, ServiceReads, files_on}
 use Rattle.nt_top.specs.Writes.{AreInto, WritesInto, file_of_service}
@@ -160,7 +163,7 @@ may_serve : {S : Type 0} (machine : Machine S) (file : Option (List ℕ)) (first
 may_serve machine file first old address seed boot most before after exit (inl left) = left_into file before after left.1
 may_serve machine file first old address seed boot most before after exit (inr serves) = serves_to machine file first old address seed boot most before after exit serves
 
--- ---- a client
+-- ---- a client, and a station
 
 logon_into : (plan : ClientPlan) (seed : List ℕ) (boot : ℕ) (before after : Sight) (exit : Exit) → LogonEnds plan seed boot before after exit → Into None before after
 logon_into plan seed boot before after exit logon =
@@ -173,12 +176,24 @@ logon_into plan seed boot before after exit logon =
       ]
     ])
 
+station_into : (plan : StationPlan) (seed : List ℕ) (boot : ℕ) (before after : Sight) (exit : Exit) → StationEnds plan seed boot before after exit → Into None before after
+station_into plan seed boot before after exit station =
+    opened_into None before station.opened after station.opens.files
+    (elim station.ends [
+      | inl none ↦ left_into None station.opened after none.1
+      | inr begun ↦ elim begun [
+        | inl breaks ↦ begun_until station_machine None _ _ _ station.opened after breaks.halt breaks.run
+        | inr ends ↦ subst (λ (s : Sight). Into None station.opened s) (sym ends.only) (begun_out station_machine None _ _ ends.last _ station.opened ends.ended ends.run)
+      ]
+    ])
+
 -- ---- a service
 
 by_into : (setup : Setup) (before after : Sight) (exit : Exit) → ServiceBy setup before after exit → Into (file_of_service (service_in setup)) before after
 by_into (setups.Controller job files) before after exit serves = may_serve _ _ _ _ _ _ _ _ before after exit serves
 by_into (setups.Member job files) before after exit serves = may_serve _ _ _ _ _ _ _ _ before after exit serves
 by_into (setups.Logon job files) before after exit ends = logon_into _ _ _ before after exit ends
+by_into (setups.Station job files) before after exit ends = station_into _ _ _ before after exit ends
 
 follows_into : (read : Result Setup FilesRefused) (service : Service) (before after : Sight) (exit : Exit) → IfOk read (λ s. service_in s ≡ service) → ServiceFollows read before after exit →
     Into (file_of_service service) before after

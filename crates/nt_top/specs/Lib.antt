@@ -13,5 +13,8 @@ pub mod Serve
 pub mod ServeExits
 pub mod Service
 pub mod Show
+pub mod Station
+pub mod StationExits
 pub mod Told
+pub mod Unsealed
 pub mod Writes

@@ -86,8 +86,8 @@ put_in m old new = change_of m.taken m.sink_faults old.out new.out
 
 -- What the program does with its outside, and what stays as it stood.
 pub record Acts {P F S C Q : Type 0} (m : Meanings P F S C Q) (role : Role) (asked : List (List ℕ)) (old new : Outside P F S C Q) (exit : Exit) : Type 0 where
-  -- A domain controller or a member server is served, and a logon client logs on, by what the words and the files say,
-  -- or the words are refused.
+  -- A domain controller or a member server is served, and a logon client logs on, or on and off at a workstation, by
+  -- what the words and the files say, or the words are refused.
   pub service : uses_port role asked ≡ true → ServiceRuns role asked (shelf_in m old) (shelf_in m new) (sight_in m old) (sight_in m new) exit
   -- What the other commands do is told by their words: the exit is that of what the words come to, and what is put is
   -- told by it.
@@ -148,7 +148,7 @@ pub record Runs {P F S C Q : Type 0} (m : Meanings P F S C Q) (role : Role) (ask
       IsOfContents refused → exit ≡ files_exit refused → IsBadOfFiles role asked (m.contents old.files) refused
   -- No other command comes to an exit that tells of a file, a table, the port, a peer or spent challenges.
   pub others : ActsByWords role asked → IsOfTheCommands exit
-  -- A logon finds its dial failed only where one did, its link closed only where that was shown.
+  -- A logon, or a station, finds its dial failed only where one did, its link closed only where that was shown.
   pub dial_failed : exit ≡ NoAnswer DialFailed → Rose (m.link_faults old.port) (m.link_faults new.port)
   pub link_lost : exit ≡ NoAnswer LinkClosed → LosesLink (sight_in m old) (sight_in m new)
   -- Words and inputs of their forms come to their work, where the sink doesn't fail.

@@ -1,11 +1,11 @@
 -- The commands that use the port (this project's own choice): the words are judged, then the files that they name are
 -- read and judged, and then the end that words and files make is served, or logs on.
-use Rattle.std.specs.Prelude.{ℕ, ◌≡◌, ◌≤◌, Bool, true, false, List, [], ◌∷◌, ◌++◌, Option, Some, None, IsSome, Result, Ok, Err, IfOk, codes}
+use Rattle.std.specs.Prelude.{ℕ, ◌≡◌, ◌≤◌, ◌||◌, Bool, true, false, List, [], ◌∷◌, ◌++◌, Option, Some, None, IsSome, Result, Ok, Err, IfOk, codes}
 use Rattle.outside.specs.declared.action.Action.{Action}
 use Rattle.outside.specs.declared.action.Action.TheVariants.{Keep}
 use Rattle.end_loop.specs.Seen.{Sight}
 use Rattle.end_loop.specs.Writing.{FilesTold}
-use Rattle.domain_controller.specs.TrustStep.{first_trust_state, trust_machine}
+use Rattle.domain_controller.specs.SealStep.{first_seal_state, seal_machine}
 use Rattle.member_server.specs.Machine.{Changing, change_of}
 use Rattle.member_server.specs.SealStep.{any_member_machine, sealing_member}
 use Rattle.member_server.specs.State.{State}
@@ -33,15 +33,16 @@ use Rattle.nt_top.specs.Logon.{LogonEnds, plan_of}
 use Rattle.nt_top.specs.LogonExits.{IsAnswered}
 use Rattle.nt_top.specs.Refusals.{files_exit, words_exit}
 use Rattle.nt_top.specs.Serve.{IsLeft, IsServed, MayServe}
+use Rattle.nt_top.specs.Station.{StationEnds, station_plan}
 
 -- ---- which commands these are
 
 -- whether the words name a command that uses the port: a controller has no other, a member server has `serve`, and a
--- logon client `logon`
+-- logon client `logon` and `station`
 abbrev pub uses_port : Role → List (List ℕ) → Bool
 uses_port Controller asked = true
 uses_port Member asked = is_led_by (codes "serve") asked
-uses_port Logon asked = is_led_by (codes "logon") asked
+uses_port Logon asked = is_led_by (codes "logon") asked || is_led_by (codes "station") asked
 
 -- what the program does is told by its words
 abbrev pub ActsByWords : Role → List (List ℕ) → Type 0
@@ -95,14 +96,16 @@ pub record BeginsOneChange : Type 0 where
       (first_of (member_begins job files).answer ≡ []) × ((member_begins job files).state ≡ sealing_member (member_plan job files.secrets))
 
 -- The end of the service is served: a controller of the words' name over the files' table, which asks the controllers
--- of the domains that the table trusts and keeps changed secrets in the file that the words name for them, or a member
--- server. It is served at the words' address, with the file's seed and the words' number of the boot, for as many
--- events as they say. A logon client of the words and the file's hash comes to its exit.
+-- of the domains that the table trusts, can seal, and keeps changed secrets in the file that the words name for them,
+-- or a member server. It is served at the words' address, with the file's seed and the words' number of the boot, for
+-- as many events as they say. A logon client of the words and the file's hash comes to its exit, and so does a station
+-- of the words and of the files' secret and hash.
 abbrev pub ServiceBy : Setup → Sight → Sight → Exit → Type 0
 ServiceBy (setups.Controller job files) before after exit =
-    MayServe trust_machine job.secrets [] (first_trust_state files.table job.name) job.listen files.seed job.boot job.events before after exit
+    MayServe seal_machine job.secrets [] (first_seal_state files.table job.name) job.listen files.seed job.boot job.events before after exit
 ServiceBy (setups.Member job files) before after exit = MemberServes job files before after exit
 ServiceBy (setups.Logon job files) before after exit = LogonEnds (plan_of job files) files.seed job.boot before after exit
+ServiceBy (setups.Station job files) before after exit = StationEnds (station_plan job files) files.seed job.boot before after exit
 
 -- ---- a command, from its words on
 
@@ -155,6 +158,7 @@ abbrev pub IsServedBy : Setup → Exit → Type 0
 IsServedBy (setups.Controller job files) exit = IsServed exit
 IsServedBy (setups.Member job files) exit = IsServed exit
 IsServedBy (setups.Logon job files) exit = IsAnswered exit
+IsServedBy (setups.Station job files) exit = IsAnswered exit
 
 -- ---- refused files in their own terms
 

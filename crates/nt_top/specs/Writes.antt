@@ -16,6 +16,7 @@ abbrev pub file_of_service : Service → Option (List ℕ)
 file_of_service (services.Controller job) = job.secrets
 file_of_service (services.Member job) = Some job.secret
 file_of_service (services.Logon job) = None
+file_of_service (services.Station job) = None
 
 abbrev pub file_of_job : Result Job WordsRefused → Option (List ℕ)
 file_of_job (Ok (jobs.Service service)) = file_of_service service

@@ -4,7 +4,7 @@ ghost use Rattle.std.specs.Prelude.{◌≡◌, ◌≤◌, [], IfOk, option_copie
 ghost use Rattle.outside.specs.Causes.{Rose};
 ghost use Rattle.end_loop.specs.Seen.{Between};
 ghost use Rattle.end_loop.specs.Writing.{files_told};
-ghost use Rattle.domain_controller.specs.TrustStep.{first_trust_state, trust_machine};
+ghost use Rattle.domain_controller.specs.SealStep.{first_seal_state, seal_machine};
 ghost use Rattle.nt_top.specs.Serve.{MayServe};
 ghost use Rattle.nt_top.specs.declared.exit.Exit.{Exit};
 
@@ -18,8 +18,9 @@ use std::alloc::Global;
 use wire_base::NoMemory;
 
 /// Starts the challenges, listens, and serves the controller of the words' name over the table. It dials the
-/// controllers of the domains that the table trusts, at the addresses that the table has. Changed secrets are written
-/// into the file that the words name for them, where they name one.
+/// controllers of the domains that the table trusts, at the addresses that the table has. It grants secure RPC to who
+/// offers it, and that channel is sealed. Changed secrets are written into the file that the words name for them, where
+/// they name one.
 ///
 /// `PortFault`, `FileFault`, `SinkFault` and `Spent` are those of the service; `Done` where the port gave `Stop` or as
 /// many events as the words say. `NoMemory` may come at any time.
@@ -37,8 +38,8 @@ pub(crate) fn serve_controller<P: Port, S: Sink, F: Files, C: Clock, Q: Chances>
         P.story P.link_faults C.moments Q.drawing S.taken
         (files_told F.contents F.reads F.writes) port.old clock.old chances.old out.old files.old
         port.new clock.new chances.new out.new files.new
-        (λ before after. MayServe trust_machine words.now.secrets []
-        (first_trust_state setup.table words.now.name) words.now.listen setup.seed words.now.boot
+        (λ before after. MayServe seal_machine words.now.secrets []
+        (first_seal_state setup.table words.now.name) words.now.listen setup.seed words.now.boot
         words.now.events before after result) }
     ensures file_cause { result ≡ Exit.FileFault → Rose (F.faults files.old) (F.faults files.new) }
     ensures files { F.faults files.old ≤ F.faults files.new }
@@ -81,12 +82,12 @@ fn bytes_of(name: Option<&str>) -> Option<&[u8]>
     }
 }
 
-/// The controller of that name over the table, which asks for the logons of trusted domains' users.
+/// The controller of that name over the table, which asks for the logons of trusted domains' users, and can seal.
 fn controller_of(alloc: Global, table: Table, name: &str) -> Result<Controller, NoMemory>
-    ensures { IfOk result (λ controller. controller ≡ first_trust_state table name.now) }
+    ensures { IfOk result (λ controller. controller ≡ first_seal_state table name.now) }
 {
     match name_of(alloc, name) {
-        Ok(name) => Controller::with_trusts(alloc, table, name),
+        Ok(name) => Controller::with_sealing(alloc, table, name),
         Err(NoMemory) => Err(NoMemory),
     }
 }

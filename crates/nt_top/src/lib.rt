@@ -13,6 +13,7 @@ mod member_serving;
 mod serve;
 mod service;
 mod show;
+mod station;
 mod texts;
 mod top;
 mod words;
@@ -21,8 +22,10 @@ pub use drill::drill_lines;
 pub use exit::Exit;
 pub use launch::{run_and_report, start};
 pub use laws::{
-    a_member_begins_one_change, what_is_told_decides_how_a_service_ends,
-    what_is_told_decides_the_exit,
+    a_member_begins_one_change, runs_that_nobody_seals_stay_plain,
+    services_that_nobody_seals_stay_plain, what_is_told_decides_how_a_service_ends,
+    what_is_told_decides_how_a_station_ends, what_is_told_decides_the_exit,
+    what_nobody_seals_stays_plain,
 };
 pub use nt_words::Role;
 pub use texts::{exit_line, exit_text, report};

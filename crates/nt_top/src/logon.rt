@@ -71,7 +71,7 @@ fn plan_of(alloc: Global, words: &LogonWords, setup: &SecretSetup) -> Result<Cli
 }
 
 /// The units of a name: each byte is its unit.
-fn units_of(alloc: Global, text: &str) -> Result<Units, NoMemory>
+pub(crate) fn units_of(alloc: Global, text: &str) -> Result<Units, NoMemory>
     ensures { IfOk result (λ units. units ≡ text.now) }
 {
     Ok(Units::from_vec(
@@ -129,7 +129,7 @@ fn run_client<P: Port, S: Sink, F: Files, C: Clock, Q: Chances>(
 }
 
 /// The exit of a run that halted.
-fn exit_of_halt(halt: Halt) -> Exit
+pub(crate) fn exit_of_halt(halt: Halt) -> Exit
     ensures value { result ≡ halt_exit halt }
     ensures file { result ≡ Exit.FileFault → halt ≡ Halt.FileFault }
     ensures sink { result ≡ Exit.SinkFault → halt ≡ Halt.SinkFault }

@@ -15,6 +15,7 @@ use crate::controller_serving::serve_controller;
 use crate::exit::Exit;
 use crate::logon::logon;
 use crate::member_serving::serve_member;
+use crate::station::station;
 use nt_words::{FilesRefused, Service, Setup, set_up};
 use outside::{Chances, Clock, Files, Port, Sink};
 use std::alloc::Global;
@@ -62,7 +63,7 @@ fn exit_of_files(refused: FilesRefused) -> Exit
     Exit::from(refused)
 }
 
-/// Serves the end of the service, or logs on.
+/// Serves the end of the service, or logs on, at a member server or at a workstation.
 fn serve_by<P: Port, S: Sink, F: Files, C: Clock, Q: Chances>(
     alloc: Global,
     setup: Setup,
@@ -94,6 +95,9 @@ fn serve_by<P: Port, S: Sink, F: Files, C: Clock, Q: Chances>(
         }
         Setup::Logon(words, setup) => {
             logon(alloc, &words, &setup, port, out, files, clock, chances)
+        }
+        Setup::Station(words, setup) => {
+            station(alloc, &words, &setup, port, out, files, clock, chances)
         }
     }
 }

@@ -8,8 +8,8 @@ use Rattle.clap.specs.Words.{Row, Text, first_of, fault_of, matches_of}
 use Rattle.wire_base.specs.Names.{is_name, is_name_byte, IsName, IsNameByte}
 use Rattle.unit_security.specs.Levels.{is_level}
 use Rattle.logon_client.specs.declared.plan.AuthKind.TheVariants.{V1, V1Ess, V2}
-use Rattle.nt_words.specs.Forms.{IsAddress, IsControllerForm, IsMemberForm, IsLogonForm, IsDrillForm}
-use Rattle.nt_words.specs.Jobs.{Form, form, rows_by, rows_of_values, named_rows, fault_rows, misfit_rows, is_led_by, or_else, number_in, level_in, auth_in, controller_form, member_form, logon_form, drill_form, controller_of, member_of, logon_of, drill_of}
+use Rattle.nt_words.specs.Forms.{IsAddress, IsControllerForm, IsMemberForm, IsLogonForm, IsStationForm, IsDrillForm}
+use Rattle.nt_words.specs.Jobs.{Form, form, rows_by, rows_of_values, named_rows, fault_rows, misfit_rows, is_led_by, or_else, number_in, level_in, auth_in, controller_form, member_form, logon_form, station_form, drill_form, controller_of, member_of, logon_of, station_of, drill_of}
 use Rattle.nt_words.specs.Options.{Choice, choice, suits, suits_in, first_misfit, number_of, is_at_most, is_text}
 use Rattle.nt_words.specs.Words.{app_with}
 use Rattle.nt_words.specs.declared.options.Kind.TheVariants.{Address, Name, Number, Auth}
@@ -128,6 +128,14 @@ logon_formed rows all = record {
   level = level_is (first_of (codes "level") rows);
   plain = auth_suits rows (first_of (codes "auth") rows) all.1.1.1.1.1.1.0;
   echo = number_suits rows (codes "echo") 4096 false (first_of (codes "echo") rows) all.1.1.1.1.1.1.1.0;
+}
+
+pub station_formed : (rows : List Row) → EachSuits rows station_form.choices → IsStationForm (station_of rows)
+station_formed rows all = record {
+  controller = address_suits rows (codes "controller") (first_of (codes "controller") rows) all.0;
+  computer = name_suits rows (codes "computer") (first_of (codes "computer") rows) all.1.0;
+  domain = name_suits rows (codes "domain") (first_of (codes "domain") rows) all.1.1.1.0;
+  user = name_suits rows (codes "user") (first_of (codes "user") rows) all.1.1.1.1.0;
 }
 
 pub drill_formed : (rows : List Row) → EachSuits rows drill_form.choices → IsDrillForm (drill_of rows)

@@ -6,7 +6,7 @@ use Rattle.std.proofs.lemmas.Slice.Eq.{bytes_eq-Decides}
 use lib.ListN.{get_or}
 use Rattle.clap.specs.Words.{Text}
 use Rattle.nt_words.specs.Jobs.{Form, rows_by, named_rows, is_led_by, job_by, controller_form, controller_job, controller_of, member_form, member_job, member_of, logon_form, logon_job, logon_of}
-use Rattle.nt_words.specs.Roles.{job_of, job_at_once, logon_by, member_by, drill_by, service_from}
+use Rattle.nt_words.specs.Roles.{job_of, job_at_once, logon_by, member_by, drill_by, station_by, service_from}
 use Rattle.nt_words.specs.declared.job.Job.{Job}
 use Rattle.nt_words.specs.declared.job.Role.{Role}
 use Rattle.nt_words.specs.declared.job.Role.TheVariants.{Controller, Member, Logon}
@@ -41,17 +41,18 @@ of_member : (words : List Text) → is_led_by (codes "check") words ≡ false �
 of_member words check serve =
     (ap (λ (b : Bool). member_by b words) check ∙ ap (service_from services.Member) (no_member words serve), rw (check, serve) refl)
 
-of_logon : (words : List Text) → is_led_by (codes "show") words ≡ false → is_led_by (codes "drill") words ≡ false → is_led_by (codes "logon") words ≡ false →
-    IsOther Logon words
-of_logon words show drill logon = (
-  ap (λ (b : Bool). logon_by b words) show ∙ (ap (λ (b : Bool). drill_by b words) drill ∙ ap (service_from services.Logon) (no_logon words logon)),
-  rw (show, drill, logon) refl,
+of_logon : (words : List Text) → is_led_by (codes "show") words ≡ false → is_led_by (codes "drill") words ≡ false → is_led_by (codes "station") words ≡ false →
+    is_led_by (codes "logon") words ≡ false → IsOther Logon words
+of_logon words show drill station logon = (
+  ap (λ (b : Bool). logon_by b words) show ∙ (ap (λ (b : Bool). drill_by b words) drill
+      ∙ (ap (λ (b : Bool). station_by b words) station ∙ ap (service_from services.Logon) (no_logon words logon))),
+  rw (show, drill, station, logon) refl,
 )
 
 none : (role : Role) → IsOther role []
 none Controller = of_controller [] refl
 none Member = of_member [] refl refl
-none Logon = of_logon [] refl refl refl
+none Logon = of_logon [] refl refl refl refl
 
 pub none_asked : {A : Type 0} (role : Role) (text : A → Text) (words : List A) → length words < 1 → IsOther role (map text words)
 none_asked role text [] few = none role
@@ -83,10 +84,10 @@ other_of_member text words command first check serve =
     of_member (map text words) (unled text words command first (codes "check") check) (unled text words command first (codes "serve") serve)
 
 pub other_of_logon : {A : Type 0} (text : A → Text) (words : List A) (command : Text) → IsFirst text words command →
-    (command ≡ codes "show" → ⊥) → (command ≡ codes "drill" → ⊥) → (command ≡ codes "logon" → ⊥) → IsOther Logon (map text words)
-other_of_logon text words command first show drill logon =
+    (command ≡ codes "show" → ⊥) → (command ≡ codes "drill" → ⊥) → (command ≡ codes "station" → ⊥) → (command ≡ codes "logon" → ⊥) → IsOther Logon (map text words)
+other_of_logon text words command first show drill station logon =
     of_logon (map text words) (unled text words command first (codes "show") show) (unled text words command first (codes "drill") drill)
-    (unled text words command first (codes "logon") logon)
+    (unled text words command first (codes "station") station) (unled text words command first (codes "logon") logon)
 
 at_once : (seen : Option (Result Job WordsRefused)) (came : Result Job WordsRefused) → IfSome seen (λ due. due ≡ Err (BadWords 0)) → came ≡ Err (BadWords 0) →
     IfSome seen (λ due. came ≡ due)

@@ -5,7 +5,7 @@ use Rattle.clap.specs.Words.{Text}
 use Rattle.wire_base.specs.Names.{IsName}
 use Rattle.unit_security.specs.Levels.{is_level}
 use Rattle.logon_client.specs.declared.plan.AuthKind.TheVariants.{V1}
-use Rattle.nt_words.specs.Jobs.{ControllerJob, MemberJob, LogonJob, DrillJob}
+use Rattle.nt_words.specs.Jobs.{ControllerJob, MemberJob, LogonJob, StationJob, DrillJob}
 
 -- an address: 1 to 255 bytes
 abbrev pub IsAddress : Text → Type 0
@@ -30,6 +30,12 @@ pub record IsLogonForm (job : LogonJob) : Type 0 where
   -- without extended session security nothing is signed
   pub plain : job.auth ≡ V1 → job.level ≡ 2
   pub echo : job.echo ≤ 4096
+
+pub record IsStationForm (job : StationJob) : Type 0 where
+  pub controller : IsAddress job.controller
+  pub computer : IsName job.computer
+  pub domain : IsName job.domain
+  pub user : IsName job.user
 
 pub record IsDrillForm (job : DrillJob) : Type 0 where
   pub moves : job.moves ≤ 100000

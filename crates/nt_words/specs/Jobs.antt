@@ -223,6 +223,48 @@ logon_of rows = record {
 unfoldable pub logon_job : List Text → Result LogonJob WordsRefused
 logon_job words = job_by logon_of (rows_by logon_form words)
 
+-- ---- `nt_logon station`
+
+abbrev pub station_form : Form
+station_form = record {
+  name = codes "station";
+  choices =
+      choice (codes "controller") Address true ∷
+      choice (codes "computer") Name true ∷
+      choice (codes "secret") File true ∷
+      choice (codes "domain") Name true ∷
+      choice (codes "user") Name true ∷
+      choice (codes "hash") File true ∷
+      choice (codes "seed") File true ∷
+      choice (codes "boot") (Number 4294967295) true ∷ [];
+}
+
+pub record StationJob : Type 0 where
+  pub controller : Text
+  pub computer : Text
+  pub secret : Text
+  pub domain : Text
+  pub user : Text
+  pub hash : Text
+  pub seed : Text
+  pub boot : ℕ
+
+-- the job of these rows
+abbrev pub station_of : List Row → StationJob
+station_of rows = record {
+  controller = text_at rows (codes "controller");
+  computer = text_at rows (codes "computer");
+  secret = text_at rows (codes "secret");
+  domain = text_at rows (codes "domain");
+  user = text_at rows (codes "user");
+  hash = text_at rows (codes "hash");
+  seed = text_at rows (codes "seed");
+  boot = number_at rows (codes "boot") 0;
+}
+
+unfoldable pub station_job : List Text → Result StationJob WordsRefused
+station_job words = job_by station_of (rows_by station_form words)
+
 -- ---- `nt_logon drill`
 
 abbrev pub drill_form : Form

@@ -2,7 +2,7 @@
 -- first.
 use Rattle.std.specs.Prelude.{◌≡◌, ◌≢◌, ℕ, Bool, true, false, List, [], ◌∷◌, Option, Some, None, Result, Ok, Err, codes}
 use Rattle.clap.specs.Words.{Text, fault_of, matches_of}
-use Rattle.nt_words.specs.Jobs.{Form, controller_form, controller_job, member_form, member_job, logon_form, logon_job, drill_form, drill_job, is_led_by}
+use Rattle.nt_words.specs.Jobs.{Form, controller_form, controller_job, member_form, member_job, logon_form, logon_job, station_form, station_job, drill_form, drill_job, is_led_by}
 use Rattle.nt_words.specs.Options.{IsFirstMisfit}
 use Rattle.nt_words.specs.Words.{app_with}
 use Rattle.nt_words.specs.declared.job.Command.{Command}
@@ -38,9 +38,13 @@ abbrev pub member_by : Bool → List Text → Result Job WordsRefused
 member_by true words = check words
 member_by false words = service_from services.Member (member_job words)
 
+abbrev pub station_by : Bool → List Text → Result Job WordsRefused
+station_by true words = service_from services.Station (station_job words)
+station_by false words = service_from services.Logon (logon_job words)
+
 abbrev pub drill_by : Bool → List Text → Result Job WordsRefused
 drill_by true words = command_from commands.Drill (drill_job words)
-drill_by false words = service_from services.Logon (logon_job words)
+drill_by false words = station_by (is_led_by (codes "station") words) words
 
 abbrev pub logon_by : Bool → List Text → Result Job WordsRefused
 logon_by true words = show words
@@ -62,9 +66,13 @@ abbrev pub member_at_once : Bool → List Text → Option (Result Job WordsRefus
 member_at_once true words = Some (check words)
 member_at_once false words = unless_led (is_led_by (codes "serve") words)
 
+abbrev pub station_at_once : Bool → List Text → Option (Result Job WordsRefused)
+station_at_once true words = None
+station_at_once false words = unless_led (is_led_by (codes "logon") words)
+
 abbrev pub drill_at_once : Bool → List Text → Option (Result Job WordsRefused)
 drill_at_once true words = None
-drill_at_once false words = unless_led (is_led_by (codes "logon") words)
+drill_at_once false words = station_at_once (is_led_by (codes "station") words) words
 
 abbrev pub logon_at_once : Bool → List Text → Option (Result Job WordsRefused)
 logon_at_once true words = Some (show words)
@@ -83,6 +91,7 @@ pub data IsFormOf : Role → Form → Type 0 where
   OfController : IsFormOf Controller controller_form
   OfMember : IsFormOf Member member_form
   OfLogon : IsFormOf Logon logon_form
+  OfStation : IsFormOf Logon station_form
   OfDrill : IsFormOf Logon drill_form
 
 -- The command leads the words, and `clap` finds no fault in them; the number is that of the first of its options whose

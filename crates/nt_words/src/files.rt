@@ -2,7 +2,7 @@
 
 ghost use Rattle.std.specs.Prelude.{◌≡◌, [], ◌∷◌, Some, option_map};
 ghost use Rattle.hex.specs.Hex.{decode_sized};
-ghost use Rattle.nt_words.specs.Files.{shelf_of, ReadsFiles, Judges, content_due, file_due, table_refused, file_refused};
+ghost use Rattle.nt_words.specs.Files.{shelf_of, ReadsFiles, Judges, content_due, file_due, table_refused, file_refused, station_files, station_rest};
 ghost use Rattle.nt_words.specs.Files.{seed_in, secret_in, secrets_in, table_in, digits_by, is_end, controller_files, secret_files};
 ghost use Rattle.nt_words.specs.Files.{apply_refused, change_due, controller_rest, kept_in, member_files, member_rest, secrets_due};
 ghost use Rattle.nt_words.specs.Options.{file_of};
@@ -104,6 +104,45 @@ impl SecretSetup {
         ensures { result ≡ self.now.secret }
     {
         self.secret
+    }
+
+    /// The seed.
+    pub fn seed(&self) -> [u8; 32]
+        ensures { result ≡ self.now.seed }
+    {
+        self.seed
+    }
+}
+
+/// What `nt_logon station` starts from.
+#[derive(Drop)]
+pub struct StationSetup {
+    secret: [u8; 16],
+    hash: [u8; 16],
+    seed: [u8; 32],
+}
+
+impl Model for StationSetup {
+    ghost use Rattle.nt_words.specs.Files.{StationFiles};
+
+    ghost Value = { StationFiles };
+
+    ghost view = { λ s. record { secret = s.secret; hash = s.hash; seed = s.seed } };
+}
+
+impl StationSetup {
+    /// The secret of the workstation's account.
+    pub fn secret(&self) -> [u8; 16]
+        ensures { result ≡ self.now.secret }
+    {
+        self.secret
+    }
+
+    /// The user's hash.
+    pub fn hash(&self) -> [u8; 16]
+        ensures { result ≡ self.now.hash }
+    {
+        self.hash
     }
 
     /// The seed.
@@ -296,6 +335,47 @@ pub(crate) fn read_secret_files<F: Files>(
     };
     match read_seed(alloc, files, later, seed) {
         Ok(seed) => Ok(SecretSetup { secret, seed }),
+        Err(refused) => Err(refused),
+    }
+}
+
+/// The files of `nt_logon station`: the machine's secret, then the user's hash, then the seed.
+pub(crate) fn read_station_files<F: Files>(
+    alloc: Global,
+    files: &mut F,
+    secret: &str,
+    hash: &str,
+    seed: &str,
+) -> Result<StationSetup, FilesRefused>
+    ensures { let shelf = shelf_of F.faults F.contents F.reads F.writes in
+        ReadsFiles ((3, secret.now) ∷ (6, hash.now) ∷ (7, seed.now) ∷ [])
+        (station_files secret.now hash.now seed.now)
+        result (shelf files.old) (shelf files.new) }
+{
+    match read_secret(alloc, files, 3, secret) {
+        Ok(secret) => read_station_rest(alloc, files, secret, hash, seed),
+        Err(refused) => Err(refused),
+    }
+}
+
+/// The user's hash, and then the seed.
+fn read_station_rest<F: Files>(
+    alloc: Global,
+    files: &mut F,
+    secret: [u8; 16],
+    hash: &str,
+    seed: &str,
+) -> Result<StationSetup, FilesRefused>
+    ensures { let shelf = shelf_of F.faults F.contents F.reads F.writes in
+        ReadsFiles ((6, hash.now) ∷ (7, seed.now) ∷ []) (station_rest hash.now seed.now secret)
+        result (shelf files.old) (shelf files.new) }
+{
+    match read_secret_files(alloc, files, 6, hash, 7, seed) {
+        Ok(found) => Ok(StationSetup {
+            secret,
+            hash: found.secret(),
+            seed: found.seed(),
+        }),
         Err(refused) => Err(refused),
     }
 }

@@ -4,7 +4,7 @@ ghost use Rattle.std.specs.Prelude.{◌≡◌, IfSome, codes, map, true};
 ghost use Rattle.std.specs.String.{string_bytes};
 ghost use Rattle.wire_base.specs.Memory.{UpToMemory};
 ghost use Rattle.nt_words.specs.Roles.{check, command_from, job_at_once, job_of, service_from, show};
-ghost use Rattle.nt_words.specs.Jobs.{controller_job, drill_job, is_led_by, logon_job, member_job};
+ghost use Rattle.nt_words.specs.Jobs.{controller_job, drill_job, is_led_by, logon_job, member_job, station_job};
 ghost use Rattle.nt_words.specs.declared.job.Command.TheVariants as commands;
 ghost use Rattle.nt_words.specs.declared.job.Service.TheVariants as services;
 
@@ -13,6 +13,7 @@ use crate::drill::{DrillWords, drill_words};
 use crate::logon::{LogonWords, logon_words};
 use crate::member::{MemberWords, member_words};
 use crate::options::WordsRefused;
+use crate::station::{StationWords, station_words};
 use std::alloc::Global;
 use std::marker::Model;
 
@@ -98,6 +99,8 @@ pub enum Service<'a> {
     Member(MemberWords<'a>),
     /// `nt_logon logon`.
     Logon(LogonWords<'a>),
+    /// `nt_logon station`.
+    Station(StationWords<'a>),
 }
 
 /// A command that its words alone tell.
@@ -138,6 +141,7 @@ pub fn job_of<'a>(alloc: Global, role: Role, words: &'a [String]) -> Result<Job<
         (Role::Logon, "logon") => logon_job(alloc, words),
         (Role::Logon, "show") => show_job(words),
         (Role::Logon, "drill") => drill_job(alloc, words),
+        (Role::Logon, "station") => station_job(alloc, words),
         _ => Err(WordsRefused::BadWords(0)),
     }
 }
@@ -174,6 +178,18 @@ fn logon_job<'a>(alloc: Global, words: &'a [String]) -> Result<Job<'a>, WordsRef
 {
     match logon_words(alloc, words) {
         Ok(job) => Ok(Job::Service(Service::Logon(job))),
+        Err(refused) => Err(refused),
+    }
+}
+
+/// The job of a workstation that logs a user on and off.
+fn station_job<'a>(alloc: Global, words: &'a [String]) -> Result<Job<'a>, WordsRefused>
+    requires { is_led_by (codes "station") (map string_bytes words.now) ≡ true }
+    ensures { UpToMemory WordsRefused.Memory result
+        (service_from services.Station (station_job (map string_bytes words.now))) }
+{
+    match station_words(alloc, words) {
+        Ok(job) => Ok(Job::Service(Service::Station(job))),
         Err(refused) => Err(refused),
     }
 }

@@ -15,14 +15,16 @@ mod member;
 mod options;
 mod reading;
 mod setup;
+mod station;
 mod words;
 
 pub use controller::ControllerWords;
 pub use drill::DrillWords;
-pub use files::{ControllerSetup, FilesRefused, MemberSetup, SecretSetup};
+pub use files::{ControllerSetup, FilesRefused, MemberSetup, SecretSetup, StationSetup};
 pub use job::{CheckWords, Command, Job, Role, Service, ShowWords, job_of};
 pub use laws::{files_are_of_their_options, number_is_of_the_first_misfit, what_files_hold};
 pub use logon::LogonWords;
 pub use member::MemberWords;
 pub use options::{Kind, OptionForm, WordsRefused};
 pub use setup::{Setup, set_up};
+pub use station::StationWords;

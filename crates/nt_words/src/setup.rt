@@ -6,12 +6,13 @@ ghost use Rattle.nt_words.specs.Setups.{file_names, service_in, setup_due};
 
 use crate::controller::ControllerWords;
 use crate::files::{
-    ControllerSetup, FilesRefused, MemberSetup, SecretSetup, read_controller_files,
-    read_member_files, read_secret_files,
+    ControllerSetup, FilesRefused, MemberSetup, SecretSetup, StationSetup, read_controller_files,
+    read_member_files, read_secret_files, read_station_files,
 };
 use crate::job::Service;
 use crate::logon::LogonWords;
 use crate::member::MemberWords;
+use crate::station::StationWords;
 use outside::Files;
 use std::alloc::Global;
 
@@ -24,6 +25,8 @@ pub enum Setup<'a> {
     Member(MemberWords<'a>, MemberSetup),
     /// `nt_logon logon`.
     Logon(LogonWords<'a>, SecretSetup),
+    /// `nt_logon station`.
+    Station(StationWords<'a>, StationSetup),
 }
 
 /// Reads the files of a service, in the order of its options.
@@ -56,6 +59,13 @@ pub fn set_up<'a, F: Files>(
         Service::Logon(words) => {
             match read_secret_files(alloc, files, 5, words.hash_file(), 9, words.seed_file()) {
                 Ok(setup) => Ok(Setup::Logon(words, setup)),
+                Err(refused) => Err(refused),
+            }
+        }
+        Service::Station(words) => {
+            let (secret, hash, seed) = (words.secret_file(), words.hash_file(), words.seed_file());
+            match read_station_files(alloc, files, secret, hash, seed) {
+                Ok(setup) => Ok(Setup::Station(words, setup)),
                 Err(refused) => Err(refused),
             }
         }

@@ -20,7 +20,7 @@ other c =
           subst (λ (r : Role). IsOther r (map string_bytes c.args.words.now)) (sym w.in_default-2.is-0) (other_of_member string_bytes c.args.words.now _ first (search rules) (search rules))
       | in_default-2-via-in-Logon+in_default-2 w ↦
           subst (λ (r : Role). IsOther r (map string_bytes c.args.words.now)) (sym w.in_default-2.is-0)
-          (other_of_logon string_bytes c.args.words.now _ first (search rules) (search rules) (search rules))
+          (other_of_logon string_bytes c.args.words.now _ first (search rules) (search rules) (search rules) (search rules))
     ]
 
 pub returns-in_default-clause-job : goal.returns-in_default-clause-job
