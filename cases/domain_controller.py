@@ -113,6 +113,9 @@ class Shut(Exception):
 class Controller:
     """The controller by its rules, and the line that is written of its steps."""
 
+    # the flags that it grants
+    supported = SUPPORTED
+
     def __init__(self, users=(ANN, BOB), machines=(FILE1, FILE2, PDC2), challenges=(), head=None, name="PDC1", trusts=()):
         self.head = HEAD if head is None else head
         self.users, self.machines, self.name = users, machines, name
@@ -221,7 +224,7 @@ class Controller:
 
     def authenticate(self, call):
         pair = self.pending.pop(upper(call["computer"]), None)
-        flags = call["flags"] & SUPPORTED
+        flags = call["flags"] & self.supported
         refusal = {"credential": ZEROS, "flags": flags}
         secret = self.secret(call["account"], call["channel"], call["computer"])
         if secret is None:
@@ -349,6 +352,10 @@ class Controller:
             raise Shut("OutOfPlace")
         if unit["trailer"]:
             raise Shut("BadAuthentication")
+        return self.request(link, unit)
+
+    def request(self, link, unit):
+        """A fragment of a call on a bound link."""
         try:
             call = self.links[link]["joiner"].add(unit)
         except Refused as refused:
@@ -435,7 +442,7 @@ class Controller:
         pair = self.pending.get(upper(call["computer"]))
         secret = self.secret(call["account"], call["channel"], call["computer"])
         if pair and secret and "credential" not in fields:
-            channel = {"client": pair[0], "server": pair[1], "secret": secret, "flags": flags & SUPPORTED}
+            channel = {"client": pair[0], "server": pair[1], "secret": secret, "flags": flags & self.supported}
             call["credential"] = credential(key_of(channel), pair[0])
         return call
 

@@ -67,6 +67,8 @@ class Asking(channel_client.Requester):
 class Member:
     """The member by its rules, and the line that is written of its steps."""
 
+    operation = "member.run"
+
     def __init__(self, computer="FILE1", domain="CORP", secret="41" * 16, draws=DRAWS, controller=b"there", following=None):
         self.computer, self.domain, self.controller = computer, domain, controller
         self.channel = Asking(bytes.fromhex(secret), computer)
@@ -81,7 +83,7 @@ class Member:
         self.answers = []
 
     def case(self):
-        return line("member.run", *self.words), steps(self.answers + [str(len(self.draws))])
+        return line(self.operation, *self.words), steps(self.answers + [str(len(self.draws))])
 
     def draw(self):
         if not self.draws:
@@ -134,7 +136,7 @@ class Member:
         if not self.channel.waiting or self.channel.turn is not None:
             return
         self.give_secrets()
-        challenge = self.draw() if self.channel.client is None else bytes(8)
+        challenge = self.draw() if self.channel.draws() else bytes(8)
         timestamp = (self.now // 10_000_000 - 11_644_473_600) % 2**32
         self.channel.start(timestamp, challenge.hex())
         self.bind = bytes.fromhex(self.channel.answers[-1])

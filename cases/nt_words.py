@@ -3,8 +3,8 @@
 `jobs.job ROLE WORD..` (what the words ask for, or why they aren't of the form; `-` is an empty word, and `COUNT*TEXT`
 so many times the text), `jobs.files ROLE FAILING FILES WORD..` (what the files of the words' job come to, over files in
 memory of `NAME=BYTES` between commas, of which the calls FAILING fail: a controller's domain, seed and changed secrets,
-a member's secrets, seed and secret to change to, a hash and a seed, or the exit, its status and its line; and that all
-that was kept is still told).
+a member's secrets, seed and secret to change to, a hash and a seed, a station's secret, hash and seed, or the exit, its
+status and its line; and that all that was kept is still told).
 
 The commands, their options and the forms of files are this project's own choice (docs/FORMATS.md, "Commands, exits and
 what is printed").
@@ -41,6 +41,16 @@ ASK = {
     "seed": "s",
     "boot": "1",
 }
+STATION = {
+    "controller": "127.0.0.1:1445",
+    "computer": "WS1",
+    "secret": "k",
+    "domain": "CORP",
+    "user": "ann",
+    "hash": "h",
+    "seed": "s",
+    "boot": "1",
+}
 DRILL = {"number": "7", "moves": "100000"}
 MOST = 4294967295
 
@@ -57,6 +67,12 @@ COMMANDS = {
         "logon",
         ASK,
         ["server", "domain", "user", "workstation", "hash", "level", "auth", "echo", "seed", "boot"],
+    ),
+    "Station": (
+        LOGON,
+        "station",
+        STATION,
+        ["controller", "computer", "secret", "domain", "user", "hash", "seed", "boot"],
     ),
     "Drill": (LOGON, "drill", DRILL, ["number", "moves"]),
 }
@@ -274,6 +290,18 @@ def of_lines():
         (MEMBER, words_of("logon", ASK)),
         (LOGON, words_of("serve", SERVE)),
         (MEMBER, words_of("drill", DRILL)),
+        (MEMBER, words_of("station", STATION)),
+        (CONTROLLER, words_of("station", STATION)),
+        (LOGON, words_of("station", ASK)),
+        (LOGON, words_of("logon", STATION)),
+        (LOGON, words_of("Station", STATION)),
+        (LOGON, words_of("stations", STATION)),
+        (LOGON, words_of("statio", STATION)),
+        (LOGON, ["station"]),
+        (LOGON, ["station", "--help"]),
+        (LOGON, words_of("station", {**STATION, "events": "3"})),
+        (LOGON, words_of("station", {**STATION, "workstation": "WS"})),
+        (LOGON, words_of("station", STATION) + ["x"]),
         (LOGON, ["drill"]),
         (LOGON, ["drill", "--number", "1"]),
         (LOGON, ["logon", "--number", "1", "--moves", "1"]),
@@ -446,6 +474,31 @@ def of_hash_files():
     return out
 
 
+def of_station_files():
+    """A machine's secret, then a user's hash, and then the seed."""
+    good = f"{array(SECRET.lower())};{array(OTHER)};{array(SEED)}"
+    fault = ending("FileFault")
+
+    def case(answer, secret=SECRET, user=OTHER, seed=SEED, failing=""):
+        contents = {key: ascii_hex(text) for key, text in (("k", secret), ("h", user)) if text is not None}
+        if seed is not None:
+            contents["s"] = seed
+        return comes("Station", answer, failing, **contents)
+
+    out = [case(good, text) for text in (SECRET, SECRET + "\n", SECRET.lower(), SECRET.upper())]
+    out += [case(good, user=text) for text in (OTHER + "\n", OTHER.upper())]
+    out += [case(fault, None, None, None), case(fault, user=None), case(fault, seed=None), case(fault, None)]
+    out += [case(fault, failing=failing) for failing in "012"] + [case(good, failing="3")]
+    # The secret is judged before the hash is read, and the hash before the seed.
+    out += [case(ending("BadInput", 3), text, failing="1") for text in NO_SECRETS + [f"{SECRET}\n{OTHER}", f"{SECRET}\n{OTHER}\n"]]
+    out += [case(ending("BadInput", 6), user=text, failing="2") for text in NO_SECRETS + [f"{SECRET}\n{OTHER}"]]
+    out += [case(ending("BadInput", 7), seed=seed) for seed in ["", "00" * 31, "00" * 33]]
+    out += [case(ending("BadInput", 3), "x", "x", "00"), case(ending("BadInput", 6), user="x", seed="00")]
+    out.append(comes("Station", ending("BadInput", 3), "1", k=MOST_BYTES + "+20", h=ascii_hex(OTHER), s=SEED))
+    out.append(comes("Station", ending("BadInput", 6), "2", k=ascii_hex(SECRET), h=MOST_BYTES + "+20", s=SEED))
+    return out
+
+
 OTHER = "fe" * 16
 # Texts that are neither one line of 32 hex digits nor two.
 NO_SECRETS = [
@@ -535,6 +588,7 @@ def of_no_files():
         (CONTROLLER, words_of("serve", {**SERVE, "secrets": ""}), 7),
         (MEMBER, words_of("serve", {**SERVE_MEMBER, "change": ""}), 9),
         (LOGON, words_of("logon", {**ASK, "echo": "4097"}), 8),
+        (LOGON, words_of("station", {**STATION, "boot": "4294967296"}), 8),
     ]:
         out.append((line("jobs.files", role, "0", "", *words), ending("BadWords", number) + ";told"))
     return out
@@ -557,4 +611,4 @@ def of_runs():
 
 def cases():
     """Each line and its answer."""
-    return of_runs() + of_values() + of_levels() + of_lines() + of_controller_files() + of_changed_secrets() + of_hash_files() + of_member_files() + of_no_files()
+    return of_runs() + of_values() + of_levels() + of_lines() + of_controller_files() + of_changed_secrets() + of_hash_files() + of_station_files() + of_member_files() + of_no_files()

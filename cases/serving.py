@@ -19,12 +19,15 @@ import re
 from documents import ANN, FILE1, document
 import member_server
 from channel_client import credential
-from domain_controller import ACCESS_DENIED, DRAWS, SUPPORTED, Controller, key_of, replies, upper, utf16
+from domain_controller import ACCESS_DENIED, DRAWS, SET, SUPPORTED, Controller, key_of, replies, upper, utf16
 from forms import line
 from logon_client import Client
 from logon_stubs import AUTHENTICATE, LOGON as LOGON_CALL
 from member_server import Member, answer_of_controller, authenticate, controller_of, turns
+from sealed_controller import ALL as SECURE_FLAGS
+from sealed_controller import Sealing as SealedController
 from trusts import CORP, OWN_DRAWS, ROAM, SAM, THIRD, Trusting, hop, hops, other
+from wire import flipped
 
 from nt_top import MEMBER, ending, text
 from nt_words import CONTROLLER, SEED, SERVE, SERVE_MEMBER, ascii_hex, files_of, words_of
@@ -252,6 +255,25 @@ def of_lines():
         stopped(logons(), 2),
         played(barred),
         stopped(barred, 1),
+    ]
+
+
+def of_sealed_channels():
+    """A controller seals where that is asked for: the lines are those of any channel, a request that was altered has
+    none, and a call that isn't on its own channel finds none. The text of a sealed Set is kept."""
+    opened = lambda draws=DRAWS: SealedController(challenges=draws).bound().channel_open(flags=SECURE_FLAGS).binds()
+    logons = opened().logs_on_sealed().logs_on(link=1).logs_on_sealed("nobody", timestamp=1)
+    altered = opened()
+    altered.bytes(flipped(b"".join(altered.sealed(LOGON_CALL, altered.logon_call())), 30, 1), 2).binds(3)
+    changes = opened()
+    changes.asks_sealed(SET, changes.set_call()).logs_on_sealed(timestamp=2)
+    return [
+        played(logons),
+        stopped(logons, 1),
+        played(altered),
+        played(opened(DRAWS[:1]).logs_on_sealed(), ending("Spent")),
+        keeps(changes),
+        keeps(changes, named=False),
     ]
 
 
@@ -791,4 +813,4 @@ def of_members():
 
 def cases():
     """The cases of commands that serve."""
-    return of_the_port() + of_counts() + of_the_files() + of_challenges() + of_lines() + of_kept_secrets() + of_controllers_with_trusts() + of_members()
+    return of_the_port() + of_counts() + of_the_files() + of_challenges() + of_lines() + of_sealed_channels() + of_kept_secrets() + of_controllers_with_trusts() + of_members()

@@ -123,7 +123,7 @@ class Trusting(Controller):
                 self.forwarded.remove(entry)
                 self.actions.append(f"judged Answered({status})")
                 if where is not None:
-                    super().reply(*where, LOGON, self.verdict_reply(kept, status, info))
+                    self.reply(*where, LOGON, self.verdict_reply(kept, status, info))
                 return
 
     def forget(self, link):

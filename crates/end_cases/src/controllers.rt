@@ -2,6 +2,7 @@
 
 use crate::members::name;
 use crate::scenes::{chances, play_and_count};
+use crate::sealed_controllers;
 use account_table::Table;
 use case_words::{add_part, bytes, debug_text, flags, list_text, no_case, text, word};
 use domain_controller::Controller;
@@ -149,6 +150,7 @@ pub(crate) fn answer(alloc: Global, operation: &str, words: &[&str]) -> anyhow::
     match operation {
         "run" => run(alloc, words),
         "trusts" => run_trusting(alloc, words),
+        "sealing" => sealed_controllers::run(alloc, words),
         "counts" => counts(alloc, words),
         "secrets" => secrets(alloc, words),
         "line" => line(alloc, words),

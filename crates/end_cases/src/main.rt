@@ -12,10 +12,12 @@ mod hearing;
 mod links;
 mod members;
 mod scenes;
+mod sealed_controllers;
 mod sealed_turns;
 mod sealing;
 mod serves;
 mod small;
+mod stations;
 mod turning;
 mod turns;
 mod worlds;
@@ -31,7 +33,8 @@ fn answer(alloc: Global, words: &[&str]) -> anyhow::Result<String> {
         "client" => clients::run(alloc, words),
         "controller" => controllers::answer(alloc, operation, words),
         "links" => links::answer(alloc, operation, words),
-        "member" => members::run(alloc, words),
+        "member" => members::answer(alloc, operation, words),
+        "station" => stations::run(alloc, words),
         "loop" => serves::answer(alloc, operation, words),
         "sealing" => sealing::answer(alloc, operation, words),
         "turning" => turning::answer(alloc, operation, words),

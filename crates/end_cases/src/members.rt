@@ -1,6 +1,6 @@
 //! Cases of `member_server`: a member with its events and the changes of its secret, a scenario a line.
 
-use crate::scenes::{actions_text, add_left, answer, chances};
+use crate::scenes::{self, actions_text, add_left, chances};
 use case_words::{add_answer, blob, bytes, no_case, number64, refusal_text, sixteen, word};
 use member_server::{Member, MemberPlan};
 use outside::ListChances;
@@ -57,7 +57,7 @@ fn answer_step(
 ) -> anyhow::Result<String> {
     match word.split_once('/') {
         Some(("change", secret)) => change(alloc, member, secret),
-        _ => answer(alloc, member, chances, now, word),
+        _ => scenes::answer(alloc, member, chances, now, word),
     }
 }
 
@@ -83,16 +83,46 @@ fn play(
     Ok(answers)
 }
 
+/// The answers to the steps of a member, and the number of challenges that are left.
+fn play_and_count(
+    alloc: Global,
+    member: &mut Member,
+    words: &[&str],
+    steps: &[&str],
+) -> anyhow::Result<String> {
+    let mut chances = chances(alloc, word(words, 5))?;
+    let mut answers = play(alloc, member, &mut chances, steps)?;
+    add_left(alloc, &mut answers, &mut chances)?;
+    Ok(answers)
+}
+
 /// `member.run COMPUTER DOMAIN SECRETS CONTROLLER CHALLENGES STEP ..`: the answers to the steps, and the number of
 /// challenges that are left.
-pub(crate) fn run(alloc: Global, words: &[&str]) -> anyhow::Result<String> {
+fn run(alloc: Global, words: &[&str]) -> anyhow::Result<String> {
     let Some(steps) = words.get(6..) else {
         return no_case(alloc);
     };
-    let mut chances = chances(alloc, word(words, 5))?;
     let plan = plan(alloc, words)?;
     let mut member = Member::new(alloc, plan)?;
-    let mut answers = play(alloc, &mut member, &mut chances, steps)?;
-    add_left(alloc, &mut answers, &mut chances)?;
-    Ok(answers)
+    play_and_count(alloc, &mut member, words, steps)
+}
+
+/// `member.sealing` with the same words: those of a member whose channel seals.
+fn run_sealing(alloc: Global, words: &[&str]) -> anyhow::Result<String> {
+    let Some(steps) = words.get(6..) else {
+        return no_case(alloc);
+    };
+    let mut plan = plan(alloc, words)?;
+    plan.sealed = true;
+    let mut member = Member::with_sealing(alloc, plan)?;
+    play_and_count(alloc, &mut member, words, steps)
+}
+
+/// The answer of a line whose operation begins with `member.`.
+pub(crate) fn answer(alloc: Global, operation: &str, words: &[&str]) -> anyhow::Result<String> {
+    match operation {
+        "run" => run(alloc, words),
+        "sealing" => run_sealing(alloc, words),
+        _ => no_case(alloc),
+    }
 }

@@ -8,7 +8,8 @@ use case_words::{
 };
 use nt_top::{Exit, Role};
 use nt_words::{
-    ControllerSetup, FilesRefused, Job, MemberSetup, SecretSetup, Setup, job_of, set_up,
+    ControllerSetup, FilesRefused, Job, MemberSetup, SecretSetup, Setup, StationSetup, job_of,
+    set_up,
 };
 use outside::{MapFiles, Texts};
 use std::alloc::Global;
@@ -83,12 +84,22 @@ fn text_of_secret(alloc: Global, files: &SecretSetup) -> anyhow::Result<String> 
     Ok(text)
 }
 
+/// A station's secret, hash and seed.
+fn text_of_station(alloc: Global, files: &StationSetup) -> anyhow::Result<String> {
+    let (secret, hash, seed) = (files.secret(), files.hash(), files.seed());
+    let mut text = debug_text(alloc, secret.as_slice())?;
+    add_debug(alloc, &mut text, hash.as_slice())?;
+    add_debug(alloc, &mut text, seed.as_slice())?;
+    Ok(text)
+}
+
 /// What a service starts from.
 fn text_of_setup(alloc: Global, setup: Setup) -> anyhow::Result<String> {
     match setup {
         Setup::Controller(_, files) => text_of_table(alloc, files),
         Setup::Member(_, files) => text_of_secrets(alloc, files),
         Setup::Logon(_, files) => text_of_secret(alloc, &files),
+        Setup::Station(_, files) => text_of_station(alloc, &files),
     }
 }
 
