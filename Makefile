@@ -9,8 +9,10 @@ demo: programs
 	@demo/few_descriptors.sh bin
 	@demo/kept_secret.sh bin
 	@demo/changed_secret.sh bin
+	@demo/sealed_channel.sh bin
 	@demo/trusted_logon.sh bin
 	@demo/lost_trust.sh bin
+	@demo/station.sh bin
 
 # How long each operation takes on this machine: lines `ours OPERATION NANOSECONDS`, and where their headers are there,
 # the same of OpenSSL and nettle for the operations on DES.

@@ -1,6 +1,6 @@
-# What the scripts of this folder have in common: a domain of a controller PDC, a member server FILE1 and a user ann on
-# the loopback address, in a folder of its own, on two free ports. It is read by `.`, and $bin names the folder of the
-# three programs. All that is started is stopped when the script ends.
+# What the scripts of this folder have in common: a domain of a controller PDC, a member server FILE1, a workstation WS1
+# and a user ann on the loopback address, in a folder of its own, on two free ports. It is read by `.`, and $bin names
+# the folder of the three programs. All that is started is stopped when the script ends.
 
 folder=$(mktemp -d) || exit 1
 controller=
@@ -89,10 +89,12 @@ member_words=
 # what each machine keeps
 hash=$(digits 16)
 secret=$(digits 16)
+station_secret=$(digits 16)
 printf %s "$hash" > "$folder/ann.hash"
 digits 16 > "$folder/wrong.hash"
 printf %s "$secret" > "$folder/file1.secret"
-for machine in controller member client; do
+printf %s "$station_secret" > "$folder/ws1.secret"
+for machine in controller member client station; do
     head -c 32 /dev/urandom > "$folder/$machine.seed"
 done
 cat > "$folder/accounts.toml" <<TABLE
@@ -108,6 +110,11 @@ hash = "$hash"
 name = "FILE1\$"
 kind = "workstation"
 hash = "$secret"
+
+[[machine]]
+name = "WS1\$"
+kind = "workstation"
+hash = "$station_secret"
 TABLE
 
 # starts the controller, with these words beside the usual ones, and waits until it listens
@@ -139,3 +146,10 @@ log_on_at() {
 
 # logs ann on: FILE BOOT OUTPUT
 log_on() { log_on_at "$member_port" CORP ann "$@"; }
+
+# logs ann on at the workstation WS1 and off again: PORT FILE BOOT OUTPUT. Gives the status, 124 where it lasts more
+# than 30 seconds
+log_on_and_off() {
+    timeout 30 "$bin/nt_logon" station --controller "127.0.0.1:$1" --computer WS1 --secret "$folder/ws1.secret" \
+        --domain CORP --user ann --hash "$2" --seed "$folder/station.seed" --boot "$3" > "$4" 2>&1
+}
