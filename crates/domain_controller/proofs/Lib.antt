@@ -18,10 +18,13 @@ pub mod RestLaws
 pub mod SealAnswerLaws
 pub mod SealBindLaws
 pub mod SealChoiceLaws
+pub mod SealJudgeLaws
+pub mod SealReplyLaws
 pub mod SealRestLaws
 pub mod SealRuleLaws
 pub mod SealSettleLaws
 pub mod SealStepLaws
+pub mod SealToldLaws
 pub mod SealTurnLaws
 pub mod SendLaws
 pub mod SessionLaws

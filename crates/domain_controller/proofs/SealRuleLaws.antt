@@ -158,7 +158,7 @@ unopened : (trailer : Option Trailer) (opnum : ℕ) (bytes : List ℕ) (link : L
     is_none (open_request trailer opnum bytes link seals).bytes ≡ is_unopened trailer opnum bytes link seals
 unopened trailer opnum bytes link seals = unopened_by (is_own_trailer trailer) (range_of bytes) (stands link seals) (opens_channel opnum) bytes link seals
 
-request_heard : (number : ℕ) (bytes : List ℕ) (unit : RpcUnit) (hint context opnum : ℕ) (stub : List ℕ) (talk : Talk) (link : LinkSeal) (seals : ChannelSeals) →
+pub request_heard : (number : ℕ) (bytes : List ℕ) (unit : RpcUnit) (hint context opnum : ℕ) (stub : List ℕ) (talk : Talk) (link : LinkSeal) (seals : ChannelSeals) →
     unit_of bytes ≡ Ok unit → unit.body ≡ Request hint context opnum stub →
     seal_hear number bytes talk (Some link) seals ≡ hear_opened (open_request unit.trailer opnum bytes link seals) number talk
 request_heard number bytes unit hint context opnum stub talk link seals reads is =

@@ -344,7 +344,7 @@ serve_acts number link piece name now others table parts left bare =
 
 -- ---- and then the next turn
 
-abbrev NextDials : List Action → Result (Part Parts) StepRefused → Type 0
+abbrev pub NextDials : List Action → Result (Part Parts) StepRefused → Type 0
 NextDials before (Err why) = Unit {0}
 NextDials before (Ok part) = (dial : Option (List ℕ)) × (part.value.work.work.actions ≡ before ++ dial_of dial)
 
@@ -369,7 +369,7 @@ at_dials : (first : Option ℕ) (trusts : List Trust) (now : ℕ) (parts : Parts
 at_dials None trusts now parts left = no_dial_more parts.work.work.actions
 at_dials (Some trust) trusts now parts left = start_dials _ _ trust now parts left
 
-next_dials : (idle : Bool) (trusts : List Trust) (now : ℕ) (parts : Parts) (left : List (List ℕ)) → NextDials parts.work.work.actions (next_if idle trusts now parts left)
+pub next_dials : (idle : Bool) (trusts : List Trust) (now : ℕ) (parts : Parts) (left : List (List ℕ)) → NextDials parts.work.work.actions (next_if idle trusts now parts left)
 next_dials false trusts now parts left = no_dial_more parts.work.work.actions
 next_dials true trusts now parts left = at_dials (first_waiting parts.work.queues.requesters) trusts now parts left
 

@@ -7,7 +7,9 @@ pub mod Lines
 pub mod Machine
 pub mod ReadBack
 pub mod SealHearing
+pub mod SealJudging
 pub mod SealLaws
+pub mod SealReplies
 pub mod SealServing
 pub mod SealStep
 pub mod Sealing

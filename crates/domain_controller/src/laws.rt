@@ -3,7 +3,9 @@
 ghost use Rattle.domain_controller.specs.Keeping.{HashesAreSet, KeepsSecrets};
 ghost use Rattle.domain_controller.specs.Laws.{ClosesNothing, AnswersUnits, KeepsOthers, KeptHaveKinds, CountsByVerdict};
 ghost use Rattle.domain_controller.specs.ReadBack.{RepliesAreReadBack};
+ghost use Rattle.domain_controller.specs.SealJudging.{JudgesByLink, SeedsMoveByPassing};
 ghost use Rattle.domain_controller.specs.SealLaws.{BadAuthenticationByRules, NoChannelByLink, PlainControllersStay};
+ghost use Rattle.domain_controller.specs.SealReplies.{RepliesWhereItStands, SealsBySent};
 ghost use Rattle.domain_controller.specs.Sessions.{HashesStayUnset, SessionsFollowCalls};
 ghost use Rattle.domain_controller.specs.TrustLaws.{AnswersOnce, AnswersOpenLinks, ClosesNone, ForwardsByTrust, LinksAreApart, OneTurnIsOut, StepsAlone};
 ghost use Rattle.domain_controller.specs.TrustActions.{ActsInOrder};
@@ -228,4 +230,37 @@ pub fn calls_find_their_channel()
 #[tactic(auto, using(crate::proofs::SealRuleLaws::by_rules))]
 pub fn sealed_links_close_by_rules()
     ensures { BadAuthenticationByRules }
+{}
+
+/// Whatever bytes come from anybody at a controller that can seal, a call on a secure channel passes, or is handed on,
+/// exactly where its authenticator is the next one of the channel of the computer that it names, and it came on a link
+/// of that channel: on one that isn't sealed where the channel doesn't seal either, else on one that was sealed by that
+/// channel as it stands, where the channel's end opened the unit. It is told `Barred` exactly where all of that holds
+/// but that its authenticator isn't the next one, and else `NoChannel`, once. Of other units nothing is told so. A step
+/// tells of the units that its bytes complete on an accepted link, in order, each by what is kept then.
+#[tactic(auto, using(crate::proofs::SealToldLaws::judges_by_link))]
+pub fn calls_pass_on_their_own_links()
+    ensures { JudgesByLink }
+{}
+
+/// A call that passes at a controller that can seal moves the channel of its computer to the next seed. No other unit
+/// on an accepted link changes a channel that is kept, but one that asks to open another for its computer. Of events
+/// that bring no such unit nothing is said here.
+#[tactic(auto, using(crate::proofs::SealToldLaws::seeds_move))]
+pub fn seeds_move_where_calls_pass()
+    ensures { SeedsMoveByPassing }
+{}
+
+/// A logon from a sealed link that was asked of another controller waits without a line. The answer of one that waits
+/// so is told, and nothing is sent in the clear. Where its link has closed or its channel was replaced since, nothing
+/// else is done. Where its link is open, its channel stands and a number is left its reply goes out, sealed.
+#[tactic(auto, using(crate::proofs::SealReplyLaws::replies_where_it_stands))]
+pub fn sealed_logons_are_answered_where_they_stand()
+    ensures { RepliesWhereItStands }
+{}
+
+/// The bytes of a sealed reply don't depend on how many units the channel's end has received.
+#[tactic(auto, using(crate::proofs::SealReplyLaws::seals_by_sent))]
+pub fn replies_are_sealed_by_the_number_sent()
+    ensures { SealsBySent }
 {}
