@@ -17,7 +17,7 @@ pub none_of : {T : Type 0} (option : Option T) → is_some option ≡ false → 
 none_of None not = refl
 none_of (Some value) not = absurd cc
 
-step_is : (s : StationState) (running : StationRunning) (what : Event) (now : ℕ) (left : List (List ℕ)) → s.running ≡ Some running → s.outcome ≡ None →
+pub step_is : (s : StationState) (running : StationRunning) (what : Event) (now : ℕ) (left : List (List ℕ)) → s.running ≡ Some running → s.outcome ≡ None →
     step_of s what now left ≡ step_by actions_after state_after (halted s) left (by_event what running.standing (work_of running.task now) left)
 step_is s running what now left runs none =
     ap (λ r. step_by_running r s what now left) runs ∙ ap (λ o. step_by_outcome o running s what now left) none

@@ -16,7 +16,8 @@ mod station;
 mod working;
 
 pub use laws::{
-    a_station_draws_once, a_station_loses_by_its_events, a_station_moves_in_order, an_outcome_stays,
+    a_station_draws_once, a_station_ends_by_replies, a_station_loses_by_its_events,
+    a_station_moves_in_order, a_station_sends_its_calls, an_outcome_stays,
 };
 pub use outcome::{NoStation, StationOutcome};
 pub use plan::StationPlan;
