@@ -192,7 +192,7 @@ class World:
         link = self.links[number]
         if link["kind"] != "stranger":
             self.bag.append({"bytes": data, "link": number, "kind": link["kind"], "back": link["to"] is end, "waits": True})
-            self.marks.send(number, link["to"] is end)
+            self.marks.send(number, link["to"] is end, getattr(end.end, "reply_to", None))
 
     def close(self, end, number):
         link = self.links[number]
@@ -213,13 +213,16 @@ class World:
             if self.links[number]["open"][side]:
                 end = self.links[number][side]
                 actions = self.hear(end, "bytes", data[start:start + PIECE], number)
-                self.marks.hear(self.notes_of(end, unit), unit, number, end is self.links[number]["to"])
+                notes = self.notes_of(end, unit)
+                beside = end.end.beside() if hasattr(end.end, "beside") else None
+                self.marks.hear(notes, unit, number, end is self.links[number]["to"], beside)
                 self.perform(end, actions)
+                self.marks.done()
 
     def notes_of(self, end, unit):
         """What the units of an end's last event came to. A member's channels are with the controller of its plan."""
         if end in self.controllers:
-            return end.end.notes_of(unit, self.controllers.index(end))
+            return end.end.notes_of(unit, self.controllers.index(end), len(self.controllers))
         if end in self.members:
             return end.end.notes_of(unit, self.controller_of(end))
         return []

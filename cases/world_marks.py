@@ -10,6 +10,8 @@ and keep of each event what each unit came to.
 import domain_controller
 import member_server
 from channel_client import AUTHENTICATE, LOGON, OFFERED, SET
+from domain_controller import utf16
+from trusts import Trusting
 
 PLAIN = ("Plain",)
 # What a unit comes to that sends an answer or a request, without any credential that passed.
@@ -52,15 +54,85 @@ class Controller(domain_controller.Controller):
             self.notes[-1] = {"mark": (kind, channel, number), "checked": channel, "timestamp": timestamp}
         self.checked = None
 
-    def notes_of(self, unit, controller):
+    def notes_of(self, unit, controller, _controllers):
         """What the units of the last event came to, which came in that unit of the bag, if in one."""
+        return self.answered(self.notes, unit, controller)
+
+    @staticmethod
+    def answered(notes, unit, controller):
         noted = []
-        for note in self.notes:
+        for note in notes:
             if note["checked"]:
                 kind, channel, number = note["mark"]
                 channel = controller, *channel
                 note = note | {"mark": PLAIN if unit is None else (kind, channel, number, unit), "checked": channel}
             noted.append(note)
+        return noted
+
+
+def of_channels(notes, controller):
+    """What units came to that a turn took, of channels with that controller."""
+
+    def at(mark):
+        return (mark[0], (controller, *mark[1]), *mark[2:]) if mark and mark != PLAIN else mark
+
+    return [note | {"mark": at(note["mark"]), "checked": note["checked"] and (controller, *note["checked"])} for note in notes]
+
+
+class TrustingController(Controller, Trusting):
+    """A controller that asks others: it keeps besides which calls it handed on, and what its turn took."""
+
+    def __init__(self, **how):
+        # the calls that were handed on, the newest first: the trust and the place, the link, and the reply's mark
+        self.handed, self.on_turn = [], False
+        super().__init__(**how)
+
+    def requester(self, trust):
+        asking = Asking(bytes.fromhex(trust["hash"]), self.name, 4)
+        asking.account = utf16(self.head["domain"] + "$")
+        return asking
+
+    def event(self, word, run=lambda: None):
+        for asking in self.requesters:
+            asking.notes = []
+        turn = self.requesters[self.turn_of].turn if self.requesters else None
+        out = turn and (self.turn_of, turn["place"])
+        # which trust the turn is of, and the reply to the call for which it is out, once it ends: its link and its mark
+        self.asked, self.reply_to = self.turn_of, next(((link, mark) for place, link, mark in self.handed if place == out), None)
+        return super().event(word, run)
+
+    def bytes(self, data, link=1):
+        self.on_turn = link == self.turn_link
+        return super().bytes(data, link)
+
+    def reply(self, link, number, context, limit, opnum, fields):
+        if fields is not None:
+            return super().reply(link, number, context, limit, opnum, fields)
+        _, channel, timestamp = self.checked
+        self.notes.append({"mark": None, "checked": channel, "timestamp": timestamp, "handed": (self.forwarded[-1][:2], link, number)})
+        self.checked = None
+
+    def beside(self):
+        """What it sends beside the link on which bytes came, if that was the link of its turn."""
+        return self.reply_to if self.on_turn else None
+
+    def asks_of(self, controllers):
+        """The number of the controller that its turn asks, of so many."""
+        address = self.trusts[self.asked]["address"].encode()
+        return address[0] if len(address) == 1 and address[0] < controllers else controllers
+
+    def notes_of(self, unit, controller, controllers):
+        if self.on_turn:
+            return of_channels(self.requesters[self.asked].notes, self.asks_of(controllers))
+        noted = []
+        for note in self.notes:
+            if "handed" in note:
+                place, link, number = note["handed"]
+                channel = controller, *note["checked"]
+                self.handed.insert(0, (place, link, PLAIN if unit is None else ("ReplyTo", channel, number, unit)))
+                noted.append({"mark": None, "checked": channel, "timestamp": note["timestamp"]})
+            else:
+                noted += self.answered([note], unit, controller)
         return noted
 
 
@@ -100,11 +172,7 @@ class Member(member_server.Member):
 
     def notes_of(self, _unit, controller):
         """What the units of the last event came to, of channels with that controller."""
-
-        def at(mark):
-            return (mark[0], (controller, *mark[1]), *mark[2:]) if mark and mark != PLAIN else mark
-
-        return [note | {"mark": at(note["mark"]), "checked": note["checked"] and (controller, *note["checked"])} for note in self.channel.notes]
+        return of_channels(self.channel.notes, controller)
 
 
 class Marks:
@@ -112,23 +180,31 @@ class Marks:
 
     def __init__(self):
         self.sent, self.passed, self.clash = [], {}, False
-        self.ready = None, None, []
+        self.ready = None, None, [], None
 
-    def hear(self, notes, unit, link, back):
+    def hear(self, notes, unit, link, back, beside=None):
         """Units came to this at an end, in that unit of the bag if in one. Its sends on the link get these marks, in
-        order."""
+        order. What it sends back on the link beside it, if there is one, is the reply to a call that it handed on."""
         for note in notes:
             if note["checked"]:
                 # A credential passed in a unit that wasn't made for the channel. Bytes from outside are no unit.
                 self.clash |= unit is not None and self.sent[unit][1:2] != (note["checked"],)
             if note.get("timestamp") is not None:
                 self.passed.setdefault(note["checked"], []).append(note["timestamp"])
-        self.ready = link, back, [note["mark"] for note in notes if note["mark"]]
+        self.ready = link, back, [note["mark"] for note in notes if note["mark"]], beside
 
-    def send(self, link, back):
-        """A unit goes into the bag."""
-        on, way, marks = self.ready
-        self.sent.append(marks.pop(0) if marks and (on, way) == (link, back) else PLAIN)
+    def done(self):
+        """All that an end did at bytes is done."""
+        self.ready = None, None, [], None
+
+    def send(self, link, back, lost=None):
+        """A unit goes into the bag. Where no bytes come it may be the reply to a call whose turn was lost."""
+        on, way, marks, beside = self.ready
+        if marks and (on, way) == (link, back):
+            self.sent.append(marks.pop(0))
+        else:
+            beside = lost if on is None else beside
+            self.sent.append(beside[1] if beside and back and beside[0] == link else PLAIN)
 
     def wraps(self):
         """Two authenticators passed on one channel, and from the first up to but without the second the timestamps,

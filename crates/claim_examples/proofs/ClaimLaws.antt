@@ -23,7 +23,7 @@ use Rattle.world_moves.specs.declared.plan.Plan.{Plan}
 use Rattle.domain_world.specs.Claims.{IsAccepted, PassesTheNextCredential, Wraps, moved_if, moved_on, passed_on, judged_timestamp}
 use Rattle.domain_world.specs.Headline.{IsClaimed}
 use Rattle.domain_world.proofs.HeadlineLaws.{all_proved}
-use Rattle.claim_examples.specs.ClaimExamples.{OfAll, OfClashes, OfCredentials, OfReplays, OfTakenAnswers, OfWraps, elsewhere, judged_as, judged_once, last_timestamp, message, next_call, on_channel, passed_in, second_timestamp, seed_after_one, small_account, small_challenge, small_channel, small_name, small_seed, taken_in, third_timestamp, told_as, whole_book, whole_call, whole_run}
+use Rattle.claim_examples.specs.ClaimExamples.{OfAll, OfClashes, OfCredentials, OfReplays, OfTakenAnswers, OfWraps, asked_in, elsewhere, judged_as, judged_once, last_timestamp, message, next_call, on_channel, passed_in, second_timestamp, seed_after_one, small_account, small_challenge, small_channel, small_name, small_seed, taken_in, third_timestamp, told_as, whole_book, whole_call, whole_run}
 use Rattle.claim_examples.specs.TellApart.{ClaimsTellApart}
 use Rattle.step_notes.proofs.Controllers.JudgedStepLaws.{next_unbarred, right_passed}
 use Rattle.claim_examples.proofs.CompletenessLaws.{of_completeness, of_own_members, of_success}
@@ -186,6 +186,10 @@ taken_small : (served : ServedUnit AtTurn TurnTalk) → (taken_in (ReplyTo small
 unfolding same_name names.upper_of
 taken_small served = refl
 
+asked_small : asked_in (ReplyTo small_name 3 7) ≡ false
+unfolding same_name names.upper_of
+asked_small = refl
+
 of_clashes : OfClashes
 of_clashes = record {
   alike = alike_small;
@@ -195,6 +199,9 @@ of_clashes = record {
   taken_alike = taken_small;
   taken_none = λ served. refl;
   taken_other = λ served. refl;
+  asked_alike = asked_small;
+  asked_none = refl;
+  asked_other = refl;
   clear = record { apart = alike_small; onward = λ wraps. not_one _ wraps.later wraps.second wraps.between wraps.first wraps.earlier wraps.all };
   not_clear = λ clear. absurd (let apart : true ≡ false = clear.apart in cc);
 }
@@ -255,6 +262,24 @@ passes_right j next named how = record {
 passed_next : PassesTheNextCredential (judged_once next_call (told_as (judged.Passed 0) ∷ []))
 passed_next = (record { at = refl; controller = refl; how = refl; right = passes_right next_call (next_at []) tt refl }, tt)
 
+handed_next : PassesTheNextCredential (judged_once (judged_as judged.Forwarded next_call) (told_as judged.Forwarded ∷ []))
+handed_next = (
+  record {
+    at = refl;
+    controller = refl;
+    how = refl;
+    right = record {
+      right = record {
+        passed = (λ is. next_at [], λ next. refl);
+        barred = (λ is. absurd cc, λ barred. absurd (next_unbarred next_call.checks (given_in next_call.asked) (next_at []) barred));
+        other = (λ is. absurd cc, λ both. absurd (both.0 (next_at [])));
+      };
+      named = tt;
+    };
+  },
+  tt,
+)
+
 of_credentials : OfCredentials
 of_credentials = record {
   meets = passed_next;
@@ -279,6 +304,8 @@ of_credentials = record {
   fails_silent = λ claim. claim;
   answered = passed_next;
   fails_answered = λ claim. claim;
+  handed_on = handed_next;
+  fails_handed_on = λ claim. let next = claim.0.right.right.passed.0 refl in no_channel next.channel next.stands;
 }
 
 -- ---- all at once

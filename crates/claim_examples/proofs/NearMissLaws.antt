@@ -63,7 +63,7 @@ use Rattle.domain_world.specs.Claims.Counts.{RaisesCount}
 use Rattle.domain_world.specs.Past.{Past, sent_at}
 use Rattle.claim_examples.specs.ClaimExamples.{challenge_on, client_plan, elsewhere, extended_flags, judged_as, judging, last_timestamp, made_keeping, message, message_of_link, on_channel, one_logon, open_running, small_account, small_challenge, small_hash, small_logon, small_member, small_name, small_plan, small_run, small_table, small_world}
 use Rattle.claim_examples.specs.GrantExamples.{wrong_call}
-use Rattle.claim_examples.specs.NearMisses.{replied_at, NearMissesTellApart, OfAcceptingAll, OfAcceptingOnly, OfAsking, OfClearRuns, OfCounts, OfKeeping, OfKeys, OfLeavingOut, OfMaking, OfMarks, OfWhole, carried_in, OfSchedules, OfShortResponses, OfTables, OfTelling, OfUnits, OfWritingDown, at_two_members, barred_again, bob, called_as, each_move, extended_taken, foreign, half_timestamp, in_client, judged_by, judged_two, keeping, kept_client, kept_link, kept_running, kept_terms, locking_table, long_taken, noting, passed_for, sent_one, small_bound, taking, ten_keeping, untold, waiting_on, wrong_among}
+use Rattle.claim_examples.specs.NearMisses.{replied_at, NearMissesTellApart, OfAcceptingAll, OfAcceptingOnly, OfAsking, OfClearRuns, OfCounts, OfHandingOn, OfKeeping, OfKeys, OfLeavingOut, OfMaking, OfMarks, OfWhole, carried_in, OfSchedules, OfShortResponses, OfTables, OfTelling, OfUnits, OfWritingDown, at_two_members, barred_again, bob, called_as, each_move, extended_taken, foreign, half_timestamp, handed_for, in_client, judged_by, judged_two, keeping, kept_client, kept_link, kept_running, kept_terms, locking_table, long_taken, noting, passed_for, sent_one, small_bound, taking, ten_keeping, untold, waiting_on, wrong_among}
 use Rattle.claim_examples.proofs.ClaimLaws.{its_controller, moved_by_one, of_wraps, the_two}
 use Rattle.claim_examples.proofs.CompletenessLaws.{lost_schedule}
 use Rattle.claim_examples.proofs.LogonLaws.{extended_pair, free_small, granted_small, only_draw, plain_small, stored_small, this_step}
@@ -297,6 +297,25 @@ not_alike : PassesAreUnclashed (passed_for Plain false) → ⊥
 unfolding same_name names.upper_of
 not_alike claim = absurd (let never : true ≡ false = (claim refl).0 in cc)
 
+handed_alike : PassesAreUnclashed (handed_for (Calling small_name 3 0))
+unfolding same_name names.upper_of
+handed_alike none = (refl, tt)
+
+not_handed_alike : PassesAreUnclashed (handed_for Plain) → ⊥
+unfolding same_name names.upper_of
+not_handed_alike claim = absurd (let never : true ≡ false = (claim refl).0 in cc)
+
+of_handing_on : OfHandingOn
+of_handing_on = record {
+  reply = refl;
+  waits = refl;
+  other_link = refl;
+  onward = refl;
+  none = refl;
+  forgotten = refl;
+  kept = refl;
+}
+
 of_units : OfUnits
 of_units = record {
   marked = refl;
@@ -313,6 +332,8 @@ of_units = record {
   passes = passes_alike;
   clashed = λ none. absurd (let never : true ≡ false = none in cc);
   fails_passes = not_alike;
+  handed_on = handed_alike;
+  fails_handed_on = not_handed_alike;
 }
 
 -- the one unit is what its mark says
@@ -702,6 +723,7 @@ near_misses = record {
   keys = of_keys;
   counts = of_counts;
   units = of_units;
+  handing_on = of_handing_on;
   whole = of_whole;
   marks = of_marks;
   asking = of_asking;

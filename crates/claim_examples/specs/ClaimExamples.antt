@@ -6,7 +6,7 @@
 -- key that travels as zeros; a challenge hashed for extended session security that is another one; and a logon that
 -- comes to its end (of `EachSucceeds`). Logons one at a time that succeed, and near misses of them, are cases of
 -- `end_cases` (`cases/domain_world.py`).
-use Rattle.std.specs.Prelude.{ℕ, ◌≡◌, ◌≢◌, ◌+◌, ◌-◌, ◌^◌, true, false, List, [], ◌∷◌, ◌++◌, replicate, Option, Some, None, codes}
+use Rattle.std.specs.Prelude.{ℕ, ◌≡◌, Bool, ◌≢◌, ◌+◌, ◌-◌, ◌^◌, true, false, List, [], ◌∷◌, ◌++◌, replicate, Option, Some, None, codes}
 use Rattle.wire_base.specs.declared.authenticator.Authenticator.{Authenticator}
 use Rattle.ntlm_flags.specs.Flags.{negotiate_extended_sessionsecurity, negotiate_unicode}
 use Rattle.authenticators.specs.Channels.{ChannelIdentity}
@@ -56,7 +56,7 @@ use Rattle.world_moves.specs.World.{World, first_world}
 use Rattle.domain_world.specs.Claims.{AcceptsAllGranted, AcceptsOnlyGranted, ChallengesServeOnce, IsClear, IsLetInShortly, IsPlainlyAccepted, IsAccepted, KeysAgree, PassesTheNextCredential, ReplaysBySum, ShortResponsesLetInOnce, ShortResponsesServeOnce, TravelsAsZeros, Wraps, info_asked, taken_answer_on}
 use Rattle.domain_world.specs.Claims.Names.{LetsInByName}
 use Rattle.domain_world.specs.Claims.SharedSequences.{SequencesAreShared}
-use Rattle.domain_world.specs.Past.{Past, note_turn, sent_at, with_answers}
+use Rattle.domain_world.specs.Past.{Past, any_turn_clash, note_turn, sent_at, with_answers}
 
 -- ---- a world of one controller, PDC, one member, FILE1, and one user, ann, in which one challenge was drawn
 
@@ -285,6 +285,10 @@ abbrev pub taken_in : Mark → ServedUnit AtTurn TurnTalk → Book
 taken_in mark served =
     note_turn (record no_note { checked = Some small_name }) served (Some 0) None (record blank { sent = sent_at 0 mark ∷ [] })
 
+-- whether it clashes where a controller's turn took it
+abbrev pub asked_in : Mark → Bool
+asked_in mark = any_turn_clash (record no_note { checked = Some small_name } ∷ []) (Some 0) (sent_at 0 mark ∷ [])
+
 -- a clash: not where the unit was a call on the channel, or bytes from outside, but where it was made for no channel,
 -- or for another controller's; at a member likewise, by the reply
 pub record OfClashes : Type 0 where
@@ -295,6 +299,10 @@ pub record OfClashes : Type 0 where
   pub taken_alike : (served : ServedUnit AtTurn TurnTalk) → (taken_in (ReplyTo small_name 3 7) served).clash ≡ false
   pub taken_none : (served : ServedUnit AtTurn TurnTalk) → (taken_in Plain served).clash ≡ true
   pub taken_other : (served : ServedUnit AtTurn TurnTalk) → (taken_in (ReplyTo (record small_name { controller = 1 }) 3 7) served).clash ≡ true
+  -- so it is where a controller's turn took it
+  pub asked_alike : asked_in (ReplyTo small_name 3 7) ≡ false
+  pub asked_none : asked_in Plain ≡ true
+  pub asked_other : asked_in (ReplyTo (record small_name { controller = 1 }) 3 7) ≡ true
   -- a run with no clash, in which one call passed, is clear, and one with a clash isn't
   pub clear : IsClear (passed_in (Calling small_name 3 0))
   pub not_clear : IsClear (passed_in Plain) → ⊥
@@ -577,6 +585,9 @@ pub record OfCredentials : Type 0 where
   pub fails_silent : PassesTheNextCredential (judged_once next_call []) → ⊥
   pub answered : PassesTheNextCredential (judged_once next_call (told_as (judged.Passed 0) ∷ told_as (judged.Answered 0) ∷ []))
   pub fails_answered : PassesTheNextCredential (judged_once next_call (told_as (judged.Answered 0) ∷ [])) → ⊥
+  -- a call that is handed on has it too
+  pub handed_on : PassesTheNextCredential (judged_once (judged_as judged.Forwarded next_call) (told_as judged.Forwarded ∷ []))
+  pub fails_handed_on : PassesTheNextCredential (judged_once (judged_as judged.Forwarded judging) (told_as judged.Forwarded ∷ [])) → ⊥
 
 -- ---- all at once
 

@@ -9,6 +9,8 @@ use Rattle.ntlm_responses.specs.Responses.{proof_of}
 use Rattle.account_table.specs.AccountTable.{AccountTable}
 use Rattle.account_table.specs.declared.account.Account.{Account}
 use Rattle.domain_controller.specs.Step.{first_state}
+use Rattle.domain_controller.specs.Trusting.{no_trusting}
+use Rattle.domain_controller.specs.declared.trusting.Trusting.{Trusting}
 use Rattle.logon_client.specs.declared.plan.AuthKind.TheVariants as auth
 use Rattle.logon_client.specs.State.{State as ClientState}
 use Rattle.logon_client.specs.declared.outcome.ClientOutcome.TheVariants as client_outcome
@@ -37,8 +39,10 @@ use Rattle.step_notes.specs.MemberNotes.{LinkAt, turn_note, turn_units}
 use Rattle.domain_world.specs.Claims.AskedFor.{MembersAskForKept, MembersAskForMessages}
 use Rattle.channel_events.specs.Marks.{Calling, Mark, Opened, Opening, Plain, ReplyTo}
 use Rattle.channel_events.specs.Requests.{fresh_view}
-use Rattle.step_notes.specs.Records.{Book, ChallengeSent, InUnit, Judging, MessageMade, MessageTaken, OfMember, Outside, blank}
+use Rattle.step_notes.specs.Records.{Book, ChallengeSent, Forward, InUnit, Judging, MessageMade, MessageTaken, OfMember, Outside, blank}
+use Rattle.world_moves.specs.declared.bag.BagUnit.{BagUnit}
 use Rattle.world_moves.specs.declared.links.LinkKind.TheVariants as kind
+use Rattle.world_moves.specs.declared.state.State.{State}
 use Rattle.world_moves.specs.declared.links.Route.TheVariants.{ToController, ToMember}
 use Rattle.world_moves.specs.declared.moves.Move.{Move}
 use Rattle.world_moves.specs.declared.moves.Move.TheVariants as move
@@ -52,7 +56,7 @@ use Rattle.domain_world.specs.Claims.MarkedUnits.{CallsAreMarked, EachUnitIsMark
 use Rattle.domain_world.specs.Claims.Tables.{TablesFollowVerdicts}
 use Rattle.domain_world.specs.Claims.WrittenDown.{ClientsAreWrittenDown, MembersAreWrittenDown, MessagesAreOfTheirClients}
 use Rattle.domain_world.specs.Accepting.Runs.{seen_in}
-use Rattle.domain_world.specs.Past.{Past, sent_at}
+use Rattle.domain_world.specs.Past.{Past, beside_mark, note_given, sent_at}
 use Rattle.claim_examples.specs.ClaimExamples.{challenge_on, client_plan, elsewhere, extended_flags, extended_message, judged_as, judging, last_timestamp, made_as, made_keeping, message, message_of_link, on_channel, one_logon, open_running, run_in, small_account, small_challenge, small_hash, small_links, small_logon, small_member, small_name, small_plan, small_run, small_table, small_world, taken_as, told_of_link, two_logons, with_response, world_of}
 use Rattle.claim_examples.specs.CompletenessExamples.{lost_plan}
 use Rattle.claim_examples.specs.GrantExamples.{judged_all, wrong_call}
@@ -218,9 +222,14 @@ abbrev pub passed_for : Mark → Bool → Past
 passed_for mark clash =
     small_run (record blank { sent = sent_at 0 mark ∷ []; judged = record (on_channel 0) { source = InUnit 0 } ∷ []; clash = clash })
 
+-- and the call was handed on
+abbrev pub handed_for : Mark → Past
+handed_for mark =
+    small_run (record blank { sent = sent_at 0 mark ∷ []; judged = record (judged_as judged.Forwarded (on_channel 0)) { source = InUnit 0 } ∷ [] })
+
 -- Each unit has its mark: not where there is one less or one more. Requests go on and replies back, and not the other
--- way. Messages come on two links, not on one. A call passes on the channel for which its unit was made, unless there
--- was a clash.
+-- way. Messages come on two links, not on one. A call passes on the channel for which its unit was made, whether it is
+-- handed on or not, unless there was a clash.
 pub record OfUnits : Type 0 where
   pub marked : EachUnitIsMarked (sent_one true Plain)
   pub fails_less : EachUnitIsMarked (run_in (sent_one true Plain).world blank) → ⊥
@@ -236,6 +245,43 @@ pub record OfUnits : Type 0 where
   pub passes : PassesAreUnclashed (passed_for (Calling small_name 3 0) false)
   pub clashed : PassesAreUnclashed (passed_for Plain true)
   pub fails_passes : PassesAreUnclashed (passed_for Plain false) → ⊥
+  pub handed_on : PassesAreUnclashed (handed_for (Calling small_name 3 0))
+  pub fails_handed_on : PassesAreUnclashed (handed_for Plain) → ⊥
+
+-- a call that was handed on, of the first trust at the first place there, and came on link 3
+abbrev pub handed_call : Forward
+handed_call = record { judging = judged_as judged.Forwarded (on_channel 0); link = 3; trust = 0; place = 0 }
+
+abbrev pub unit_of_link : (link : ℕ) (back : Bool) → BagUnit
+unit_of_link link back = record { bytes = []; link = link; kind = kind.ToController; back = back; is_settled = false }
+
+-- the controller waits for the answer
+abbrev pub waiting_call : Trusting
+waiting_call = record no_trusting {
+  queues = record {
+    requesters = [];
+    forwarded = ((0, 0), record { line = None; validation = 3; key = []; credential = [] }) ∷ [];
+  };
+}
+
+abbrev pub waiting_state : State
+waiting_state = record small_world.state {
+  ends = record small_world.state.ends {
+    controllers = record (first_state small_table (codes "PDC")) { trusting = waiting_call } ∷ [];
+  };
+}
+
+-- The unit that answers such a call goes back on its link, once the controller doesn't wait for it any more: it is the
+-- reply to that call, on its channel. No unit is that while it waits, nor on another link or in the other direction.
+pub record OfHandingOn : Type 0 where
+  pub reply : beside_mark (handed_call ∷ []) small_world.state (unit_of_link 3 true) ≡ ReplyTo small_name 3 7
+  pub waits : beside_mark (handed_call ∷ []) waiting_state (unit_of_link 3 true) ≡ Plain
+  pub other_link : beside_mark (handed_call ∷ []) small_world.state (unit_of_link 4 true) ≡ Plain
+  pub onward : beside_mark (handed_call ∷ []) small_world.state (unit_of_link 3 false) ≡ Plain
+  pub none : beside_mark [] small_world.state (unit_of_link 3 true) ≡ Plain
+  -- an answered call is forgotten
+  pub forgotten : (note_given 6 [] small_world.state (record blank { forwards = handed_call ∷ [] })).forwards ≡ []
+  pub kept : (note_given 6 [] waiting_state (record blank { forwards = handed_call ∷ [] })).forwards ≡ handed_call ∷ []
 
 -- the call of the message went out in unit 7, and its reply in unit 8, which were made for these
 abbrev pub called_as : Mark → Mark → Past
@@ -495,6 +541,7 @@ pub record NearMissesTellApart : Type 0 where
   pub keys : OfKeys
   pub counts : OfCounts
   pub units : OfUnits
+  pub handing_on : OfHandingOn
   pub whole : OfWhole
   pub marks : OfMarks
   pub asking : OfAsking

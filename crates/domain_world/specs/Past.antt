@@ -1,26 +1,30 @@
 -- What is written down of a move, and of a run (this project's own choice). Bytes come at an end only where a unit of
 -- the bag is delivered or bytes are handed in; what members tell and dial is read off the actions that ends give.
-use Rattle.std.specs.Prelude.{ℕ, ◌-◌, ◌==◌, ◌&&◌, ◌||◌, Bool, true, false, not, List, [], ◌∷◌, ◌++◌, length, drop, map, flat_map, replicate, Option, Some, None, slice_get}
+use Rattle.std.specs.Prelude.{ℕ, ◌==◌, ◌&&◌, ◌||◌, Bool, true, false, not, List, [], ◌∷◌, ◌++◌, length, drop, filter, map, flat_map, is_some, Option, Some, None, slice_get}
 use Rattle.wire_base.specs.Maps.{lookup, place_of, same_number}
 use Rattle.authenticators.specs.Channels.{ChannelIdentity, same_channel}
+use Rattle.account_table.specs.declared.account.Trust.{Trust}
 use Rattle.outside.specs.declared.action.Action.{Action}
 use Rattle.outside.specs.declared.action.Action.TheVariants as action
 use Rattle.end_links.specs.Serving.{ServedUnit}
 use Rattle.channel_client.specs.State.{Requester}
 use Rattle.domain_controller.specs.State.{State as ControllerState}
+use Rattle.domain_controller.specs.Trusting.{same_place}
 use Rattle.logon_client.specs.State.{State as ClientState}
 use Rattle.member_server.specs.State.{State as MemberState}
 use Rattle.member_server.specs.declared.plan.MemberPlan.{MemberPlan}
 use Rattle.member_server.specs.Turns.{AtTurn}
 use Rattle.member_server.specs.declared.state.Running.{Running as MemberRunning}
+use Rattle.channel_turns.specs.Turning.{is_on}
 use Rattle.channel_turns.specs.declared.state.TurnTalk.{TurnTalk}
 use Rattle.channel_events.specs.Marks.{Calling, Mark, Plain}
 use Rattle.step_notes.specs.ClientNotes.{made_note, units_of_client}
-use Rattle.step_notes.specs.ControllerNotes.{Answered, Where}
+use Rattle.step_notes.specs.ControllerNotes.{Answered, Where, reply_mark}
+use Rattle.step_notes.specs.Judged.{passed_channel}
 use Rattle.step_notes.specs.Marking.{answered_marks, clashes, turn_marks}
 use Rattle.step_notes.specs.MemberNotes.{LinkAt, TurnNote, challenge_note, link_of_place, link_units, message_note, taken_link, turn_in, turn_note, turn_units}
-use Rattle.step_notes.specs.Records.{Book, CallTaken, ChannelAccepted, ChannelTurn, InUnit, JudgementTold, Judging, MessageTaken, OfMember, OutcomeTold, Outside, RequesterId, Sent, Source, blank, unit_in}
-use Rattle.step_notes.specs.TrustNotes.{trust_answers_of}
+use Rattle.step_notes.specs.Records.{Book, CallTaken, ChannelAccepted, ChannelTurn, Forward, InUnit, JudgementTold, Judging, MessageTaken, OfMember, OutcomeTold, Outside, RequesterId, Sent, Source, blank, unit_in}
+use Rattle.step_notes.specs.TrustNotes.{asking_note, asking_units, calls_handed, forwards_at, places_handed, trust_answers_of}
 use Rattle.world_moves.specs.declared.bag.BagUnit.{BagUnit}
 use Rattle.world_moves.specs.declared.links.EndId.{EndId}
 use Rattle.world_moves.specs.declared.links.EndId.TheVariants.{Controller, Member, Client}
@@ -85,15 +89,20 @@ abbrev pub later_of : Bool → List ℕ → List ℕ
 later_of false numbers = numbers
 later_of true numbers = drop 1 numbers
 
+-- the next of them, where a unit is sent
+abbrev pub number_sent : (sends : Bool) → List ℕ → Option ℕ
+number_sent false numbers = None
+number_sent true numbers = first_of numbers
+
 abbrev pub with_reply : Option Judging → Option ℕ → List Judging
 with_reply None number = []
 with_reply (Some judging) number = record judging { reply = number } ∷ []
 
--- the calls that were judged, in order, each with its reply
+-- the calls that were judged, in order, each with its reply, where one is sent for it then
 abbrev pub judged_of : List Answered → List ℕ → List Judging
 judged_of [] numbers = []
 judged_of (one ∷ answers) numbers =
-    with_reply one.judging (first_of numbers) ++ judged_of answers (later_of one.sends numbers)
+    with_reply one.judging (number_sent one.sends numbers) ++ judged_of answers (later_of one.sends numbers)
 
 -- the channels that were accepted, in order, each with the reply
 abbrev pub replied_with : Option ChannelAccepted → Option ℕ → List ChannelAccepted
@@ -120,6 +129,51 @@ with_answers answers unit numbers b =
       judged = onto (judged_of answers numbers) b.judged;
       accepted = onto (accepted_of answers numbers) b.accepted;
     })
+
+abbrev pub with_forwards : List Forward → Book → Book
+with_forwards forwards b = record b { forwards = onto forwards b.forwards }
+
+-- ---- a call that was handed on is answered
+
+-- it waits for the answer at its controller
+abbrev pub waits_at : Option ControllerState → Forward → Bool
+waits_at None one = false
+waits_at (Some c) one = is_some (lookup same_place (one.trust, one.place) c.trusting.queues.forwarded)
+
+abbrev pub still_waits : State → Forward → Bool
+still_waits s one = waits_at (slice_get s.ends.controllers one.judging.controller) one
+
+-- Its reply goes back on the link on which it came, once it doesn't wait any more, and is made for the channel on which
+-- it passed. Beside the link on which an end hears something, a controller sends no other unit back.
+abbrev pub forward_mark : Option ChannelIdentity → Forward → Mark
+forward_mark None one = Plain
+forward_mark (Some channel) one = reply_mark (unit_in one.judging.source) channel one.judging.number
+
+abbrev pub mark_or : (is_its_reply : Bool) (one : Forward) (other : Mark) → Mark
+mark_or false one other = other
+mark_or true one other = forward_mark (passed_channel one.judging) one
+
+abbrev pub beside_mark : List Forward → State → BagUnit → Mark
+beside_mark [] after unit = Plain
+beside_mark (one ∷ forwards) after unit =
+    mark_or (is_sent_on one.link true unit && not (still_waits after one)) one (beside_mark forwards after unit)
+
+-- What the new units of the bag were made for where bytes came on the link of a controller's turn: those that go out on
+-- it by these marks in order, the others as units beside it.
+abbrev pub asking_by : (is_on_link : Bool) (marks : List Mark) (other : Mark) (later : List Mark → List Mark) → List Mark
+asking_by false marks other later = other ∷ later marks
+asking_by true [] other later = Plain ∷ later []
+asking_by true (mark ∷ marks) other later = mark ∷ later marks
+
+abbrev pub asking_marks : ℕ → (beside : BagUnit → Mark) → List BagUnit → List Mark → List Mark
+asking_marks link beside [] marks = []
+asking_marks link beside (unit ∷ units) marks =
+    asking_by (is_sent_on link false unit) marks (beside unit) (λ rest. asking_marks link beside units rest)
+
+-- a credential passed in a unit that a turn took, on a channel for which it wasn't made
+abbrev pub any_turn_clash : List TurnNote → Option ℕ → List Sent → Bool
+any_turn_clash [] unit sent = false
+any_turn_clash (note ∷ notes) unit sent = clashes note.checked unit sent || any_turn_clash notes unit sent
 
 -- ---- at a member
 
@@ -219,15 +273,50 @@ abbrev pub answers_of : ℕ → ControllerState → Delivery → List ℕ → St
 answers_of controller c w piece s =
     trust_answers_of w.link (at_controller controller c w s) c piece s.moment s.chances.left
 
--- what is written down of the units that it served
+-- the calls that it handed on
+abbrev pub forwards_of : ℕ → ControllerState → Delivery → List ℕ → State → List Forward
+forwards_of controller c w piece s =
+    forwards_at w.link (places_handed c w.link piece s.moment s.chances.left) (calls_handed (answers_of controller c w piece s))
+
+-- what is written down of the units that it served, but for what new units were made for
+abbrev pub note_calls : List Answered → Delivery → State → State → Book → Book
+note_calls answers w s after b = with_answers answers (unit_in w.source) (numbers_on w.link true s.bag after.bag) b
+
 abbrev pub note_answers : List Answered → Delivery → State → State → Book → Book
 note_answers answers w s after b =
-    with_marks w.at w.link true (drop (length s.bag) after.bag) (answered_marks answers)
-    (with_answers answers (unit_in w.source) (numbers_on w.link true s.bag after.bag) b)
+    with_marks w.at w.link true (drop (length s.bag) after.bag) (answered_marks answers) (note_calls answers w s after b)
+
+-- the number of the controller that it asks in its turn: that of the trust's address
+abbrev pub controller_of_trust : Option Trust → EndStates → ℕ
+controller_of_trust None ends = length ends.controllers
+controller_of_trust (Some trust) ends = controller_number (end_of_peer trust.address ends) (length ends.controllers)
+
+abbrev pub asked_in_turn : ControllerState → State → ℕ
+asked_in_turn c s = controller_of_trust (slice_get c.table.trusts c.trusting.turn_of) s.ends
+
+-- what is written down of the units that its turn took
+abbrev pub asking_notes : ControllerState → Delivery → List ℕ → State → List TurnNote
+asking_notes c w piece s =
+    map (asking_note (asked_in_turn c s)) (asking_units c w.link piece s.moment s.chances.left)
+
+-- what new units were made for: replies on an accepted link; on the link of its turn requests, and beside them the
+-- reply to the call for which the turn was out
+abbrev pub heard_marks : (is_turn_link : Bool) → ℕ → ControllerState → Delivery → List ℕ → State → State → List Forward → List BagUnit → List Mark
+heard_marks false controller c w piece s after forwards units =
+    marks_of w.link true units (answered_marks (answers_of controller c w piece s))
+heard_marks true controller c w piece s after forwards units =
+    asking_marks w.link (λ unit. beside_mark forwards after unit) units (turn_marks (asking_notes c w piece s))
+
+abbrev pub with_sent : ℕ → List Mark → Book → Book
+with_sent at marks b = record b { sent = b.sent ++ map (sent_at at) marks }
 
 abbrev pub note_controller : Option ControllerState → ℕ → Delivery → List ℕ → State → State → Book → Book
 note_controller None controller w piece s after b = b
-note_controller (Some c) controller w piece s after b = note_answers (answers_of controller c w piece s) w s after b
+note_controller (Some c) controller w piece s after b =
+    with_sent w.at
+    (heard_marks (is_on w.link c.trusting.dialling) controller c w piece s after b.forwards (drop (length s.bag) after.bag))
+    (with_clash (any_turn_clash (asking_notes c w piece s) (unit_in w.source) b.sent)
+    (with_forwards (forwards_of controller c w piece s) (note_calls (answers_of controller c w piece s) w s after b)))
 
 abbrev pub at_member : ℕ → Delivery → State → LinkAt
 at_member member w s =
@@ -357,17 +446,25 @@ turns_by _ what after = []
 abbrev pub turns_in : Given → State → List ChannelTurn
 turns_in given after = flat_map (λ (one : EndId × Action). turns_by one.0 one.1 after) given
 
--- the other units that came into the bag were made for no channel
+-- the other units that came into the bag were made for no channel, but for replies to calls that were handed on, where
+-- a turn was lost
+abbrev pub other_marks : List Forward → State → ℕ → List Mark
+other_marks forwards after marked = map (λ (unit : BagUnit). beside_mark forwards after unit) (drop marked after.bag)
+
 abbrev pub with_others : ℕ → State → Book → Book
-with_others at after b = record b { sent = b.sent ++ replicate (length after.bag - length b.sent) (sent_at at Plain) }
+with_others at after b = with_sent at (other_marks b.forwards after (length b.sent)) b
+
+-- what was answered in the move doesn't wait any more
+abbrev pub with_waiting : State → Book → Book
+with_waiting after b = record b { forwards = filter (still_waits after) b.forwards }
 
 abbrev pub note_given : ℕ → Given → State → Book → Book
 note_given at given after b =
-    with_others at after (record b {
+    with_waiting after (with_others at after (record b {
       judgements = onto (judgements_in given at) b.judgements;
       told = b.told ++ told_in given at;
       turns = b.turns ++ turns_in given after;
-    })
+    }))
 
 -- ---- a run
 

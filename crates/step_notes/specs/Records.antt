@@ -65,6 +65,14 @@ pub record Judging : Type 0 where
   -- the unit of the bag that carries the reply, where it went to an end of this world
   pub reply : Option ℕ
 
+-- A call that a controller handed on to a trusted domain's controller: as it was judged, the link on which it came, and
+-- of which trust it was asked, at which place there.
+pub record Forward : Type 0 where
+  pub judging : Judging
+  pub link : ℕ
+  pub trust : ℕ
+  pub place : ℕ
+
 -- A judgement that a controller told, whatever it is of.
 pub record JudgementTold : Type 0 where
   pub at : ℕ
@@ -159,8 +167,10 @@ pub record MessageMade : Type 0 where
 pub record Book : Type 0 where
   -- one for each unit of the bag
   pub sent : List Sent
-  -- the calls that were judged, what controllers told of any, and the channels that they accepted, the newest first
+  -- the calls that were judged, those of them that were handed on and aren't answered yet, what controllers told of
+  -- any, and the channels that they accepted, the newest first
   pub judged : List Judging
+  pub forwards : List Forward
   pub judgements : List JudgementTold
   pub accepted : List ChannelAccepted
   -- the others in their order
@@ -180,6 +190,7 @@ abbrev pub blank : Book
 blank = record {
   sent = [];
   judged = [];
+  forwards = [];
   judgements = [];
   accepted = [];
   challenges = [];

@@ -1,16 +1,24 @@
 -- What is written down of the units that a controller serves which may hand logons on (this project's own choice). It
 -- is read off its own machine, as `ControllerNotes` is of one that asks nobody: of a step that hands nothing on the two
 -- say the same.
-use Rattle.std.specs.Prelude.{ℕ, ◌≡◌, Bool, true, false, List, [], ◌++◌, map, Option, Some, None}
+use Rattle.std.specs.Prelude.{ℕ, ◌≡◌, ◌==◌, Bool, true, false, List, [], ◌∷◌, ◌++◌, drop, flat_map, length, map, Option, Some, None, slice_get}
 use Rattle.wire_base.specs.Maps.{lookup, same_number}
 use Rattle.authenticators.specs.Channels.{ChannelIdentity}
 use Rattle.outside.specs.declared.action.Judged.{Judged}
 use Rattle.outside.specs.declared.action.Judged.TheVariants as judged
 use Rattle.outside.specs.declared.event.Event.TheVariants as event
+use Rattle.rpc_units.specs.Reading.{unit_of}
 use Rattle.rpc_units.specs.Stream.{cut_stream}
 use Rattle.end_links.specs.Links.{LinkState}
 use Rattle.end_links.specs.Serving.{ServedUnit, served_units}
+use Rattle.channel_client.specs.State.{Requester}
 use Rattle.channel_turns.specs.Turning.{is_on}
+use Rattle.channel_turns.specs.Turns.{turn_server}
+use Rattle.channel_turns.specs.declared.state.Dialling.{Dialling}
+use Rattle.channel_turns.specs.declared.state.Dialling.TheVariants as dialling
+use Rattle.channel_turns.specs.declared.state.TurnTalk.{TurnTalk}
+use Rattle.channel_turns.specs.declared.state.TurnWork.{TurnWork}
+use Rattle.controller_calls.specs.Forwarded.{ForwardedState}
 use Rattle.controller_calls.specs.Passing.{is_passed}
 use Rattle.controller_calls.specs.declared.calls.ControllerCall.{ControllerCall}
 use Rattle.controller_calls.specs.declared.calls.ControllerCall.TheVariants as call
@@ -22,13 +30,16 @@ use Rattle.domain_controller.specs.State.{State as ControllerState}
 use Rattle.domain_controller.specs.Step.{step_of}
 use Rattle.domain_controller.specs.TrustHere.{NoneIsAsked}
 use Rattle.domain_controller.specs.TrustStep.{parts_of, trust_step_of}
+use Rattle.domain_controller.specs.Trusting.{ForwardedCalls}
 use Rattle.domain_controller.specs.declared.hearing.Heard.{Heard}
 use Rattle.domain_controller.specs.declared.hearing.Heard.TheVariants as heard
 use Rattle.domain_controller.specs.declared.state.Running.{Running}
 use Rattle.domain_controller.specs.declared.state.Talk.{Talk}
+use Rattle.domain_controller.specs.declared.trusting.Trusting.{Trusting}
 use Rattle.channel_events.specs.Marks.{Plain}
 use Rattle.step_notes.specs.ControllerNotes.{Answered, Where, answer_on, channel_in, judging_by, judging_of, opened_by, opening, plain, silent, units_of_controller}
-use Rattle.step_notes.specs.Records.{Judging, computer_named}
+use Rattle.step_notes.specs.MemberNotes.{TurnNote, taking_note, taking_read}
+use Rattle.step_notes.specs.Records.{Forward, Judging, computer_named}
 use Rattle.step_notes.specs.Served.{units_if_taken, work_after}
 
 -- ---- the units
@@ -96,6 +107,71 @@ trust_answer_on link w unit =
 -- what is written down of the units that come to these
 abbrev pub trust_answers_of : ℕ → Where → ControllerState → List ℕ → ℕ → List (List ℕ) → List Answered
 trust_answers_of link w c piece now left = map (trust_answer_on link w) (trust_units_of c link piece now left)
+
+-- ---- calls that are handed on
+
+-- those of these that were, in order
+abbrev pub if_handed : Option Judged → Judging → List Judging
+if_handed (Some judged.Forwarded) j = j ∷ []
+if_handed how j = []
+
+abbrev pub if_judged : Option Judging → List Judging
+if_judged None = []
+if_judged (Some j) = if_handed j.how j
+
+abbrev pub calls_handed : List Answered → List Judging
+calls_handed answers = flat_map (λ (one : Answered). if_judged one.judging) answers
+
+-- the trusts and the places there at which calls wait behind so many that waited before
+abbrev pub places_behind : ℕ → ForwardedCalls → List (ℕ × ℕ)
+places_behind before calls = map (λ (one : (ℕ × ℕ) × ForwardedState). one.0) (drop before calls)
+
+-- of those that are handed on where these bytes come on the link, in order
+abbrev pub places_handed : ControllerState → ℕ → List ℕ → ℕ → List (List ℕ) → List (ℕ × ℕ)
+places_handed c number piece now left =
+    places_behind (length c.trusting.queues.forwarded)
+    (trust_step_of c (event.Bytes number piece) now left).state.trusting.queues.forwarded
+
+-- each such call with its place, as it came on that link
+abbrev pub forwards_at : ℕ → List (ℕ × ℕ) → List Judging → List Forward
+forwards_at link [] calls = []
+forwards_at link (place ∷ places) [] = []
+forwards_at link (place ∷ places) (j ∷ calls) =
+    record { judging = j; link = link; trust = place.0; place = place.1 } ∷ forwards_at link places calls
+
+-- ---- the link of its turn at a trust
+
+-- the units that the turn of a requester takes
+abbrev pub asking_units_at : Option Requester → LinkState TurnTalk → ℕ → List ℕ → List (List ℕ) → List (ServedUnit TurnWork TurnTalk)
+asking_units_at None said number piece left = []
+asking_units_at (Some channel) said number piece left =
+    served_units turn_server (cut_stream (said.rest ++ piece)).units
+    (record { link = number; channel = channel; actions = []; ended = None }) said.talk left
+
+abbrev pub asking_units_by : (is_turn_link : Bool) → LinkState TurnTalk → ℕ → List ℕ → Trusting → List (List ℕ) → List (ServedUnit TurnWork TurnTalk)
+asking_units_by false said number piece t left = []
+asking_units_by true said number piece t left =
+    asking_units_at (slice_get t.queues.requesters t.turn_of) said number piece left
+
+abbrev pub asking_units_on : Dialling → ℕ → List ℕ → Trusting → List (List ℕ) → List (ServedUnit TurnWork TurnTalk)
+asking_units_on dialling.Nothing number piece t left = []
+asking_units_on (dialling.Waits turn frames) number piece t left = []
+asking_units_on (dialling.On other said) number piece t left = asking_units_by (other == number) said number piece t left
+
+abbrev pub asking_units_in : Option Running → ℕ → List ℕ → Trusting → List (List ℕ) → List (ServedUnit TurnWork TurnTalk)
+asking_units_in None number piece t left = []
+asking_units_in (Some running) number piece t left = asking_units_on t.dialling number piece t left
+
+-- the units that the controller serves on the link of its turn when these bytes come on that link
+abbrev pub asking_units : ControllerState → ℕ → List ℕ → ℕ → List (List ℕ) → List (ServedUnit TurnWork TurnTalk)
+asking_units c number piece now left =
+    units_if_taken (trust_step_of c (event.Bytes number piece) now left).answer (asking_units_in c.running number piece c.trusting left)
+
+-- What is written down of such a unit is what is written down of one that a member's turn takes: it is of the requester
+-- alone, where the channel is with that controller.
+abbrev pub asking_note : ℕ → ServedUnit TurnWork TurnTalk → TurnNote
+asking_note controller unit =
+    taking_note (taking_read (unit_of unit.bytes) unit.talk.joiner unit.work.channel) controller unit.work.channel
 
 -- Of a controller that waits for no other one's answer it is what `ControllerNotes` says, where it steps as one that
 -- asks nobody.

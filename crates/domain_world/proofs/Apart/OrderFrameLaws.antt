@@ -1,10 +1,10 @@
 -- Through a run the order stays in which channels are accepted, and the calls on them, where what members take suits
 -- it: a channel that opens was accepted, and a call of another member is one of another computer.
-use Rattle.std.proofs.Common.{◌≡◌, ℕ, ◌+◌, ◌*◌, ◌≤◌, ◌-◌, replicate, false, List, [], ◌++◌, length, map, drop, inl, inr, Option, Some, slice_get, refl, sym, ap, subst, ◌∙◌, arith}
+use Rattle.std.proofs.Common.{◌≡◌, ℕ, ◌+◌, ◌*◌, ◌≤◌, false, List, [], ◌++◌, length, map, drop, inl, inr, Option, Some, slice_get, refl, sym, ap, subst, ◌∙◌, arith}
 use Rattle.outside.specs.declared.event.Event.{Event}
 use Rattle.outside.specs.declared.event.Event.TheVariants as event
 use Rattle.channel_client.specs.Effects.{effect_of_take}
-use Rattle.channel_events.specs.Marks.{Mark, Plain}
+use Rattle.channel_events.specs.Marks.{Mark}
 use Rattle.channel_events.specs.OrderSteps.{Asker, InOrder}
 use Rattle.domain_controller.specs.State.{State as ControllerState}
 use Rattle.domain_controller.specs.Step.{first_state, step_of as controller_step_of}
@@ -32,7 +32,7 @@ use Rattle.domain_world.specs.Accepting.Carried.{IsWholeUnit}
 use Rattle.domain_world.specs.Accepting.Runs.{IsQuiet, IsQuietTurn}
 use Rattle.domain_world.specs.Accepting.SeenSteps.{Differ, requests_after}
 use Rattle.domain_world.specs.Claims.OrderedSteps.{SuitsIfTaken}
-use Rattle.domain_world.specs.Past.{Delivery, controller_asked, marks_of, note_client, note_given, note_member, note_messages, sent_at}
+use Rattle.domain_world.specs.Past.{Delivery, controller_asked, marks_of, note_client, note_given, note_member, note_messages, other_marks, sent_at}
 use Rattle.domain_world.proofs.Frames.AloneNoteLaws.{note_alone as note_at, note_controller_alone as note_controller}
 use Rattle.domain_world.proofs.Accepting.LetInStepLaws.{IsDialledBy, Meets, MeetsMember}
 use Rattle.domain_world.proofs.Apart.OrderStayLaws.{order_anew, order_changes, order_clients, order_controllers, order_member, order_other, order_sent, order_steps}
@@ -45,7 +45,7 @@ use Rattle.domain_world.proofs.Moves.OpenMadeLaws.{IsAtSide}
 use Rattle.domain_world.proofs.Frames.StepFrameLaws.{RunFact}
 use Rattle.domain_world.proofs.Frames.TurnFrameLaws.{asked_marks, turns_sent}
 use Rattle.domain_world.proofs.Calls.CallComesLaws.{IsWhole, KeptIn, if_none, no_requests_sent, other_none, served, turn, units_in_none, units_whole}
-use Rattle.domain_world.proofs.Calls.CallFrameLaws.{came_whole, dialled_on, plain_calls, turn_case}
+use Rattle.domain_world.proofs.Calls.CallFrameLaws.{came_whole, dialled_on, other_calls, turn_case}
 use Rattle.domain_world.proofs.Calls.CallHoldsLaws.{CallsHold, differ_front, marks_append, marks_in, marks_sent, requests_at, views_at}
 use Rattle.domain_world.proofs.Calls.CallStepLaws.{hears_none, most_steps}
 use Rattle.domain_world.proofs.Calls.OutStepLaws.{IsOther, MemberHolds}
@@ -254,6 +254,6 @@ module _ (base : Asker) where
 
   pub over_order : (n at : ℕ) (s : State) (given : Given) (b : Book) → OrderKept base n s given b → OrderKept base n s [] (note_given at given s b)
   over_order n at s given b order few differ told =
-      let count : ℕ = length s.bag - length b.sent in
-      order_sent n s.member_plans s.ends s.chances.drawn b.sent (replicate count (sent_at at Plain)) (asked base b.accepted) (plain_calls at count)
+      let marked : ℕ = length b.sent in
+      order_sent n s.member_plans s.ends s.chances.drawn b.sent (map (sent_at at) (other_marks b.forwards s marked)) (asked base b.accepted) (other_calls at b.forwards s marked)
       (order few differ (told_before b (note_given at given s b) (given_earlier at given s b) told))

@@ -1,13 +1,13 @@
 -- What the book of a run tells of openings that were accepted, where no credential passed on a unit made for another
 -- channel; it was so of each earlier book. With it what a controller accepts keeps the order of what was accepted.
-use Rattle.std.proofs.Common.{◌≡◌, ◌≢◌, ℕ, zero, suc, inl, inr, ◌<◌, ◌≤◌, ◌+◌, Bool, true, false, List, [], ◌∷◌, ◌++◌, ◌-◌, length, map, flat_map, drop, replicate, Option, Some, None, slice_get, refl, sym, ap, subst, ◌∙◌, arith}
+use Rattle.std.proofs.Common.{◌≡◌, ◌≢◌, ℕ, zero, suc, inl, inr, ◌<◌, ◌≤◌, ◌+◌, Bool, true, false, List, [], ◌∷◌, ◌++◌, length, map, flat_map, drop, Option, Some, None, slice_get, refl, sym, ap, subst, ◌∙◌, arith}
 use Rattle.std.specs.List.{AllByRecursion}
 use Rattle.std.proofs.lemmas.List.{append-nil}
 use Rattle.outside.specs.declared.event.Event.TheVariants as event
 use Rattle.authenticators.specs.Channels.{ChannelIdentity, SameChannel}
 use Rattle.channel_events.specs.AcceptedOrder.{Accepted, IsMade}
 use Rattle.wire_base.specs.Lists.{OneOf}
-use Rattle.channel_events.specs.Marks.{Calling, Mark, Opening, Plain, ReplyTo}
+use Rattle.channel_events.specs.Marks.{Calling, Mark, Opening, ReplyTo}
 use Rattle.channel_events.specs.OrderSteps.{Asker, InOrder}
 use Rattle.channel_events.specs.Requests.{IsNoRequest, Requests}
 use Rattle.channel_events.proofs.AcceptedOrderLaws.{stay_in_order}
@@ -27,7 +27,7 @@ use Rattle.world_moves.specs.Ends.{EndStep}
 use Rattle.domain_world.specs.Accepting.Answered.{IsItsWay}
 use Rattle.domain_world.specs.Claims.AcceptedOpenings.{accepted_in, is_in_unit}
 use Rattle.domain_world.specs.Claims.Openings.{IsUnused}
-use Rattle.domain_world.specs.Past.{Delivery, accepted_of, is_sent_on, judged_of, with_reply, any_clash, at_controller, at_member, first_of, later_of, marks_of, note_client, note_given, note_member, note_messages, numbers_on, onto, replied_with, sent_at}
+use Rattle.domain_world.specs.Past.{Delivery, accepted_of, any_clash, at_controller, at_member, first_of, is_sent_on, judged_of, later_of, marks_of, note_client, note_given, note_member, note_messages, number_sent, numbers_on, onto, other_marks, replied_with, sent_at, with_reply}
 use Rattle.domain_world.proofs.Frames.AloneNoteLaws.{alone_answers as answers_of, note_controller_alone as note_controller}
 use Rattle.domain_world.proofs.Accepting.Turns.TurnNotedLaws.{or_false}
 use Rattle.domain_world.proofs.Accepting.Turns.TurnSideLaws.{turns_clash}
@@ -187,7 +187,7 @@ client_earlier c at w piece s b = record {
 
 pub given_earlier : (at : ℕ) (given : Given) (after : State) (b : Book) → IsEarlier b (note_given at given after b)
 given_earlier at given after b =
-    record { clash = λ none. none; items = []; accepted = refl; judgings = []; judged = refl; fresh = tt; marks = sent_before b.sent _; more = replicate (length after.bag - length b.sent) (sent_at at Plain); sent = refl; links = []; messages = sym (append-nil (links_in b.messages)) }
+    record { clash = λ none. none; items = []; accepted = refl; judgings = []; judged = refl; fresh = tt; marks = sent_before b.sent _; more = map (sent_at at) (other_marks b.forwards after (length b.sent)); sent = refl; links = []; messages = sym (append-nil (links_in b.messages)) }
 
 -- ---- replies are in new units
 
@@ -198,6 +198,10 @@ AreFrom count numbers = (i n : ℕ) → slice_get numbers i ≡ Some n → count
 first_from_count : (numbers : List ℕ) (count : ℕ) → AreFrom count numbers → (n : ℕ) → first_of numbers ≡ Some n → count ≤ n
 first_from_count [] count from n is = absurd (let never = is in cc)
 first_from_count (number ∷ numbers) count from n is = from 0 n is
+
+sent_from_count : (sends : Bool) (numbers : List ℕ) (count : ℕ) → AreFrom count numbers → (n : ℕ) → number_sent sends numbers ≡ Some n → count ≤ n
+sent_from_count false numbers count from n is = absurd (let never = is in cc)
+sent_from_count true numbers count from n is = first_from_count numbers count from n is
 
 later_from : (sends : Bool) (numbers : List ℕ) (count : ℕ) → AreFrom count numbers → AreFrom count (later_of sends numbers)
 later_from false numbers count from = from
@@ -212,7 +216,7 @@ with_from (Some j) number later count from all = (from, all)
 judged_from : (answers : List Answered) (numbers : List ℕ) (count : ℕ) → AreFrom count numbers → AllByRecursion (RepliesFrom count) (judged_of answers numbers)
 judged_from [] numbers count from = tt
 judged_from (one ∷ answers) numbers count from =
-    with_from one.judging (first_of numbers) (judged_of answers (later_of one.sends numbers)) count (first_from_count numbers count from)
+    with_from one.judging (number_sent one.sends numbers) (judged_of answers (later_of one.sends numbers)) count (sent_from_count one.sends numbers count from)
     (judged_from answers (later_of one.sends numbers) count (later_from one.sends numbers count from))
 
 numbers_from : (link : ℕ) (back : Bool) (before after : List BagUnit) → AreFrom (length before) (numbers_on link back before after)

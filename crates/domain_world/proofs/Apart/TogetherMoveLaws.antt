@@ -1,13 +1,13 @@
 -- Through the moves of a run a member and its controller stay together, by what is known of each step of the two.
 -- It serves `Proved.never_apart`.
-use Rattle.std.proofs.Common.{◌≡◌, ◌≢◌, ℕ, ◌+◌, ◌≤◌, ◌==◌, ◌-◌, replicate, true, false, List, [], ◌∷◌, ◌++◌, length, inl, inr, Option, Some, None, slice_get, slice_set, refl, sym, ap, subst, ◌∙◌, arith}
+use Rattle.std.proofs.Common.{◌≡◌, ◌≢◌, ℕ, ◌+◌, ◌≤◌, ◌==◌, true, false, List, [], ◌∷◌, ◌++◌, length, map, inl, inr, Option, Some, None, slice_get, slice_set, refl, sym, ap, subst, ◌∙◌, arith}
 use Rattle.std.proofs.lemmas.Bool.{cases_Bool, eqb-true}
 use Rattle.std.proofs.lemmas.Bool.Decides.{Decides-eqb}
 use Rattle.outside.specs.Drawing.{Drawing}
 use Rattle.outside.specs.declared.action.Action.{Action}
 use Rattle.outside.specs.declared.event.Event.{Event}
 use Rattle.outside.specs.declared.event.Event.TheVariants as event
-use Rattle.channel_events.specs.Marks.{Mark, Plain}
+use Rattle.channel_events.specs.Marks.{Mark}
 use Rattle.channel_turns.specs.declared.state.Dialling.TheVariants as dialling
 use Rattle.domain_controller.specs.State.{State as ControllerState}
 use Rattle.domain_controller.specs.Step.{step_of as controller_step_of}
@@ -16,7 +16,7 @@ use Rattle.member_server.specs.Machine.{step_of}
 use Rattle.member_server.specs.State.{State as MemberState}
 use Rattle.member_server.specs.declared.plan.MemberPlan.{MemberPlan}
 use Rattle.member_server.specs.declared.state.Running.{Running}
-use Rattle.step_notes.specs.Records.{Book}
+use Rattle.step_notes.specs.Records.{Book, Sent}
 use Rattle.world_moves.specs.declared.bag.BagUnit.{BagUnit}
 use Rattle.world_moves.specs.declared.links.EndId.{EndId}
 use Rattle.world_moves.specs.declared.links.EndId.TheVariants.{Client, Controller, Member}
@@ -29,7 +29,7 @@ use Rattle.world_moves.specs.Moving.{settle, with_link}
 use Rattle.domain_world.specs.Accepting.Carried.{IsWholeUnit}
 use Rattle.domain_world.specs.Accepting.Runs.{IsQuiet, IsQuietTurn}
 use Rattle.domain_world.specs.Accepting.SeenSteps.{Differ}
-use Rattle.domain_world.specs.Past.{Delivery, note_client, note_given, note_member, sent_at}
+use Rattle.domain_world.specs.Past.{Delivery, note_client, note_given, note_member, other_marks, sent_at}
 use Rattle.domain_world.proofs.Frames.AloneNoteLaws.{note_alone as note_at, note_controller_alone as note_controller}
 use Rattle.domain_world.proofs.Accepting.LetInStepLaws.{IsDialledBy, Meets, calm_meets, last_accepted, side_meets}
 use Rattle.domain_world.proofs.Accepting.Turns.TurnQuietLaws.{action_still}
@@ -46,7 +46,7 @@ use Rattle.domain_world.proofs.Moves.ComingLaws.{CameFrom, StillHas, kept_same, 
 use Rattle.domain_world.proofs.Frames.EndNoteLaws.{acted_by, stepped}
 use Rattle.domain_world.proofs.Moves.OpenMadeLaws.{IsAtSide, on_side}
 use Rattle.domain_world.proofs.Calls.CallComesLaws.{IsWhole}
-use Rattle.domain_world.proofs.Calls.CallFrameLaws.{came_whole, dialled_on, plain_calls, turn_case}
+use Rattle.domain_world.proofs.Calls.CallFrameLaws.{came_whole, dialled_on, other_calls, turn_case}
 use Rattle.domain_world.proofs.Calls.CallHoldsLaws.{CallsHold, differ_front, link_more, marks_append, marks_in}
 use Rattle.domain_world.proofs.Calls.CallStepLaws.{most_steps}
 use Rattle.domain_world.proofs.Calls.CalledUnitLaws.{heard_still}
@@ -252,10 +252,11 @@ module _ (p : Pairing) (Knows : List BagUnit → Book → Type 0) (More : MoveFa
     over_kept : (n at : ℕ) (on next : Option Delivery) (s : State) (given : Given) (b : Book) → TogetherKept n (started at on) s given b →
         TogetherKept n (started (at + 1) next) s [] (note_given at given s b)
     over_kept n at on next s given b together few differ knows st there =
-        let count : ℕ = length s.bag - length b.sent in
+        let marked : ℕ = length b.sent in
+        let others : List Sent = map (sent_at at) (other_marks b.forwards s marked) in
         rebook_calls p [] s.member_plans b (note_given at given s b) st.running refl refl
-        (subst (λ (marks : List Mark). CallsWere marks (marks_in b.sent)) (sym (marks_append b.sent (replicate count (sent_at at Plain))))
-        (calls_before (marks_in b.sent) (marks_in (replicate count (sent_at at Plain))) (plain_calls at count)))
+        (subst (λ (marks : List Mark). CallsWere marks (marks_in b.sent)) (sym (marks_append b.sent others))
+        (calls_before (marks_in b.sent) (marks_in others) (other_calls at b.forwards s marked)))
         (together few differ (known.before s.bag s.bag b (note_given at given s b) (kept_same s.bag) (given_earlier at given s b) knows) st there)
 
     pub together_moves : KeepsMoves (Unit {0}) TogetherSide TogetherKept

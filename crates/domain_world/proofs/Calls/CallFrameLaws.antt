@@ -1,14 +1,14 @@
 -- What is known of calls is kept through all that happens in a run whose ends are quiet: each unit that comes on the
 -- link of a turn is whole. So it is of each schedule. It serves `runs_stand_so`.
 use Rattle.std.proofs.Common.{◌≡◌, ◌⊎◌, ℕ, zero, suc, ◌+◌, ◌*◌, ◌≤◌, ◌==◌, Bool, true, false, List, [], ◌∷◌, length, inl, inr, Option, Some, None, slice_get, refl, sym, ap, ◌∙◌, subst, arith}
-use Rattle.std.specs.Prelude.{◌-◌, replicate}
+use Rattle.std.specs.Prelude.{◌&&◌, drop, map, not}
 use Rattle.std.specs.List.{AllByRecursion}
 use Rattle.std.proofs.lemmas.Bool.{eqb-true}
 use Rattle.outside.specs.declared.action.Action.{Action}
 use Rattle.outside.specs.declared.event.Event.{Event}
 use Rattle.outside.specs.declared.event.Event.TheVariants as event
 use Rattle.channel_client.specs.declared.state.Pending.{Pending}
-use Rattle.channel_events.specs.Marks.{Plain}
+use Rattle.channel_events.specs.Marks.{Mark}
 use Rattle.channel_events.specs.Requests.{CallsAreApart, IsRequest, Requests}
 use Rattle.wire_base.proofs.ListLaws.{got_nothing, one_weaker, some_is}
 use Rattle.domain_controller.specs.Step.{first_state}
@@ -23,8 +23,11 @@ use Rattle.member_server.specs.declared.state.Running.{Running}
 use Rattle.channel_turns.specs.declared.state.TurnTalk.{TurnTalk}
 use Rattle.end_links.specs.Links.{LinkState}
 use Rattle.step_notes.specs.ChannelNames.{standing_channel}
+use Rattle.step_notes.specs.ControllerNotes.{reply_mark}
+use Rattle.step_notes.specs.Judged.{passed_channel}
 use Rattle.step_notes.specs.MemberNotes.{is_turn_link}
-use Rattle.step_notes.specs.Records.{Book, MessageTaken, OfMember, RequesterId, Source, blank}
+use Rattle.step_notes.specs.Records.{Book, Forward, MessageTaken, OfMember, RequesterId, Source, blank, unit_in}
+use Rattle.world_moves.specs.declared.bag.BagUnit.{BagUnit}
 use Rattle.step_notes.proofs.Members.CallKeptLaws.{fresh_asks}
 use Rattle.step_notes.proofs.Members.KeptLogonLaws.{IfDialled, KeptIn as LogonsKept}
 use Rattle.world_moves.specs.declared.links.EndId.{EndId}
@@ -46,7 +49,7 @@ use Rattle.world_moves.proofs.EndKindLaws.{IfMember}
 use Rattle.domain_world.specs.Accepting.SeenSteps.{NoRequests}
 use Rattle.domain_world.specs.Accepting.Carried.{IsWholeUnit}
 use Rattle.domain_world.specs.Accepting.Runs.{AskedIsOut, BagIsWhole, IsOut, IsQuiet, IsQuietTurn, RunsStandSo, Shows}
-use Rattle.domain_world.specs.Past.{Delivery, Past, note_given, note_member, past, sent_at, controller_asked}
+use Rattle.domain_world.specs.Past.{Delivery, Past, beside_mark, controller_asked, forward_mark, is_sent_on, mark_or, note_given, note_member, other_marks, past, sent_at, still_waits}
 use Rattle.domain_world.specs.Schedules.{OfSchedules}
 use Rattle.domain_world.proofs.Frames.AloneNoteLaws.{note_alone as note_at}
 use Rattle.domain_world.proofs.Moves.OpenMadeLaws.{on_side}
@@ -127,11 +130,32 @@ any_fine : (end : EndId) (links : List Route) (actions : List Action) → AllByR
 any_fine end links [] = tt
 any_fine end links (what ∷ actions) = (tt, any_fine end links actions)
 
--- units that were made for nothing are no requests
-pub plain_calls : (at count : ℕ) → NoRequests (marks_in (replicate count (sent_at at Plain)))
-plain_calls at zero k number c mark asks there = got_nothing k mark there
-plain_calls at (suc count) zero number c mark asks there = subst (IsRequest c number) (sym (some_is Plain mark there)) asks
-plain_calls at (suc count) (suc k) number c mark asks there = plain_calls at count k number c mark asks there
+-- units that go out beside the link on which an end hears something are no requests
+reply_no_call : (unit : Option ℕ) (channel : ChannelIdentity) (call : ℕ) (c : ChannelIdentity) (number : ℕ) → IsRequest c number (reply_mark unit channel call) → ⊥
+reply_no_call None channel call c number asks = asks
+reply_no_call (Some unit) channel call c number asks = asks
+
+forward_no_call : (channel : Option ChannelIdentity) (one : Forward) (c : ChannelIdentity) (number : ℕ) → IsRequest c number (forward_mark channel one) → ⊥
+forward_no_call None one c number asks = asks
+forward_no_call (Some channel) one c number asks = reply_no_call (unit_in one.judging.source) channel one.judging.number c number asks
+
+mark_or_no_call : (is_its_reply : Bool) (one : Forward) (other : Mark) (c : ChannelIdentity) (number : ℕ) → (IsRequest c number other → ⊥) → IsRequest c number (mark_or is_its_reply one other) → ⊥
+mark_or_no_call false one other c number none asks = none asks
+mark_or_no_call true one other c number none asks = forward_no_call (passed_channel one.judging) one c number asks
+
+beside_no_call : (forwards : List Forward) (after : State) (unit : BagUnit) (c : ChannelIdentity) (number : ℕ) → IsRequest c number (beside_mark forwards after unit) → ⊥
+beside_no_call [] after unit c number asks = asks
+beside_no_call (one ∷ forwards) after unit c number asks =
+    mark_or_no_call (is_sent_on one.link true unit && not (still_waits after one)) one (beside_mark forwards after unit) c number (beside_no_call forwards after unit c number) asks
+
+besides_no_calls : (at : ℕ) (forwards : List Forward) (after : State) (units : List BagUnit) → NoRequests (marks_in (map (sent_at at) (map (λ (unit : BagUnit). beside_mark forwards after unit) units)))
+besides_no_calls at forwards after [] k number c mark asks there = got_nothing k mark there
+besides_no_calls at forwards after (unit ∷ units) zero number c mark asks there =
+    beside_no_call forwards after unit c number (subst (IsRequest c number) (sym (some_is (beside_mark forwards after unit) mark there)) asks)
+besides_no_calls at forwards after (unit ∷ units) (suc k) number c mark asks there = besides_no_calls at forwards after units k number c mark asks there
+
+pub other_calls : (at : ℕ) (forwards : List Forward) (after : State) (marked : ℕ) → NoRequests (marks_in (map (sent_at at) (other_marks forwards after marked)))
+other_calls at forwards after marked = besides_no_calls at forwards after (drop marked after.bag)
 
 hears_so : (n : ℕ) (end : EndId) (what : Event) (s : State) (b : Book) → Meets end s.links what → KeptIn n s b → KeptIn (n + 1) (hear end what s).state b
 hears_so n end what s b meets kept =
@@ -195,8 +219,8 @@ changed_so n at secret s b kept =
 
 over_so : (n at : ℕ) (given : Given) (s : State) (b : Book) → KeptIn n s b → KeptIn n s (note_given at given s b)
 over_so n at given s b kept = λ few differ.
-    let count : ℕ = length s.bag - length b.sent in
-    sent_more n s.member_plans s.ends s.chances.drawn s.links b.sent (replicate count (sent_at at Plain)) b.messages (plain_calls at count) (kept few differ)
+    let marked : ℕ = length b.sent in
+    sent_more n s.member_plans s.ends s.chances.drawn s.links b.sent (map (sent_at at) (other_marks b.forwards s marked)) b.messages (other_calls at b.forwards s marked) (kept few differ)
 
 -- through each step and each single change
 pub calls_keep : StepKeeps QuietSide CallsKept AnyAction

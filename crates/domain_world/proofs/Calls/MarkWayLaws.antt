@@ -5,6 +5,7 @@ use Rattle.std.specs.List.{AllByRecursion}
 use Rattle.authenticators.specs.Channels.{ChannelIdentity}
 use Rattle.outside.specs.declared.event.Event.TheVariants as event
 use Rattle.controller_calls.specs.declared.calls.ControllerCall.TheVariants as call
+use Rattle.rpc_units.specs.Reading.{unit_of}
 use Rattle.end_links.specs.Serving.{ServedUnit}
 use Rattle.channel_client.specs.declared.state.SetStep.TheVariants as set_step
 use Rattle.channel_client.specs.Effects.{step_in}
@@ -22,21 +23,25 @@ use Rattle.outside.specs.declared.action.Judged.TheVariants as judged
 use Rattle.domain_controller.specs.Forwarding.{TrustDesk, base_desk}
 use Rattle.domain_controller.specs.Hearing.{hear}
 use Rattle.domain_controller.specs.Machine.{Desk}
+use Rattle.domain_controller.specs.State.{State as ControllerState}
 use Rattle.domain_controller.specs.declared.hearing.Heard.{Heard}
 use Rattle.domain_controller.specs.declared.hearing.Heard.TheVariants as heard
 use Rattle.controller_calls.specs.declared.line.Line.{Line}
 use Rattle.domain_controller.specs.declared.state.Talk.{Talk}
 use Rattle.domain_controller.proofs.TrustPlaceLaws.{got_all}
 use Rattle.member_server.specs.Turns.{AtTurn}
+use Rattle.channel_turns.specs.Turning.{is_on}
 use Rattle.channel_turns.specs.declared.state.TurnTalk.{TurnTalk}
+use Rattle.channel_turns.specs.declared.state.TurnWork.{TurnWork}
 use Rattle.channel_events.specs.Marks.{Mark, Plain}
 use Rattle.step_notes.specs.ControllerNotes.{Where, answer_on, call_answer, channel_in, has_passed, heard_answer, judging_by, judging_of, opened_by, opened_mark, opening, passing, reply_mark, units_of_controller}
-use Rattle.step_notes.specs.Marking.{answered_marks, mark_if}
-use Rattle.step_notes.specs.MemberNotes.{asked_note, taken_note, taking_at, taking_note, turn_note, turn_units, TurnNote}
-use Rattle.step_notes.specs.Records.{Book, Judging, OfMember, RequesterId, Sent, computer_named, unit_in}
+use Rattle.step_notes.specs.Judged.{passed_channel}
+use Rattle.step_notes.specs.Marking.{answered_marks, mark_if, turn_marks}
+use Rattle.step_notes.specs.MemberNotes.{asked_note, taken_note, taking_at, taking_note, taking_read, turn_note, turn_units, TurnNote}
+use Rattle.step_notes.specs.Records.{Book, Forward, Judging, OfMember, RequesterId, Sent, computer_named, unit_in}
 use Rattle.controller_calls.specs.declared.calls.ControllerCall.{ControllerCall}
 use Rattle.step_notes.specs.Served.{work_after}
-use Rattle.step_notes.specs.TrustNotes.{base_after, trust_answer_on, trust_heard_answer, trust_judging_by, trust_units_of}
+use Rattle.step_notes.specs.TrustNotes.{asking_note, asking_units, base_after, trust_answer_on, trust_heard_answer, trust_judging_by, trust_units_of}
 use Rattle.world_moves.specs.declared.bag.BagUnit.{BagUnit}
 use Rattle.world_moves.specs.declared.moves.Move.{Move}
 use Rattle.world_moves.specs.declared.plan.Plan.{Plan}
@@ -48,13 +53,14 @@ use Rattle.world_moves.specs.Acting.{AfterHearing, hear_and_act, heard_by}
 use Rattle.world_moves.specs.Bag.{settle_at}
 use Rattle.world_moves.specs.Ends.{EndStep, client_step, controller_step, member_step}
 use Rattle.domain_world.specs.Accepting.Answered.{IsItsWay, MarksHaveTheirWay}
-use Rattle.domain_world.specs.Past.{Delivery, answers_of, at_controller, controller_asked, is_sent_on, marks_by, marks_of, note_at, note_given, note_messages, past, sent_at}
+use Rattle.domain_world.specs.Past.{Delivery, answers_of, asked_in_turn, asking_by, asking_marks, asking_notes, at_controller, beside_mark, controller_asked, forward_mark, heard_marks, is_sent_on, mark_or, marks_by, marks_of, note_at, note_given, note_messages, past, sent_at, still_waits}
 use Rattle.wire_base.proofs.ListLaws.{got_nothing, some_is}
 use Rattle.world_moves.proofs.LinkFrameLaws.{StaysOnLinks, actions_stay, quiet_stays}
-use Rattle.domain_world.proofs.Frames.BagFrameLaws.{IsMarked, IsOfUnit, IsServer, MarksStay, OfEachUnit, UnitFact, bag_at, each_more, marked_more, member_marks, others_marked, settled_each}
+use Rattle.domain_world.proofs.Frames.BagFrameLaws.{IsMarked, IsOfUnit, IsServer, MarksStay, OfEachUnit, UnitFact, bag_at, each_more, marked_by, marked_more, member_marks, others_marked, settled_each}
 use Rattle.domain_world.proofs.Frames.FrameLaws.{Fact}
 use Rattle.domain_world.proofs.Frames.EveryStepLaws.{every_acted, stepped}
 use Rattle.domain_world.proofs.Moves.MarkPlaceLaws.{settled_length}
+use Rattle.domain_world.proofs.Moves.MarkedLaws.{heard_length}
 use Rattle.domain_world.proofs.Frames.MoveFrameLaws.{HoldsAfterMoves, moves_keep}
 use Rattle.domain_world.proofs.Frames.MoveKeepLaws.{AtWork, KeepsMovesBy, MoveFact, NoSide, every}
 use Rattle.domain_world.proofs.Moves.OpenMadeLaws.{IsMore, IsOnSide, MoreOf, goes_on, no_more, side_of}
@@ -203,10 +209,58 @@ by_way true back link unit units (mark ∷ marks) on each later =
     first_way unit mark units (marks_of link back units marks)
     (subst (λ (b : Bool). IsItsWay b mark) (sym (goes_so back link unit on)) each.0) (later marks each.1)
 
+-- on the link of a controller's turn: requests on it, and the reply to a call that was handed on
+forward_way : (channel : Option ChannelIdentity) (one : Forward) → IsReply (forward_mark channel one)
+forward_way None one = tt
+forward_way (Some channel) one = reply_way (unit_in one.judging.source) channel one.judging.number
+
+mark_or_way : (on waits_no_more : Bool) (one : Forward) (unit : BagUnit) (other : Mark) → is_sent_on one.link true unit ≡ on → IsItsWay unit.back other →
+    IsItsWay unit.back (mark_or (on && waits_no_more) one other)
+mark_or_way false waits_no_more one unit other on way = way
+mark_or_way true false one unit other on way = way
+mark_or_way true true one unit other on way =
+    subst (λ (back : Bool). IsItsWay back (forward_mark (passed_channel one.judging) one)) (sym (goes_so true one.link unit on)) (forward_way (passed_channel one.judging) one)
+
+beside_way : (forwards : List Forward) (after : State) (unit : BagUnit) → IsItsWay unit.back (beside_mark forwards after unit)
+beside_way [] after unit = tt
+beside_way (one ∷ forwards) after unit =
+    mark_or_way (is_sent_on one.link true unit) (not (still_waits after one)) one unit (beside_mark forwards after unit) refl (beside_way forwards after unit)
+
+asking_way : (on : Bool) (link : ℕ) (beside : BagUnit → Mark) (unit : BagUnit) (units : List BagUnit) (marks : List Mark) → is_sent_on link false unit ≡ on →
+    IsItsWay unit.back (beside unit) → AllByRecursion IsRequest marks → ((rest : List Mark) → AllByRecursion IsRequest rest → AreWay units (asking_marks link beside units rest)) →
+    AreWay (unit ∷ units) (asking_by on marks (beside unit) (λ (rest : List Mark). asking_marks link beside units rest))
+asking_way false link beside unit units marks on way each later = first_way unit (beside unit) units (asking_marks link beside units marks) way (later marks each)
+asking_way true link beside unit units [] on way each later = first_way unit Plain units (asking_marks link beside units []) tt (later [] tt)
+asking_way true link beside unit units (mark ∷ marks) on way each later =
+    first_way unit mark units (asking_marks link beside units marks)
+    (subst (λ (b : Bool). IsItsWay b mark) (sym (goes_so false link unit on)) each.0) (later marks each.1)
+
+askings_way : (link : ℕ) (beside : BagUnit → Mark) → ((unit : BagUnit) → IsItsWay unit.back (beside unit)) → (units : List BagUnit) (marks : List Mark) → AllByRecursion IsRequest marks →
+    AreWay units (asking_marks link beside units marks)
+askings_way link beside ways [] marks each = λ place unit mark there marked. absurd (got_nothing place unit there)
+askings_way link beside ways (unit ∷ units) marks each =
+    asking_way (is_sent_on link false unit) link beside unit units marks refl (ways unit) each (λ rest all. askings_way link beside ways units rest all)
+
+notes_way : (controller : ℕ) (units : List (ServedUnit TurnWork TurnTalk)) → AllByRecursion IsRequest (turn_marks (map (asking_note controller) units))
+notes_way controller [] = tt
+notes_way controller (unit ∷ units) =
+    let note : TurnNote = asking_note controller unit in
+    if_marked IsRequest note.sends note.mark (turn_marks (map (asking_note controller) units))
+    (taking_way (taking_read (unit_of unit.bytes) unit.talk.joiner unit.work.channel) controller unit.work.channel) (notes_way controller units)
+
 units_way : (back : Bool) (link : ℕ) (units : List BagUnit) (marks : List Mark) → AllByRecursion (IsItsWay back) marks → AreWay units (marks_of link back units marks)
 units_way back link [] marks each = λ place unit mark there marked. absurd (got_nothing place unit there)
 units_way back link (unit ∷ units) marks each =
     by_way (is_sent_on link back unit) back link unit units marks refl each (λ rest all. units_way back link units rest all)
+
+-- where a controller hears bytes
+marks_way : (on : Bool) (at : ℕ) (c : ControllerState) (w : Delivery) (piece : List ℕ) (s after : State) (forwards : List Forward) (units : List BagUnit) →
+    AreWay units (heard_marks on at c w piece s after forwards units)
+marks_way false at c w piece s after forwards units =
+    units_way true w.link units (answered_marks (answers_of at c w piece s)) (trust_answers_way w.link (at_controller at c w s) (trust_units_of c w.link piece s.moment s.chances.left))
+marks_way true at c w piece s after forwards units =
+    askings_way w.link (λ unit. beside_mark forwards after unit) (λ unit. beside_way forwards after unit) units (turn_marks (asking_notes c w piece s))
+    (notes_way (asked_in_turn c s) (asking_units c w.link piece s.moment s.chances.left))
 
 -- ---- a run
 
@@ -266,8 +320,12 @@ end_ways end w piece s b each all =
     (λ one even. (each, even))
     (λ at c is even.
     let step : EndStep = controller_step (Some c) at (event.Bytes w.link piece) s.moment s.ends s.chances in
-    let marked = server_ways (Controller at) step s b.sent w.link true (answered_marks (answers_of at c w piece s)) w.at
-    (trust_answers_way w.link (at_controller at c w s) (trust_units_of c w.link piece s.moment s.chances.left)) each (even refl) in (marked.each, (λ server. marked.all)))
+    let on : Bool = is_on w.link c.trusting.dialling in
+    let adds : Adds (Controller at) step s = end_adds (Controller at) step s in
+    let after : State = stepped (Controller at) step s in
+    let marked = marked_by OfUnit tt tt s after.bag b.sent (λ units. heard_marks on at c w piece s after b.forwards units) w.at adds.units adds.is
+    (λ number unit one there mark way. way) (heard_length on at c w piece s after b.forwards adds.units) (marks_way on at c w piece s after b.forwards adds.units)
+    (record { each = each; all = even refl }) in (marked.each, (λ server. marked.all)))
     (λ at m is even.
     let step : EndStep = member_step (Some m) at (event.Bytes w.link piece) s.moment s.ends s.chances in
     let after : State = stepped (Member at) step s in
@@ -335,7 +393,7 @@ ways_keep = record {
   changes = λ n at member secret s b formed none ways. ways;
   ticks = λ n at more s b none ways. ways;
   over = λ n at on next s given b none ways.
-      let marked = others_marked OfUnit tt (λ number unit. tt) s.bag b.sent at ways.each in
+      let marked = others_marked OfUnit tt (λ unit. beside_mark b.forwards s unit) (λ number unit. beside_way b.forwards s unit) s.bag b.sent at ways.each in
       record { each = marked.each; all = all_on next s.links s.bag (note_given at given s b).sent marked.all };
 }
 

@@ -286,7 +286,11 @@ member_heard m at w piece s after b is kept =
 
 owns_on : KeepsMembers notes_of Owns
 owns_on = record {
-  of = record { controllers = λ answers w s after b. refl; clients = λ c at w piece s b. refl };
+  of = record {
+    controllers = λ answers w s after b. refl;
+    every = λ c at w piece s after b. refl;
+    clients = λ c at w piece s b. refl;
+  };
   given = λ at given after b. refl;
   draws = λ notes members chances later links on kept.
       subst (λ (drawn : List (List ℕ)). AreOwn notes members drawn links) (sym on.is) (own_drew notes members chances.drawn on.more links kept);

@@ -1,10 +1,10 @@
 -- What is written down of one move: a unit comes on its own link in one piece, at a client, at a member or at a
 -- controller, and no credential passes in it on another channel.
 -- It serves `Proved.one_by_one`, and `a_run_is_clear` of claim_examples.
-use Rattle.std.proofs.Common.{◌≡◌, ℕ, zero, suc, ◌+◌, ◌-◌, ◌≤◌, Bool, true, false, List, [], ◌∷◌, ◌++◌, length, map, Option, Some, None, refl, ap, ◌∙◌, arith, slice_get, ap₂, subst, sym}
-use Rattle.std.specs.Prelude.{◌||◌, drop, replicate}
+use Rattle.std.proofs.Common.{◌≡◌, ℕ, ◌+◌, ◌-◌, ◌≤◌, Bool, true, false, List, [], ◌∷◌, ◌++◌, length, map, Option, Some, None, refl, ap, ◌∙◌, arith, slice_get, ap₂, subst, sym}
+use Rattle.std.specs.Prelude.{◌||◌, drop}
 use Rattle.std.specs.List.{AllByRecursion}
-use Rattle.std.proofs.lemmas.List.{length-append}
+use Rattle.std.proofs.lemmas.List.{length-append, length-map}
 use Rattle.end_links.specs.Serving.{ServedUnit}
 use Rattle.domain_controller.specs.State.{State as ControllerState}
 use Rattle.logon_client.specs.State.{State as ClientState}
@@ -22,9 +22,10 @@ use Rattle.world_moves.specs.Acting.{Given}
 use Rattle.world_moves.specs.Bag.{first_waiting}
 use Rattle.world_moves.specs.Moving.{act}
 use Rattle.world_moves.specs.World.{World}
-use Rattle.domain_world.specs.Past.{Delivery, any_clash, book, judged_of, marks_of, note, note_client, note_given, note_member, note_messages, note_turn, note_turns, numbers_on, onto, sent_at, controller_asked}
+use Rattle.domain_world.specs.Past.{Delivery, any_clash, book, controller_asked, judged_of, marks_of, note, note_client, note_given, note_member, note_messages, note_turn, note_turns, numbers_on, onto, other_marks, sent_at}
 use Rattle.domain_world.proofs.Frames.AloneNoteLaws.{alone_answers as answers_of, note_controller_alone as note_controller}
 use Rattle.domain_world.proofs.Moves.ComingLaws.{act_still}
+use Rattle.domain_world.proofs.Moves.MarkedLaws.{others_length}
 use Rattle.domain_world.proofs.Moves.MarkPlaceLaws.{no_longer}
 
 -- ---- moves one after the other
@@ -67,10 +68,6 @@ pub record Waits (s : State) (channel : Option ChannelIdentity) (b : Book) : Typ
 pub grows : (s : State) (what : Move) → length s.bag ≤ length (act s what).state.bag
 grows s what = no_longer s.bag (act s what).state.bag (λ number unit there. let still = act_still what s number unit there in (still.now, still.there))
 
-length_replicate : {T : Type 0} (count : ℕ) (item : T) → length (replicate count item) ≡ count
-length_replicate zero item = refl
-length_replicate (suc count) item = ap suc (length_replicate count item)
-
 filled : (count more : ℕ) → count ≤ more → count + (more - count) ≡ more
 filled count more few = omega arith
 
@@ -81,7 +78,8 @@ given_fine k given after count b apart few marked = record {
   apart = apart;
   few = few;
   marked = length-append b.sent _
-      ∙ ap (λ (more : ℕ). length b.sent + more) (length_replicate (length after.bag - length b.sent) _)
+      ∙ ap (λ (more : ℕ). length b.sent + more)
+      (length-map (other_marks b.forwards after (length b.sent)) (sent_at k) ∙ others_length b.forwards after (length b.sent))
       ∙ filled (length b.sent) (length after.bag) marked;
 }
 

@@ -55,7 +55,7 @@ use Rattle.world_moves.specs.Ends.{EndStates}
 use Rattle.world_moves.specs.Links.{OpenMap}
 use Rattle.world_moves.specs.MemberPlans.{but_secret}
 use Rattle.world_moves.specs.Moving.{connect, end_of_peer, settle, start}
-use Rattle.domain_world.specs.Past.{Delivery, any_clash, at_controller, controller_number, controller_of_plan, is_sent_on, judged_of, note, note_answers, note_at, note_client, note_controller, note_member, numbers_on, onto, controller_asked}
+use Rattle.domain_world.specs.Past.{Delivery, any_clash, at_controller, controller_number, controller_of_plan, is_sent_on, judged_of, note, note_at, note_client, note_controller, note_member, numbers_on, onto, controller_asked}
 use Rattle.logon_steps.specs.ControllerTurns.{controller_at, one_link, turn_link}
 use Rattle.logon_steps.specs.MemberLinks.{one_link as client_link}
 use Rattle.logon_steps.specs.MemberTurns.{logons_keeping, member_at, on_turn}
@@ -77,7 +77,7 @@ use Rattle.logon_runs.proofs.Scenes.WaitingLaws.{waiting_comes}
 use Rattle.domain_world.proofs.Completeness.HeardOnceLaws.{ComeTo, IsHeardAs, answer_by, bind_answers, heard_answers, turn_hears}
 use Rattle.domain_world.proofs.Clear.NotedLaws.{AreOwn, Fine, Leads, Waits, Written, client_fine, controller_fine, given_fine, grows, member_fine, world_at}
 use Rattle.domain_world.proofs.Completeness.UnitNotedLaws.{Came, comes_so, coming, state_then}
-use Rattle.domain_world.proofs.Frames.AloneNoteLaws.{alone_answers as answers_of, answers_alike, note_controller_alone}
+use Rattle.domain_world.proofs.Frames.AloneNoteLaws.{alone_answers as answers_of, note_controller_alone, state_noted}
 use Rattle.domain_world.proofs.Moves.MemberPlanLaws.{controller_but_secret}
 use Rattle.domain_world.proofs.Clear.NotedOnLaws.{came_fine, onward_waits, written_few}
 use Rattle.domain_world.proofs.Clear.TakenOnceLaws.{asks_notes, own_notes, response_own, rests_quiet, waits_quiet}
@@ -109,7 +109,7 @@ controller_comes s unit later at came c found nobody k count total b fine own ju
     let now : Book = note_controller_alone (Some c) at w unit.bytes s1 after b in
     let is : note_at (Some (Controller at)) w unit.bytes s1 after b ≡ now =
     ap (λ (f : Option ControllerState). note_controller f at w unit.bytes s1 after b) found
-    ∙ ap (λ (answers : List Answered). note_answers answers w s1 after b) (answers_alike at c w unit.bytes s1 nobody) in
+    ∙ state_noted at c w unit.bytes s1 after b nobody in
     let written : Written k unit.link true s1 after total (answered_marks (answers_of at c w unit.bytes s1)) b now =
     controller_fine c at w unit.bytes s1 after count total b fine.apart fine.few own (judged (numbers_on unit.link true s1.bag after.bag)) in
     record {
@@ -346,7 +346,7 @@ module _ (s : State) (t : TurnScene) (next number : ℕ) (what : Step) (request 
         has = subst (λ (marks : List Mark). HasWritten s unit [] (Controller t.at_controller) came k t.link true total marks b) to.marks has;
         numbers = numbers;
         judged = ap (λ (one : Book). one.judged) (came.noted k b ∙ ap (λ (f : Option ControllerState). note_controller f t.at_controller w call_bytes s1 later b) shows.controller
-            ∙ ap (λ (all : List Answered). note_answers all w s1 later b) (answers_alike t.at_controller call_at w call_bytes s1 refl))
+            ∙ state_noted t.at_controller call_at w call_bytes s1 later b refl)
             ∙ ap (λ (js : List Judging). onto js b.judged) (to.judged numbers);
       }
 

@@ -60,8 +60,8 @@ use Rattle.logon_runs.proofs.Scenes.TurnSceneLaws.{heard_there}
 use Rattle.logon_runs.proofs.Scenes.TwoLinkLaws.{turns_have_links}
 use Rattle.domain_world.specs.Claims.{TravelsAsZeros, key_bytes}
 use Rattle.domain_world.specs.Claims.Completeness.{IsMadeForClient}
-use Rattle.domain_world.specs.Past.{Delivery, at_controller, first_of, judged_of, note, note_answers, note_controller, numbers_on, onto, with_reply}
-use Rattle.domain_world.proofs.Frames.AloneNoteLaws.{alone_answers as answers_of, answers_alike}
+use Rattle.domain_world.specs.Past.{Delivery, at_controller, judged_of, note, note_controller, number_sent, numbers_on, onto, with_reply}
+use Rattle.domain_world.proofs.Frames.AloneNoteLaws.{alone_answers as answers_of, state_noted}
 use Rattle.domain_world.proofs.Completeness.HeardOnceLaws.{ComeTo, controller_answers, turn_answer, turn_line}
 use Rattle.domain_world.proofs.Completeness.UnitNotedLaws.{Came, comes_so, coming, state_then}
 
@@ -75,7 +75,7 @@ passing_judging (Some channel) j = refl
 newest : (P : Judging → Type 0) (one : Answered) (j : Judging) (numbers : List ℕ) (older : List Judging) → one.judging ≡ Some j →
     ((number : Option ℕ) → P (record j { reply = number })) → OneOf P (onto (judged_of (one ∷ []) numbers) older)
 newest P one j numbers older is holds =
-    subst (λ (found : Option Judging). OneOf P (onto (with_reply found (first_of numbers) ++ []) older)) (sym is) (inl (holds (first_of numbers)))
+    subst (λ (found : Option Judging). OneOf P (onto (with_reply found (number_sent one.sends numbers) ++ []) older)) (sym is) (inl (holds (number_sent one.sends numbers)))
 
 -- ---- the call that grants
 
@@ -192,7 +192,7 @@ grant_noted p w b a who v o c timestamp left moment known user may_log fits show
     let numbers : List ℕ = numbers_on unit.link true s1.bag later.bag in
     subst (λ (now : Book). OneOf (IsGrant p (key_of_channel o) (base_key p.meeting.task (message_for (own p) a))) now.judged)
     (sym (came.noted w.moves b ∙ ap (λ (found : Option ControllerState). note_controller found at by bytes s1 later b) shows.controller
-    ∙ ap (λ (all : List Answered). note_answers all by s1 later b) (answers_alike at there by bytes s1 refl)))
+    ∙ state_noted at there by bytes s1 later b refl))
     (subst (λ (js : List Judging). OneOf (IsGrant p (key_of_channel o) (base_key p.meeting.task (message_for (own p) a))) (onto js b.judged)) (sym (to.judged numbers))
     (newest (IsGrant p (key_of_channel o) (base_key p.meeting.task (message_for (own p) a))) one _ numbers b.judged (judging_so p a v o c timestamp moment left known user fits.0 fits.1 may where_so)
     (grant_so p a v o c timestamp moment left known user fits.0 fits.1 may where_so refl)))

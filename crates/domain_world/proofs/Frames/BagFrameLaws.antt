@@ -3,9 +3,9 @@
 -- challenges and the links that holds through all moves (`FrameLaws`). It is an instance of `MoveFrameLaws`.
 -- It serves `Proved.replies`, `Proved.opened` and others.
 use Rattle.std.proofs.Common.{◌≡◌, ℕ, ◌+◌, Bool, true, false, List, [], ◌∷◌, ◌++◌, drop, length, map, inl, inr, Option, Some, None, slice_get, refl, ap, sym, subst, ◌∙◌, arith, length-append}
-use Rattle.std.specs.Prelude.{◌-◌, ◌≤◌, replicate}
+use Rattle.std.specs.Prelude.{◌≤◌, filter, take}
 use Rattle.std.specs.List.{AllByRecursion}
-use Rattle.std.proofs.lemmas.List.{drop_at, length-map, length-replicate}
+use Rattle.std.proofs.lemmas.List.{drop_at, length-drop, length-map, length-take-le, take-append-drop}
 use Rattle.outside.specs.declared.event.Event.TheVariants as event
 use Rattle.domain_controller.specs.State.{State as ControllerState}
 use Rattle.domain_controller.specs.Step.{step_of as controller_step_of}
@@ -13,7 +13,7 @@ use Rattle.member_server.specs.State.{State as MemberState}
 use Rattle.channel_events.specs.Marks.{Mark, Plain}
 use Rattle.step_notes.specs.Marking.{answered_marks}
 use Rattle.step_notes.specs.MemberNotes.{turn_units}
-use Rattle.step_notes.specs.Records.{Book, Sent, blank, OfMember}
+use Rattle.step_notes.specs.Records.{Book, Forward, Sent, blank, OfMember}
 use Rattle.world_moves.specs.declared.bag.BagUnit.{BagUnit}
 use Rattle.world_moves.specs.declared.links.EndId.{EndId}
 use Rattle.world_moves.specs.declared.links.EndId.TheVariants.{Controller, Member, Client}
@@ -26,7 +26,7 @@ use Rattle.world_moves.specs.Bag.{settle_at, settled}
 use Rattle.world_moves.specs.Ends.{EndStep, actions_by, client_step, member_step}
 use Rattle.world_moves.specs.World.{first_world}
 use Rattle.world_moves.specs.Alone.{HandsNothingOn, alone_controller_step as controller_step}
-use Rattle.domain_world.specs.Past.{Delivery, at_controller, marks_of, note_client, note_member, note_messages, numbers_on, past, sent_at, note_given}
+use Rattle.domain_world.specs.Past.{Delivery, at_controller, beside_mark, marks_of, note_client, note_given, note_member, note_messages, numbers_on, past, sent_at, still_waits}
 use Rattle.wire_base.proofs.ListLaws.{got_append, got_nothing}
 use Rattle.world_moves.proofs.LinkFrameLaws.{IsOnLink, StaysOnLinks, actions_stay, quiet_stays}
 use Rattle.world_moves.proofs.EndKindLaws.{is_client}
@@ -34,14 +34,14 @@ use Rattle.domain_world.proofs.Frames.AloneNoteLaws.{alone_answers as answers_of
 use Rattle.domain_world.proofs.Frames.AloneStepLaws.{act_alone as hear_and_act}
 use Rattle.domain_world.proofs.Frames.FrameLaws.{Fact, HoldsIn, StaysWritten, OfSide, side_keeps}
 use Rattle.domain_world.proofs.Moves.FrontLaws.{controller_unit}
-use Rattle.domain_world.proofs.Moves.MarkPlaceLaws.{got_beside, got_later, got_map, got_replicate, got_settled, later_or, marks_length, no_longer, settled_length}
+use Rattle.domain_world.proofs.Moves.MarkPlaceLaws.{got_beside, got_later, got_map, got_settled, later_or, marks_length, no_longer, settled_length}
 use Rattle.domain_world.proofs.Moves.NewUnitLaws.{IsNewUnit}
 use Rattle.domain_world.proofs.Moves.OpenMadeLaws.{IsAtSide, IsMore, MoreOf, goes_on, no_more, same_side}
 use Rattle.domain_world.proofs.Frames.TurnFrameLaws.{turns_sent, asked_book, asked_marks}
 use Rattle.domain_world.proofs.Frames.AloneFrameLaws.{moves_keep_alone}
 use Rattle.domain_world.proofs.Frames.MoveFrameLaws.{HoldsAfterMoves}
 use Rattle.domain_world.proofs.Frames.MoveKeepLaws.{AtWork, Both, KeepsMoves, MoveFact, NoSide, join_moves, started}
-use Rattle.domain_world.proofs.Frames.EndNoteLaws.{acted_by}
+use Rattle.domain_world.proofs.Frames.EndNoteLaws.{acted_by, bytes_forwards}
 
 -- ---- what is to hold of each unit
 
@@ -162,12 +162,14 @@ abbrev pub AllFor : Option Delivery → List Route → List BagUnit → List Sen
 AllFor None links bag sent = Unit {0}
 AllFor (Some w) links bag sent = (end : EndId) → IsAtSide links w.link w.back end → IsServer end → length sent ≡ length bag
 
-pub record MarksAt {X : Type 0} (P : UnitFact X) (on : Option Delivery) (to : Option State) (links : List Route) (bag : List BagUnit) (x : X) (sent : List Sent) : Type 0 where
+-- and no call is handed on
+pub record MarksAt {X : Type 0} (P : UnitFact X) (on : Option Delivery) (to : Option State) (links : List Route) (bag : List BagUnit) (x : X) (sent : List Sent) (forwards : List Forward) : Type 0 where
   pub each : OfEachUnit P x (bag_at to bag) sent
   pub all : AllFor on links (bag_at to bag) sent
+  pub none : forwards ≡ []
 
 abbrev pub MarkFact : {X : Type 0} → (Book → X) → UnitFact X → MoveFact
-MarkFact part P n p s given b = MarksAt P p.on p.to s.links s.bag (part b) b.sent
+MarkFact part P n p s given b = MarksAt P p.on p.to s.links s.bag (part b) b.sent b.forwards
 
 all_settled : (on : Option Delivery) (number : ℕ) (links : List Route) (bag : List BagUnit) (sent : List Sent) → AllFor on links bag sent → AllFor on links (settle_at number bag) sent
 all_settled None number links bag sent all = tt
@@ -180,28 +182,36 @@ all_for (Some w) links bag sent all = λ end there server. all
 -- ---- units that an end adds, and those that have no mark yet
 
 -- the new units get these marks
+pub marked_by : {X : Type 0} (P : UnitFact X) (x now : X) (s : State) (after : List BagUnit) (sent : List Sent) (marks : List BagUnit → List Mark) (at : ℕ) (units : List BagUnit) → after ≡ s.bag ++ units →
+    ((number : ℕ) (unit : BagUnit) (one : Sent) → slice_get s.bag number ≡ Some unit → slice_get sent number ≡ Some one → P x number unit one.mark → P now number unit one.mark) →
+    length (marks units) ≡ length units →
+    ((place : ℕ) (unit : BagUnit) (mark : Mark) → slice_get units place ≡ Some unit → slice_get (marks units) place ≡ Some mark → P now (length s.bag + place) unit mark) →
+    IsMarked P x s.bag sent → IsMarked P now after (sent ++ map (sent_at at) (marks (drop (length s.bag) after)))
+marked_by P x now s after sent marks at units is grows as_many fresh before =
+    let new : drop (length s.bag) after ≡ units = ap (λ (bag : List BagUnit). drop (length s.bag) bag) is ∙ drop_at s.bag units (length s.bag) refl in
+    let all : List Sent = sent ++ map (sent_at at) (marks units) in
+    let each : OfEachUnit P now (s.bag ++ units) all = goes_on_with P x now s.bag units sent (marks units) at before.all grows as_many fresh before.each in
+    let size : length all ≡ length (s.bag ++ units) =
+    omega (
+      arith,
+      before.all,
+      length-append sent (map (sent_at at) (marks units)),
+      length-map (marks units) (sent_at at),
+      as_many,
+      length-append s.bag units,
+    ) in
+    let both : IsMarked P now (s.bag ++ units) all = record { each = each; all = size } in
+    subst (λ (bag : List BagUnit). IsMarked P now bag (sent ++ map (sent_at at) (marks (drop (length s.bag) after)))) (sym is)
+    (subst (λ (more : List BagUnit). IsMarked P now (s.bag ++ units) (sent ++ map (sent_at at) (marks more))) (sym new) both)
+
+-- those on a link in that direction, in order
 pub marked_more : {X : Type 0} (P : UnitFact X) (x now : X) (s : State) (after : List BagUnit) (sent : List Sent) (link : ℕ) (back : Bool) (marks : List Mark) (at : ℕ) (units : List BagUnit) → after ≡ s.bag ++ units →
     ((number : ℕ) (unit : BagUnit) (one : Sent) → slice_get s.bag number ≡ Some unit → slice_get sent number ≡ Some one → P x number unit one.mark → P now number unit one.mark) →
     ((place : ℕ) (unit : BagUnit) (mark : Mark) → slice_get units place ≡ Some unit → slice_get (marks_of link back units marks) place ≡ Some mark →
     P now (length s.bag + place) unit mark) → IsMarked P x s.bag sent →
     IsMarked P now after (sent ++ map (sent_at at) (marks_of link back (drop (length s.bag) after) marks))
 marked_more P x now s after sent link back marks at units is grows fresh before =
-    let new : drop (length s.bag) after ≡ units = ap (λ (bag : List BagUnit). drop (length s.bag) bag) is ∙ drop_at s.bag units (length s.bag) refl in
-    let all : List Sent = sent ++ map (sent_at at) (marks_of link back units marks) in
-    let each : OfEachUnit P now (s.bag ++ units) all =
-    goes_on_with P x now s.bag units sent (marks_of link back units marks) at before.all grows (marks_length link back units marks) fresh before.each in
-    let size : length all ≡ length (s.bag ++ units) =
-    omega (
-      arith,
-      before.all,
-      length-append sent (map (sent_at at) (marks_of link back units marks)),
-      length-map (marks_of link back units marks) (sent_at at),
-      marks_length link back units marks,
-      length-append s.bag units,
-    ) in
-    let both : IsMarked P now (s.bag ++ units) all = record { each = each; all = size } in
-    subst (λ (bag : List BagUnit). IsMarked P now bag (sent ++ map (sent_at at) (marks_of link back (drop (length s.bag) after) marks))) (sym is)
-    (subst (λ (more : List BagUnit). IsMarked P now (s.bag ++ units) (sent ++ map (sent_at at) (marks_of link back more marks))) (sym new) both)
+    marked_by P x now s after sent (λ more. marks_of link back more marks) at units is grows (marks_length link back units marks) fresh before
 
 pub each_more : {X : Type 0} (P : UnitFact X) (x now : X) (bag units after : List BagUnit) (sent : List Sent) → after ≡ bag ++ units →
     ((number : ℕ) (unit : BagUnit) (one : Sent) → slice_get bag number ≡ Some unit → slice_get sent number ≡ Some one → P x number unit one.mark → P now number unit one.mark) →
@@ -222,23 +232,43 @@ settled_each P x settles number bag sent each k one there =
       | inr now ↦ record { unit = settled had.unit; there = now; holds = settles k had.unit one.mark had.holds }
     ]
 
--- the units that have no mark yet are made for no channel
-pub others_marked : {X : Type 0} (P : UnitFact X) (x : X) → ((number : ℕ) (unit : BagUnit) → P x number unit Plain) → (bag : List BagUnit) (sent : List Sent) (at : ℕ) → OfEachUnit P x bag sent →
-    IsMarked P x bag (sent ++ replicate (length bag - length sent) (sent_at at Plain))
-others_marked P x plain bag sent at each =
+got_rest : {T : Type 0} (items : List T) (n k : ℕ) (item : T) → n ≤ length items → slice_get (drop n items) k ≡ Some item → slice_get items (n + k) ≡ Some item
+got_rest {T} items n k item few is =
+    subst (λ (all : List T). slice_get all (n + k) ≡ Some item) (take-append-drop n items)
+    (subst (λ (m : ℕ). slice_get (take n items ++ drop n items) (m + k) ≡ Some item) (length-take-le n items few) (got_later (take n items) (drop n items) k item is))
+
+-- each of the units that have no mark yet gets that of its own
+pub others_marked : {X : Type 0} (P : UnitFact X) (x : X) (marks : BagUnit → Mark) → ((number : ℕ) (unit : BagUnit) → P x number unit (marks unit)) → (bag : List BagUnit) (sent : List Sent) (at : ℕ) →
+    OfEachUnit P x bag sent → IsMarked P x bag (sent ++ map (sent_at at) (map marks (drop (length sent) bag)))
+others_marked P x marks holds bag sent at each =
     let few : length sent ≤ length bag = no_longer sent bag (λ k one there. ((each k one there).unit, (each k one there).there)) in
-    let size : length (sent ++ replicate (length bag - length sent) (sent_at at Plain)) ≡ length bag =
-    omega (arith, few, length-append sent (replicate (length bag - length sent) (sent_at at Plain)), length-replicate (length bag - length sent) (sent_at at Plain)) in
+    let units : List BagUnit = drop (length sent) bag in
     record {
-      each = λ number one there. elim (later_or sent (replicate (length bag - length sent) (sent_at at Plain)) number one there) [
+      each = λ number one there. elim (later_or sent (map (sent_at at) (map marks units)) number one there) [
         | inl old ↦ each number one old
-        | inr new ↦ let beside : (unit : BagUnit) × (slice_get bag number ≡ Some unit) =
-            got_beside (sent ++ replicate (length bag - length sent) (sent_at at Plain)) bag number one size there in
-            subst (λ (o : Sent). IsOfUnit P x bag number o.mark) (sym (got_replicate (length bag - length sent) (sent_at at Plain) new.place one new.there))
-            (record { unit = beside.0; there = beside.1; holds = plain number beside.0 })
+        | inr new ↦ let made : (mark : Mark) × (slice_get (map marks units) new.place ≡ Some mark) × (sent_at at mark ≡ one) = got_map (sent_at at) (map marks units) new.place one new.there in
+            let its : (unit : BagUnit) × (slice_get units new.place ≡ Some unit) × (marks unit ≡ made.0) = got_map marks units new.place made.0 made.1 in
+            subst (λ (o : Sent). IsOfUnit P x bag number o.mark) made.2
+            (subst (λ (mark : Mark). IsOfUnit P x bag number mark) its.2
+            (subst (λ (n : ℕ). IsOfUnit P x bag n (marks its.0)) (sym new.is) (record {
+              unit = its.0;
+              there = got_rest bag (length sent) new.place its.0 few its.1;
+              holds = holds (length sent + new.place) its.0;
+            })))
       ];
-      all = size;
+      all = omega (
+        arith,
+        few,
+        length-append sent (map (sent_at at) (map marks units)),
+        length-map (map marks units) (sent_at at),
+        length-map units marks,
+        length-drop (length sent) bag,
+      );
     }
+
+-- where no call was handed on each is made for no channel
+pub plain_beside : (forwards : List Forward) (after : State) (unit : BagUnit) → forwards ≡ [] → beside_mark forwards after unit ≡ Plain
+plain_beside forwards after unit none = ap (λ (all : List Forward). beside_mark all after unit) none
 
 module _ {X : Type 0} (part : Book → X) (Side : X → Fact) (P : UnitFact X) (written : StaysWritten part Side) (stays : StepsMark part Side P) where
   -- it goes on holding where that is written down
@@ -299,24 +329,25 @@ module _ {X : Type 0} (part : Book → X) (Side : X → Fact) (P : UnitFact X) (
       )) end hears all (λ number unit one there sent holds. stays.grows end w piece s (hear_bytes end w piece s) b number unit one side there sent holds)
 
   -- a unit more
-  sends_on : (x : X) (sent : List Sent) (on : Option Delivery) (to : Option State) → AtWork on to → StaysOnLinks (λ links map bag. MarksAt P on to links bag x sent)
-  sends_on x sent None None work = record {
+  sends_on : (x : X) (sent : List Sent) (forwards : List Forward) (on : Option Delivery) (to : Option State) → AtWork on to → StaysOnLinks (λ links map bag. MarksAt P on to links bag x sent forwards)
+  sends_on x sent forwards None None work = record {
     sends = λ unit links map bag is marks. record {
       each = each_more P x x bag (unit ∷ []) (bag ++ unit ∷ []) sent refl (λ number here one there mark holds. holds) marks.each;
       all = tt;
+      none = marks.none;
     };
     shuts = λ link links map bag marks. marks;
   }
-  sends_on x sent None (Some after) work =
-      record { sends = λ unit links map bag is marks. record { each = marks.each; all = tt }; shuts = λ link links map bag marks. marks }
-  sends_on x sent (Some w) None work = absurd work
-  sends_on x sent (Some w) (Some after) work =
-      record { sends = λ unit links map bag is marks. record { each = marks.each; all = marks.all }; shuts = λ link links map bag marks. marks }
+  sends_on x sent forwards None (Some after) work =
+      record { sends = λ unit links map bag is marks. record { each = marks.each; all = tt; none = marks.none }; shuts = λ link links map bag marks. marks }
+  sends_on x sent forwards (Some w) None work = absurd work
+  sends_on x sent forwards (Some w) (Some after) work =
+      record { sends = λ unit links map bag is marks. record { each = marks.each; all = marks.all; none = marks.none }; shuts = λ link links map bag marks. marks }
 
   marks_keep : (Known : Type 0) → KeepsMoves Known (OfSide part Side written) (MarkFact part P)
   marks_keep Known = record {
     closes = λ n p end link s given b work side marks. marks;
-    opens = λ n at dial route s given b out side marks. record { each = marks.each; all = tt };
+    opens = λ n at dial route s given b out side marks. record { each = marks.each; all = tt; none = marks.none };
     dialled = λ n at end link s given b here side marks. marks;
     fails = λ n at end s b side marks. marks;
     begins = λ n at client plan s b is side marks. marks;
@@ -325,16 +356,18 @@ module _ {X : Type 0} (part : Book → X) (Side : X → Fact) (P : UnitFact X) (
         record {
           each = heard.0;
           all = λ other there server. heard.1 (subst IsServer (same_side other end s.links w.link w.back there here) server);
+          none = bytes_forwards end w piece s (hear_bytes end w piece s) b ∙ marks.none;
         };
-    reaches = λ n w s given b side marks. record { each = marks.each; all = marks.all };
+    reaches = λ n w s given b side marks. record { each = marks.each; all = marks.all; none = marks.none };
     acts = λ n p end what s given b work side marks.
-        quiet_stays (λ links map bag. MarksAt P p.on p.to links bag (part b) b.sent) (sends_on (part b) b.sent p.on p.to work) end what s marks;
+        quiet_stays (λ links map bag. MarksAt P p.on p.to links bag (part b) b.sent b.forwards) (sends_on (part b) b.sent b.forwards p.on p.to work) end what s marks;
     shuts = λ n p link s given b work side marks. marks;
     answers = λ n at dial link there s given b is side marks. marks;
     forgets = λ n at end s b side marks. marks;
     settles = λ n at on number s b side marks. record {
       each = settled_each P (part b) (stays.settles (part b)) number s.bag b.sent marks.each;
       all = all_settled on number s.links s.bag b.sent marks.all;
+      none = marks.none;
     };
     dials = λ n at dial s b is side marks. marks;
     renews = λ n at end s b side marks. marks;
@@ -343,8 +376,10 @@ module _ {X : Type 0} (part : Book → X) (Side : X → Fact) (P : UnitFact X) (
     over = λ n at on next s given b side marks.
         let now : Book = note_given at given s b in
         let marked : IsMarked P (part now) s.bag now.sent =
-        subst (λ (x : X). IsMarked P x s.bag now.sent) (sym (written.given at given s b)) (others_marked P (part b) (stays.plain (part b)) s.bag b.sent at marks.each) in
-        record { each = marked.each; all = all_for next s.links s.bag now.sent marked.all };
+        subst (λ (x : X). IsMarked P x s.bag now.sent) (sym (written.given at given s b))
+        (others_marked P (part b) (λ unit. beside_mark b.forwards s unit)
+        (λ number unit. subst (λ (mark : Mark). P (part b) number unit mark) (sym (plain_beside b.forwards s unit marks.none)) (stays.plain (part b) number unit)) s.bag b.sent at marks.each) in
+        record { each = marked.each; all = all_for next s.links s.bag now.sent marked.all; none = ap (λ (all : List Forward). filter (still_waits s) all) marks.none };
   }
 
   pub marked_keep : (Known : Type 0) → KeepsMoves Known NoSide (Both (OfSide part Side written) (MarkFact part P))
@@ -352,7 +387,7 @@ module _ {X : Type 0} (part : Book → X) (Side : X → Fact) (P : UnitFact X) (
 
   pub first_marked : (plan : Plan) (on : Option Delivery) → HoldsIn (Side (part blank)) (first_world plan).state →
       Both (OfSide part Side written) (MarkFact part P) 0 (started 0 on) (first_world plan).state [] blank
-  first_marked plan on holds = (holds, record { each = λ number one there. absurd (got_nothing number one there); all = all_for on [] [] [] refl })
+  first_marked plan on holds = (holds, record { each = λ number one there. absurd (got_nothing number one there); all = all_for on [] [] [] refl; none = refl })
 
   run_marked : (plan : Plan) (moves : List Move) → HandsNothingOn plan → HoldsIn (Side (part blank)) (first_world plan).state →
       OfEachUnit P (part (past plan moves).book) (past plan moves).world.state.bag (past plan moves).book.sent

@@ -18,7 +18,7 @@ use Rattle.world_moves.specs.declared.state.State.{State}
 use Rattle.world_moves.specs.Ends.{EndStep, client_done, client_step, controller_done, member_done, member_step, no_step}
 use Rattle.world_moves.specs.Acting.{done, heard_by}
 use Rattle.world_moves.specs.Alone.{alone_controller_step as controller_step, alone_end_step as end_step}
-use Rattle.domain_world.specs.Past.{Delivery, note_answers, note_client, note_member, note_messages}
+use Rattle.domain_world.specs.Past.{Delivery, note_answers, note_client, note_controller as note_every, note_member, note_messages}
 use Rattle.domain_world.proofs.Frames.AloneNoteLaws.{note_alone as note_at, note_controller_alone as note_controller}
 use Rattle.domain_world.proofs.Frames.AloneStepLaws.{act_alone as hear_and_act}
 use Rattle.domain_world.proofs.Frames.TurnFrameLaws.{asked_leave}
@@ -95,6 +95,10 @@ acted_by P w piece s b none controllers members clients end =
 abbrev pub ControllersLeave : {X : Type 0} → (Book → X) → Type 0
 ControllersLeave part = (answers : List Answered) (w : Delivery) (s after : State) (b : Book) → part (note_answers answers w s after b) ≡ part b
 
+-- whether they ask others or not
+abbrev pub EveryLeaves : {X : Type 0} → (Book → X) → Type 0
+EveryLeaves part = (c : ControllerState) (at : ℕ) (w : Delivery) (piece : List ℕ) (s after : State) (b : Book) → part (note_every (Some c) at w piece s after b) ≡ part b
+
 abbrev pub MembersLeave : {X : Type 0} → (Book → X) → Type 0
 MembersLeave part = (m : MemberState) (at : ℕ) (w : Delivery) (piece : List ℕ) (s after : State) (b : Book) → part (note_member (Some m) at w piece s after b) ≡ part b
 
@@ -107,6 +111,7 @@ pub record OfControllers {X : Type 0} (part : Book → X) : Type 0 where
 
 pub record OfMembers {X : Type 0} (part : Book → X) : Type 0 where
   pub controllers : ControllersLeave part
+  pub every : EveryLeaves part
   pub clients : ClientsLeave part
 
 pub record OfClients {X : Type 0} (part : Book → X) : Type 0 where
@@ -139,13 +144,21 @@ abbrev pub takings_of : Book → List ℕ
 takings_of b = b.taken
 
 pub taken_so : OfMembers takings_of
-taken_so = record { controllers = λ answers w s after b. refl; clients = λ c at w piece s b. refl }
+taken_so = record {
+  controllers = λ answers w s after b. refl;
+  every = λ c at w piece s after b. refl;
+  clients = λ c at w piece s b. refl;
+}
 
 abbrev pub messages_in : Book → List MessageTaken
 messages_in b = b.messages
 
 pub messages_so : OfMembers messages_in
-messages_so = record { controllers = λ answers w s after b. refl; clients = λ c at w piece s b. refl }
+messages_so = record {
+  controllers = λ answers w s after b. refl;
+  every = λ c at w piece s after b. refl;
+  clients = λ c at w piece s b. refl;
+}
 
 abbrev pub made_in : Book → List MessageMade
 made_in b = b.made
@@ -162,6 +175,14 @@ made_so = record {
 pub turns_leave : MembersLeave (λ (b : Book). b.turns)
 turns_leave m at w piece s after b =
     asked_leave (OfMember at) w (turn_units m w.link piece s.moment s.chances.left) s after (note_messages at m w piece s b) (λ (book : Book). book.turns) (λ note served unit number old. refl)
+
+-- nothing is handed on
+pub bytes_forwards : (end : EndId) (w : Delivery) (piece : List ℕ) (s after : State) (b : Book) → (note_at (Some end) w piece s after b).forwards ≡ b.forwards
+bytes_forwards end w piece s after b =
+    book_by (λ (one : EndId) (now : Book). now.forwards ≡ b.forwards) w piece s after b (λ one. refl) (λ at c is. refl)
+    (λ at m is.
+    asked_leave (OfMember at) w (turn_units m w.link piece s.moment s.chances.left) s after (note_messages at m w piece s b) (λ (book : Book). book.forwards) (λ note served unit number old. refl))
+    (λ at c is. refl) end
 
 pub bytes_turns : (end : EndId) (w : Delivery) (piece : List ℕ) (s after : State) (b : Book) → (note_at (Some end) w piece s after b).turns ≡ b.turns
 bytes_turns end w piece s after b =

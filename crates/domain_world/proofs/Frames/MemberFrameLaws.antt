@@ -23,7 +23,7 @@ use Rattle.world_moves.specs.Links.{acceptor_of}
 use Rattle.world_moves.specs.Moving.{with_link}
 use Rattle.world_moves.specs.World.{first_world}
 use Rattle.world_moves.specs.Alone.{alone_end_step as end_step}
-use Rattle.domain_world.specs.Past.{Delivery, answers_of, note_at, note_given, note_member, past}
+use Rattle.domain_world.specs.Past.{Delivery, note_at, note_given, note_member, past}
 use Rattle.domain_world.proofs.Frames.AloneNoteLaws.{alone_answers, note_alone}
 use Rattle.domain_world.proofs.Frames.AloneStepLaws.{alone_by as step_by}
 use Rattle.domain_world.proofs.Frames.EndNoteLaws.{OfMembers, noted_by}
@@ -146,7 +146,7 @@ module _ {X : Type 0} (part : Book → X) (Fits : X → MembersFact) (keeps : Ke
       let heard = hear end (event.Bytes w.link piece) s in Fits (part (note_at (Some end) w piece s after b)) heard.state.ends.members heard.state.chances s.links
   every_comes end w piece s after b fits =
       every_noted (λ (one : EndId) (step : EndStep) (now : Book). DrawsOn s.chances step.chances → Fits (part now) step.ends.members step.chances s.links) w piece s after b (λ one draws. fits)
-      (λ at c is draws. others_keep (part b) _ s.ends.members s.chances _ s.links (keeps.of.controllers (answers_of at c w piece s) w s after b) draws fits)
+      (λ at c is draws. others_keep (part b) _ s.ends.members s.chances _ s.links (keeps.of.every c at w piece s after b) draws fits)
       (λ at m is draws. keeps.comes m at w piece s after b is fits)
       (λ at c is draws. others_keep (part b) _ s.ends.members s.chances _ s.links (keeps.of.clients c at w piece s b) draws fits) end
       (every_draws end (event.Bytes w.link piece) s.moment s.ends s.chances)

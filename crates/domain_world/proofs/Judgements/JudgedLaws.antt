@@ -31,7 +31,7 @@ use Rattle.world_moves.specs.declared.links.EndId.{EndId}
 use Rattle.world_moves.specs.declared.moves.Move.{Move}
 use Rattle.world_moves.specs.declared.plan.Plan.{Plan}
 use Rattle.world_moves.specs.declared.state.State.{State}
-use Rattle.domain_world.specs.Past.{Delivery, answers_of, at_controller, first_of, judged_of, later_of, note_at, note_controller, numbers_on, onto, past, with_reply}
+use Rattle.domain_world.specs.Past.{Delivery, answers_of, at_controller, judged_of, later_of, note_at, note_controller, number_sent, numbers_on, onto, past, with_reply}
 use Rattle.step_notes.proofs.Controllers.JudgedStepLaws.{told_call, told_right, checked_named}
 use Rattle.domain_world.proofs.Frames.BookFrameLaws.{book_holds}
 use Rattle.domain_world.proofs.Frames.EndNoteLaws.{judged_so}
@@ -108,7 +108,7 @@ module _ (Fits : Judging → Type 0) (replied : (j : Judging) (number : Option �
   pub judged_hold : (answers : List Answered) (numbers : List ℕ) → AllByRecursion (λ (one : Answered). HoldsIf Fits one.judging) answers → AllByRecursion Fits (judged_of answers numbers)
   judged_hold [] numbers each = tt
   judged_hold (one ∷ answers) numbers each =
-      reply_holds one.judging (first_of numbers) (judged_of answers (later_of one.sends numbers)) each.0 (judged_hold answers (later_of one.sends numbers) each.1)
+      reply_holds one.judging (number_sent one.sends numbers) (judged_of answers (later_of one.sends numbers)) each.0 (judged_hold answers (later_of one.sends numbers) each.1)
 
 pub onto_hold : (Fits : Judging → Type 0) (js old : List Judging) → AllByRecursion Fits js → AllByRecursion Fits old → AllByRecursion Fits (onto js old)
 onto_hold Fits [] old each was = was

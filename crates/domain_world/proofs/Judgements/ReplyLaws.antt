@@ -43,7 +43,7 @@ use Rattle.world_moves.specs.Acting.{done, heard_by}
 use Rattle.world_moves.specs.Ends.{actions_by, member_step}
 use Rattle.world_moves.specs.Alone.{HandsNothingOn}
 use Rattle.domain_world.specs.Claims.Replies.{IsReplyOfOne, RepliesCarryTheirJudgement}
-use Rattle.domain_world.specs.Past.{Delivery, first_of, judged_of, later_of, is_sent_on, marks_by, marks_of, note_member, numbers_on, onto, past, with_reply, controller_asked}
+use Rattle.domain_world.specs.Past.{Delivery, controller_asked, is_sent_on, judged_of, later_of, marks_by, marks_of, note_member, number_sent, numbers_on, onto, past, with_reply}
 use Rattle.wire_base.proofs.ListLaws.{got_nothing, one_behind, some_is}
 use Rattle.step_notes.proofs.Controllers.ReplyStepLaws.{replies_sent}
 use Rattle.domain_world.proofs.Frames.AloneNoteLaws.{alone_answers as answers_of, note_alone as note_at, note_controller_alone as note_controller}
@@ -117,10 +117,10 @@ module _ (number : ℕ) (bytes : List ℕ) (mark : Mark) where
   first_placed : (sends : Bool) (one : Answered) (answers : List Answered) → IsPlaced answers → (sent : List (List ℕ)) (numbers : List ℕ) (place : ℕ) →
       IsSentIf sends one sent (λ (rest : List (List ℕ)). AreSentFor answers rest) → slice_get (mark_if sends one.mark ++ answered_marks answers) place ≡ Some mark →
       slice_get sent place ≡ Some bytes → slice_get numbers place ≡ Some number →
-      IsReplyOfOne (with_reply one.judging (first_of numbers) ++ judged_of answers (later_of sends numbers)) number bytes mark
+      IsReplyOfOne (with_reply one.judging (number_sent sends numbers) ++ judged_of answers (later_of sends numbers)) number bytes mark
   first_placed false one answers later sent numbers place is marked sends numbered =
-      of_others mark (judged_of answers numbers) (with_reply one.judging (first_of numbers) ++ judged_of answers numbers) number bytes
-      (λ P it. one_behind P (with_reply one.judging (first_of numbers)) (judged_of answers numbers) it)
+      of_others mark (judged_of answers numbers) (with_reply one.judging None ++ judged_of answers numbers) number bytes
+      (λ P it. one_behind P (with_reply one.judging None) (judged_of answers numbers) it)
       (later sent numbers place is marked sends numbered)
   first_placed true one answers later [] numbers place is marked sends numbered = absurd is
   first_placed true one answers later (first ∷ sent) [] place is marked sends numbered = absurd (got_nothing place number numbered)

@@ -16,7 +16,7 @@ use Rattle.step_notes.specs.Judged.{channel_if, passed_channel}
 use Rattle.step_notes.specs.Marking.{answered_marks, mark_if}
 use Rattle.step_notes.specs.Records.{InUnit, Judging, Source, computer_named, unit_in}
 use Rattle.step_notes.specs.Served.{work_after}
-use Rattle.domain_world.specs.Past.{first_of, judged_of, later_of, with_reply}
+use Rattle.domain_world.specs.Past.{judged_of, later_of, number_sent, with_reply}
 use Rattle.wire_base.proofs.ListLaws.{no_some, some_is}
 use Rattle.domain_world.proofs.Moves.MarkNumberLaws.{AtNumbers, at_later}
 use Rattle.domain_world.proofs.Judgements.JudgedLaws.{HoldsIf}
@@ -98,7 +98,7 @@ module _ (At : ℕ → ℕ → Mark → Type 0) (moves : ℕ) (source : Source) 
 
   first_replied : (sends : Bool) (mark : Mark) (judging : Option Judging) (numbers : List ℕ) (more : List Mark) (later : List Judging) → HoldsIf (IsAnsweredBy moves source sends mark) judging →
       AtNumbers (At moves) (mark_if sends mark ++ more) numbers → AreEnough (mark_if sends mark ++ more) numbers → AllByRecursion (HasReply At) later →
-      AllByRecursion (HasReply At) (with_reply judging (first_of numbers) ++ later)
+      AllByRecursion (HasReply At) (with_reply judging (number_sent sends numbers) ++ later)
   first_replied sends mark None numbers more later so at enough each = each
   first_replied false mark (Some j) numbers more later so at enough each = absurd (let never : false ≡ true = so.0 in cc)
   first_replied true mark (Some j) [] more later so at enough each = (

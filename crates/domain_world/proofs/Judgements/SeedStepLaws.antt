@@ -18,7 +18,7 @@ use Rattle.step_notes.specs.TrustNotes.{trust_judged_answer}
 use Rattle.step_notes.specs.Records.{Judging}
 use Rattle.world_moves.specs.declared.state.State.{State}
 use Rattle.domain_world.specs.Claims.{moved_on}
-use Rattle.domain_world.specs.Past.{Delivery, answers_of, at_controller, first_of, judged_of, later_of, onto, with_reply}
+use Rattle.domain_world.specs.Past.{Delivery, answers_of, at_controller, judged_of, later_of, number_sent, onto, with_reply}
 use Rattle.step_notes.proofs.Controllers.NotedLaws.{NotedFact, StaysThrough}
 use Rattle.step_notes.proofs.Controllers.TrustNotedLaws.{trust_step_says}
 use Rattle.step_notes.proofs.Controllers.TrustedStepLaws.{OfBase, StaysWithTrusts, trusting_stays}
@@ -106,14 +106,14 @@ numbers_left (one ∷ answers) numbers = numbers_left answers (later_of one.send
 
 judged_more : (answers : List Answered) (one : Answered) (numbers : List ℕ) (judgings : List Judging) →
     onto (judged_of (answers ++ one ∷ []) numbers) judgings
-    ≡ with_judging one.judging (first_of (numbers_left answers numbers)) (onto (judged_of answers numbers) judgings)
-judged_more [] one numbers judgings = onto_reply one.judging (first_of numbers) [] judgings
+    ≡ with_judging one.judging (number_sent one.sends (numbers_left answers numbers)) (onto (judged_of answers numbers) judgings)
+judged_more [] one numbers judgings = onto_reply one.judging (number_sent one.sends numbers) [] judgings
 judged_more (first ∷ answers) one numbers judgings =
     let later : List ℕ = later_of first.sends numbers in
-    onto_reply first.judging (first_of numbers) (judged_of (answers ++ one ∷ []) later) judgings
-    ∙ judged_more answers one later (with_judging first.judging (first_of numbers) judgings)
-    ∙ ap (λ (all : List Judging). with_judging one.judging (first_of (numbers_left answers later)) all)
-    (sym (onto_reply first.judging (first_of numbers) (judged_of answers later) judgings))
+    onto_reply first.judging (number_sent first.sends numbers) (judged_of (answers ++ one ∷ []) later) judgings
+    ∙ judged_more answers one later (with_judging first.judging (number_sent first.sends numbers) judgings)
+    ∙ ap (λ (all : List Judging). with_judging one.judging (number_sent one.sends (numbers_left answers later)) all)
+    (sym (onto_reply first.judging (number_sent first.sends numbers) (judged_of answers later) judgings))
 
 module _ (w : Where) (judgings : List Judging) (left : List (List ℕ)) (numbers : List ℕ) where
   abbrev written : List Answered → List Judging
@@ -123,7 +123,7 @@ module _ (w : Where) (judgings : List Judging) (left : List (List ℕ)) (numbers
   GoesOn answers d some = Goes judgings (written answers) left some w.controller d.work.computers
 
   further : (answers : List Answered) (one : Answered) (d : Desk) (later : Computers) (some less : List (List ℕ)) → GoesOn answers d some →
-      Goes (written answers) (with_judging one.judging (first_of (numbers_left answers numbers)) (written answers)) some less w.controller later →
+      Goes (written answers) (with_judging one.judging (number_sent one.sends (numbers_left answers numbers)) (written answers)) some less w.controller later →
       Goes judgings (written (answers ++ one ∷ [])) left less w.controller later
   further answers one d later some less goes more =
       subst (λ (now : List Judging). Goes judgings now left less w.controller later) (sym (judged_more answers one numbers judgings))
@@ -147,13 +147,13 @@ module _ (w : Where) (judgings : List Judging) (left : List (List ℕ)) (numbers
         let later : Computers = (answer_authenticate d.table line c d.work).computers in
         let opened : Option ChannelIdentity = opened_by w.controller c d in
         further answers (opening opened w line.call) d later some some goes
-        (subst (λ (j : Option Judging). Goes (written answers) (with_judging j (first_of (numbers_left answers numbers)) (written answers)) some some w.controller later)
+        (subst (λ (j : Option Judging). Goes (written answers) (with_judging j (number_sent (opening opened w line.call).sends (numbers_left answers numbers)) (written answers)) some some w.controller later)
         (sym (opening_judging opened w line.call))
         (stays (written answers) some w.controller later goes.order (authenticate_kept (written answers) some w.controller d.table line c d.work goes.kept)));
     judged = λ answers d some line c on goes.
         let later : Computers = (answer_judged c w.name w.moment line d).work.computers in
         let one : Judging = its_judging w line c d in
-        let number : Option ℕ = first_of (numbers_left answers numbers) in
+        let number : Option ℕ = number_sent (judged_answer one).sends (numbers_left answers numbers) in
         let j : Judging = judged_as one.how number w line c d in
         further answers (judged_answer one) d later some some goes
         (subst (λ (o : Option Judging). Goes (written answers) (with_judging o number (written answers)) some some w.controller later)
@@ -171,7 +171,7 @@ module _ (w : Where) (judgings : List Judging) (left : List (List ℕ)) (numbers
     base = goes_stay link;
     trusted = λ answers d after some line c on is goes.
         let one : Judging = trusted_judging w line c d after in
-        let number : Option ℕ = first_of (numbers_left answers numbers) in
+        let number : Option ℕ = number_sent (trust_judged_answer one).sends (numbers_left answers numbers) in
         let j : Judging = judged_as one.how number w line c (base_desk d) in
         let computers : Computers = d.work.work.computers in
         further answers (trust_judged_answer one) (base_desk d) after.work.work.computers some some goes

@@ -28,7 +28,7 @@ use Rattle.world_moves.specs.World.{World, first_world, happens, run}
 use Rattle.logon_client.specs.declared.plan.ClientPlan.{ClientPlan}
 use Rattle.member_server.specs.declared.plan.MemberPlan.{MemberPlan}
 use Rattle.domain_world.specs.Claims.Sessions.{AreBySince, ControllerRenewed, end_by, is_since, last_start, renewal_by, renewals, restart_of, sessions_behind, sessions_if, sessions_on, sessions_since, since_if, start_before, start_if}
-use Rattle.domain_world.specs.Past.{Delivery, answers_of, at_controller, book, first_of, judged_of, later_of, note, note_at, note_coming, note_controller, numbers_on, onto, past, with_reply}
+use Rattle.domain_world.specs.Past.{Delivery, answers_of, at_controller, book, judged_of, later_of, note, note_at, note_coming, note_controller, number_sent, numbers_on, onto, past, with_reply}
 use Rattle.wire_base.proofs.ListLaws.{all_weaker, no_some}
 use Rattle.domain_world.proofs.Messages.MessageOnceLaws.{each_put}
 use Rattle.domain_world.proofs.Frames.AloneStepLaws.{fresh_by}
@@ -176,7 +176,7 @@ module _ (starts : List ControllerRenewed) (w : Where) (early : Starts w.at star
       AreMade w.at old → Brings starts w old (onto (judged_of answers numbers) old) (left_behind kept_sessions sessions answers)
   answers_bring [] numbers old sessions chained all own made = record { judged = all; own = own; others = λ other start differs. refl; made = made }
   answers_bring (one ∷ answers) numbers old sessions chained all own made =
-      one_brings one.judging (first_of numbers) (judged_of answers (later_of one.sends numbers)) old sessions (left_behind kept_sessions (left_of kept_sessions sessions one.judging) answers) chained.0 all own made
+      one_brings one.judging (number_sent one.sends numbers) (judged_of answers (later_of one.sends numbers)) old sessions (left_behind kept_sessions (left_of kept_sessions sessions one.judging) answers) chained.0 all own made
       (λ now each its so. answers_bring answers (later_of one.sends numbers) now (left_of kept_sessions sessions one.judging) chained.1 each its so)
 
 -- ---- all controllers

@@ -24,7 +24,7 @@ use Rattle.world_moves.specs.declared.state.State.{State}
 use Rattle.world_moves.specs.World.{first_world}
 use Rattle.world_moves.specs.Ends.{fresh_controller}
 use Rattle.domain_world.specs.Claims.Tables.{AreByEarlier, IsLeft, TablesFollowVerdicts, accounts_after, accounts_if, left_by, left_if, left_on}
-use Rattle.domain_world.specs.Past.{Delivery, answers_of, at_controller, first_of, judged_of, later_of, note_answers, numbers_on, onto, past, with_reply}
+use Rattle.domain_world.specs.Past.{Delivery, answers_of, at_controller, judged_of, later_of, note_answers, number_sent, numbers_on, onto, past, with_reply}
 use Rattle.step_notes.proofs.Controllers.JudgedStepLaws.{on_next}
 use Rattle.domain_world.proofs.Messages.MessageOnceLaws.{each_put}
 use Rattle.domain_world.proofs.Frames.AloneNoteLaws.{alone_answers}
@@ -170,7 +170,7 @@ answers_bring : (plan : Plan) (w : Where) (answers : List Answered) (numbers : L
     IsLeft plan w.controller old table → Brings plan w.controller old (onto (judged_of answers numbers) old) (left_behind accounts table answers)
 answers_bring plan w [] numbers old table chained all own = record { judged = all; own = own; others = λ other t differs is. is }
 answers_bring plan w (one ∷ answers) numbers old table chained all own =
-    one_brings plan w (left_behind accounts (left_of accounts table one.judging) answers) one.judging (first_of numbers) (judged_of answers (later_of one.sends numbers)) old table chained.0 all own
+    one_brings plan w (left_behind accounts (left_of accounts table one.judging) answers) one.judging (number_sent one.sends numbers) (judged_of answers (later_of one.sends numbers)) old table chained.0 all own
     (λ now each its. answers_bring plan w answers (later_of one.sends numbers) now (left_of accounts table one.judging) chained.1 each its)
 
 -- ---- through the moves

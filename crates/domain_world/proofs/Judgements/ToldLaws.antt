@@ -27,7 +27,7 @@ use Rattle.world_moves.specs.Ends.{EndStep, actions_by, client_step, member_step
 use Rattle.world_moves.specs.Links.{acceptor_of}
 use Rattle.world_moves.specs.Moving.{begun, with_link, changed}
 use Rattle.domain_world.specs.Claims.{AreRightlyTold, AreTheirJudgements, judgements_of_calls}
-use Rattle.domain_world.specs.Past.{Delivery, at_controller, first_of, judged_of, judgement_by, judgements_in, later_of, note_client, note_member, note_messages, numbers_on, onto, past, with_reply}
+use Rattle.domain_world.specs.Past.{Delivery, at_controller, judged_of, judgement_by, judgements_in, later_of, note_client, note_member, note_messages, number_sent, numbers_on, onto, past, with_reply}
 use Rattle.step_notes.proofs.Controllers.JudgedStepLaws.{Told, how_is, told_call}
 use Rattle.domain_world.proofs.Frames.AloneNoteLaws.{alone_answers as answers_of, note_alone as note_at, note_controller_alone as note_controller}
 use Rattle.domain_world.proofs.Frames.AloneStepLaws.{act_alone as hear_and_act, alone_by as end_by}
@@ -192,7 +192,7 @@ reply_told (Some j) number later = refl
 pub judged_told : (answers : List Answered) (numbers : List ℕ) → tellings (judged_of answers numbers) ≡ answered answers
 judged_told [] numbers = refl
 judged_told (one ∷ answers) numbers =
-    reply_told one.judging (first_of numbers) (judged_of answers (later_of one.sends numbers))
+    reply_told one.judging (number_sent one.sends numbers) (judged_of answers (later_of one.sends numbers))
     ∙ ap (λ rest. telling_if one.judging ++ rest) (judged_told answers (later_of one.sends numbers))
 
 -- the calls that are written down are those whose judgements were told, in this move or before

@@ -29,7 +29,7 @@ use Rattle.world_moves.specs.declared.moves.Move.{Move}
 use Rattle.world_moves.specs.declared.plan.Plan.{Plan}
 use Rattle.world_moves.specs.declared.state.State.{State}
 use Rattle.domain_world.specs.Accepting.Answered.{PassesAreUnclashed}
-use Rattle.domain_world.specs.Past.{Delivery, answers_of, any_clash, at_controller, first_of, judged_of, later_of, note_at, note_controller, note_member, note_messages, numbers_on, onto, past, with_reply}
+use Rattle.domain_world.specs.Past.{Delivery, answers_of, any_clash, any_turn_clash, asking_notes, at_controller, judged_of, later_of, note_at, note_controller, note_member, note_messages, number_sent, numbers_on, onto, past, with_reply}
 use Rattle.wire_base.proofs.ListLaws.{all_weaker, got_append}
 use Rattle.domain_world.proofs.Frames.BookFrameLaws.{book_holds}
 use Rattle.domain_world.proofs.Judgements.JudgedLaws.{onto_hold}
@@ -129,7 +129,7 @@ judged_fit : (answers : List Answered) (source : Source) (numbers : List ℕ) (s
 judged_fit [] source numbers sent noted none = tt
 judged_fit (one ∷ answers) source numbers sent noted none =
     let both = or_false (clashes one.checked (unit_in source) sent) (any_clash answers (unit_in source) sent) none in
-    judging_fits one.judging one.checked source (first_of numbers) sent (judged_of answers (later_of one.sends numbers)) noted.0 both.0
+    judging_fits one.judging one.checked source (number_sent one.sends numbers) sent (judged_of answers (later_of one.sends numbers)) noted.0 both.0
     (judged_fit answers source (later_of one.sends numbers) sent noted.1 both.1)
 
 -- ---- bytes that an end hears
@@ -137,7 +137,8 @@ judged_fit (one ∷ answers) source numbers sent noted none =
 controller_unclashed : (c : ControllerState) (at : ℕ) (w : Delivery) (piece : List ℕ) (s after : State) (b : Book) → AreUnclashed b → AreUnclashed (note_controller (Some c) at w piece s after b)
 controller_unclashed c at w piece s after b all = λ apart.
     let answers : List Answered = answers_of at c w piece s in
-    let both = or_false b.clash (any_clash answers (unit_in w.source) b.sent) apart in
+    let taken = or_false (b.clash || any_clash answers (unit_in w.source) b.sent) (any_turn_clash (asking_notes c w piece s) (unit_in w.source) b.sent) apart in
+    let both = or_false b.clash (any_clash answers (unit_in w.source) b.sent) taken.0 in
     let numbers : List ℕ = numbers_on w.link true s.bag after.bag in
     all_weaker (Fits b.sent) (Fits _) (onto (judged_of answers numbers) b.judged) (λ j fits. clashes_more (passed_channel j) (unit_in j.source) b.sent _ fits)
     (onto_hold (Fits b.sent) (judged_of answers numbers) b.judged

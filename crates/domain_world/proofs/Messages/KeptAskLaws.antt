@@ -49,7 +49,11 @@ hear_ask m at what now members left is all = set_ask members at (step_of m what 
 
 ask_on : KeepsMembers no_part Ask
 ask_on = record {
-  of = record { controllers = λ answers w s after b. refl; clients = λ c at w piece s b. refl };
+  of = record {
+    controllers = λ answers w s after b. refl;
+    every = λ c at w piece s after b. refl;
+    clients = λ c at w piece s b. refl;
+  };
   given = λ at given after b. refl;
   draws = λ nothing members chances later links on all. all;
   hears = λ nothing m at what now members chances links quiet is all. hear_ask m at what now members chances.left is all;

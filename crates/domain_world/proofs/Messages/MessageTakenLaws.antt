@@ -279,7 +279,11 @@ member_heard m at w piece s after b is kept =
 
 sends_on : KeepsMembers written_of Sends
 sends_on = record {
-  of = record { controllers = λ answers w s after b. refl; clients = λ c at w piece s b. refl };
+  of = record {
+    controllers = λ answers w s after b. refl;
+    every = λ c at w piece s after b. refl;
+    clients = λ c at w piece s b. refl;
+  };
   given = λ at given after b. refl;
   draws = λ written members chances later links on kept. less_left written members links chances.left later.left kept (eights_after chances later on kept.eights);
   hears = λ written m at what now members chances links quiet is kept.

@@ -1,18 +1,19 @@
 -- In every run each unit of the bag has its mark, whatever ends do: each new unit gets one where bytes come at a
 -- server, and the others once a move is over. It is an instance of `MoveFrameLaws`. It serves `Proved.marked`.
-use Rattle.std.proofs.Common.{◌≡◌, ℕ, ◌≤◌, Bool, true, false, List, [], ◌∷◌, ◌++◌, drop, length, map, Option, Some, None, slice_get, ap, arith, length-append}
-use Rattle.std.specs.Prelude.{◌-◌, replicate}
-use Rattle.std.proofs.lemmas.List.{length-drop, length-map, length-replicate}
+use Rattle.std.proofs.Common.{◌≡◌, ℕ, suc, ◌≤◌, Bool, true, false, List, [], ◌∷◌, ◌++◌, drop, length, map, Option, Some, None, slice_get, refl, ap, ◌∙◌, arith, length-append}
+use Rattle.std.specs.Prelude.{◌-◌}
+use Rattle.std.proofs.lemmas.List.{length-drop, length-map}
 use Rattle.outside.specs.declared.action.Action.{Action}
 use Rattle.outside.specs.declared.event.Event.{Event}
 use Rattle.outside.specs.declared.event.Event.TheVariants as event
 use Rattle.domain_controller.specs.State.{State as ControllerState}
 use Rattle.logon_client.specs.State.{State as ClientState}
 use Rattle.member_server.specs.State.{State as MemberState}
-use Rattle.channel_events.specs.Marks.{Mark, Plain}
-use Rattle.step_notes.specs.Marking.{answered_marks}
+use Rattle.channel_events.specs.Marks.{Mark}
+use Rattle.channel_turns.specs.Turning.{is_on}
+use Rattle.step_notes.specs.Marking.{answered_marks, turn_marks}
 use Rattle.step_notes.specs.MemberNotes.{turn_units}
-use Rattle.step_notes.specs.Records.{Book, OfMember, Sent, blank}
+use Rattle.step_notes.specs.Records.{Book, Forward, OfMember, Sent, blank}
 use Rattle.world_moves.specs.declared.bag.BagUnit.{BagUnit}
 use Rattle.world_moves.specs.declared.links.EndId.{EndId}
 use Rattle.world_moves.specs.declared.links.EndId.TheVariants.{Controller, Member, Client}
@@ -22,7 +23,7 @@ use Rattle.world_moves.specs.declared.state.State.{State}
 use Rattle.world_moves.specs.Acting.{hear_and_act, perform_quietly, units_of_action}
 use Rattle.world_moves.specs.World.{World, first_world, happens, run}
 use Rattle.domain_world.specs.Claims.MarkedUnits.{EachUnitIsMarked}
-use Rattle.domain_world.specs.Past.{Delivery, answers_of, book, marks_of, note, note_at, note_client, note_coming, note_controller, note_member, note_messages, past, sent_at}
+use Rattle.domain_world.specs.Past.{Delivery, answers_of, asking_by, asking_marks, asking_notes, beside_mark, book, heard_marks, is_sent_on, marks_of, note, note_at, note_client, note_coming, note_controller, note_member, note_messages, other_marks, past, sent_at}
 use Rattle.world_moves.proofs.LinkFrameLaws.{heard_stays}
 use Rattle.domain_world.proofs.Frames.BagFrameLaws.{bag_at, member_marks}
 use Rattle.domain_world.proofs.Moves.MarkPlaceLaws.{marks_length, settled_length}
@@ -48,10 +49,44 @@ more_marks sent before after link back marks at more few =
       length-drop (length before) after,
     )
 
+-- so it is where a controller hears bytes
+asking_by_length : (on : Bool) (marks : List Mark) (other : Mark) (later : List Mark → List Mark) (n : ℕ) → ((rest : List Mark) → length (later rest) ≡ n) → length (asking_by on marks other later) ≡ suc n
+asking_by_length false marks other later n same = ap suc (same marks)
+asking_by_length true [] other later n same = ap suc (same [])
+asking_by_length true (mark ∷ marks) other later n same = ap suc (same marks)
+
+asking_length : (link : ℕ) (beside : BagUnit → Mark) (units : List BagUnit) (marks : List Mark) → length (asking_marks link beside units marks) ≡ length units
+asking_length link beside [] marks = refl
+asking_length link beside (unit ∷ units) marks =
+    asking_by_length (is_sent_on link false unit) marks (beside unit) (λ rest. asking_marks link beside units rest) (length units)
+    (λ rest. asking_length link beside units rest)
+
+pub heard_length : (on : Bool) (at : ℕ) (c : ControllerState) (w : Delivery) (piece : List ℕ) (s after : State) (forwards : List Forward) (units : List BagUnit) →
+    length (heard_marks on at c w piece s after forwards units) ≡ length units
+heard_length false at c w piece s after forwards units = marks_length w.link true units (answered_marks (answers_of at c w piece s))
+heard_length true at c w piece s after forwards units =
+    asking_length w.link (λ unit. beside_mark forwards after unit) units (turn_marks (asking_notes c w piece s))
+
+-- so many are the marks of the units that have none yet
+pub others_length : (forwards : List Forward) (after : State) (marked : ℕ) → length (other_marks forwards after marked) ≡ length after.bag - marked
+others_length forwards after marked =
+    length-map (drop marked after.bag) (λ (unit : BagUnit). beside_mark forwards after unit) ∙ length-drop marked after.bag
+
 controller_few : (found : Option ControllerState) (at : ℕ) (w : Delivery) (piece : List ℕ) (s after : State) (b : Book) → length s.bag ≤ length after.bag → length b.sent ≤ length s.bag →
     length (note_controller found at w piece s after b).sent ≤ length after.bag
 controller_few None at w piece s after b more few = omega (arith, more, few)
-controller_few (Some c) at w piece s after b more few = more_marks b.sent s.bag after.bag w.link true (answered_marks (answers_of at c w piece s)) w.at more few
+controller_few (Some c) at w piece s after b more few =
+    let new : List BagUnit = drop (length s.bag) after.bag in
+    let marks : List Mark = heard_marks (is_on w.link c.trusting.dialling) at c w piece s after b.forwards new in
+    omega (
+      arith,
+      more,
+      few,
+      length-append b.sent (map (sent_at w.at) marks),
+      length-map marks (sent_at w.at),
+      heard_length (is_on w.link c.trusting.dialling) at c w piece s after b.forwards new,
+      length-drop (length s.bag) after.bag,
+    )
 
 member_few : (found : Option MemberState) (at : ℕ) (w : Delivery) (piece : List ℕ) (s after : State) (b : Book) → length s.bag ≤ length after.bag → length b.sent ≤ length s.bag →
     length (note_member found at w piece s after b).sent ≤ length after.bag
@@ -106,8 +141,8 @@ few_keep = record {
   changes = λ n at member secret s b formed none few. few;
   ticks = λ n at more s b none few. few;
   over = λ n at on next s given b none few.
-      let more : ℕ = length s.bag - length b.sent in
-      omega (arith, few, length-append b.sent (replicate more (sent_at at Plain)), length-replicate more (sent_at at Plain));
+      let others : List Mark = other_marks b.forwards s (length b.sent) in
+      omega (arith, few, length-append b.sent (map (sent_at at) others), length-map others (sent_at at), others_length b.forwards s (length b.sent));
 }
 
 -- ---- and none is left without
@@ -117,9 +152,10 @@ none_left : (moves : List Move) (w : World) (b : Book) → length w.state.bag �
 none_left [] w b all = all
 none_left (what ∷ moves) w b all =
     let come : Book = note_coming what w.moves w.state b in
-    let more : ℕ = length (happens w what).state.bag - length come.sent in
+    let later : State = (happens w what).state in
+    let others : List Mark = other_marks come.forwards later (length come.sent) in
     none_left moves (happens w what) (note w what b)
-    (omega (arith, length-append come.sent (replicate more (sent_at w.moves Plain)), length-replicate more (sent_at w.moves Plain)))
+    (omega (arith, length-append come.sent (map (sent_at w.moves) others), length-map others (sent_at w.moves), others_length come.forwards later (length come.sent)))
 
 -- in every run each unit of the bag has its mark
 pub each_marked : (plan : Plan) (moves : List Move) → EachUnitIsMarked (past plan moves)

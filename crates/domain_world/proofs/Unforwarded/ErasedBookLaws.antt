@@ -1,6 +1,7 @@
 -- What is written down of a run in which no call comes for a trusted domain is what is written down where nobody can be
 -- asked. It serves `claims_hold_of_runs`.
-use Rattle.std.proofs.Common.{◌≡◌, ◌≤◌, ◌++◌, ℕ, Bool, false, List, [], ◌∷◌, drop, length, map, option_map, Option, Some, None, slice_get, refl, sym, ap, ap₂, ◌∙◌}
+use Rattle.std.specs.Prelude.{◌&&◌, filter, is_some, not}
+use Rattle.std.proofs.Common.{◌≡◌, ◌≤◌, ◌++◌, ℕ, Bool, true, false, cond, List, [], ◌∷◌, drop, length, map, option_map, Option, Some, None, slice_get, refl, sym, ap, ap₂, ◌∙◌}
 use Rattle.wire_base.specs.Maps.{lookup, same_number}
 use Rattle.outside.specs.declared.action.Action.{Action}
 use Rattle.outside.specs.declared.action.Action.TheVariants as action
@@ -12,15 +13,18 @@ use Rattle.domain_controller.specs.State.{State as ControllerState}
 use Rattle.domain_controller.specs.Step.{step_of}
 use Rattle.domain_controller.specs.TrustHere.{NoneIsAsked, told_trusts}
 use Rattle.domain_controller.specs.TrustStep.{trust_step_of}
+use Rattle.domain_controller.specs.Trusting.{ForwardedCalls, no_trusting, same_place}
 use Rattle.domain_controller.specs.declared.state.Running.{Running as ControllerRunning}
 use Rattle.domain_controller.specs.declared.state.Talk.{Talk}
 use Rattle.logon_client.specs.State.{State as ClientState}
 use Rattle.member_server.specs.State.{State as MemberState}
 use Rattle.member_server.specs.declared.plan.MemberPlan.{MemberPlan}
+use Rattle.domain_controller.proofs.TrustAloneLaws.{steps_alone}
+use Rattle.channel_events.specs.Marks.{Mark}
 use Rattle.step_notes.specs.ControllerNotes.{Answered, answer_on, units_at, units_by, units_of_controller}
 use Rattle.step_notes.specs.Marking.{turn_marks}
 use Rattle.step_notes.specs.MemberNotes.{turn_in, turn_note, turn_units}
-use Rattle.step_notes.specs.Records.{Book, ChannelTurn, InUnit, OfMember, Outside, blank, unit_in}
+use Rattle.step_notes.specs.Records.{Book, ChannelTurn, Forward, InUnit, OfMember, Outside, blank, unit_in}
 use Rattle.step_notes.specs.Served.{units_if_taken}
 use Rattle.step_notes.proofs.Controllers.TrustNoteLaws.{notes_alike}
 use Rattle.world_moves.specs.declared.bag.BagUnit.{BagUnit}
@@ -38,8 +42,8 @@ use Rattle.world_moves.specs.Links.{handed_links, hearer_of, links_of}
 use Rattle.world_moves.specs.Moving.{act, come_by, come_on_own, deliver_by, deliver_on, deliver_unit, hand_on, onward_by, settle}
 use Rattle.world_moves.specs.Unforwarded.{IsUnforwarded, alone_plan, erased, erased_controller, erased_ends, erased_world}
 use Rattle.world_moves.specs.World.{World, actions_of_run, first_world, happens, run, run_of}
-use Rattle.domain_world.specs.Past.{Delivery, answers_of, at_controller, book, controller_number, controller_of, controller_of_plan, note, note_answers, note_at, note_chosen, note_client, note_coming, note_controller, note_deliver, note_given, note_hand, note_member, note_messages, note_on, note_onward, note_own, note_piece, note_pieces, note_turns, note_unit, numbers_on, past, running_in, turns_by, turns_in, with_marks, with_taken}
-use Rattle.domain_world.proofs.Frames.AloneNoteLaws.{answers_alike}
+use Rattle.domain_world.specs.Past.{Delivery, answers_of, at_controller, beside_mark, book, controller_number, controller_of, controller_of_plan, is_sent_on, mark_or, note, note_answers, note_at, note_chosen, note_client, note_coming, note_controller, note_deliver, note_given, note_hand, note_member, note_messages, note_on, note_onward, note_own, note_piece, note_pieces, note_turns, note_unit, numbers_on, past, running_in, sent_at, still_waits, turns_by, turns_in, waits_at, with_marks, with_taken}
+use Rattle.domain_world.proofs.Frames.AloneNoteLaws.{answers_alike, none_asked, quiet_noted}
 use Rattle.domain_world.proofs.Unforwarded.ErasedLaws.{IsFine, IsSame, IsStill, as_many, controller_same, first_erased, first_still, fine_first, get_mapped, happens_same, move_same, part_erased_answer, peer_same, piece_fine, piece_same, told_later}
 
 -- ---- at a controller
@@ -76,7 +80,11 @@ controller_noted : (found : Option ControllerState) (at : ℕ) (w : Delivery) (p
     note_controller (option_map erased_controller found) at w piece (erased s) (erased after) b ≡ note_controller found at w piece s after b
 controller_noted None at w piece s after b alone = refl
 controller_noted (Some c) at w piece s after b alone =
-    let own = alone c refl in ap (λ (answers : List Answered). note_answers answers w s after b) (answers_same at c w piece s own.0 own.1)
+    let own = alone c refl in
+    quiet_noted at (erased_controller c) w piece (erased s) (erased after) b (none_asked no_trusting refl)
+    (steps_alone.step (erased_controller c) (event.Bytes w.link piece) s.moment s.chances.left refl)
+    ∙ ap (λ (answers : List Answered). note_answers answers w s after b) (answers_same at c w piece s own.0 own.1)
+    ∙ sym (quiet_noted at c w piece s after b own.0 own.1)
 
 -- ---- at a member
 
@@ -191,9 +199,40 @@ turns_same : (given : Given) (after : State) → turns_in given (erased after) �
 turns_same [] after = refl
 turns_same (one ∷ given) after = ap₂ (λ (turns more : List ChannelTurn). turns ++ more) (turn_same one.0 one.1 after) (turns_same given after)
 
-given_noted : (at : ℕ) (given : Given) (after : State) (b : Book) → note_given at given (erased after) b ≡ note_given at given after b
-given_noted at given after b =
-    ap (λ (turns : List ChannelTurn). record (note_given at given after b) { turns = b.turns ++ turns }) (turns_same given after)
+-- no call waits that was handed on
+waits_found : (found : Option ControllerState) (one : Forward) → ((c : ControllerState) → found ≡ Some c → NoneIsAsked c.trusting) →
+    waits_at (option_map erased_controller found) one ≡ waits_at found one
+waits_found None one still = refl
+waits_found (Some c) one still = sym (ap (λ (calls : ForwardedCalls). is_some (lookup same_place (one.trust, one.place) calls)) (still c refl).none)
+
+module _ (after : State) (still : IsStill after) where
+  waits_same : (one : Forward) → still_waits (erased after) one ≡ still_waits after one
+  waits_same one =
+      let controllers : List ControllerState = after.ends.controllers in
+      ap (λ (found : Option ControllerState). waits_at found one) (get_mapped erased_controller controllers one.judging.controller)
+      ∙ waits_found (slice_get controllers one.judging.controller) one (λ c is. still one.judging.controller c is)
+
+  beside_same : (forwards : List Forward) (unit : BagUnit) → beside_mark forwards (erased after) unit ≡ beside_mark forwards after unit
+  beside_same [] unit = refl
+  beside_same (one ∷ forwards) unit =
+      ap₂ (λ (waits : Bool) (later : Mark). mark_or (is_sent_on one.link true unit && not waits) one later) (waits_same one) (beside_same forwards unit)
+
+  marks_same : (forwards : List Forward) (units : List BagUnit) →
+      map (λ (unit : BagUnit). beside_mark forwards (erased after) unit) units ≡ map (λ (unit : BagUnit). beside_mark forwards after unit) units
+  marks_same forwards [] = refl
+  marks_same forwards (unit ∷ units) = ap₂ (λ (mark : Mark) (marks : List Mark). mark ∷ marks) (beside_same forwards unit) (marks_same forwards units)
+
+  waiting_same : (forwards : List Forward) → filter (still_waits (erased after)) forwards ≡ filter (still_waits after) forwards
+  waiting_same [] = refl
+  waiting_same (one ∷ forwards) =
+      ap₂ (λ (waits : Bool) (rest : List Forward). cond waits (one ∷ rest) rest) (waits_same one) (waiting_same forwards)
+
+  given_noted : (at : ℕ) (given : Given) (b : Book) → note_given at given (erased after) b ≡ note_given at given after b
+  given_noted at given b =
+      ap (λ (turns : List ChannelTurn). record (note_given at given (erased after) b) { turns = b.turns ++ turns }) (turns_same given after)
+      ∙ ap (λ (marks : List Mark). record (note_given at given after b) { sent = b.sent ++ map (sent_at at) marks; forwards = filter (still_waits (erased after)) b.forwards })
+      (marks_same b.forwards (drop (length b.sent) after.bag))
+      ∙ ap (λ (forwards : List Forward). record (note_given at given after b) { forwards = forwards }) (waiting_same b.forwards)
 
 -- ---- a move, and a run
 
@@ -202,7 +241,7 @@ note_same w what b still fine =
     let after : Acted = act w.state what in
     ap (λ (a : Acted). note_given w.moves a.given a.state (note_coming what w.moves (erased w.state) b)) (move_same what w.state still fine).is
     ∙ ap (λ (noted : Book). note_given w.moves after.given (erased after.state) noted) (coming_noted what w.moves w.state b still fine)
-    ∙ given_noted w.moves after.given after.state (note_coming what w.moves w.state b)
+    ∙ given_noted after.state (move_same what w.state still fine).still w.moves after.given (note_coming what w.moves w.state b)
 
 book_same : (moves : List Move) (w : World) (b : Book) → IsStill w.state → told_trusts (actions_of_run (run_of moves w)) ≡ 0 → 1 ≤ length (run moves w).state.chances.left →
     book moves (erased_world w) b ≡ book moves w b

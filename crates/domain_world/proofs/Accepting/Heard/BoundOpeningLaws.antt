@@ -245,7 +245,11 @@ hear_asks_so m at what now members left is all =
 
 pub ask_so_on : KeepsMembers no_part AskSo
 ask_so_on = record {
-  of = record { controllers = λ answers w s after b. refl; clients = λ c at w piece s b. refl };
+  of = record {
+    controllers = λ answers w s after b. refl;
+    every = λ c at w piece s after b. refl;
+    clients = λ c at w piece s b. refl;
+  };
   given = λ at given after b. refl;
   draws = λ nothing members chances later links on all. all;
   hears = λ nothing m at what now members chances links quiet is all. hear_asks_so m at what now members chances.left is all;

@@ -1,8 +1,8 @@
 -- In every schedule each unit of the bag that was made for a secure channel is one whole unit, and is what its mark
 -- says. It serves `marked_units_are_whole` and `Proved.whole`.
-use Rattle.std.proofs.Common.{◌≡◌, ℕ, ◌-◌, ◌%◌, ◌<◌, ◌≤◌, ◌^◌, Bool, true, false, List, ◌++◌, drop, length, map, inl, inr, Option, Some, None, Ok, slice_get, refl, sym, ap, subst, ◌∙◌, arith, length-append}
-use Rattle.std.specs.Prelude.{replicate}
-use Rattle.std.proofs.lemmas.List.{drop_at, length-replicate}
+use Rattle.std.proofs.Common.{◌≡◌, ℕ, ◌%◌, ◌<◌, ◌^◌, Bool, true, false, List, ◌++◌, drop, length, map, inl, inr, Option, Some, None, Ok, slice_get, refl, sym, ap, subst, ◌∙◌, arith, []}
+use Rattle.std.specs.Prelude.{filter}
+use Rattle.std.proofs.lemmas.List.{drop_at}
 use Rattle.wire_base.specs.Numbers.{AreBytes}
 use Rattle.authenticators.specs.Channels.{ChannelIdentity}
 use Rattle.outside.specs.declared.event.Event.TheVariants as event
@@ -34,7 +34,7 @@ use Rattle.domain_world.proofs.Accepting.CarriedLaws.{one_whole}
 use Rattle.channel_events.specs.Marks.{Mark, Plain, Opening, Opened, Calling, ReplyTo}
 use Rattle.step_notes.specs.JudgedInRange.{IsReadAsMade}
 use Rattle.step_notes.specs.MemberNotes.{turn_units}
-use Rattle.step_notes.specs.Records.{Book, Judging, Sent, OfMember}
+use Rattle.step_notes.specs.Records.{Book, Forward, Judging, OfMember, Sent}
 use Rattle.step_notes.specs.ReplySends.{IsOpeningReply, IsReplyOfCall}
 use Rattle.step_notes.proofs.Controllers.JudgedInRangeLaws.{replies_are_read}
 use Rattle.world_moves.specs.declared.bag.BagUnit.{BagUnit}
@@ -54,7 +54,7 @@ use Rattle.world_moves.specs.Alone.{HandsNothingOn, alone_controller_step as con
 use Rattle.world_moves.proofs.LinkFrameLaws.{IsOnLink, actions_stay}
 use Rattle.domain_world.specs.Accepting.Carried.{IsAsMarked, IsNoAnswer, IsPlain, MarkedUnitsAreWhole, IsNotJudged, call_judged}
 use Rattle.domain_world.specs.Claims.Replies.{IsReplyOfOne}
-use Rattle.domain_world.specs.Past.{Delivery, at_controller, marks_of, note_given, note_member, note_messages, past, sent_at, controller_asked}
+use Rattle.domain_world.specs.Past.{Delivery, at_controller, beside_mark, controller_asked, marks_of, note_given, note_member, note_messages, other_marks, past, sent_at, still_waits}
 use Rattle.wire_base.proofs.ListLaws.{got_append, got_nothing, some_is}
 use Rattle.domain_world.proofs.Accepting.Heard.HeardFrontLaws.{IsOfRequest, of_request, opens_no_logon, reply_no_call}
 use Rattle.domain_world.proofs.Accepting.Heard.HeardUnitLaws.{heard_stub}
@@ -67,18 +67,18 @@ use Rattle.domain_world.proofs.Lists.ListPlaceLaws.{Placed, placed}
 use Rattle.domain_world.proofs.Quiet.QuietRunLaws.{comes_whole, has_bytes, quiet_first, quiet_keeps}
 use Rattle.domain_world.proofs.Quiet.QuietStepLaws.{MemberIsQuiet, QuietAction, QuietFact, QuietState}
 use Rattle.domain_world.proofs.Quiet.QuietTurnLaws.{IfOn}
-use Rattle.domain_world.proofs.Frames.BagFrameLaws.{IsOfUnit, IsServer, OfEachUnit, UnitFact, controller_marks, goes_on_with, member_marks}
+use Rattle.domain_world.proofs.Frames.BagFrameLaws.{IsMarked, IsOfUnit, IsServer, OfEachUnit, UnitFact, controller_marks, goes_on_with, member_marks, others_marked, plain_beside}
 use Rattle.domain_world.proofs.Frames.BagStepLaws.{BagKeeps, BookFact, run_fits}
 use Rattle.domain_world.proofs.Moves.ComingLaws.{CameFrom, IsStill, StillHas}
 use Rattle.domain_world.proofs.Moves.FrontLaws.{controller_unit}
-use Rattle.domain_world.proofs.Moves.MarkPlaceLaws.{got_beside, got_replicate, later_or, marks_length, no_longer, plain_of_none}
+use Rattle.domain_world.proofs.Moves.MarkPlaceLaws.{marks_length, plain_of_none}
 use Rattle.domain_world.proofs.Moves.NewUnitLaws.{new_or_plain}
 use Rattle.domain_world.proofs.Moves.OpenMadeLaws.{IsAtSide, IsMore, MoreOf, goes_on, no_more}
 use Rattle.domain_world.proofs.Frames.StepFrameLaws.{HoldsAfterRun, run_keeps}
 use Rattle.domain_world.proofs.Judgements.ReplyLaws.{replies_carry}
 use Rattle.domain_world.proofs.Frames.TurnFrameLaws.{turns_sent, asked_book}
 use Rattle.domain_world.proofs.Moves.PlacedLaws.{bytes_in, HasBytes}
-use Rattle.domain_world.proofs.Frames.EndNoteLaws.{acted_by}
+use Rattle.domain_world.proofs.Frames.EndNoteLaws.{acted_by, bytes_forwards}
 use Rattle.domain_world.proofs.Moves.PlainFormLaws.{heard_plain, plain_is}
 
 -- ---- what is to hold of each unit
@@ -106,22 +106,17 @@ still_fit old bag b still each number one there =
       holds = λ not. let is = had.holds not in (now.kind ∙ is.0, subst (λ (bytes : List ℕ). CarriesMark one.mark bytes) (sym now.bytes) is.1);
     }
 
+-- and nothing is handed on
+abbrev FitAlone : BookFact
+FitAlone bag b = MarksFit bag b × (b.forwards ≡ [])
+
 -- the others are made for no channel
-over_fit : (at : ℕ) (given : Given) (s : State) (b : Book) → MarksFit s.bag b → MarksFit s.bag (note_given at given s b)
-over_fit at given s b each number one there =
-    let others : List Sent = replicate (length s.bag - length b.sent) (sent_at at Plain) in
-    let few : length b.sent ≤ length s.bag = no_longer b.sent s.bag (λ k old got. ((each k old got).unit, (each k old got).there)) in
-    let size : length (b.sent ++ others) ≡ length s.bag =
-    omega (arith, few, length-append b.sent others, length-replicate (length s.bag - length b.sent) (sent_at at Plain)) in
-    elim (later_or b.sent others number one there) [
-      | inl old ↦ each number one old
-      | inr new ↦ let beside : (unit : BagUnit) × (slice_get s.bag number ≡ Some unit) = got_beside (b.sent ++ others) s.bag number one size there in
-          record {
-            unit = beside.0;
-            there = beside.1;
-            holds = plain_fits beside.0 one.mark (ap (λ (o : Sent). o.mark) (got_replicate (length s.bag - length b.sent) (sent_at at Plain) new.place one new.there));
-          }
-    ]
+over_fit : (at : ℕ) (given : Given) (s : State) (b : Book) → FitAlone s.bag b → FitAlone s.bag (note_given at given s b)
+over_fit at given s b fits =
+    let beside : BagUnit → Mark = λ unit. beside_mark b.forwards s unit in
+    let marked : IsMarked OfMark tt s.bag (b.sent ++ map (sent_at at) (other_marks b.forwards s (length b.sent))) =
+    others_marked OfMark tt beside (λ number unit. plain_fits unit (beside unit) (plain_beside b.forwards s unit fits.1)) s.bag b.sent at fits.0 in
+    (marked.each, ap (λ (all : List Forward). filter (still_waits s) all) fits.1)
 
 -- ---- where an end hears bytes
 
@@ -232,10 +227,13 @@ end_fits end w piece s b side came same quiet asks each =
     record { now = one; there = ap (λ (all : List BagUnit). slice_get all number) more.is ∙ got_append s.bag more.units number one there; bytes = refl; link = refl; kind = refl; back = refl })
     each) end side same
 
-pub marks_keep : BagKeeps QuietFact no_part AsksWell MarksFit
+marks_keep : BagKeeps QuietFact no_part AsksWell FitAlone
 marks_keep = record {
-  still = still_fit;
-  comes = λ n end w piece s given b side came bytes marked quiet asks each. end_fits end w piece s b side came marked quiet asks each;
+  still = λ old bag b still fits. (still_fit old bag b still fits.0, fits.1);
+  comes = λ n end w piece s given b side came bytes marked quiet asks fits. (
+    end_fits end w piece s b side came marked quiet asks fits.0,
+    bytes_forwards end w piece s (hear_and_act end (event.Bytes w.link piece) s).state b ∙ fits.1,
+  );
   over = over_fit;
 }
 
@@ -303,8 +301,9 @@ module _ (plan : Plan) (moves : List Move) (nobody : HandsNothingOn plan) (is : 
 
   pub marks_fit : MarksFit (past plan moves).world.state.bag (past plan moves).book
   marks_fit =
-      run_fits QuietFact QuietAction quiet_keeps no_part AsksWell asks_written MarksFit marks_keep plan moves nobody has (quiet_first plan is.start is.forms) (all_fresh_so plan.members)
-      (λ number one there. absurd (got_nothing number one there))
+      let fits : FitAlone (past plan moves).world.state.bag (past plan moves).book =
+      run_fits QuietFact QuietAction quiet_keeps no_part AsksWell asks_written FitAlone marks_keep plan moves nobody has (quiet_first plan is.start is.forms) (all_fresh_so plan.members)
+      ((λ number one there. absurd (got_nothing number one there)), refl) in fits.0
 
   after_quiet : QuietState (past plan moves).world.state
   after_quiet = let ran : HoldsAfterRun QuietFact plan moves = run_keeps QuietFact QuietAction quiet_keeps plan moves nobody has (quiet_first plan is.start is.forms) in ran.holds

@@ -1,8 +1,7 @@
 -- What holds of messages whose answer was taken, and of what is told, stays where no bytes come, where an action is
 -- done, and where one thing changes beside that; and what ends gave is then written down.
 -- It serves `schedules_are_heard`.
-use Rattle.std.proofs.Common.{◌≡◌, ℕ, true, List, [], ◌∷◌, ◌++◌, map, inl, inr, Option, Some, None, Result, Ok, Err, refl, sym, ap, subst, ◌∙◌, slice_get, slice_set, false}
-use Rattle.std.specs.Prelude.{replicate}
+use Rattle.std.proofs.Common.{◌≡◌, ℕ, true, List, [], ◌∷◌, ◌++◌, length, map, inl, inr, Option, Some, None, Result, Ok, Err, refl, sym, ap, subst, ◌∙◌, slice_get, slice_set, false}
 use Rattle.std.specs.List.{AllByRecursion}
 use Rattle.std.proofs.lemmas.List.{append_assoc, append-nil, length-set}
 use Rattle.outside.specs.Drawing.{Drawing}
@@ -21,7 +20,6 @@ use Rattle.member_server.specs.declared.state.Running.{Running}
 use Rattle.member_server.proofs.KeptLaws.{lets_in_the_granted}
 use Rattle.step_notes.specs.Records.{Book, MessageTaken, OutcomeTold, Sent}
 use Rattle.wire_base.specs.Lists.{OneOf}
-use Rattle.channel_events.specs.Marks.{Plain}
 use Rattle.wire_base.proofs.ListLaws.{all_weaker, got_append, one_weaker}
 use Rattle.step_notes.proofs.Members.KeptLogonLaws.{Dials, KeptIn, step_keeps}
 use Rattle.step_notes.proofs.Members.TurnAnswerLaws.{none_whole}
@@ -37,7 +35,7 @@ use Rattle.world_moves.specs.Alone.{alone_controller_step as controller_step, al
 use Rattle.world_moves.proofs.LinkFrameLaws.{quiet_stays}
 use Rattle.world_moves.proofs.EndKindLaws.{is_member}
 use Rattle.domain_world.specs.Accepting.ReadBack.{IsLetInInTurn, IsToldInTurn}
-use Rattle.domain_world.specs.Past.{note_given, sent_at, told_by, told_in}
+use Rattle.domain_world.specs.Past.{note_given, other_marks, sent_at, told_by, told_in}
 use Rattle.domain_world.proofs.Frames.AloneStepLaws.{alone_by as step_by, renew_alone_by as renew_by, renewed_alone as renewed}
 use Rattle.domain_world.proofs.Accepting.Turns.TurnFactLaws.{Any, GrowsTo, HasFree, IsAnswered, IsKnown, KeepFree, SameEnds, TurnFacts, facts_stay, past_at}
 use Rattle.domain_world.proofs.Messages.MessageOnceLaws.{each_put}
@@ -279,7 +277,7 @@ all_moved P f so [] (told ∷ more) each = (so told each.0, all_moved P f so [] 
 all_moved P f so (first ∷ all) more each = (each.0, all_moved P f so all more each.1)
 
 pub over_grows : (at : ℕ) (given : Given) (s : State) (b : Book) → GrowsTo s s b (note_given at given s b)
-over_grows at given s b = record { bag = kept_same s.bag; sent = λ k one there. got_append b.sent (replicate _ (sent_at at Plain)) k one there; ends = same_ends s.ends }
+over_grows at given s b = record { bag = kept_same s.bag; sent = λ k one there. got_append b.sent (map (sent_at at) (other_marks b.forwards s (length b.sent))) k one there; ends = same_ends s.ends }
 
 pub over_stays : (plan : Plan) (at : ℕ) (s : State) (given : Given) (b : Book) → TurnFacts plan s b b.messages b.answers (told_yet given b) →
     TurnFacts plan s (note_given at given s b) b.messages b.answers (told_yet [] (note_given at given s b))

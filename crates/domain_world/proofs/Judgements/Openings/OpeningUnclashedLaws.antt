@@ -1,6 +1,6 @@
 -- In every run without a clash each opening that was accepted came in a unit that was made for its channel, or from
 -- outside. It serves `Proved.opened`.
-use Rattle.std.proofs.Common.{◌≡◌, ℕ, Bool, true, false, List, [], ◌∷◌, ◌++◌, map, Option, Some, None, refl, ap₂, ◌∙◌}
+use Rattle.std.proofs.Common.{◌≡◌, ℕ, Bool, true, false, ◌||◌, List, [], ◌∷◌, ◌++◌, map, Option, Some, None, refl, ap₂, ◌∙◌}
 use Rattle.std.specs.List.{AllByRecursion}
 use Rattle.authenticators.specs.Channels.{ChannelIdentity}
 use Rattle.controller_calls.specs.declared.calls.ControllerCall.TheVariants as call
@@ -26,7 +26,7 @@ use Rattle.world_moves.specs.declared.moves.Move.{Move}
 use Rattle.world_moves.specs.declared.plan.Plan.{Plan}
 use Rattle.world_moves.specs.declared.state.State.{State}
 use Rattle.domain_world.specs.Claims.OpeningReplies.{OpeningsAreUnclashed}
-use Rattle.domain_world.specs.Past.{Delivery, accepted_of, answers_of, any_clash, at_controller, first_of, later_of, note_at, note_controller, note_member, note_messages, numbers_on, onto, past, replied_with}
+use Rattle.domain_world.specs.Past.{Delivery, accepted_of, answers_of, any_clash, any_turn_clash, asking_notes, at_controller, first_of, later_of, note_at, note_controller, note_member, note_messages, numbers_on, onto, past, replied_with}
 use Rattle.wire_base.proofs.ListLaws.{all_weaker}
 use Rattle.domain_world.proofs.Frames.BookFrameLaws.{book_holds}
 use Rattle.domain_world.proofs.Frames.EveryStepLaws.{every_book as book_by}
@@ -113,7 +113,8 @@ all_fit (one ∷ answers) source numbers sent noted none =
 controller_unclashed : (c : ControllerState) (at : ℕ) (w : Delivery) (piece : List ℕ) (s after : State) (b : Book) → AreUnclashed b → AreUnclashed (note_controller (Some c) at w piece s after b)
 controller_unclashed c at w piece s after b all = λ apart.
     let answers : List Answered = answers_of at c w piece s in
-    let both = or_false b.clash (any_clash answers (unit_in w.source) b.sent) apart in
+    let taken = or_false (b.clash || any_clash answers (unit_in w.source) b.sent) (any_turn_clash (asking_notes c w piece s) (unit_in w.source) b.sent) apart in
+    let both = or_false b.clash (any_clash answers (unit_in w.source) b.sent) taken.0 in
     let numbers : List ℕ = numbers_on w.link true s.bag after.bag in
     all_weaker (Fits b.sent) (Fits _) (onto (accepted_of answers numbers) b.accepted) (λ one fits. clashes_more (Some one.channel) (unit_in one.source) b.sent _ fits)
     (onto_fits b.sent (accepted_of answers numbers) b.accepted

@@ -1,9 +1,9 @@
 -- What is known of the calls of members' turns is kept through all that happens in a run, where it is kept as bytes
 -- come at a member. It serves `Proved.sequences`.
-use Rattle.std.proofs.Common.{◌≡◌, ℕ, ◌+◌, ◌-◌, ◌≤◌, false, List, [], ◌++◌, length, replicate, Option, Some, None, slice_get, refl, sym, subst, arith}
+use Rattle.std.proofs.Common.{◌≡◌, ℕ, ◌+◌, ◌≤◌, false, List, [], ◌++◌, length, map, Option, Some, None, slice_get, refl, sym, subst, arith}
 use Rattle.outside.specs.Drawing.{Drawing}
 use Rattle.outside.specs.declared.event.Event.{Event}
-use Rattle.channel_events.specs.Marks.{Mark, Calling, Plain}
+use Rattle.channel_events.specs.Marks.{Mark, Calling}
 use Rattle.member_server.specs.State.{State as MemberState}
 use Rattle.member_server.specs.declared.state.Running.{Running}
 use Rattle.step_notes.specs.Records.{Book, RequesterId, Sent}
@@ -17,7 +17,7 @@ use Rattle.world_moves.specs.Alone.{alone_controller_step as controller_step, he
 use Rattle.world_moves.proofs.EndKindLaws.{IfMember}
 use Rattle.domain_world.specs.Accepting.SeenSteps.{Differ}
 use Rattle.domain_world.specs.Accepting.Sequences.{IsTakenFor}
-use Rattle.domain_world.specs.Past.{note_given, sent_at, turns_in, controller_asked}
+use Rattle.domain_world.specs.Past.{controller_asked, note_given, other_marks, sent_at, turns_in}
 use Rattle.domain_world.proofs.Frames.AloneStepLaws.{alone_by as step_by}
 use Rattle.domain_world.proofs.Accepting.Turns.TurnFactLaws.{AreApart, MarksAreKnown, SameEnds, marks_before, past_at}
 use Rattle.domain_world.proofs.Accepting.Turns.TurnQuietLaws.{hear_grows, over_grows, step_same}
@@ -25,7 +25,7 @@ use Rattle.domain_world.proofs.Messages.MessageApartLaws.{links_in}
 use Rattle.domain_world.proofs.Frames.StepFrameLaws.{RunFact}
 use Rattle.domain_world.proofs.Moves.ComingLaws.{kept_same}
 use Rattle.domain_world.proofs.Moves.LeftLaws.{DrawsOn, end_draws}
-use Rattle.domain_world.proofs.Calls.CallFrameLaws.{plain_calls}
+use Rattle.domain_world.proofs.Calls.CallFrameLaws.{other_calls}
 use Rattle.domain_world.proofs.Calls.CallHoldsLaws.{differ_front, marks_append, marks_in}
 use Rattle.domain_world.proofs.Calls.CallStepLaws.{most_steps}
 use Rattle.domain_world.proofs.Calls.LooserLaws.{calls_before}
@@ -99,11 +99,11 @@ module _ (plan : Plan) where
     d = note_given at given s b
 
     abbrev plain : List Sent
-    plain = replicate (length s.bag - length b.sent) (sent_at at Plain)
+    plain = map (sent_at at) (other_marks b.forwards s (length b.sent))
 
     no_calls : NoNewCalls (marks_in b.sent) (marks_in d.sent)
     no_calls n number timestamp e there =
-        calls_before (marks_in b.sent) (marks_in plain) (plain_calls at (length s.bag - length b.sent)) n number timestamp e
+        calls_before (marks_in b.sent) (marks_in plain) (other_calls at b.forwards s (length b.sent)) n number timestamp e
         (subst (λ (all : List Mark). slice_get all n ≡ Some (Calling e number timestamp)) (marks_append b.sent plain) there)
 
     one_over : (who : RequesterId) (r : Option Running) → asker_in who s.ends ≡ r → TurnsIf who (controller_asked who s) None [] s.dials s.chances.drawn given b.turns r →
