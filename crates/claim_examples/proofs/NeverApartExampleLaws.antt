@@ -37,8 +37,8 @@ use Rattle.domain_world.specs.Claims.NeverApart.{BeginsAlike, IsAmong, IsNeverAp
 use Rattle.domain_world.specs.Past.{Past, past}
 use Rattle.wire_base.proofs.ListLaws.{got_nothing, no_some, some_is}
 use Rattle.claim_examples.specs.CompletenessExamples.{able_member, able_table, machine_account}
-use Rattle.claim_examples.specs.NeverApartExamples.{OfBeginnings, OfNeverApart, OfProvedRun, both_secrets, change_moves, change_plan, controller_having, holds_and_kept, member_holding, member_with, new_secret, old_secret, other_secret, plan_of, running_with, second_secret, set_passed, state_of, stopped_member, table_with, tried_secrets, two_plan, two_set}
-use Rattle.claim_examples.specs.ClaimExamples.{small_account}
+use Rattle.claim_examples.specs.NeverApartExamples.{OfBeginnings, OfNeverApart, OfProvedRun, backup_account, both_secrets, change_moves, change_plan, controller_having, disabled_account, holds_and_kept, member_holding, member_with, new_secret, old_secret, other_secret, plan_by, plan_of, running_with, second_secret, set_passed, state_of, stopped_member, table_with, tried_secrets, two_plan, two_with, without_account}
+use Rattle.claim_examples.specs.ClaimExamples.{keeping_controller, small_account}
 use Rattle.claim_examples.proofs.CompletenessLaws.{a_name, account_form, table_form}
 
 -- ---- the account
@@ -46,6 +46,14 @@ use Rattle.claim_examples.proofs.CompletenessLaws.{a_name, account_form, table_f
 found_with : (hash : List ℕ) → account_in (table_with hash).accounts (machine_name (codes "FILE1")) ≡ Some (record machine_account { hash = hash })
 unfolding place_in same_name names.upper_of
 found_with hash = refl
+
+found_backup : account_in (able_table (backup_account ∷ [])).accounts (machine_name (codes "FILE1")) ≡ Some backup_account
+unfolding place_in same_name names.upper_of
+found_backup = refl
+
+found_disabled : account_in (able_table (disabled_account ∷ [])).accounts (machine_name (codes "FILE1")) ≡ Some disabled_account
+unfolding place_in same_name names.upper_of
+found_disabled = refl
 
 found_none : account_in (able_table (small_account ∷ [])).accounts (machine_name (codes "FILE1")) ≡ None
 unfolding place_in same_name names.upper_of
@@ -115,12 +123,29 @@ begins_alike = record {
   only = none_else;
 }
 
+-- the same with another account of that hash
+begins_by : (account : Account) → account.hash ≡ old_secret → account_in (able_table (account ∷ [])).accounts (machine_name (codes "FILE1")) ≡ Some account → BeginsAlike (plan_by account) 0
+begins_by account hash found = record {
+  own = able_member old_secret;
+  is_plan = refl;
+  secret = old_secret;
+  one = refl;
+  controller = 0;
+  reaches = refl;
+  table = able_table (account ∷ []);
+  is_table = refl;
+  account = account;
+  found = found;
+  hash = hash;
+  only = none_else;
+}
+
 none_second : (who : RequesterId) (name : List ℕ) → who ≢ OfMember 1 → computer_of two_plan who ≡ Some name → SameName name (codes "FILE1") → ⊥
 none_second (OfMember zero) name other is same = names_apart (subst (λ (one : List ℕ). SameName one (codes "FILE1")) (sym (some_is (codes "FILE2") name is)) same)
 none_second (OfMember (suc zero)) name other is same = other refl
 none_second (OfMember (suc (suc k))) name other is same = no_some name is
 
-second_begins : BeginsAlike two_plan 1
+abbrev second_begins : BeginsAlike two_plan 1
 second_begins = record {
   own = record (able_member old_secret) { controller = 1 ∷ [] };
   is_plan = refl;
@@ -197,7 +222,7 @@ kept_so member kept hash calls own claim =
     subst (λ (h : List ℕ). IsAmong h kept) (hash_is member kept hash calls its) (its.kept kept refl)
 
 -- another one than the current and the next one
-not_among : (hash current : List ℕ) (next : Option Next) → (hash ≡ current → ⊥) → (next_of (record { current = current; next = next }) ≡ Some hash → ⊥) →
+pub not_among : (hash current : List ℕ) (next : Option Next) → (hash ≡ current → ⊥) → (next_of (record { current = current; next = next }) ≡ Some hash → ⊥) →
     IsAmong hash (record { current = current; next = next }) → ⊥
 not_among hash current next apart else among = elim among.among [ inl is ↦ apart is | inr is ↦ else is ]
 
@@ -237,7 +262,7 @@ begun_apart =
 
 -- ---- two controllers and two members
 
-two_apart : MembersAreNeverApart two_set
+two_apart : MembersAreNeverApart (two_with new_secret)
 two_apart foreign zero begins =
     let own : record (able_member second_secret) { computer = codes "FILE2" } ≡ begins.own =
     some_is (record (able_member second_secret) { computer = codes "FILE2" }) begins.own begins.is_plan in
@@ -254,7 +279,7 @@ two_apart foreign (suc zero) begins =
     let controller : 1 ≡ begins.controller = cc in
     record {
       state = controller_having new_secret;
-      at = subst (λ (k : ℕ). slice_get two_set.world.state.ends.controllers k ≡ Some (controller_having new_secret)) controller refl;
+      at = subst (λ (k : ℕ). slice_get (two_with new_secret).world.state.ends.controllers k ≡ Some (controller_having new_secret)) controller refl;
       account = record machine_account { hash = new_secret };
       found = subst (λ (plan : MemberPlan). account_in (table_with new_secret).accounts (machine_name plan.computer) ≡ Some (record machine_account { hash = new_secret })) own (found_with new_secret);
       held = λ m running there runs.
@@ -263,10 +288,31 @@ two_apart foreign (suc zero) begins =
     }
 two_apart foreign (suc (suc k)) begins = absurd (got_nothing k begins.own begins.is_plan)
 
+two_not_apart : MembersAreNeverApart (two_with other_secret) → ⊥
+two_not_apart claim =
+    let its : IsNeverApart (two_with other_secret) 1 second_begins = claim refl 1 second_begins in
+    let state : controller_having other_secret ≡ its.state = some_is (controller_having other_secret) its.state its.at in
+    let found : Some (record machine_account { hash = other_secret }) ≡ Some its.account =
+    sym (found_with other_secret) ∙ ap (λ (c : ControllerState). account_in c.table.accounts (machine_name (codes "FILE1"))) state ∙ its.found in
+    let hash : its.account.hash ≡ other_secret = ap (λ (account : Account). account.hash) (sym (some_is (record machine_account { hash = other_secret }) its.account found)) in
+    not_among other_secret old_secret both_secrets.next other_is_old (λ is. other_is_new (sym (some_is new_secret other_secret is)))
+    (subst (λ (h : List ℕ). IsAmong h both_secrets) hash (its.kept both_secrets refl))
+
+-- ---- no account
+
+gone_apart : MembersAreNeverApart without_account → ⊥
+gone_apart claim =
+    let its : IsNeverApart without_account 0 begins_alike = claim refl 0 begins_alike in
+    let bare : ControllerState = record (keeping_controller []) { table = able_table (small_account ∷ []) } in
+    let state : bare ≡ its.state = some_is bare its.state its.at in
+    no_some its.account (sym found_none ∙ ap (λ (c : ControllerState). account_in c.table.accounts (machine_name (codes "FILE1"))) state ∙ its.found)
+
 pub of_beginnings : OfBeginnings
 of_beginnings = record {
   meets = begins_alike;
   meets_second = second_begins;
+  meets_backup = begins_by backup_account refl found_backup;
+  meets_disabled = begins_by disabled_account refl found_disabled;
   fails_hash = λ begins.
       let own : able_member old_secret ≡ begins.own = some_is (able_member old_secret) begins.own begins.is_plan in
       let controller : 0 ≡ begins.controller =
@@ -301,6 +347,9 @@ of_beginnings = record {
   own = refl;
   barred = refl;
   logon = refl;
+  interactive = refl;
+  logoff = refl;
+  network_logoff = refl;
 }
 
 pub of_never_apart : OfNeverApart
@@ -330,6 +379,8 @@ of_never_apart = record {
       not_among new_secret old_secret None (λ is. old_is_new (sym is)) (none_next new_secret old_secret) (kept_so (member_holding both_secrets) (alone old_secret) new_secret (set_passed ∷ []) refl claim);
   fails_exchanged = λ claim.
       not_among old_secret new_secret None old_is_new (none_next old_secret new_secret) (held_so (alone new_secret) (alone new_secret) old_secret (set_passed ∷ []) refl claim);
+  fails_second = two_not_apart;
+  fails_gone = gone_apart;
   fails_stopped = λ claim.
       not_among new_secret old_secret None (λ is. old_is_new (sym is)) (none_next new_secret old_secret) (kept_so stopped_member (alone old_secret) new_secret (set_passed ∷ []) refl claim);
   fails_keeping = λ claim.

@@ -10,5 +10,6 @@ pub mod ExampleKeyLaws
 pub mod JudgedOnLaws
 pub mod LogonTrailLaws
 pub mod SharedChannelLaws
+pub mod StrangerRunLaws
 pub mod ToldLaws
 pub mod TurnTrailLaws

@@ -1,25 +1,28 @@
 -- A run in which a member replaces its secret and never hears that the controller took it: what is proved of all runs
--- says of three of its states that the two are not apart (this project's own choice).
-use Rattle.std.specs.Prelude.{ℕ, ◌≡◌, true, false, List, [], ◌∷◌, ◌++◌, Option, Some, None, codes, slice_get}
+-- says of four of its states that the two are not apart. In the last one ann is in (this project's own choice).
+use Rattle.std.specs.Prelude.{ℕ, ◌≡◌, false, List, [], ◌∷◌, ◌++◌, Option, Some, None, codes, slice_get}
 use Rattle.std.specs.Option.{option_map}
 use Rattle.account_table.specs.LookUps.{account_in, machine_name}
 use Rattle.account_table.specs.declared.account.Account.{Account}
 use Rattle.secret_change.specs.Secrets.{SecretsState, alone}
 use Rattle.domain_controller.specs.State.{State as ControllerState}
+use Rattle.logon_client.specs.declared.outcome.ClientOutcome.{ClientOutcome}
+use Rattle.logon_client.specs.declared.outcome.ClientOutcome.TheVariants as outcome
 use Rattle.member_server.specs.State.{State as MemberState}
 use Rattle.member_server.specs.declared.state.Running.{Running as MemberRunning}
+use Rattle.world_moves.specs.declared.counting.Report.{Report}
 use Rattle.world_moves.specs.declared.moves.Move.{Move}
 use Rattle.world_moves.specs.declared.moves.Move.TheVariants as move
 use Rattle.world_moves.specs.declared.plan.Plan.{Plan}
 use Rattle.world_moves.specs.Forms.{IsSchedule}
-use Rattle.world_moves.specs.World.{kept_of}
+use Rattle.world_moves.specs.World.{kept_of, outcome_of, report_of}
 use Rattle.domain_world.specs.Claims.{IsClear}
 use Rattle.domain_world.specs.Claims.NeverApart.{BeginsAlike, IsNeverApart, has_foreign_set}
 use Rattle.domain_world.specs.Headline.{Proved}
 use Rattle.domain_world.specs.Past.{Past, past}
 use Rattle.claim_examples.specs.ClaimExamples.{small_account, small_hash}
 use Rattle.claim_examples.specs.CompletenessExamples.{able_plan, machine_account}
-use Rattle.claim_examples.specs.NeverApartExamples.{both_secrets, new_secret, old_secret, set_outside}
+use Rattle.claim_examples.specs.NeverApartExamples.{both_secrets, new_secret, old_secret}
 
 -- ---- the run
 
@@ -46,9 +49,13 @@ begun_moves = move.Change 0 new_secret ∷ []
 abbrev pub set_moves : List Move
 set_moves = move.Connect ∷ move.Onward ∷ move.Onward ∷ move.Onward ∷ move.Lose ∷ []
 
--- It opens its channel under the old one, and sets the new one on it. The reply that says so is lost.
+-- it opens its channel under the old one
+abbrev pub opened_moves : List Move
+opened_moves = begun_moves ++ message_moves ++ turn_moves ++ turn_moves
+
+-- It sets the new one on it. The reply that says so is lost.
 abbrev pub lost_moves : List Move
-lost_moves = begun_moves ++ message_moves ++ turn_moves ++ turn_moves ++ set_moves
+lost_moves = opened_moves ++ set_moves
 
 -- the link of that turn is shut, ann hears that there is no answer, and FILE1 begins anew
 abbrev pub anew_moves : List Move
@@ -61,6 +68,10 @@ denied_moves = lost_moves ++ anew_moves ++ message_moves ++ turn_moves ++ turn_m
 -- She starts once more, and the channel opens under the new one.
 abbrev pub learned_moves : List Move
 learned_moves = denied_moves ++ message_moves ++ turn_moves ++ turn_moves
+
+-- Her logon goes out on it and is granted. She hears who she is, asks for an echo, and has it.
+abbrev pub in_moves : List Move
+in_moves = learned_moves ++ turn_moves ++ move.Onward ∷ move.Onward ∷ move.Onward ∷ []
 
 -- ---- what FILE1 and its controller have
 
@@ -77,6 +88,11 @@ secrets_in (Some running) = Some running.logons.plan.secrets
 abbrev pub held_in : Option MemberState → Option SecretsState
 held_in None = None
 held_in (Some m) = secrets_in m.running
+
+-- how many bytes came back to a client that is in
+abbrev pub echoed_in : Option ClientOutcome → Option ℕ
+echoed_in (Some (outcome.In name key echoed)) = Some echoed
+echoed_in _ = None
 
 -- ---- what is said of a state
 
@@ -95,13 +111,18 @@ pub record LeavesNoneApart (moves : List Move) (begins : BeginsAlike changing_pl
   pub has : Has (past changing_plan moves) at_controller secrets
   pub claimed : Proved changing_plan moves → IsNeverApart (past changing_plan moves) 0 begins
 
+-- her first two logons have no answer, and the third one is granted; two calls passed, the Set and that logon's
+abbrev pub in_report : Report
+in_report = record { moves = 66; accepted = 1; refused = 0; no_controller = 2; passed = 2; barred = 0 }
+
 -- So it is where FILE1 keeps both secrets and the controller has the old one, where the new one is set and the reply is
--- lost, and where FILE1 has learned of it and keeps the new one alone.
+-- lost, where FILE1 has learned of it and keeps the new one alone, and where ann is in.
 pub record ChangeLeavesNoneApart : Type 0 where
   pub begins : BeginsAlike changing_plan 0
   pub begun : LeavesNoneApart begun_moves begins old_secret both_secrets
   pub lost : LeavesNoneApart lost_moves begins new_secret both_secrets
   pub learned : LeavesNoneApart learned_moves begins new_secret (alone new_secret)
-  -- A stranger's call that set a secret, written down by hand in front of the others, ends the premise. No move of a
-  -- stranger makes it.
-  pub stranger : has_foreign_set (set_outside ∷ (past changing_plan lost_moves).book.judged) ≡ true
+  pub ended : LeavesNoneApart in_moves begins new_secret (alone new_secret)
+  -- all 16 bytes of her echo came back
+  pub counts : report_of (past changing_plan in_moves).world ≡ in_report
+  pub echoed : echoed_in (outcome_of (past changing_plan in_moves).world 0) ≡ Some 16

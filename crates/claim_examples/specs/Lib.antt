@@ -14,5 +14,6 @@ pub mod ReplyExamples
 pub mod RequestExamples
 pub mod SequenceMisses
 pub mod SessionExamples
+pub mod StrangerRuns
 pub mod SuccessMisses
 pub mod TellApart

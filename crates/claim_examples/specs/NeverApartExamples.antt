@@ -3,11 +3,14 @@
 use Rattle.std.specs.Prelude.{ℕ, ◌≡◌, true, false, List, [], ◌∷◌, ◌++◌, replicate, Some, None, codes}
 use Rattle.outside.specs.declared.action.Judged.TheVariants as judged
 use Rattle.account_table.specs.AccountTable.{AccountTable}
+use Rattle.account_table.specs.declared.account.Account.{Account}
+use Rattle.account_table.specs.declared.account.Kind.TheVariants.{Backup}
 use Rattle.secret_change.specs.Secrets.{SecretsState, alone, untried_next}
 use Rattle.domain_controller.specs.State.{State as ControllerState}
 use Rattle.member_server.specs.State.{State as MemberState}
 use Rattle.member_server.specs.declared.plan.MemberPlan.{MemberPlan}
 use Rattle.member_server.specs.declared.state.Running.{Running as MemberRunning}
+use Rattle.controller_calls.specs.declared.calls.JudgedCall.TheVariants.{NetworkLogoff}
 use Rattle.step_notes.specs.Records.{Judging, Outside, blank}
 use Rattle.world_moves.specs.declared.links.EndId.TheVariants.{Member}
 use Rattle.world_moves.specs.declared.links.LinkKind.TheVariants as kind
@@ -16,13 +19,13 @@ use Rattle.world_moves.specs.declared.moves.Move.TheVariants as move
 use Rattle.world_moves.specs.declared.plan.Plan.{Plan}
 use Rattle.world_moves.specs.Forms.{IsSchedule}
 use Rattle.world_moves.specs.World.{World, first_world}
-use Rattle.domain_world.specs.Claims.{IsClear}
+use Rattle.domain_world.specs.Claims.{IsClear, info_asked}
 use Rattle.domain_world.specs.Claims.NeverApart.{BeginsAlike, IsNeverApart, MembersAreNeverApart, has_foreign_set}
 use Rattle.domain_world.specs.Headline.{Proved}
 use Rattle.domain_world.specs.Past.{Past, past}
-use Rattle.claim_examples.specs.ClaimExamples.{judged_as, keeping_controller, on_channel, open_running, small_account, small_plan}
+use Rattle.claim_examples.specs.ClaimExamples.{judged_as, keeping_controller, message, on_channel, open_running, small_account, small_hash, small_plan}
 use Rattle.claim_examples.specs.CompletenessExamples.{able_member, able_table, machine_account}
-use Rattle.claim_examples.specs.SessionExamples.{set_call}
+use Rattle.claim_examples.specs.SessionExamples.{ann_session, hash_call, logoff_call, set_call}
 
 -- ---- FILE1 begins with 16 bytes 0x41 and changes to 16 bytes 0x61
 
@@ -54,6 +57,17 @@ plan_of members hash = record small_plan { tables = table_with hash ∷ []; memb
 
 abbrev pub change_plan : Plan
 change_plan = plan_of (able_member old_secret ∷ []) old_secret
+
+-- the same, but for FILE1's account
+abbrev pub plan_by : Account → Plan
+plan_by account = record change_plan { tables = able_table (account ∷ []) ∷ [] }
+
+-- FILE1's account as a backup controller's (MS-NRPC 2.2.1.3.13), and as one that is disabled
+abbrev pub backup_account : Account
+backup_account = record machine_account { hash = old_secret; kind = Backup }
+
+abbrev pub disabled_account : Account
+disabled_account = record machine_account { hash = old_secret; disabled = true }
 
 -- ---- a state behind its first moves
 
@@ -96,12 +110,37 @@ state_of member kept hash calls =
 abbrev pub holds_and_kept : SecretsState → SecretsState → List ℕ → List Judging → Past
 holds_and_kept held kept hash calls = state_of (member_holding held) kept hash calls
 
--- its call by which the new secret was set, in a unit of the bag; and the same from outside
+-- the controller's account of FILE1 is gone
+abbrev pub without_account : Past
+without_account =
+    let w : World = (holds_and_kept both_secrets both_secrets old_secret []).world in
+    record {
+      plan = change_plan;
+      world = record w { state = record w.state { ends = record w.state.ends { controllers = record (keeping_controller []) { table = able_table (small_account ∷ []) } ∷ [] } } };
+      book = blank;
+    }
+
+-- its call by which the new secret was set, in a unit of the bag; and a call that came from outside
 abbrev pub set_passed : Judging
 set_passed = set_call (table_with old_secret)
 
+abbrev pub from_outside : Judging → Judging
+from_outside j = record j { source = Outside }
+
 abbrev pub set_outside : Judging
-set_outside = record set_passed { source = Outside }
+set_outside = from_outside set_passed
+
+-- a logoff of a network logon that passed (MS-NRPC 3.5.4.5.4)
+abbrev pub network_logoff : Judging
+network_logoff = record (on_channel 0) {
+  asked = NetworkLogoff (record {
+    server = None;
+    computer = Some (codes "FILE1");
+    authenticator = Some (record { credential = []; timestamp = 0 });
+    returned = None;
+    info = info_asked message;
+  });
+}
 
 -- ---- two controllers and two members
 
@@ -118,16 +157,16 @@ two_plan = record change_plan {
   seed = replicate 32 0;
 }
 
--- FILE1 keeps both secrets, and BDC has the new one; FILE2 has another
-abbrev pub two_set : Past
-two_set =
+-- FILE1 keeps both secrets, and BDC has this hash; FILE2 has another secret
+abbrev pub two_with : List ℕ → Past
+two_with hash =
     let w : World = first_world two_plan in
     record {
       plan = two_plan;
       world = record w {
         state = record w.state {
           ends = record w.state.ends {
-            controllers = controller_having second_secret ∷ controller_having new_secret ∷ [];
+            controllers = controller_having second_secret ∷ controller_having hash ∷ [];
             members = member_holding (alone second_secret) ∷ member_holding both_secrets ∷ [];
           };
           member_plans = member_with (alone second_secret) ∷ member_with both_secrets ∷ [];
@@ -138,24 +177,30 @@ two_set =
 
 -- ---- the premise
 
--- FILE1 begins with the hash of its account alone. Not where the hash is another, where it has a next secret from the
--- start, where there is no account of it, or where another member has its name in small letters.
+-- FILE1 begins with the hash of its account alone, whatever the account's kind is, and also where it is disabled. Not
+-- where the hash is another, where it has a next secret from the start, where there is no account of it, or where
+-- another member has its name in small letters.
 pub record OfBeginnings : Type 0 where
   pub meets : BeginsAlike change_plan 0
   -- so does the second member, of the second controller
   pub meets_second : BeginsAlike two_plan 1
+  pub meets_backup : BeginsAlike (plan_by backup_account) 0
+  pub meets_disabled : BeginsAlike (plan_by disabled_account) 0
   pub fails_hash : BeginsAlike (plan_of (able_member old_secret ∷ []) (replicate 16 0x40)) 0 → ⊥
   pub fails_two : BeginsAlike (plan_of (member_with both_secrets ∷ []) old_secret) 0 → ⊥
   pub fails_unknown : BeginsAlike (record change_plan { tables = able_table (small_account ∷ []) ∷ [] }) 0 → ⊥
   pub fails_named : BeginsAlike (plan_of (able_member old_secret ∷ record (able_member old_secret) { computer = codes "file1" } ∷ []) old_secret) 0 → ⊥
-  -- what a stranger did: his call that passed and sets a secret counts, with whatever status; his logon that passed,
-  -- his call that was barred, and the member's own call don't
+  -- what a stranger did: his call that passed and sets a secret counts, with whatever status; his logon or logoff that
+  -- passed, of either kind, his call that was barred, and the member's own call don't
   pub stranger : has_foreign_set (set_outside ∷ []) ≡ true
   pub stranger_earlier : has_foreign_set (set_passed ∷ set_outside ∷ []) ≡ true
   pub stranger_status : has_foreign_set (judged_as (judged.Passed 1) set_outside ∷ []) ≡ true
   pub own : has_foreign_set (set_passed ∷ []) ≡ false
   pub barred : has_foreign_set (judged_as judged.Barred set_outside ∷ []) ≡ false
-  pub logon : has_foreign_set (record (on_channel 0) { source = Outside } ∷ []) ≡ false
+  pub logon : has_foreign_set (from_outside (on_channel 0) ∷ []) ≡ false
+  pub interactive : has_foreign_set (from_outside (hash_call small_hash) ∷ []) ≡ false
+  pub logoff : has_foreign_set (from_outside (logoff_call ann_session) ∷ []) ≡ false
+  pub network_logoff : has_foreign_set (from_outside network_logoff ∷ []) ≡ false
 
 -- ---- the claim
 
@@ -172,7 +217,7 @@ pub record OfNeverApart : Type 0 where
   pub stopped : MembersAreNeverApart (state_of stopped_member both_secrets new_secret (set_passed ∷ []))
   pub changed : MembersAreNeverApart (past change_plan (move.Change 0 new_secret ∷ []))
   -- of each member its own controller and secrets are asked
-  pub two : MembersAreNeverApart two_set
+  pub two : MembersAreNeverApart (two_with new_secret)
   -- nothing is said where a stranger set a secret
   pub stranger : MembersAreNeverApart (holds_and_kept both_secrets both_secrets other_secret (set_outside ∷ []))
   -- not where a third secret is set, or the old one though only the new one is held
@@ -186,6 +231,9 @@ pub record OfNeverApart : Type 0 where
   pub fails_kept : MembersAreNeverApart (holds_and_kept both_secrets (alone old_secret) new_secret (set_passed ∷ [])) → ⊥
   -- nor where both were exchanged: the new one is held and kept alone, and the account has the old one
   pub fails_exchanged : MembersAreNeverApart (holds_and_kept (alone new_secret) (alone new_secret) old_secret (set_passed ∷ [])) → ⊥
+  -- nor where the second member's controller has a third one, or where the account is gone
+  pub fails_second : MembersAreNeverApart (two_with other_secret) → ⊥
+  pub fails_gone : MembersAreNeverApart without_account → ⊥
   -- a member that has stopped is asked for what it kept, one secret or both
   pub fails_stopped : MembersAreNeverApart (state_of stopped_member (alone old_secret) new_secret (set_passed ∷ [])) → ⊥
   pub fails_keeping : MembersAreNeverApart (state_of stopped_member both_secrets other_secret (set_passed ∷ [])) → ⊥

@@ -15,6 +15,7 @@ ghost use Rattle.claim_examples.specs.ReplyExamples.{OfReplies};
 ghost use Rattle.claim_examples.specs.RequestExamples.{OfAnsweredCalls, OfOpeningAnswers, OfRequestNumbers};
 ghost use Rattle.claim_examples.specs.SequenceMisses.{SequencesTellApart};
 ghost use Rattle.claim_examples.specs.SessionExamples.{OfHashGrants, OfSessions, OfStatuses};
+ghost use Rattle.claim_examples.specs.StrangerRuns.{StrangerPartsThem};
 ghost use Rattle.claim_examples.specs.SuccessMisses.{SuccessTellsApart};
 
 /// No claim is true, or false, of everything that could be written down of a run: each is met by some small run and not
@@ -136,11 +137,19 @@ pub fn ann_is_accepted()
     ensures { AnnIsAccepted }
 {}
 
-/// What is proved of all runs says that a member and its controller are not apart at three states of a run in which the
+/// What is proved of all runs says that a member and its controller are not apart at four states of a run in which the
 /// member replaces its secret, each with no premise left: where it keeps both and the controller has the old one, where
-/// the new one is set and the reply is lost, and where the member has learned of it. In between it begins anew, and its
-/// channel is denied under the old secret.
+/// the new one is set and the reply is lost, where the member has learned of it, and where its user is in. In between
+/// the member begins anew, and its channel is denied under the old secret.
 #[tactic(auto, using(crate::proofs::Runs::ChangeRunLaws::change_leaves_none_apart))]
 pub fn a_change_leaves_none_apart()
     ensures { ChangeLeavesNoneApart }
+{}
+
+/// In the same run a stranger hands in a copy of the member's own call that sets its secret, which was lost. The copy
+/// passes as a call from outside, so one premise isn't met. With another last byte it passes too, all other premises
+/// are met, and the member and its controller are apart.
+#[tactic(auto, using(crate::proofs::Runs::StrangerRunLaws::stranger_parts_them))]
+pub fn a_stranger_parts_them()
+    ensures { StrangerPartsThem }
 {}
