@@ -1,13 +1,13 @@
 """Cases of domain_world.
 
 `world.run WORD ..`: a world of the plan of the words `controller/DOCUMENT/NAME`,
-`member/COMPUTER/DOMAIN/SECRET/CONTROLLER`,
+`member/COMPUTER/DOMAIN/SECRET/CONTROLLER`, with `/sealed` where its channel seals,
 `client/SERVER/DOMAIN/USER/WORKSTATION/HASH/LEVEL/KIND/ECHO` (as in `controller.run`, `member.run` and `client.run`) and
-`now/MOMENT`, whose seed is 32 zeros, with `trusting` where its controllers hand logons on (`world_trusts.py`), and its
-moves: `start/NUMBER`, `stranger/NUMBER`, `connect`, `fail`, `onward`,
-`lose`, `deliver/UNIT/LINK`, `hand/LINK/WAY/BYTES` (WAY `back` or `forward`), `shut/NUMBER`,
-`restart/NUMBER`, `change/NUMBER/SECRET`, `tick/NUMBER`. The answer is the report, and the outcomes of the clients at
-the first four places.
+`now/MOMENT`, whose seed is 32 zeros, with `trusting` where its controllers hand logons on (`world_trusts.py`), with
+`sealing` where they can seal, and then hand logons on too (`world_seals.py`), and its moves: `start/NUMBER`,
+`stranger/NUMBER`, `connect`, `fail`, `onward`, `lose`, `deliver/UNIT/LINK`, `hand/LINK/WAY/BYTES` (WAY `back` or
+`forward`), `shut/NUMBER`, `restart/NUMBER`, `change/NUMBER/SECRET`, `tick/NUMBER`. The answer is the report, and the
+outcomes of the clients at the first four places.
 
 `world.kept WORD ..`: the same, and the secrets that the members at the first two places keep.
 

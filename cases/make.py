@@ -66,6 +66,7 @@ PROGRAMS = {
         "sealed_member",
         "domain_world",
         "world_trusts",
+        "world_seals",
     ],
     "top_cases": [
         "nt_top",

@@ -4,7 +4,7 @@
 sealed reply's confounder is drawn as a challenge is. `holds/LINK` is answered with whether that link is open and
 sealed.
 
-The actions are worked out here by the rules of docs/FORMATS.md ("A channel that seals", "The controller"), MS-NRPC 3.3
+The actions are worked out here by the rules of docs/FORMATS.md ("Sealed channels", "The controller"), MS-NRPC 3.3
 and MS-RPCE 2.2.2.11: the controller of `trusts.py`, with an end of `channel_sealing.py` for each computer whose channel
 seals. What is sealed by a computer here, its controller opens, and the other way round.
 """

@@ -37,7 +37,7 @@ use Rattle.domain_world.specs.Claims.NeverApart.{BeginsAlike, IsAmong, IsNeverAp
 use Rattle.domain_world.specs.Past.{Past, past}
 use Rattle.wire_base.proofs.ListLaws.{got_nothing, no_some, some_is}
 use Rattle.claim_examples.specs.CompletenessExamples.{able_member, able_table, machine_account}
-use Rattle.claim_examples.specs.NeverApartExamples.{OfBeginnings, OfNeverApart, OfProvedRun, backup_account, both_secrets, change_moves, change_plan, controller_having, disabled_account, holds_and_kept, member_holding, member_with, new_secret, old_secret, other_secret, plan_by, plan_of, running_with, second_secret, set_passed, state_of, stopped_member, table_with, tried_secrets, two_plan, two_with, without_account}
+use Rattle.claim_examples.specs.NeverApartExamples.{OfBeginnings, OfNeverApart, OfProvedRun, backup_account, both_secrets, change_moves, change_plan, controller_having, disabled_account, holds_and_kept, letters_plan, member_holding, member_with, new_secret, old_secret, other_secret, plan_by, plan_of, running_with, second_secret, set_passed, state_of, stopped_member, table_with, tried_secrets, two_plan, two_with, without_account}
 use Rattle.claim_examples.specs.ClaimExamples.{keeping_controller, small_account}
 use Rattle.claim_examples.proofs.CompletenessLaws.{a_name, account_form, table_form}
 
@@ -54,6 +54,10 @@ found_backup = refl
 found_disabled : account_in (able_table (disabled_account ∷ [])).accounts (machine_name (codes "FILE1")) ≡ Some disabled_account
 unfolding place_in same_name names.upper_of
 found_disabled = refl
+
+found_letters : account_in (table_with old_secret).accounts (machine_name (codes "file1")) ≡ Some (record machine_account { hash = old_secret })
+unfolding place_in same_name names.upper_of
+found_letters = refl
 
 found_none : account_in (able_table (small_account ∷ [])).accounts (machine_name (codes "FILE1")) ≡ None
 unfolding place_in same_name names.upper_of
@@ -138,6 +142,26 @@ begins_by account hash found = record {
   found = found;
   hash = hash;
   only = none_else;
+}
+
+none_with_letters : (who : RequesterId) (name : List ℕ) → who ≢ OfMember 0 → computer_of letters_plan who ≡ Some name → SameName name (codes "file1") → ⊥
+none_with_letters (OfMember zero) name other is same = other refl
+none_with_letters (OfMember (suc k)) name other is same = no_some name is
+
+letters_begin : BeginsAlike letters_plan 0
+letters_begin = record {
+  own = record (able_member old_secret) { computer = codes "file1" };
+  is_plan = refl;
+  secret = old_secret;
+  one = refl;
+  controller = 0;
+  reaches = refl;
+  table = table_with old_secret;
+  is_table = refl;
+  account = record machine_account { hash = old_secret };
+  found = found_letters;
+  hash = refl;
+  only = none_with_letters;
 }
 
 none_second : (who : RequesterId) (name : List ℕ) → who ≢ OfMember 1 → computer_of two_plan who ≡ Some name → SameName name (codes "FILE1") → ⊥
@@ -313,6 +337,7 @@ of_beginnings = record {
   meets_second = second_begins;
   meets_backup = begins_by backup_account refl found_backup;
   meets_disabled = begins_by disabled_account refl found_disabled;
+  meets_letters = letters_begin;
   fails_hash = λ begins.
       let own : able_member old_secret ≡ begins.own = some_is (able_member old_secret) begins.own begins.is_plan in
       let controller : 0 ≡ begins.controller =
@@ -343,9 +368,12 @@ of_beginnings = record {
       (subst (λ (plan : MemberPlan). SameName (codes "file1") plan.computer) own names_alike);
   stranger = refl;
   stranger_earlier = refl;
+  stranger_later = refl;
   stranger_status = refl;
   own = refl;
   barred = refl;
+  no_channel = refl;
+  untold = refl;
   logon = refl;
   interactive = refl;
   logoff = refl;
@@ -485,7 +513,7 @@ of_proved_run = record {
   clear = change_clear;
   own = refl;
   begins = second_begins;
-  claimed = λ proved. proved.never_apart (inl (plain_plan two_plan refl)) change_schedule change_clear refl 1 second_begins;
+  claimed = λ proved. proved.never_apart (record { controllers = refl; members = (refl, (refl, tt)) }) (inl (plain_plan two_plan refl refl)) change_schedule change_clear refl 1 second_begins;
 }
 
 -- ---- the member of the run in which ann logs on

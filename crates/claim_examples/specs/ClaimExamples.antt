@@ -104,6 +104,7 @@ small_plan = record {
   members = small_member ∷ [];
   clients = [];
   hands_on = false;
+  seals = false;
   now = 0;
   seed = [];
 }

@@ -10,6 +10,7 @@ use Rattle.world_moves.specs.declared.plan.Plan.{Plan}
 use Rattle.world_moves.specs.Choosing.{chosen_place}
 use Rattle.world_moves.specs.Counting.{is_in}
 use Rattle.world_moves.specs.Forms.{HasForms, IsSchedule}
+use Rattle.world_moves.specs.Plain.{NothingSeals}
 use Rattle.world_moves.specs.World.{IsPlan, first_world}
 use Rattle.logon_runs.specs.FirstLogon.ExampleLogon.{ann_moves, ann_plan}
 use Rattle.logon_runs.specs.FirstLogon.FirstWorlds.{CanComeIn, FirstKeyArrives, logon_moves}
@@ -58,11 +59,11 @@ pub record MeetsClearClaims (run : Past) : Type 0 where
   pub answered : RepliesAnswerCalls run
   pub never_apart : MembersAreNeverApart run
 
--- It is so of the first logon in a world, of whatever plan, where it comes in; and of the example, which is a schedule
--- whose one client is started where nothing is under way, and at whose end nothing is. A channel stands at both ends
--- then. What is proved of clear schedules holds of the example with no premise left.
+-- The first logon in a world, of whatever plan in which nothing seals, lets in clearly where it comes in; and so does
+-- the example, which is a schedule whose one client is started where nothing is under way, and at whose end nothing is.
+-- A channel stands at both ends then. What is proved of clear schedules holds of the example with no premise left.
 pub record FirstLogonsAreClear : Type 0 where
-  pub first : (plan : Plan) (client member controller number : ℕ) → IsPlan plan → HasForms plan → chosen_place number (length plan.clients) ≡ Some client →
+  pub first : (plan : Plan) (client member controller number : ℕ) → IsPlan plan → HasForms plan → NothingSeals plan → chosen_place number (length plan.clients) ≡ Some client →
       (can : CanComeIn plan client member controller) → FirstKeyArrives plan client member controller can → LetsInClearly (past plan (logon_moves number (can.task.echo == 0)))
   pub stands : (plan : Plan) (client member controller number : ℕ) → IsPlan plan → HasForms plan → chosen_place number (length plan.clients) ≡ Some client →
       (can : CanComeIn plan client member controller) → FirstKeyArrives plan client member controller can → HasSharedChannel (past plan (logon_moves number (can.task.echo == 0)))

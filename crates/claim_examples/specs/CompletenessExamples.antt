@@ -44,6 +44,7 @@ table_plan table secret hash = record {
   members = able_member secret ∷ [];
   clients = able_client hash ∷ [];
   hands_on = false;
+  seals = false;
   now = 0;
   seed = replicate 32 0;
 }
@@ -139,6 +140,7 @@ lost_plan = record {
   members = [];
   clients = lost_client ∷ [];
   hands_on = false;
+  seals = false;
   now = 0;
   seed = replicate 32 0;
 }

@@ -69,6 +69,10 @@ backup_account = record machine_account { hash = old_secret; kind = Backup }
 abbrev pub disabled_account : Account
 disabled_account = record machine_account { hash = old_secret; disabled = true }
 
+-- the account is FILE1's, and the member has the name "file1"
+abbrev pub letters_plan : Plan
+letters_plan = plan_of (record (able_member old_secret) { computer = codes "file1" } ∷ []) old_secret
+
 -- ---- a state behind its first moves
 
 abbrev pub controller_having : List ℕ → ControllerState
@@ -177,26 +181,31 @@ two_with hash =
 
 -- ---- the premise
 
--- FILE1 begins with the hash of its account alone, whatever the account's kind is, and also where it is disabled. Not
--- where the hash is another, where it has a next secret from the start, where there is no account of it, or where
--- another member has its name in small letters.
+-- FILE1 begins with the hash of its account alone, whatever the account's kind is, also where the account is disabled
+-- or the member has the name in small letters. Not where the hash is another, where it has a next secret from the
+-- start, where there is no account of it, or where another member has its name in small letters.
 pub record OfBeginnings : Type 0 where
   pub meets : BeginsAlike change_plan 0
   -- so does the second member, of the second controller
   pub meets_second : BeginsAlike two_plan 1
   pub meets_backup : BeginsAlike (plan_by backup_account) 0
   pub meets_disabled : BeginsAlike (plan_by disabled_account) 0
+  pub meets_letters : BeginsAlike letters_plan 0
   pub fails_hash : BeginsAlike (plan_of (able_member old_secret ∷ []) (replicate 16 0x40)) 0 → ⊥
   pub fails_two : BeginsAlike (plan_of (member_with both_secrets ∷ []) old_secret) 0 → ⊥
   pub fails_unknown : BeginsAlike (record change_plan { tables = able_table (small_account ∷ []) ∷ [] }) 0 → ⊥
   pub fails_named : BeginsAlike (plan_of (able_member old_secret ∷ record (able_member old_secret) { computer = codes "file1" } ∷ []) old_secret) 0 → ⊥
-  -- what a stranger did: his call that passed and sets a secret counts, with whatever status; his logon or logoff that
-  -- passed, of either kind, his call that was barred, and the member's own call don't
+  -- what a stranger did: his call that passed and sets a secret counts, with whatever status, before another call or
+  -- behind it; his logon or logoff that passed, of either kind, his call that was barred, that had no channel, or of
+  -- which nothing was told, and the member's own call don't
   pub stranger : has_foreign_set (set_outside ∷ []) ≡ true
   pub stranger_earlier : has_foreign_set (set_passed ∷ set_outside ∷ []) ≡ true
+  pub stranger_later : has_foreign_set (set_outside ∷ set_passed ∷ []) ≡ true
   pub stranger_status : has_foreign_set (judged_as (judged.Passed 1) set_outside ∷ []) ≡ true
   pub own : has_foreign_set (set_passed ∷ []) ≡ false
   pub barred : has_foreign_set (judged_as judged.Barred set_outside ∷ []) ≡ false
+  pub no_channel : has_foreign_set (judged_as judged.NoChannel set_outside ∷ []) ≡ false
+  pub untold : has_foreign_set (record set_outside { how = None } ∷ []) ≡ false
   pub logon : has_foreign_set (from_outside (on_channel 0) ∷ []) ≡ false
   pub interactive : has_foreign_set (from_outside (hash_call small_hash) ∷ []) ≡ false
   pub logoff : has_foreign_set (from_outside (logoff_call ann_session) ∷ []) ≡ false

@@ -86,6 +86,7 @@ beside_plan = record {
   members = able_member machine_secret ∷ record (able_member machine_secret) { controller = 1 ∷ [] } ∷ [];
   clients = record (able_client small_hash) { server = 2 ∷ [] } ∷ lost_client ∷ [];
   hands_on = false;
+  seals = false;
   now = 0;
   seed = ann_plan.seed;
 }

@@ -2,6 +2,7 @@
 pub mod AloneFrameLaws
 pub mod AloneNoteLaws
 pub mod AloneStepLaws
+pub mod AnyStepLaws
 pub mod BagFrameLaws
 pub mod BagStepLaws
 pub mod BookFrameLaws
@@ -16,6 +17,7 @@ pub mod GivenLaws
 pub mod MemberFrameLaws
 pub mod MoveFrameLaws
 pub mod MoveKeepLaws
+pub mod PlainFrameLaws
 pub mod StepFrameLaws
 pub mod TrustingFrameLaws
 pub mod TurnFrameLaws

@@ -3,9 +3,10 @@
 use Rattle.std.proofs.Common.{List, inl, inr, refl}
 use Rattle.world_moves.specs.declared.moves.Move.{Move}
 use Rattle.world_moves.specs.declared.plan.Plan.{Plan}
-use Rattle.world_moves.specs.Alone.{HandsNothingOn}
+use Rattle.world_moves.specs.Alone.{IsPlainAlone}
+use Rattle.world_moves.specs.Plain.{NothingSeals}
 use Rattle.world_moves.specs.Unforwarded.{IsJudgedAlone, alone_plan}
-use Rattle.world_moves.proofs.AloneLaws.{plain_plan}
+use Rattle.world_moves.proofs.AloneLaws.{alone_if}
 use Rattle.domain_world.specs.Headline.{Proved}
 use Rattle.domain_world.specs.Past.{past}
 use Rattle.domain_world.proofs.Apart.NeverApartLaws.{never_apart}
@@ -52,8 +53,8 @@ use Rattle.domain_world.proofs.Sequences.ReplyCallLaws.{replies_answer}
 use Rattle.domain_world.proofs.Sequences.SharedRunLaws.{sequences_shared}
 use Rattle.domain_world.proofs.Unforwarded.CarryLaws.{carries_over}
 
--- of a plan that hands nothing on
-proved_alone : (plan : Plan) (moves : List Move) → HandsNothingOn plan → IsProvedAlone plan moves
+-- of a plan that hands nothing on, and in which nothing seals
+proved_alone : (plan : Plan) (moves : List Move) → IsPlainAlone plan → IsProvedAlone plan moves
 proved_alone plan moves nobody = record {
   opened = replies_answer_openings plan moves nobody;
   opened_by = λ schedule calm. replies_to_openings plan moves nobody schedule calm;
@@ -68,9 +69,9 @@ proved_alone plan moves nobody = record {
   keys = λ schedule clear. runs_heard.keys plan moves nobody (units_heard plan moves nobody schedule) (draws_differ plan moves) clear;
   counts = λ schedule clear. runs_heard.counts plan moves nobody (units_heard plan moves nobody schedule) (draws_differ plan moves) clear;
   once = λ schedule clear.
-      short_let_in (past plan moves) (messages_apart plan moves)
+      short_let_in (past plan moves) (messages_apart plan moves nobody.plain)
       (runs_heard.only plan moves nobody (units_heard plan moves nobody schedule) (draws_differ plan moves) clear)
-      (short_responses plan moves (draws_differ plan moves) (draws_are_blocks plan moves));
+      (short_responses plan moves nobody.plain (draws_differ plan moves) (draws_are_blocks plan moves));
   one_turn = one_turn plan moves nobody;
   own = sequences_own plan moves nobody;
   sequences = λ schedule clear. sequences_shared plan moves nobody schedule clear;
@@ -86,60 +87,62 @@ proved_alone plan moves nobody = record {
   never_apart = λ schedule clear. never_apart plan moves nobody schedule clear;
 }
 
--- of each run in which calls are judged by the controllers that hear them
-judged_alone : (plan : Plan) (moves : List Move) → IsJudgedAlone plan moves → IsProvedAlone plan moves
-judged_alone plan moves (inl nobody) = proved_alone plan moves nobody
-judged_alone plan moves (inr is) = carries_over plan moves is (proved_alone (alone_plan plan) moves (plain_plan (alone_plan plan) refl))
+-- of each run in which nothing seals, and calls are judged by the controllers that hear them
+judged_alone : (plan : Plan) (moves : List Move) → NothingSeals plan → IsJudgedAlone plan moves → IsProvedAlone plan moves
+judged_alone plan moves nothing (inl nobody) = proved_alone plan moves (record { plain = nothing; alone = nobody })
+judged_alone plan moves nothing (inr is) =
+    carries_over plan moves nothing is
+    (proved_alone (alone_plan plan) moves (alone_if (alone_plan plan) (record { controllers = nothing.controllers; members = nothing.members }) refl))
 
 pub all_proved : (plan : Plan) (moves : List Move) → Proved plan moves
 all_proved plan moves = record {
-  challenges = record { draws = draws_differ plan moves; messages = messages_once plan moves };
-  messages = messages_own plan moves (draws_differ plan moves);
-  responses = short_responses plan moves (draws_differ plan moves) (draws_are_blocks plan moves);
-  apart = messages_apart plan moves;
-  openings = openings_in_order plan moves;
-  opened = λ alone. (judged_alone plan moves alone).opened;
-  opened_by = λ alone. (judged_alone plan moves alone).opened_by;
-  numbers = λ alone. (judged_alone plan moves alone).numbers;
-  credentials = passes_the_next plan moves;
-  alone = λ alone. (judged_alone plan moves alone).alone;
-  replays = replays_by_sum plan moves;
-  unclashed = passes_unclashed plan moves;
-  grants = grants_who_may plan moves (users_stay plan moves);
-  let_on = grants_by_hash plan moves;
-  statuses = λ alone. (judged_alone plan moves alone).statuses;
-  tables = tables_follow plan moves;
-  sessions = sessions_follow plan moves;
-  replies = λ alone. (judged_alone plan moves alone).replies;
-  answered = λ alone. (judged_alone plan moves alone).answered;
-  kept = members_ask plan moves;
-  asked = members_ask_for_messages plan moves;
-  sends = sends_ask_for_messages plan moves;
-  let_in = lets_in_who_asked plan moves;
-  written = members_written_down plan moves;
-  names = λ alone. (judged_alone plan moves alone).names;
-  as_sent = messages_taken plan moves;
-  made = messages_of_clients plan moves;
-  clients = clients_written plan moves;
-  as_made = messages_made plan moves;
-  only = λ alone. (judged_alone plan moves alone).only;
-  all = λ alone. (judged_alone plan moves alone).all;
-  keys = λ alone. (judged_alone plan moves alone).keys;
-  counts = λ alone. (judged_alone plan moves alone).counts;
-  once = λ alone. (judged_alone plan moves alone).once;
-  one_turn = λ alone. (judged_alone plan moves alone).one_turn;
-  own = λ alone. (judged_alone plan moves alone).own;
-  sequences = λ alone. (judged_alone plan moves alone).sequences;
-  called = λ alone. (judged_alone plan moves alone).called;
+  challenges = λ nothing. record { draws = draws_differ plan moves; messages = messages_once plan moves nothing };
+  messages = λ nothing. messages_own plan moves nothing (draws_differ plan moves);
+  responses = λ nothing. short_responses plan moves nothing (draws_differ plan moves) (draws_are_blocks plan moves);
+  apart = λ nothing. messages_apart plan moves nothing;
+  openings = λ nothing. openings_in_order plan moves nothing;
+  opened = λ nothing alone. (judged_alone plan moves nothing alone).opened;
+  opened_by = λ nothing alone. (judged_alone plan moves nothing alone).opened_by;
+  numbers = λ nothing alone. (judged_alone plan moves nothing alone).numbers;
+  credentials = λ nothing. passes_the_next plan moves nothing;
+  alone = λ nothing alone. (judged_alone plan moves nothing alone).alone;
+  replays = λ nothing. replays_by_sum plan moves nothing;
+  unclashed = λ nothing. passes_unclashed plan moves;
+  grants = λ nothing. grants_who_may plan moves nothing (users_stay plan moves nothing);
+  let_on = λ nothing. grants_by_hash plan moves nothing;
+  statuses = λ nothing alone. (judged_alone plan moves nothing alone).statuses;
+  tables = λ nothing. tables_follow plan moves nothing;
+  sessions = λ nothing. sessions_follow plan moves nothing;
+  replies = λ nothing alone. (judged_alone plan moves nothing alone).replies;
+  answered = λ nothing alone. (judged_alone plan moves nothing alone).answered;
+  kept = λ nothing. members_ask plan moves nothing;
+  asked = λ nothing. members_ask_for_messages plan moves nothing;
+  sends = λ nothing. sends_ask_for_messages plan moves nothing;
+  let_in = λ nothing. lets_in_who_asked plan moves nothing;
+  written = λ nothing. members_written_down plan moves nothing;
+  names = λ nothing alone. (judged_alone plan moves nothing alone).names;
+  as_sent = λ nothing. messages_taken plan moves nothing;
+  made = λ nothing. messages_of_clients plan moves nothing;
+  clients = λ nothing. clients_written plan moves nothing;
+  as_made = λ nothing. messages_made plan moves nothing;
+  only = λ nothing alone. (judged_alone plan moves nothing alone).only;
+  all = λ nothing alone. (judged_alone plan moves nothing alone).all;
+  keys = λ nothing alone. (judged_alone plan moves nothing alone).keys;
+  counts = λ nothing alone. (judged_alone plan moves nothing alone).counts;
+  once = λ nothing alone. (judged_alone plan moves nothing alone).once;
+  one_turn = λ nothing alone. (judged_alone plan moves nothing alone).one_turn;
+  own = λ nothing alone. (judged_alone plan moves nothing alone).own;
+  sequences = λ nothing alone. (judged_alone plan moves nothing alone).sequences;
+  called = λ nothing alone. (judged_alone plan moves nothing alone).called;
   marked = each_marked plan moves;
-  ways = marks_have_their_way plan moves;
-  whole = λ alone. (judged_alone plan moves alone).whole;
-  have_calls = λ alone. (judged_alone plan moves alone).have_calls;
-  asks_for = λ alone. (judged_alone plan moves alone).asks_for;
-  call_marks = λ alone. (judged_alone plan moves alone).call_marks;
-  reply_marks = λ alone. (judged_alone plan moves alone).reply_marks;
-  opened_marks = λ alone. (judged_alone plan moves alone).opened_marks;
-  complete = λ alone. (judged_alone plan moves alone).complete;
-  one_by_one = λ alone. (judged_alone plan moves alone).one_by_one;
-  never_apart = λ alone. (judged_alone plan moves alone).never_apart;
+  ways = λ nothing. marks_have_their_way plan moves nothing;
+  whole = λ nothing alone. (judged_alone plan moves nothing alone).whole;
+  have_calls = λ nothing alone. (judged_alone plan moves nothing alone).have_calls;
+  asks_for = λ nothing alone. (judged_alone plan moves nothing alone).asks_for;
+  call_marks = λ nothing alone. (judged_alone plan moves nothing alone).call_marks;
+  reply_marks = λ nothing alone. (judged_alone plan moves nothing alone).reply_marks;
+  opened_marks = λ nothing alone. (judged_alone plan moves nothing alone).opened_marks;
+  complete = λ nothing alone. (judged_alone plan moves nothing alone).complete;
+  one_by_one = λ nothing alone. (judged_alone plan moves nothing alone).one_by_one;
+  never_apart = λ nothing alone. (judged_alone plan moves nothing alone).never_apart;
 }

@@ -2,9 +2,9 @@
 use Rattle.std.specs.Prelude.{List}
 use Rattle.world_moves.specs.declared.moves.Move.{Move}
 use Rattle.world_moves.specs.declared.plan.Plan.{Plan}
-use Rattle.world_moves.specs.Alone.{HandsNothingOn}
+use Rattle.world_moves.specs.Alone.{IsPlainAlone}
 use Rattle.world_moves.specs.Forms.{IsSchedule}
 
--- a fact of every schedule of a plan that hands nothing on
+-- a fact of every schedule of a plan that hands nothing on, and in which nothing seals
 abbrev pub OfSchedules : (Plan → List Move → Type 0) → Type 0
-OfSchedules Holds = (plan : Plan) (moves : List Move) → HandsNothingOn plan → IsSchedule plan moves → Holds plan moves
+OfSchedules Holds = (plan : Plan) (moves : List Move) → IsPlainAlone plan → IsSchedule plan moves → Holds plan moves

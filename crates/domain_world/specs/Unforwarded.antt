@@ -3,6 +3,7 @@ use Rattle.std.specs.Prelude.{◌≡◌, false, List}
 use Rattle.world_moves.specs.declared.moves.Move.{Move}
 use Rattle.world_moves.specs.declared.plan.Plan.{Plan}
 use Rattle.world_moves.specs.Forms.{IsSchedule}
+use Rattle.world_moves.specs.Plain.{NothingSeals}
 use Rattle.world_moves.specs.Unforwarded.{IsUnforwarded, alone_plan}
 use Rattle.domain_world.specs.Accepting.Answered.{CallsAskForMessages}
 use Rattle.domain_world.specs.Accepting.Carried.{MarkedUnitsAreWhole}
@@ -21,12 +22,14 @@ use Rattle.domain_world.specs.Claims.Statuses.{StatusesAreTold}
 use Rattle.domain_world.specs.Claims.{AcceptsAllGranted, AcceptsOnlyGranted, IsClear, KeysAgree, ShortResponsesLetInOnce, TellsOfCallsAlone}
 use Rattle.domain_world.specs.Past.{past}
 
--- What is written down of such a run is what is written down of the run of the plan whose controllers ask nobody.
+-- What is written down of such a run of a plan in which nothing seals is what is written down of the run of the plan
+-- whose controllers ask nobody.
 abbrev pub BooksAlone : Type 0
-BooksAlone = (plan : Plan) (moves : List Move) → IsUnforwarded plan moves → (past (alone_plan plan) moves).book ≡ (past plan moves).book
+BooksAlone = (plan : Plan) (moves : List Move) → NothingSeals plan → IsUnforwarded plan moves →
+    (past (alone_plan plan) moves).book ≡ (past plan moves).book
 
--- What is proved of runs in which each call is judged by the controller that hears it. The rest of what is proved is of
--- every run (`Proved`).
+-- What is proved of runs in which nothing seals, and each call is judged by the controller that hears it. The rest of
+-- what is proved of runs in which nothing seals is of each of them (`Proved`).
 pub record IsProvedAlone (plan : Plan) (moves : List Move) : Type 0 where
   pub opened : RepliesAnswerOpenings (past plan moves)
   pub opened_by : IsSchedule plan moves → (past plan moves).book.clash ≡ false → RepliesAreToOpenings (past plan moves)
@@ -55,7 +58,7 @@ pub record IsProvedAlone (plan : Plan) (moves : List Move) : Type 0 where
   pub one_by_one : NoneClashes (past plan moves) moves
   pub never_apart : IsSchedule plan moves → IsClear (past plan moves).book → MembersAreNeverApart (past plan moves)
 
--- It holds of a run in which no call comes for a trusted domain, where it holds of the run of the plan whose
--- controllers ask nobody.
+-- It holds of a run in which nothing seals and no call comes for a trusted domain, where it holds of the run of the
+-- plan whose controllers ask nobody.
 abbrev pub CarriesOver : Type 0
-CarriesOver = (plan : Plan) (moves : List Move) → IsUnforwarded plan moves → IsProvedAlone (alone_plan plan) moves → IsProvedAlone plan moves
+CarriesOver = (plan : Plan) (moves : List Move) → NothingSeals plan → IsUnforwarded plan moves → IsProvedAlone (alone_plan plan) moves → IsProvedAlone plan moves

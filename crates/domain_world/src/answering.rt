@@ -1,12 +1,13 @@
-//! What a run's answers rest on. What looks at controllers is said of plans that hand nothing on.
+//! What a run's answers rest on, where nothing seals. What looks at controllers is said of plans that hand nothing on.
 
 ghost use Rattle.std.specs.Prelude.{List};
 ghost use Rattle.world_moves.specs.declared.moves.Move.{Move};
 ghost use Rattle.world_moves.specs.declared.plan.Plan.{Plan};
-ghost use Rattle.world_moves.specs.Alone.{HandsNothingOn};
+ghost use Rattle.world_moves.specs.Alone.{IsPlainAlone};
 ghost use Rattle.world_moves.specs.Bag.{AreShortUnits, HaveBytes};
 ghost use Rattle.world_moves.specs.Draws.{DrawsAreBlocks, DrawsDiffer};
 ghost use Rattle.world_moves.specs.Forms.{IsSchedule};
+ghost use Rattle.world_moves.specs.Plain.{NothingSeals};
 ghost use Rattle.world_moves.specs.World.{first_world, run};
 ghost use Rattle.domain_world.specs.Accepting.Answered.{AnswersAreHeard, IsProved};
 ghost use Rattle.domain_world.specs.Accepting.Carried.{CarriedCallsAreHeard, JudgedAsCarried, MarkedUnitsAreWhole, MessagesAreCalled};
@@ -31,9 +32,10 @@ pub fn what_is_heard_is_accepted()
         KeysAgree past }
 {}
 
-/// In every run whose draws differ what is proved of runs holds.
+/// In every run whose draws differ, of a plan that hands nothing on and in which nothing seals, what is proved of runs
+/// holds.
 pub fn runs_are_proved()
-    ensures { (plan : Plan) (moves : List Move) → HandsNothingOn plan →
+    ensures { (plan : Plan) (moves : List Move) → IsPlainAlone plan →
         DrawsDiffer (past plan moves).world → IsProved (past plan moves) }
 {}
 
@@ -72,19 +74,20 @@ pub fn runs_begin()
     ensures { RunsBegin }
 {}
 
-/// In every schedule each AUTHENTICATE that a client made is the answer of its plan to the CHALLENGE that it read, and
-/// is read again as it was made.
+/// In every schedule in which nothing seals each AUTHENTICATE that a client made is the answer of its plan to the
+/// CHALLENGE that it read, and is read again as it was made.
 #[tactic(auto, using(crate::proofs::Messages::MessageMadeLaws::messages_made))]
 pub fn messages_are_made()
-    ensures { (plan : Plan) (moves : List Move) → IsSchedule plan moves →
+    ensures { (plan : Plan) (moves : List Move) → NothingSeals plan → IsSchedule plan moves →
         MessagesAreMade (past plan moves) }
 {}
 
-/// In every run a member keeps the AUTHENTICATE that it read, the challenge of the one CHALLENGE that it sent on the
-/// link, and the flags that both have.
+/// In every run in which nothing seals a member keeps the AUTHENTICATE that it read, the challenge of the one CHALLENGE
+/// that it sent on the link, and the flags that both have.
 #[tactic(auto, using(crate::proofs::Messages::MessageTakenLaws::messages_taken))]
 pub fn messages_are_taken_as_sent()
-    ensures { (plan : Plan) (moves : List Move) → MessagesAreTakenAsSent (past plan moves) }
+    ensures { (plan : Plan) (moves : List Move) → NothingSeals plan →
+        MessagesAreTakenAsSent (past plan moves) }
 {}
 
 /// After every schedule each unit of the bag has bytes, and no more than an end sends at once.

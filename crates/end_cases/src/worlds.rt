@@ -28,9 +28,10 @@ fn put_controller(alloc: Global, plan: &mut Plan, parts: &[&str]) -> anyhow::Res
     Ok(())
 }
 
-/// Puts the member of the parts `member COMPUTER DOMAIN SECRET CONTROLLER`.
+/// Puts the member of the parts `member COMPUTER DOMAIN SECRET CONTROLLER`, whose channel seals where `sealed` follows.
 fn put_member(alloc: Global, plan: &mut Plan, parts: &[&str]) -> anyhow::Result<()> {
-    let member = members::plan(alloc, parts)?;
+    let mut member = members::plan(alloc, parts)?;
+    member.sealed = word(parts, 5) == "sealed";
     plan.members.push(member)?;
     Ok(())
 }
@@ -42,8 +43,8 @@ fn put_client(alloc: Global, plan: &mut Plan, parts: &[&str]) -> anyhow::Result<
     Ok(())
 }
 
-/// Puts what these parts say of a plan, where they do: an end, the moment as `now MOMENT`, or `trusting`, that its
-/// controllers hand logons on.
+/// Puts what these parts say of a plan, where they do: an end, the moment as `now MOMENT`, `trusting`, that its
+/// controllers hand logons on, or `sealing`, that they can seal.
 fn put_parts(alloc: Global, plan: &mut Plan, parts: &[&str]) -> anyhow::Result<()> {
     match word(parts, 0) {
         "controller" => put_controller(alloc, plan, parts),
@@ -57,6 +58,10 @@ fn put_parts(alloc: Global, plan: &mut Plan, parts: &[&str]) -> anyhow::Result<(
             plan.hands_on = true;
             Ok(())
         }
+        "sealing" => {
+            plan.seals = true;
+            Ok(())
+        }
         _ => Ok(()),
     }
 }
@@ -67,7 +72,8 @@ fn put_word(alloc: Global, plan: &mut Plan, word: &str) -> anyhow::Result<()> {
     put_parts(alloc, plan, &parts)
 }
 
-/// A plan without ends, at the moment 0, of which the seed is 32 zeros. Its controllers hand nothing on.
+/// A plan without ends, at the moment 0, of which the seed is 32 zeros. Its controllers hand nothing on and seal
+/// nothing.
 fn empty_plan(alloc: Global) -> Plan {
     Plan {
         tables: Tables::new(alloc),
@@ -75,6 +81,7 @@ fn empty_plan(alloc: Global) -> Plan {
         members: MemberPlans::new(alloc),
         clients: ClientPlans::new(alloc),
         hands_on: false,
+        seals: false,
         now: 0,
         seed: [0; 32],
     }

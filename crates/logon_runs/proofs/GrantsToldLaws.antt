@@ -99,7 +99,7 @@ member_gives s v unit later after_state left actions shows first stepped =
     record {
       state = _;
       is = comes.given ∙ ap (λ (h : AfterHearing). (done (Member v.at_member) h).given)
-          (waiting_comes.member s1 v.at_member v.member after_state (event.Bytes unit.link unit.bytes) left actions shows.member
+          (waiting_comes.member s1 v.at_member v.member after_state (event.Bytes unit.link unit.bytes) left actions shows.member shows.plain
           (ap₂ (λ (now : ℕ) (l : List (List ℕ)). member_step_of v.member (event.Bytes unit.link unit.bytes) now l) shows.moment shows.left ∙ stepped
           ∙ ap (λ (l : List (List ℕ)). whole_step l left actions after_state) (sym shows.left)));
     }

@@ -1,6 +1,7 @@
 -- A world between two logons, and that a granted one leads from one to another.
 -- Of `logons_come_to_rest`.
-use Rattle.std.proofs.Common.{◌≡◌, ℕ, refl, sym, ap, subst, ◌∙◌, List, [], length, Option, None, Some, arith, inl, inr, slice_get}
+use Rattle.std.proofs.Common.{◌≡◌, ℕ, false, refl, sym, ap, subst, ◌∙◌, List, [], length, Option, None, Some, arith, inl, inr, slice_get}
+use Rattle.std.specs.List.{AllByRecursion}
 use Rattle.std.specs.Prelude.{IsSomeAnd, ◌⊎◌}
 use Rattle.std.proofs.lemmas.Option.{slice_get_within}
 use Rattle.authenticators.specs.SecureChannels.{SecureChannelState}
@@ -26,11 +27,14 @@ use Rattle.member_server.specs.declared.plan.MemberPlan.{MemberPlan}
 use Rattle.member_server.specs.Machine.{fresh_member}
 use Rattle.world_moves.specs.declared.plan.Plan.{Plan}
 use Rattle.world_moves.specs.declared.state.State.{State}
-use Rattle.world_moves.specs.Alone.{HandsNothingOn, TrustsNobody}
+use Rattle.world_moves.specs.Alone.{IsPlainAlone, TrustsNobody}
 use Rattle.world_moves.specs.Choosing.{chosen_place}
 use Rattle.world_moves.specs.Forms.{HasForms, IsMemberPlan, IsTable}
 use Rattle.world_moves.specs.Moving.{start}
-use Rattle.world_moves.specs.World.{IsPlan, first_world}
+use Rattle.world_moves.specs.Plain.{plain_world}
+use Rattle.world_moves.specs.World.{IsPlan, World, first_world}
+use Rattle.world_moves.proofs.AloneLaws.{trusts_nobody}
+use Rattle.world_moves.proofs.PlainLaws.{world_plain}
 use Rattle.world_moves.proofs.RangeLaws.{table_in_range}
 use Rattle.logon_steps.specs.Knowing.{StandsLater}
 use Rattle.logon_steps.proofs.KnowingLaws.{computers_are_known}
@@ -64,8 +68,8 @@ half_not_open one other o is = absurd cc
 
 -- ---- the first world
 
-first_so : (plan : Plan) → IsPlan plan → HasForms plan → HandsNothingOn plan → AtRest plan (first_world plan).state
-first_so plan is forms none = record {
+plain_so : (plan : Plan) → IsPlan plan → HasForms plan → AllByRecursion (TrustsNobody plan.hands_on) plan.tables → AtRest plan (plain_world plan).state
+plain_so plan is forms none = record {
   opened = refl;
   dials = refl;
   units = refl;
@@ -80,7 +84,7 @@ first_so plan is forms none = record {
         users = λ user account found kind. record { count = account.bad_count; found = found };
         ranged = table_in_range planned (item_has IsTable plan.tables at planned forms.tables is_table);
         computers = record { pending = []; channels = []; sessions = [] };
-        rests = got_controller plan.hands_on plan.tables plan.controllers at planned named.item is_table named.is
+        rests = got_controller plan.hands_on false plan.tables plan.controllers at planned named.item is_table named.is refl
             (got_all (TrustsNobody plan.hands_on) plan.tables at planned none is_table);
       };
   members = λ at member is_plan. record {
@@ -101,7 +105,7 @@ first_so plan is forms none = record {
           table = planned;
           name = named.item;
           computers = record { pending = []; channels = []; sessions = [] };
-          rests = got_controller plan.hands_on plan.tables plan.controllers controller planned named.item is_table named.is
+          rests = got_controller plan.hands_on false plan.tables plan.controllers controller planned named.item is_table named.is refl
               (got_all (TrustsNobody plan.hands_on) plan.tables controller planned none is_table);
           fits = is_own.secret planned is_table;
         };
@@ -112,6 +116,9 @@ first_so plan is forms none = record {
     how = inl refl;
   };
 }
+
+first_so : (plan : Plan) → IsPlan plan → HasForms plan → IsPlainAlone plan → AtRest plan (first_world plan).state
+first_so plan is forms alone = subst (λ (w : World). AtRest plan w.state) (sym (world_plain plan alone.plain)) (plain_so plan is forms (trusts_nobody plan alone))
 
 -- ---- a member with its own computer has its own name
 

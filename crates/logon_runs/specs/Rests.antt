@@ -30,7 +30,7 @@ use Rattle.member_server.specs.Machine.{caller_of}
 use Rattle.world_moves.specs.declared.links.EndId.TheVariants.{Controller, Member}
 use Rattle.world_moves.specs.declared.plan.Plan.{Plan}
 use Rattle.world_moves.specs.declared.state.State.{State}
-use Rattle.world_moves.specs.Alone.{HandsNothingOn}
+use Rattle.world_moves.specs.Alone.{IsPlainAlone}
 use Rattle.world_moves.specs.Choosing.{chosen_place}
 use Rattle.world_moves.specs.Forms.{HasForms}
 use Rattle.world_moves.specs.Moving.{act, end_of_peer, start}
@@ -234,7 +234,7 @@ three_of client member controller = record { client = client; member = member; c
 
 pub record LogonsComeToRest : Type 0 where
   -- the first world rests, where controllers hand nothing on
-  pub first : (plan : Plan) → IsPlan plan → HasForms plan → HandsNothingOn plan → AtRest plan (first_world plan).state
+  pub first : (plan : Plan) → IsPlan plan → HasForms plan → IsPlainAlone plan → AtRest plan (first_world plan).state
   -- a client that starts at rest is under way, by an account that is in its ranges, and by the user's where he has one
   pub comes : (plan : Plan) (s : State) (rest : AtRest plan s) (client member controller : ℕ) (can : CanCome plan client member controller) (account : Account) (number : ℕ) → IsPlan plan →
       HasForms plan → InRangeAccount account → chosen_place number (length s.ends.clients) ≡ Some client → HasCome plan s rest client member controller can account number

@@ -113,7 +113,8 @@ pub drill_proved : {V E : Type 0} (number count : ℕ) (moves : List Move) (plan
     IsSchedule plan moves → Proved plan moves → OnOk result (IsProvedDrill number count)
 drill_proved number count moves plan (Ok lines) made planned schedule proved = record {
   schedule = subst (λ (p : Plan). IsSchedule p (moves_of count number)) planned (subst (IsSchedule plan) made schedule);
-  nobody = plain_plan drill_plan refl;
+  nobody = plain_plan drill_plan refl refl;
+  plain = record { controllers = refl; members = (refl, (refl, tt)) };
   proved = subst (λ (p : Plan). Proved p (moves_of count number)) planned (subst (Proved plan) made proved);
 }
 drill_proved number count moves plan (Err why) made planned schedule proved = tt

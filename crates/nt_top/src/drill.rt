@@ -105,6 +105,7 @@ fn drill_plan(alloc: Global) -> Result<Plan, NoMemory>
         members: drill_members(alloc)?,
         clients: drill_clients(alloc)?,
         hands_on: false,
+        seals: false,
         now: 125911584000000000,
         seed: [0; 32],
     })

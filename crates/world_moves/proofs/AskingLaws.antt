@@ -193,7 +193,7 @@ due_in w = (told_by w.actions + length w.logons.asked) + asks_on w.links
 abbrev pub Due : ℕ → WorkFact
 Due most how w left = due_in w ≤ most
 
-tells_due : (most : ℕ) (w : Work) (what : Action) → tells_one what ≡ 0 → due_in w ≤ most → due_in (tell_at w what) ≤ most
+pub tells_due : (most : ℕ) (w : Work) (what : Action) → tells_one what ≡ 0 → due_in w ≤ most → due_in (tell_at w what) ≤ most
 tells_due most w what none few = omega (arith, none, few, told_more w.actions what)
 
 kept_due : (most : ℕ) (said : Option Talk) (rest : List ℕ) (number : ℕ) (at : AtLink) (w : Work) → due_at at + due_on said + asks_on w.links ≤ most →
@@ -216,13 +216,13 @@ ended_due most place how w after (Reaches logon link bound held kept there is) f
     omega (arith, few, out_one place w.logons.asked logon kept, told_more w.actions (action.Told logon.link (outcome_of how logon)), ask_out logon.link w.links) in
     kept_due most served.1 link.rest logon.link served.0 alone (omega (arith, told, held_adds held at talk, ended_none how logon bound))
 
-end_due : (most place : ℕ) (how : Ending) (w : Work) → due_in w ≤ most → due_in (end_logon place how w) ≤ most
+pub end_due : (most place : ℕ) (how : Ending) (w : Work) → due_in w ≤ most → due_in (end_logon place how w) ≤ most
 end_due most place how w few = ended_due most place how w (end_logon place how w) (end_view place how w) few
 
 -- ---- the turn
 
 -- a text that is kept tells nothing
-text_due : (most : ℕ) (how : TurnEnd) (w : Work) → due_in w ≤ most → due_in (keep_ended how w) ≤ most
+pub text_due : (most : ℕ) (how : TurnEnd) (w : Work) → due_in w ≤ most → due_in (keep_ended how w) ≤ most
 text_due most how w few =
     let secrets : SecretsState = secrets_after how w.logons.plan.secrets in
     text_kept (changes_text how w.logons.plan.secrets) secrets w.actions
@@ -285,7 +285,7 @@ more_due : (most : ℕ) (part : Result (Part DialWork) StepRefused) → PartHold
 more_due most (Err why) few = tt
 more_due most (Ok part) few = omega (arith, few)
 
-event_due : (most : ℕ) (what : Event) (how : Dialling) (w : Work) (left : List (List ℕ)) → due_in w ≤ most → PartHolds (Due (most + opens_at what)) (by_event what how w left)
+pub event_due : (most : ℕ) (what : Event) (how : Dialling) (w : Work) (left : List (List ℕ)) → due_in w ≤ most → PartHolds (Due (most + opens_at what)) (by_event what how w left)
 event_due most (event.Opened link) how w left few =
     let closed : DialWork = close_link how link w in
     opens_due most (nat_le 256 (length closed.0.links)) link closed.0 (event_keeps (Due most) (Due most) (event.Closed link) (event_frame most (event.Closed link) refl) how w left few)

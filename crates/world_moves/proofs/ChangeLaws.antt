@@ -11,8 +11,6 @@ use Rattle.member_server.specs.Machine.{ChangesBy, change_by as change_running_b
 use Rattle.member_server.specs.declared.change.ChangeRefused.{ChangeRefused}
 use Rattle.member_server.specs.declared.change.ChangeRefused.TheVariants as change_refused
 use Rattle.member_server.specs.declared.state.Running.{Running}
-use Rattle.member_server.specs.SealStep.{sealing_in}
-use Rattle.member_server.proofs.SealLaws.{plain_members_stay}
 use Rattle.world_moves.specs.Ends.{EndStates, HasChanged, actions_begun, change_by, end_change, with_member}
 
 -- ---- the call
@@ -62,9 +60,6 @@ module _ (P : MemberState → List Action → Type 0) (secret : List ℕ) (m : M
 pub change_runs : (old new : MemberState) (secret : List ℕ) (actions : List Action) → member_is_stopped old ≡ false → HasChanged actions old secret new → member_is_stopped new ≡ false
 change_runs old new secret actions runs has =
     ap (λ (m : MemberState). member_is_stopped m) has.member ∙ member_by_change (λ (m : MemberState) (all : List Action). member_is_stopped m ≡ false) secret old runs (λ running is none. refl)
-
-pub change_plain : (old new : MemberState) (secret : List ℕ) (actions : List Action) → sealing_in old ≡ None → HasChanged actions old secret new → sealing_in new ≡ None
-change_plain old new secret actions plain has = ap sealing_in has.member ∙ plain_members_stay.changed old secret ∙ plain
 
 pub change_short : (old new : MemberState) (secret : List ℕ) (actions : List Action) → HasChanged actions old secret new → AreShortSends actions
 change_short old new secret actions has =

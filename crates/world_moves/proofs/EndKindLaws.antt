@@ -4,13 +4,13 @@
 use Rattle.std.proofs.Common.{◌≡◌, ℕ, Bool, true, false, List, Option, Some, None, slice_get, slice_set, refl, subst, sym, ap, ◌∙◌}
 use Rattle.outside.specs.Drawing.{Drawing}
 use Rattle.outside.specs.declared.event.Event.{Event}
+use Rattle.domain_controller.specs.SealStep.{seal_step_of as controller_step_of}
 use Rattle.domain_controller.specs.State.{State as ControllerState}
-use Rattle.domain_controller.specs.TrustStep.{trust_step_of as controller_step_of}
 use Rattle.logon_client.specs.State.{State as ClientState}
 use Rattle.logon_client.specs.Machine.{fresh_client, step_of as client_step_of}
 use Rattle.logon_client.specs.declared.plan.ClientPlan.{ClientPlan}
 use Rattle.member_server.specs.State.{State as MemberState}
-use Rattle.member_server.specs.Machine.{fresh_member, step_of as member_step_of}
+use Rattle.member_server.specs.SealStep.{any_step_of as member_step_of, sealing_member}
 use Rattle.member_server.specs.declared.plan.MemberPlan.{MemberPlan}
 use Rattle.world_moves.specs.declared.links.EndId.{EndId}
 use Rattle.world_moves.specs.declared.links.EndId.TheVariants.{Controller, Member, Client}
@@ -100,10 +100,10 @@ module _ (what : Event) (now : ℕ) (ends : EndStates) (chances : Drawing) where
 
 module _ (P : EndId → EndStates → Type 0) (s : State) (none : (end : EndId) → P end s.ends)
     (controllers : (at : ℕ) (c : ControllerState) → slice_get s.ends.controllers at ≡ Some c →
-    P (Controller at) (record s.ends { controllers = slice_set s.ends.controllers at (fresh_controller s.hands_on c.table c.name) }))
-    (members : (at : ℕ) (plan : MemberPlan) → slice_get s.member_plans at ≡ Some plan → P (Member at) (with_member at (fresh_member plan) s.ends))
+    P (Controller at) (record s.ends { controllers = slice_set s.ends.controllers at (fresh_controller s.hands_on s.seals c.table c.name) }))
+    (members : (at : ℕ) (plan : MemberPlan) → slice_get s.member_plans at ≡ Some plan → P (Member at) (with_member at (sealing_member plan) s.ends))
     (clients : (at : ℕ) (plan : ClientPlan) → slice_get s.client_plans at ≡ Some plan → P (Client at) (with_client at (fresh_client plan) s.ends)) where
-  controller_anew : (found : Option ControllerState) (at : ℕ) → slice_get s.ends.controllers at ≡ found → P (Controller at) (renew_controller s.hands_on found at s.ends)
+  controller_anew : (found : Option ControllerState) (at : ℕ) → slice_get s.ends.controllers at ≡ found → P (Controller at) (renew_controller s.hands_on s.seals found at s.ends)
   controller_anew None at is = none (Controller at)
   controller_anew (Some c) at is = controllers at c is
 

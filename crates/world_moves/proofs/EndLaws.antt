@@ -12,16 +12,16 @@ use Rattle.outside.specs.declared.action.StepRefused.{StepRefused}
 use Rattle.outside.specs.declared.action.StepRefused.TheVariants as refused
 use Rattle.outside.specs.declared.event.Event.{Event}
 use Rattle.account_table.specs.AccountTable.{AccountTable}
+use Rattle.domain_controller.specs.SealStep.{seal_step_of as controller_step_of}
 use Rattle.domain_controller.specs.State.{State as ControllerState}
 use Rattle.domain_controller.specs.Step.{is_stopped as controller_is_stopped}
-use Rattle.domain_controller.specs.TrustStep.{trust_step_of as controller_step_of}
 use Rattle.logon_client.specs.State.{State as ClientState}
 use Rattle.logon_client.specs.Machine.{step_of as client_step_of}
 use Rattle.member_server.specs.State.{State as MemberState}
-use Rattle.member_server.specs.Machine.{is_stopped as member_is_stopped, step_of as member_step_of}
-use Rattle.member_server.specs.SealStep.{SealsNothing, sealing_in}
+use Rattle.member_server.specs.Machine.{is_stopped as member_is_stopped}
+use Rattle.member_server.specs.SealStep.{any_step_of as member_step_of}
 use Rattle.world_moves.specs.Ends.{EndStates, client_done, client_step, controller_done, controller_step, drawn_on, end_done, fresh_controller, member_done, member_step, renew_controller}
-use Rattle.world_moves.specs.Running.{CanStep, CantSeal}
+use Rattle.world_moves.specs.Running.{CanStep}
 use Rattle.world_moves.specs.declared.links.EndId.TheVariants.{Controller, Member, Client}
 
 same_drawing : (one other : Drawing) → one.seed ≡ other.seed → one.boot ≡ other.boot → one.drawn ≡ other.drawn → one.left ≡ other.left → one ≡ other
@@ -82,46 +82,40 @@ put_back (first ∷ items) (suc at) item lt = ap (λ rest. first ∷ rest) (put_
 
 -- ---- a controller that is made anew
 
-abbrev pub Renews : Bool → List ControllerState → ℕ → List ControllerState → Type 0
-Renews hands_on controllers at after =
-    (old : ControllerState) → slice_get controllers at ≡ Some old → after ≡ slice_set controllers at (fresh_controller hands_on old.table old.name)
+abbrev pub Renews : (hands_on seals : Bool) → List ControllerState → ℕ → List ControllerState → Type 0
+Renews hands_on seals controllers at after =
+    (old : ControllerState) → slice_get controllers at ≡ Some old → after ≡ slice_set controllers at (fresh_controller hands_on seals old.table old.name)
 
-pub fresh_runs : (hands_on : Bool) (table : AccountTable) (name : List ℕ) → controller_is_stopped (fresh_controller hands_on table name) ≡ false
-fresh_runs false table name = refl
-fresh_runs true table name = refl
-
-pub fresh_unsealing : (hands_on : Bool) (table : AccountTable) (name : List ℕ) → CantSeal (fresh_controller hands_on table name)
-fresh_unsealing false table name = refl
-fresh_unsealing true table name = refl
+pub fresh_runs : (hands_on seals : Bool) (table : AccountTable) (name : List ℕ) → controller_is_stopped (fresh_controller hands_on seals table name) ≡ false
+fresh_runs hands_on true table name = refl
+fresh_runs false false table name = refl
+fresh_runs true false table name = refl
 
 abbrev AllRun : List ControllerState → Type 0
 AllRun controllers = All (λ (c : ControllerState). controller_is_stopped c ≡ false) controllers
 
 -- what is taken out, made anew and put back
-pub renews_at : (hands_on : Bool) (all rest after : List ControllerState) (at : ℕ) (taken new : ControllerState) (table : AccountTable) (name : List ℕ) → at < length all →
-    taken ≡ get_or all at taken → rest ≡ remove all at → table ≡ taken.table → name ≡ taken.name → new ≡ fresh_controller hands_on table name → after ≡ insert rest at new → Renews hands_on all at after
-renews_at hands_on all rest after at taken new table name lt read left its_table its_name is behind = λ old there.
+pub renews_at : (hands_on seals : Bool) (all rest after : List ControllerState) (at : ℕ) (taken new : ControllerState) (table : AccountTable) (name : List ℕ) → at < length all →
+    taken ≡ get_or all at taken → rest ≡ remove all at → table ≡ taken.table → name ≡ taken.name → new ≡ fresh_controller hands_on seals table name → after ≡ insert rest at new → Renews hands_on seals all at after
+renews_at hands_on seals all rest after at taken new table name lt read left its_table its_name is behind = λ old there.
     let same : taken ≡ old = read ∙ get_or_from_slice_get all at old taken there in
-    let made : new ≡ fresh_controller hands_on old.table old.name =
-    is ∙ ap (λ t. fresh_controller hands_on t name) its_table ∙ ap (λ n. fresh_controller hands_on taken.table n) its_name
-    ∙ ap (λ (s : ControllerState). fresh_controller hands_on s.table s.name) same in
+    let made : new ≡ fresh_controller hands_on seals old.table old.name =
+    is ∙ ap (λ t. fresh_controller hands_on seals t name) its_table ∙ ap (λ n. fresh_controller hands_on seals taken.table n) its_name
+    ∙ ap (λ (s : ControllerState). fresh_controller hands_on seals s.table s.name) same in
     behind ∙ ap (λ (left : List ControllerState). insert left at new) left ∙ put_back all at new lt ∙ ap (λ (s : ControllerState). slice_set all at s) made
 
-pub renewed_run : (hands_on gave_up : Bool) (controllers after : List ControllerState) (members : List MemberState) (clients : List ClientState) (at : ℕ) → at < length controllers →
-    Renews hands_on controllers at after → CanStep gave_up controllers members clients → CanStep gave_up after members clients
-renewed_run hands_on gave_up controllers after members clients at lt renews can = elim (slice_get_cases controllers at).1 [
-  | inl found ↦ (let new : ControllerState = fresh_controller hands_on found.0.table found.0.name in
+pub renewed_run : (hands_on seals gave_up : Bool) (controllers after : List ControllerState) (members : List MemberState) (clients : List ClientState) (at : ℕ) → at < length controllers →
+    Renews hands_on seals controllers at after → CanStep gave_up controllers members clients → CanStep gave_up after members clients
+renewed_run hands_on seals gave_up controllers after members clients at lt renews can = elim (slice_get_cases controllers at).1 [
+  | inl found ↦ (let new : ControllerState = fresh_controller hands_on seals found.0.table found.0.name in
       let is : after ≡ slice_set controllers at new = renews found.0 found.2 in
       let size : length after ≡ length controllers = ap length is ∙ length-set controllers at new in
       record {
         few = omega (arith, can.few, size);
         running = λ goes_on. record {
           each_controller = subst AllRun (sym is)
-              (All-set (λ (c : ControllerState). controller_is_stopped c ≡ false) controllers at new (fresh_runs hands_on found.0.table found.0.name) (can.running goes_on).each_controller);
-          each_unsealing = subst (λ (all : List ControllerState). All CantSeal all) (sym is)
-              (All-set CantSeal controllers at new (fresh_unsealing hands_on found.0.table found.0.name) (can.running goes_on).each_unsealing);
+              (All-set (λ (c : ControllerState). controller_is_stopped c ≡ false) controllers at new (fresh_runs hands_on seals found.0.table found.0.name) (can.running goes_on).each_controller);
           each_member = (can.running goes_on).each_member;
-          each_plain = (can.running goes_on).each_plain;
           each_client = (can.running goes_on).each_client;
           few = omega (arith, can.few, size);
         };
@@ -136,31 +130,27 @@ none_run gave_up controllers none members clients is can = record {
   few = omega (arith, can.few, ap length is);
   running = λ goes_on. record {
     each_controller = subst AllRun (sym is) (All-nil (λ (c : ControllerState). controller_is_stopped c ≡ false));
-    each_unsealing = subst (λ (all : List ControllerState). All CantSeal all) (sym is) (All-nil CantSeal);
     each_member = (can.running goes_on).each_member;
-    each_plain = (can.running goes_on).each_plain;
     each_client = (can.running goes_on).each_client;
     few = omega (arith, can.few, ap length is);
   };
 }
 
-pub renewed_is : (hands_on : Bool) (ends : EndStates) (after : List ControllerState) (at : ℕ) → at < length ends.controllers → Renews hands_on ends.controllers at after →
-    record ends { controllers = after } ≡ renew_controller hands_on (slice_get ends.controllers at) at ends
-renewed_is hands_on ends after at lt renews = elim (slice_get_cases ends.controllers at).1 [
-  | inl found ↦ ap (λ (all : List ControllerState). record ends { controllers = all }) (renews found.0 found.2) ∙ sym (ap (λ o. renew_controller hands_on o at ends) found.2)
+pub renewed_is : (hands_on seals : Bool) (ends : EndStates) (after : List ControllerState) (at : ℕ) → at < length ends.controllers → Renews hands_on seals ends.controllers at after →
+    record ends { controllers = after } ≡ renew_controller hands_on seals (slice_get ends.controllers at) at ends
+renewed_is hands_on seals ends after at lt renews = elim (slice_get_cases ends.controllers at).1 [
+  | inl found ↦ ap (λ (all : List ControllerState). record ends { controllers = all }) (renews found.0 found.2) ∙ sym (ap (λ o. renew_controller hands_on seals o at ends) found.2)
   | inr none ↦ absurd (omega arith)
 ]
 
--- a member that runs and seals nothing is put in a place
+-- a member that runs is put in a place
 pub member_put : (gave_up : Bool) (controllers : List ControllerState) (members : List MemberState) (clients : List ClientState) (at : ℕ) (member put : MemberState) → put ≡ member →
-    member_is_stopped member ≡ false → SealsNothing member → CanStep gave_up controllers members clients → CanStep gave_up controllers (slice_set members at put) clients
-member_put gave_up controllers members clients at member put is runs plain can = record {
+    member_is_stopped member ≡ false → CanStep gave_up controllers members clients → CanStep gave_up controllers (slice_set members at put) clients
+member_put gave_up controllers members clients at member put is runs can = record {
   few = omega (arith, can.few, length-set members at put);
   running = λ goes_on. record {
     each_controller = (can.running goes_on).each_controller;
-    each_unsealing = (can.running goes_on).each_unsealing;
     each_member = All-set (λ (m : MemberState). member_is_stopped m ≡ false) members at put (ap (λ (m : MemberState). member_is_stopped m) is ∙ runs) (can.running goes_on).each_member;
-    each_plain = All-set SealsNothing members at put (ap sealing_in is ∙ plain) (can.running goes_on).each_plain;
     each_client = (can.running goes_on).each_client;
     few = omega (arith, can.few, length-set members at put);
   };

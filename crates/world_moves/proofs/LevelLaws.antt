@@ -16,12 +16,12 @@ use Rattle.outside.specs.declared.event.Event.TheVariants as event
 use Rattle.end_links.specs.Bounds.{send_limit}
 use Rattle.account_table.specs.AccountTable.{AccountTable}
 use Rattle.domain_controller.specs.Laws.{is_passed}
+use Rattle.domain_controller.specs.SealStep.{seal_step_of as controller_step_of}
 use Rattle.domain_controller.specs.State.{State as ControllerState}
-use Rattle.domain_controller.specs.TrustStep.{trust_step_of as controller_step_of}
 use Rattle.logon_client.specs.State.{State as ClientState}
 use Rattle.logon_client.specs.Machine.{begin_of, fresh_client, step_of as client_step_of}
 use Rattle.logon_client.specs.declared.plan.ClientPlan.{ClientPlan}
-use Rattle.member_server.specs.Machine.{fresh_member, step_of as member_step_of}
+use Rattle.member_server.specs.SealStep.{any_step_of as member_step_of, sealing_member}
 use Rattle.member_server.specs.State.{State as MemberState}
 use Rattle.member_server.specs.declared.plan.MemberPlan.{MemberPlan}
 use Rattle.world_moves.specs.declared.bag.BagUnit.{BagUnit}
@@ -46,12 +46,12 @@ use Rattle.world_moves.specs.Links.{acceptor_of, handed_links, hearer_of, hearer
 use Rattle.world_moves.specs.Moving.{act, answer_by, answered_link, begun, change_at, changed, come_by, come_on_own, connect_by, connect_first, deliver_by, deliver_on, deliver_unit, end_of_peer, fail_first, hand_on, lose_by, onward_by, open_link, renewed, restart_at, restart_by, route_to, settle, shut_at, shut_by, start_at, start_by, stranger_at, stranger_by, with_link, without_first}
 use Rattle.world_moves.specs.Telling.{IsWithin, adds_at, bytes_left, bytes_of, counted_in, level_limit, level_of, opens_at, outcomes_left, outcomes_of, tells_one, told_by}
 use Rattle.world_moves.specs.World.{IsMove, World, actions_of_run, first_controllers, first_world, happens, move_limit, report_of, report_of_run, run, run_of}
-use Rattle.world_moves.proofs.AskingLaws.{member_tells}
+use Rattle.world_moves.proofs.SealAskingLaws.{member_tells}
 use Rattle.world_moves.proofs.BagLaws.{units_settle}
 use Rattle.world_moves.proofs.ChangeLaws.{by_change, member_begun}
 use Rattle.world_moves.proofs.CountLaws.{counts_are_of_actions}
 use Rattle.world_moves.proofs.MuteLaws.{client_tells}
-use Rattle.world_moves.proofs.TellingLaws.{controller_tells}
+use Rattle.world_moves.proofs.SealTellingLaws.{controller_tells}
 use Rattle.world_moves.proofs.EndKindLaws.{renew_by, step_by}
 
 -- ---- counts
@@ -119,9 +119,10 @@ bytes_anew (c ∷ controllers) zero new none = omega (arith, none)
 bytes_anew (c ∷ controllers) (suc at) new none = omega (arith, bytes_anew controllers at new none)
 
 -- one that was just made has no links
-fresh_bytes : (hands_on : Bool) (table : AccountTable) (name : List ℕ) → bytes_left (fresh_controller hands_on table name).running ≡ 0
-fresh_bytes false table name = refl
-fresh_bytes true table name = refl
+fresh_bytes : (hands_on seals : Bool) (table : AccountTable) (name : List ℕ) → bytes_left (fresh_controller hands_on seals table name).running ≡ 0
+fresh_bytes hands_on true table name = refl
+fresh_bytes false false table name = refl
+fresh_bytes true false table name = refl
 
 outcomes_put : (members : List MemberState) (at : ℕ) (old new : MemberState) → slice_get members at ≡ Some old →
     outcomes_of (slice_set members at new) + outcomes_left old.running ≤ outcomes_of members + outcomes_left new.running
@@ -321,8 +322,8 @@ module _ (most : ℕ) where
   unfolding level_of
   renewed_level end s few =
       renew_by (λ (one : EndId) (ends : EndStates). level_of s.counts ends ≤ most) s (λ one. few)
-      (λ at c is. omega (arith, few, bytes_anew s.ends.controllers at (fresh_controller s.hands_on c.table c.name) (fresh_bytes s.hands_on c.table c.name)))
-      (λ at plan is. omega (arith, few, outcomes_anew s.ends.members at (fresh_member plan) refl)) (λ at plan is. few) end
+      (λ at c is. omega (arith, few, bytes_anew s.ends.controllers at (fresh_controller s.hands_on s.seals c.table c.name) (fresh_bytes s.hands_on s.seals c.table c.name)))
+      (λ at plan is. omega (arith, few, outcomes_anew s.ends.members at (sealing_member plan) refl)) (λ at plan is. few) end
 
   changed_level : (at : ℕ) (secret : List ℕ) (s : State) → level s ≤ most → level (changed at secret s).state ≤ most
   unfolding level_of
@@ -397,18 +398,18 @@ told_kept old new what moves within is short made =
 
 -- ---- at first
 
-first_bytes : (hands_on : Bool) (tables : List AccountTable) (names : List (List ℕ)) → bytes_of (first_controllers hands_on tables names) ≡ 0
-first_bytes hands_on [] names = refl
-first_bytes hands_on (table ∷ tables) [] = refl
-first_bytes hands_on (table ∷ tables) (name ∷ names) = omega (arith, fresh_bytes hands_on table name, first_bytes hands_on tables names)
+first_bytes : (hands_on seals : Bool) (tables : List AccountTable) (names : List (List ℕ)) → bytes_of (first_controllers hands_on seals tables names) ≡ 0
+first_bytes hands_on seals [] names = refl
+first_bytes hands_on seals (table ∷ tables) [] = refl
+first_bytes hands_on seals (table ∷ tables) (name ∷ names) = omega (arith, fresh_bytes hands_on seals table name, first_bytes hands_on seals tables names)
 
-first_outcomes : (plans : List MemberPlan) → outcomes_of (map fresh_member plans) ≡ 0
+first_outcomes : (plans : List MemberPlan) → outcomes_of (map sealing_member plans) ≡ 0
 first_outcomes [] = refl
 first_outcomes (plan ∷ plans) = omega (arith, first_outcomes plans)
 
 pub first_within : (plan : Plan) → IsWithin (first_world plan).state 0
 unfolding IsWithin level_of
-first_within plan = omega (arith, first_bytes plan.hands_on plan.tables plan.controllers, first_outcomes plan.members)
+first_within plan = omega (arith, first_bytes plan.hands_on plan.seals plan.tables plan.controllers, first_outcomes plan.members)
 
 -- ---- counts that fit
 

@@ -16,9 +16,13 @@ pub mod MuteLaws
 pub mod OutcomeLaws
 pub mod OpenLaws
 pub mod PlaceLaws
+pub mod PlainKindLaws
+pub mod PlainLaws
 pub mod QuietLaws
 pub mod RangeLaws
 pub mod RunLaws
 pub mod RunningLaws
+pub mod SealAskingLaws
+pub mod SealTellingLaws
 pub mod StateFrameLaws
 pub mod TellingLaws

@@ -9,40 +9,31 @@ use Rattle.logon_client.specs.State.{State as ClientState}
 use Rattle.logon_client.specs.Machine.{fresh_client}
 use Rattle.logon_client.specs.declared.plan.ClientPlan.{ClientPlan}
 use Rattle.member_server.specs.State.{State as MemberState}
-use Rattle.member_server.specs.Machine.{fresh_member, is_stopped as member_is_stopped}
+use Rattle.member_server.specs.Machine.{is_stopped as member_is_stopped}
 use Rattle.member_server.specs.declared.plan.MemberPlan.{MemberPlan}
-use Rattle.member_server.specs.SealStep.{SealsNothing}
+use Rattle.member_server.specs.SealStep.{sealing_member}
 use Rattle.world_moves.specs.Ends.{fresh_controller}
-use Rattle.world_moves.specs.Running.{AreRunning, CantSeal}
+use Rattle.world_moves.specs.Running.{AreRunning}
 use Rattle.world_moves.specs.World.{first_controllers}
-use Rattle.world_moves.proofs.EndLaws.{fresh_runs, fresh_unsealing}
+use Rattle.world_moves.proofs.EndLaws.{fresh_runs}
 
 abbrev Runs : ControllerState → Type 0
 Runs c = controller_is_stopped c ≡ false
 
-controllers_run : (hands_on : Bool) (tables : List AccountTable) (names : List (List ℕ)) → All Runs (first_controllers hands_on tables names)
-controllers_run hands_on [] names = All-nil Runs
-controllers_run hands_on (table ∷ tables) [] = All-nil Runs
-controllers_run hands_on (table ∷ tables) (name ∷ names) =
-    All-cons Runs (fresh_controller hands_on table name) (first_controllers hands_on tables names) (fresh_runs hands_on table name) (controllers_run hands_on tables names)
+controllers_run : (hands_on seals : Bool) (tables : List AccountTable) (names : List (List ℕ)) → All Runs (first_controllers hands_on seals tables names)
+controllers_run hands_on seals [] names = All-nil Runs
+controllers_run hands_on seals (table ∷ tables) [] = All-nil Runs
+controllers_run hands_on seals (table ∷ tables) (name ∷ names) =
+    All-cons Runs (fresh_controller hands_on seals table name) (first_controllers hands_on seals tables names) (fresh_runs hands_on seals table name) (controllers_run hands_on seals tables names)
 
-controllers_unsealing : (hands_on : Bool) (tables : List AccountTable) (names : List (List ℕ)) → All CantSeal (first_controllers hands_on tables names)
-controllers_unsealing hands_on [] names = All-nil CantSeal
-controllers_unsealing hands_on (table ∷ tables) [] = All-nil CantSeal
-controllers_unsealing hands_on (table ∷ tables) (name ∷ names) =
-    All-cons CantSeal (fresh_controller hands_on table name) (first_controllers hands_on tables names) (fresh_unsealing hands_on table name) (controllers_unsealing hands_on tables names)
-
-members_run : (plans : List MemberPlan) → All (λ (m : MemberState). member_is_stopped m ≡ false) (map fresh_member plans)
-members_run plans = All-map (λ (m : MemberState). member_is_stopped m ≡ false) fresh_member plans (λ k d lt. refl)
-
-members_plain : (plans : List MemberPlan) → All SealsNothing (map fresh_member plans)
-members_plain plans = All-map SealsNothing fresh_member plans (λ k d lt. refl)
+members_run : (plans : List MemberPlan) → All (λ (m : MemberState). member_is_stopped m ≡ false) (map sealing_member plans)
+members_run plans = All-map (λ (m : MemberState). member_is_stopped m ≡ false) sealing_member plans (λ k d lt. refl)
 
 clients_run : (plans : List ClientPlan) → All (λ (c : ClientState). IsSome c.running) (map fresh_client plans)
 clients_run plans = All-map (λ (c : ClientState). IsSome c.running) fresh_client plans (λ k d lt. search rules)
 
-pub fresh_running : (hands_on : Bool) (tables : List AccountTable) (names : List (List ℕ)) (members : List MemberPlan) (clients : List ClientPlan) →
-    length (first_controllers hands_on tables names) + length (map fresh_member members) + length (map fresh_client clients) < 2 ^ 64 →
-    AreRunning (first_controllers hands_on tables names) (map fresh_member members) (map fresh_client clients)
-fresh_running hands_on tables names members clients few =
-    record { each_controller = controllers_run hands_on tables names; each_unsealing = controllers_unsealing hands_on tables names; each_member = members_run members; each_plain = members_plain members; each_client = clients_run clients; few = few }
+pub fresh_running : (hands_on seals : Bool) (tables : List AccountTable) (names : List (List ℕ)) (members : List MemberPlan) (clients : List ClientPlan) →
+    length (first_controllers hands_on seals tables names) + length (map sealing_member members) + length (map fresh_client clients) < 2 ^ 64 →
+    AreRunning (first_controllers hands_on seals tables names) (map sealing_member members) (map fresh_client clients)
+fresh_running hands_on seals tables names members clients few =
+    record { each_controller = controllers_run hands_on seals tables names; each_member = members_run members; each_client = clients_run clients; few = few }

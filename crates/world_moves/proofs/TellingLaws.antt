@@ -25,7 +25,7 @@ use Rattle.account_table.specs.AccountTable.{AccountTable}
 use Rattle.account_table.specs.declared.account.Trust.{Trust}
 use Rattle.end_links.specs.Links.{LinkState}
 use Rattle.end_links.specs.Sending.{joined_frames}
-use Rattle.end_links.specs.Serving.{ServedPart, Service, served_by, served_cut, then_open, then_talk}
+use Rattle.end_links.specs.Serving.{ServedPart, Server, Service, served_by, served_cut, then_open, then_talk, with_close}
 use Rattle.channel_client.specs.Machine.{take_of}
 use Rattle.channel_client.specs.State.{Requester}
 use Rattle.channel_turns.proofs.KeepLaws.{StaysOnTurns, taken_by, turn_stays}
@@ -90,7 +90,7 @@ Tells most (Err why) = Unit {0}
 Tells most (Ok part) = told_by part.value.0.work.actions ≤ most
 
 -- texts that are kept tell nothing
-kept_tells : (kept : List Action) → AllByRecursion IsKeep kept → told_by kept ≡ 0
+pub kept_tells : (kept : List Action) → AllByRecursion IsKeep kept → told_by kept ≡ 0
 kept_tells [] are = refl
 kept_tells (action.Keep text ∷ kept) are = omega (arith, kept_tells kept are.1)
 kept_tells (action.Send at more ∷ kept) are = absurd are.0
@@ -100,7 +100,7 @@ kept_tells (action.Told at outcome ∷ kept) are = absurd are.0
 kept_tells (action.Judged other ∷ kept) are = absurd are.0
 
 -- a judgement is one at most
-how_few : (how : Judged) → tells_judged how ≤ 1
+pub how_few : (how : Judged) → tells_judged how ≤ 1
 how_few (judged.Passed status) = omega arith
 how_few judged.Forwarded = omega arith
 how_few (judged.Answered status) = omega arith
@@ -132,23 +132,27 @@ heard_few what link name now d left =
 
 -- ---- a unit at a controller that may ask others
 
+-- at most so much was told, where the part is whole; of what stands there `count` says how much that is
+abbrev pub TellsBy : {D : Type 0} → (D → ℕ) → ℕ → ServedPart D Talk → Type 0
+TellsBy count most (Err why) = Unit {0}
+TellsBy count most (Ok part) = count part.value.0 ≤ most
+
 abbrev pub TrustTells : ℕ → ServedPart TrustDesk Talk → Type 0
-TrustTells most (Err why) = Unit {0}
-TrustTells most (Ok part) = told_by part.value.0.work.work.actions ≤ most
+TrustTells most part = TellsBy (λ (d : TrustDesk). told_by d.work.work.actions) most part
 
 beside_few : (most : ℕ) (queues : Queues) (part : ServedPart Desk Talk) → Tells most part → TrustTells most (beside queues part)
 beside_few most queues (Err why) few = tt
 beside_few most queues (Ok part) few = few
 
 -- whether it is handed on or answered here
-call_few : (c : JudgedCall) (line : Line) (before after : TrustDesk) → CallComes c line before after →
+pub call_few : (c : JudgedCall) (line : Line) (before after : TrustDesk) → CallComes c line before after →
     told_by after.work.work.actions ≤ told_by before.work.work.actions + 1
 call_few c line before after (ForwardedOn is so) = omega (arith, ap told_by so.actions, told_more before.work.work.actions (action.Judged judged.Forwarded))
 call_few c line before after (AnsweredHere so) =
     let last : List Action = action.Judged so.how ∷ action.Send line.link so.answer ∷ [] in
     omega (arith, ap told_by so.actions, told_append before.work.work.actions (so.kept ++ last), told_append so.kept last, kept_tells so.kept so.texts, how_few so.how)
 
-unit_few : (h : Heard) (link : ℕ) (name : List ℕ) (now : ℕ) (d : TrustDesk) (left : List (List ℕ)) →
+pub unit_few : (h : Heard) (link : ℕ) (name : List ℕ) (now : ℕ) (d : TrustDesk) (left : List (List ℕ)) →
     TrustTells (told_by d.work.work.actions + 1) (by_trust_heard h link name now d left)
 unit_few (heard.Close cause) link name now d left =
     beside_few _ d.work.queues (by_heard (heard.Close cause) link name now (base_desk d) left) (heard_few (heard.Close cause) link name now (base_desk d) left)
@@ -163,34 +167,46 @@ unit_few (heard.Asked line (call.Authenticate c) talk) link name now d left =
     beside_few _ d.work.queues (by_heard asked link name now (base_desk d) left) (heard_few asked link name now (base_desk d) left)
 unit_few (heard.Asked line (call.Judged c) talk) link name now d left = call_few c line d (answer_trust_call c name now line d) (call_comes c name now line d)
 
-tells_more : (most more : ℕ) (part : ServedPart TrustDesk Talk) → most ≤ more → TrustTells most part → TrustTells more part
-tells_more most more (Err why) le few = tt
-tells_more most more (Ok part) le few = omega (arith, le, few)
+-- ---- the units of a stream, at whoever serves them
 
-abbrev told_at : TrustDesk → ℕ
+module _ {D : Type 0} (count : D → ℕ) where
+  abbrev Tells_at : ℕ → ServedPart D Talk → Type 0
+  Tells_at most part = TellsBy count most part
+
+  tells_more : (most more : ℕ) (part : ServedPart D Talk) → most ≤ more → Tells_at most part → Tells_at more part
+  tells_more most more (Err why) le few = tt
+  tells_more most more (Ok part) le few = omega (arith, le, few)
+
+  talk_few : (most units : ℕ) (talk : Option Talk) (d : D) (left : List (List ℕ)) (later : Service D Talk) → count d ≤ most + 1 →
+      ((d : D) (talk : Talk) (left : List (List ℕ)) → Tells_at (count d + units) (later d talk left)) → Tells_at (most + (1 + units)) (then_talk d talk left later)
+  talk_few most units None d left later few each = omega (arith, few)
+  talk_few most units (Some talk) d left later few each =
+      tells_more (count d + units) (most + (1 + units)) (later d talk left) (omega (arith, few)) (each d talk left)
+
+  part_few : (most units : ℕ) (part : ServedPart D Talk) (later : Service D Talk) → Tells_at (most + 1) part →
+      ((d : D) (talk : Talk) (left : List (List ℕ)) → Tells_at (count d + units) (later d talk left)) → Tells_at (most + (1 + units)) (then_open part later)
+  part_few most units (Err why) later few each = tt
+  part_few most units (Ok part) later few each = talk_few most units part.value.1 part.value.0 part.left later few each
+
+  module _ (server : Server D Talk) (each_unit : (bytes : List ℕ) (d : D) (talk : Talk) (left : List (List ℕ)) → Tells_at (count d + 1) (server.unit bytes d talk left))
+      (each_refusal : (why : UnitRefused) (d : D) (talk : Talk) (left : List (List ℕ)) → Tells_at (count d) (with_close (server.refusal why d talk left))) where
+    pub stream_few : (units : List (List ℕ)) (why : Option UnitRefused) (d : D) (talk : Talk) (left : List (List ℕ)) → Tells_at (count d + length units) (served_by server units why d talk left)
+    stream_few [] None d talk left = omega arith
+    stream_few [] (Some why) d talk left = tells_more (count d) (count d + 0) (with_close (server.refusal why d talk left)) (omega arith) (each_refusal why d talk left)
+    stream_few (bytes ∷ units) why d talk left =
+        tells_more (count d + (1 + length units)) (count d + length (bytes ∷ units))
+        (then_open (server.unit bytes d talk left) (λ later said rest. served_by server units why later said rest)) (omega arith)
+        (part_few (count d) (length units) (server.unit bytes d talk left) (λ later said rest. served_by server units why later said rest)
+        (each_unit bytes d talk left) (λ later said rest. stream_few units why later said rest))
+
+abbrev pub told_at : TrustDesk → ℕ
 told_at d = told_by d.work.work.actions
 
-talk_few : (most count : ℕ) (talk : Option Talk) (d : TrustDesk) (left : List (List ℕ)) (later : Service TrustDesk Talk) → told_at d ≤ most + 1 →
-    ((d : TrustDesk) (talk : Talk) (left : List (List ℕ)) → TrustTells (told_at d + count) (later d talk left)) → TrustTells (most + (1 + count)) (then_talk d talk left later)
-talk_few most count None d left later few each = omega (arith, few)
-talk_few most count (Some talk) d left later few each = tells_more (told_at d + count) (most + (1 + count)) (later d talk left) (omega (arith, few)) (each d talk left)
-
-part_few : (most count : ℕ) (part : ServedPart TrustDesk Talk) (later : Service TrustDesk Talk) → TrustTells (most + 1) part →
-    ((d : TrustDesk) (talk : Talk) (left : List (List ℕ)) → TrustTells (told_at d + count) (later d talk left)) → TrustTells (most + (1 + count)) (then_open part later)
-part_few most count (Err why) later few each = tt
-part_few most count (Ok part) later few each = talk_few most count part.value.1 part.value.0 part.left later few each
-
--- the units of a stream
 units_few : (name : List ℕ) (now link : ℕ) (units : List (List ℕ)) (why : Option UnitRefused) (d : TrustDesk) (talk : Talk) (left : List (List ℕ)) →
     TrustTells (told_at d + length units) (served_by (trust_server name now link) units why d talk left)
-units_few name now link [] None d talk left = omega arith
-units_few name now link [] (Some why) d talk left = omega (arith, told_more d.work.work.actions (action.Close link close.BadUnit))
-units_few name now link (bytes ∷ units) why d talk left =
-    tells_more (told_at d + (1 + length units)) (told_at d + length (bytes ∷ units))
-    (then_open (by_trust_heard (hear link bytes talk) link name now d left) (λ later said rest. served_by (trust_server name now link) units why later said rest)) (omega arith)
-    (part_few (told_at d) (length units) (by_trust_heard (hear link bytes talk) link name now d left)
-    (λ later said rest. served_by (trust_server name now link) units why later said rest)
-    (unit_few (hear link bytes talk) link name now d left) (λ later said rest. units_few name now link units why later said rest))
+units_few name now link =
+    stream_few told_at (trust_server name now link) (λ bytes d talk left. unit_few (hear link bytes talk) link name now d left)
+    (λ why d talk left. omega (arith, told_more d.work.work.actions (action.Close link close.BadUnit)))
 
 -- ---- its links
 
@@ -202,7 +218,7 @@ rest_if true entry links rest found link there later =
 rest_if false entry links rest found link there later = omega (arith, later there)
 
 -- a link that is taken out has its rest
-rest_taken : (k : ℕ) (links : LinkMap) (link : LinkState Talk) → lookup same_number k links ≡ Some link → rests_on (take_out same_number k links) + length link.rest ≤ rests_on links
+pub rest_taken : (k : ℕ) (links : LinkMap) (link : LinkState Talk) → lookup same_number k links ≡ Some link → rests_on (take_out same_number k links) + length link.rest ≤ rests_on links
 rest_taken k [] link there = absurd cc
 rest_taken k (entry ∷ links) link there =
     rest_if (has_key same_number k entry) entry links (take_out same_number k links) (lookup same_number k links) link there (rest_taken k links link)
@@ -211,7 +227,7 @@ out_if : (hit : Bool) (entry : ℕ × LinkState Talk) (links rest : LinkMap) →
 out_if true entry links rest few = omega arith
 out_if false entry links rest few = omega (arith, few)
 
-rest_out : (k : ℕ) (links : LinkMap) → rests_on (take_out same_number k links) ≤ rests_on links
+pub rest_out : (k : ℕ) (links : LinkMap) → rests_on (take_out same_number k links) ≤ rests_on links
 rest_out k [] = omega arith
 rest_out k (entry ∷ links) = out_if (has_key same_number k entry) entry links (take_out same_number k links) (rest_out k links)
 
@@ -226,7 +242,7 @@ rest_put k link (entry ∷ links) = put_if (has_key same_number k entry) k link 
 
 -- ---- a turn that ended: that its logon was answered isn't counted
 
-abbrev told_in : TrustWork → ℕ
+abbrev pub told_in : TrustWork → ℕ
 told_in w = told_by w.work.actions
 
 reply_tells : (line : Option Line) (answer : Reply) (work : Work) → told_by (reply_if line answer work).actions ≡ told_by work.actions
@@ -256,19 +272,19 @@ ended_tells (Some ended) trust w = end_tells ended.how trust (close_ended ended.
 
 -- ---- what happens on the link of the turn tells nothing
 
-abbrev TellsNone : (Turning → Turned) → Type 0
+abbrev pub TellsNone : (Turning → Turned) → Type 0
 TellsNone happens = (turning : Turning) → told_by (happens turning).0.actions ≡ told_by turning.actions
 
-closes_if : (b : Bool) (turning : Turning) → told_by (close_if b turning).0.actions ≡ told_by turning.actions
+pub closes_if : (b : Bool) (turning : Turning) → told_by (close_if b turning).0.actions ≡ told_by turning.actions
 closes_if false turning = refl
 closes_if true turning = refl
 
-fails_by : (how : Dialling) (turning : Turning) → told_by (fail_by how turning).0.actions ≡ told_by turning.actions
+pub fails_by : (how : Dialling) (turning : Turning) → told_by (fail_by how turning).0.actions ≡ told_by turning.actions
 fails_by dialling.Nothing turning = refl
 fails_by (dialling.Waits turn frames) turning = refl
 fails_by (dialling.On number said) turning = refl
 
-answers_by : (how : Dialling) (link : ℕ) (turning : Turning) → told_by (answer_by how link turning).actions ≡ told_by turning.actions
+pub answers_by : (how : Dialling) (link : ℕ) (turning : Turning) → told_by (answer_by how link turning).actions ≡ told_by turning.actions
 answers_by dialling.Nothing link turning = refl
 answers_by (dialling.Waits turn frames) link turning = omega (arith, told_more turning.actions (action.Send link (joined_frames frames)))
 answers_by (dialling.On number said) link turning = refl
@@ -294,21 +310,21 @@ hears_if true number said piece turning =
     let at : TurnWork = record { link = number; channel = turning.channel; actions = turning.actions; ended = None } in
     turn_stays (ServedTells at) (turns_tell at) (cut_stream (said.rest ++ piece)) at said.talk refl
 
-hears_by : (how : Dialling) (link : ℕ) (piece : List ℕ) (turning : Turning) → told_by (hear_by how link piece turning).0.actions ≡ told_by turning.actions
+pub hears_by : (how : Dialling) (link : ℕ) (piece : List ℕ) (turning : Turning) → told_by (hear_by how link piece turning).0.actions ≡ told_by turning.actions
 hears_by dialling.Nothing link piece turning = refl
 hears_by (dialling.Waits turn frames) link piece turning = refl
 hears_by (dialling.On number said) link piece turning = hears_if _ number said piece turning
 
 -- ---- a controller at work: what was told, for 16 bytes each, and the rests
 
-abbrev level_in : Parts → ℕ
+abbrev pub level_in : Parts → ℕ
 level_in parts = 16 * told_in parts.work + rests_on parts.links
 
 abbrev AtMost : ℕ → TrustPart → Type 0
 AtMost most (Err why) = Unit {0}
 AtMost most (Ok part) = level_in part.value.parts ≤ most
 
-turn_level : (found : Option Requester) (happens : Turning → Turned) (parts : Parts) → TellsNone happens → level_in (turn_at found happens parts) ≤ level_in parts
+pub turn_level : (found : Option Requester) (happens : Turning → Turned) (parts : Parts) → TellsNone happens → level_in (turn_at found happens parts) ≤ level_in parts
 turn_level None happens parts none = omega arith
 turn_level (Some channel) happens parts none =
     let done : Turned = happens (turning_of channel parts) in
@@ -316,16 +332,16 @@ turn_level (Some channel) happens parts none =
 
 -- ---- an event
 
-closed_level : (b : Bool) (number : ℕ) (parts : Parts) → level_in (close_by b number parts) ≤ level_in parts
+pub closed_level : (b : Bool) (number : ℕ) (parts : Parts) → level_in (close_by b number parts) ≤ level_in parts
 closed_level false number parts = omega (arith, rest_out number parts.links)
 closed_level true number parts =
     turn_level (slice_get parts.work.queues.requesters parts.turn_of) (λ turning. link_closes number turning) parts (λ turning. closes_if (is_on number turning.dialling) turning)
 
-opened_level : (full : Bool) (number : ℕ) (parts : Parts) → level_in (open_by full number parts) ≤ level_in parts
+pub opened_level : (full : Bool) (number : ℕ) (parts : Parts) → level_in (open_by full number parts) ≤ level_in parts
 opened_level true number parts = omega (arith, told_more parts.work.work.actions (action.Close number close.TooManyLinks))
 opened_level false number parts = omega (arith, rest_put number (record { rest = []; talk = first_talk }) parts.links)
 
-dial_level : (waits : Bool) (number : ℕ) (parts : Parts) → level_in (answer_dial waits number parts) ≤ level_in parts
+pub dial_level : (waits : Bool) (number : ℕ) (parts : Parts) → level_in (answer_dial waits number parts) ≤ level_in parts
 dial_level false number parts = omega arith
 dial_level true number parts =
     omega (
@@ -335,11 +351,11 @@ dial_level true number parts =
           (λ turning. answers_by turning.dialling number turning),
     )
 
-failed_level : (waits : Bool) (parts : Parts) → level_in (fail_dial waits parts) ≤ level_in parts
+pub failed_level : (waits : Bool) (parts : Parts) → level_in (fail_dial waits parts) ≤ level_in parts
 failed_level false parts = omega arith
 failed_level true parts = turn_level _ (λ turning. no_dial turning) parts (λ turning. fails_by turning.dialling turning)
 
-put_level : (said : Option Talk) (rest : List ℕ) (number : ℕ) (parts : Parts) → level_in (put_open (link_with rest said) number parts) ≤ level_in parts + length rest
+pub put_level : (said : Option Talk) (rest : List ℕ) (number : ℕ) (parts : Parts) → level_in (put_open (link_with rest said) number parts) ≤ level_in parts + length rest
 put_level None rest number parts = omega arith
 put_level (Some talk) rest number parts = omega (arith, rest_put number (record { rest = rest; talk = talk }) parts.links)
 
@@ -391,7 +407,7 @@ event_level event.Stop name now table parts left = omega arith
 
 -- ---- the next turn tells nothing
 
-abbrev StartsNone : Parts → Result (Part Parts) StepRefused → Type 0
+abbrev pub StartsNone : Parts → Result (Part Parts) StepRefused → Type 0
 StartsNone before (Err why) = Unit {0}
 StartsNone before (Ok part) = level_in part.value ≡ level_in before
 
@@ -413,7 +429,7 @@ first_level : (first : Option ℕ) (trusts : List Trust) (now : ℕ) (parts : Pa
 first_level None trusts now parts left = refl
 first_level (Some trust) trusts now parts left = start_level _ _ trust now parts left
 
-next_level : (idle : Bool) (trusts : List Trust) (now : ℕ) (parts : Parts) (left : List (List ℕ)) → StartsNone parts (next_if idle trusts now parts left)
+pub next_level : (idle : Bool) (trusts : List Trust) (now : ℕ) (parts : Parts) (left : List (List ℕ)) → StartsNone parts (next_if idle trusts now parts left)
 next_level false trusts now parts left = refl
 next_level true trusts now parts left = first_level (first_waiting parts.work.queues.requesters) trusts now parts left
 

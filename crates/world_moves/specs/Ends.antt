@@ -7,14 +7,16 @@ use Rattle.outside.specs.declared.action.Action.{Action}
 use Rattle.outside.specs.declared.action.StepRefused.{StepRefused}
 use Rattle.outside.specs.declared.event.Event.{Event}
 use Rattle.account_table.specs.AccountTable.{AccountTable}
+use Rattle.domain_controller.specs.SealStep.{first_seal_state, seal_step_of as controller_step_of}
 use Rattle.domain_controller.specs.State.{State as ControllerState}
 use Rattle.domain_controller.specs.Step.{first_state}
-use Rattle.domain_controller.specs.TrustStep.{first_trust_state, trust_step_of as controller_step_of}
+use Rattle.domain_controller.specs.TrustStep.{first_trust_state}
 use Rattle.logon_client.specs.State.{State as ClientState}
 use Rattle.logon_client.specs.Machine.{fresh_client, step_of as client_step_of}
 use Rattle.logon_client.specs.declared.plan.ClientPlan.{ClientPlan}
 use Rattle.member_server.specs.State.{State as MemberState}
-use Rattle.member_server.specs.Machine.{Changing, change_of, fresh_member, step_of as member_step_of}
+use Rattle.member_server.specs.Machine.{Changing, change_of}
+use Rattle.member_server.specs.SealStep.{any_step_of as member_step_of, sealing_member}
 use Rattle.member_server.specs.declared.change.ChangeRefused.{ChangeRefused}
 use Rattle.member_server.specs.declared.plan.MemberPlan.{MemberPlan}
 use Rattle.world_moves.specs.declared.links.EndId.{EndId}
@@ -111,25 +113,26 @@ end_step (Client at) what now ends chances = client_step (slice_get ends.clients
 
 -- ---- ends that are made anew
 
--- a controller of that name over these accounts, which hands logons on to the controllers of trusted domains or asks
--- nobody
-abbrev pub fresh_controller : (hands_on : Bool) → AccountTable → List ℕ → ControllerState
-fresh_controller false table name = first_state table name
-fresh_controller true table name = first_trust_state table name
+-- a controller of that name over these accounts, which can seal or can't. One that can hands logons on to the
+-- controllers of trusted domains; one that can't does so or asks nobody
+abbrev pub fresh_controller : (hands_on seals : Bool) → AccountTable → List ℕ → ControllerState
+fresh_controller hands_on true table name = first_seal_state table name
+fresh_controller false false table name = first_state table name
+fresh_controller true false table name = first_trust_state table name
 
 -- a controller keeps its accounts as they stand, and its name
-abbrev pub renew_controller : (hands_on : Bool) → Option ControllerState → ℕ → EndStates → EndStates
-renew_controller hands_on None at ends = ends
-renew_controller hands_on (Some c) at ends =
-    record ends { controllers = slice_set ends.controllers at (fresh_controller hands_on c.table c.name) }
+abbrev pub renew_controller : (hands_on seals : Bool) → Option ControllerState → ℕ → EndStates → EndStates
+renew_controller hands_on seals None at ends = ends
+renew_controller hands_on seals (Some c) at ends =
+    record ends { controllers = slice_set ends.controllers at (fresh_controller hands_on seals c.table c.name) }
 
--- members and clients are made from their plans
+-- members and clients are made from their plans; a member's channel seals where its plan says so
 abbrev pub with_member : ℕ → MemberState → EndStates → EndStates
 with_member at member ends = record ends { members = slice_set ends.members at member }
 
 abbrev pub renew_member : Option MemberPlan → ℕ → EndStates → EndStates
 renew_member None at ends = ends
-renew_member (Some plan) at ends = with_member at (fresh_member plan) ends
+renew_member (Some plan) at ends = with_member at (sealing_member plan) ends
 
 abbrev pub with_client : ℕ → ClientState → EndStates → EndStates
 with_client at client ends = record ends { clients = slice_set ends.clients at client }

@@ -13,6 +13,7 @@ pub mod Links
 pub mod MemberPlans
 pub mod Moving
 pub mod Outcomes
+pub mod Plain
 pub mod Running
 pub mod Telling
 pub mod Unforwarded

@@ -196,7 +196,7 @@ shut number s = shut_at (chosen_place number (length s.open_links)) s
 -- ---- an end is made anew
 
 abbrev pub renew : EndId → State → EndStates
-renew (Controller at) s = renew_controller s.hands_on (slice_get s.ends.controllers at) at s.ends
+renew (Controller at) s = renew_controller s.hands_on s.seals (slice_get s.ends.controllers at) at s.ends
 renew (Member at) s = renew_member (slice_get s.member_plans at) at s.ends
 renew (Client at) s = renew_client (slice_get s.client_plans at) at s.ends
 

@@ -1,23 +1,14 @@
--- The ends of a world, none of which has stopped, and none of which seals.
-use Rattle.std.specs.Prelude.{◌≡◌, ◌+◌, ◌<◌, ◌^◌, Bool, false, List, length, All, IsSome, None}
+-- The ends of a world, none of which has stopped.
+use Rattle.std.specs.Prelude.{◌≡◌, ◌+◌, ◌<◌, ◌^◌, Bool, false, List, length, All, IsSome}
 use Rattle.domain_controller.specs.State.{State as ControllerState}
 use Rattle.domain_controller.specs.Step.{is_stopped as controller_is_stopped}
 use Rattle.logon_client.specs.State.{State as ClientState}
 use Rattle.member_server.specs.State.{State as MemberState}
 use Rattle.member_server.specs.Machine.{is_stopped as member_is_stopped}
-use Rattle.member_server.specs.SealStep.{SealsNothing}
-
--- a controller that can't seal
-abbrev pub CantSeal : ControllerState → Type 0
-CantSeal controller = controller.trusting.sealing ≡ None
 
 pub record AreRunning (controllers : List ControllerState) (members : List MemberState) (clients : List ClientState) : Type 0 where
   pub each_controller : All (λ controller. controller_is_stopped controller ≡ false) controllers
-  -- no controller can seal
-  pub each_unsealing : All CantSeal controllers
   pub each_member : All (λ member. member_is_stopped member ≡ false) members
-  -- no member's channel seals
-  pub each_plain : All SealsNothing members
   pub each_client : All (λ client. IsSome client.running) clients
   -- they can be numbered
   pub few : length controllers + length members + length clients < 2 ^ 64

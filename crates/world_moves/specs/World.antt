@@ -9,7 +9,7 @@ use Rattle.logon_client.specs.State.{State as ClientState}
 use Rattle.logon_client.specs.Machine.{fresh_client}
 use Rattle.logon_client.specs.Plans.{CanLogOn}
 use Rattle.logon_client.specs.declared.outcome.ClientOutcome.{ClientOutcome}
-use Rattle.member_server.specs.Machine.{fresh_member}
+use Rattle.member_server.specs.SealStep.{sealing_member}
 use Rattle.member_server.specs.declared.plan.MemberPlan.{MemberPlan}
 use Rattle.secret_change.specs.Secrets.{SecretsState}
 use Rattle.world_moves.specs.declared.counting.Counts.{Counts}
@@ -49,16 +49,16 @@ move_limit = 100000
 
 -- ---- at first
 
-abbrev pub first_controllers : (hands_on : Bool) → List AccountTable → List (List ℕ) → List ControllerState
-first_controllers hands_on [] names = []
-first_controllers hands_on (table ∷ tables) [] = []
-first_controllers hands_on (table ∷ tables) (name ∷ names) =
-    fresh_controller hands_on table name ∷ first_controllers hands_on tables names
+abbrev pub first_controllers : (hands_on seals : Bool) → List AccountTable → List (List ℕ) → List ControllerState
+first_controllers hands_on seals [] names = []
+first_controllers hands_on seals (table ∷ tables) [] = []
+first_controllers hands_on seals (table ∷ tables) (name ∷ names) =
+    fresh_controller hands_on seals table name ∷ first_controllers hands_on seals tables names
 
 abbrev pub first_ends : Plan → EndStates
 first_ends plan = record {
-  controllers = first_controllers plan.hands_on plan.tables plan.controllers;
-  members = map fresh_member plan.members;
+  controllers = first_controllers plan.hands_on plan.seals plan.tables plan.controllers;
+  members = map sealing_member plan.members;
   clients = map fresh_client plan.clients;
 }
 
@@ -69,6 +69,7 @@ first_world plan = record {
     member_plans = plan.members;
     client_plans = plan.clients;
     hands_on = plan.hands_on;
+    seals = plan.seals;
     links = [];
     open_links = [];
     bag = [];

@@ -3,7 +3,6 @@
 ghost use Rattle.std.specs.Prelude.{◌≡◌, ◌≢◌, ◌<◌, ◌≤◌, ◌+◌, [], false, Err, Some, None, IsSome, length, map, IfOk, OnOk, slice_get, slice_set, option_copied};
 ghost use Rattle.domain_controller.specs.State.{State as ControllerState};
 ghost use Rattle.member_server.specs.Machine.{is_stopped as member_is_stopped};
-ghost use Rattle.member_server.specs.SealStep.{sealing_in};
 ghost use Rattle.end_links.specs.Bounds.{AreShortSends};
 ghost use Rattle.world_moves.specs.Bounds.{draws_at};
 ghost use Rattle.world_moves.specs.Ends.{HasChanged, end_at, acceptors_in, count_of, end_change, end_done, end_step, controller_step, member_step, client_step, fresh_controller, renew_controller, with_member, with_client};
@@ -276,24 +275,25 @@ impl Ends {
         }
     }
 
-    /// The controller is made anew with its accounts as they stand, and its name, such that it hands logons on or asks
-    /// nobody. Want of memory drops the controllers.
+    /// The controller is made anew with its accounts as they stand, and its name, such that it can seal, hands logons
+    /// on or asks nobody. Want of memory drops the controllers.
     #[tactic(auto, using(crate::proofs::EndLaws::renewed_is, crate::proofs::EndLaws::none_run, crate::proofs::EndLaws::renewed_run))]
     pub(crate) fn renew_controller(
         &mut self,
         alloc: Global,
         hands_on: bool,
+        seals: bool,
         at: usize,
     ) -> Result<(), NoMemory>
         ensures ends { OnOk result (self.new
-            ≡ renew_controller hands_on (slice_get self.old.controllers at) at self.old) }
+            ≡ renew_controller hands_on seals (slice_get self.old.controllers at) at self.old) }
         ensures clients { self.new.clients ≡ self.old.clients }
     {
         if at >= self.controllers.len() {
             return Ok(());
         }
         let controllers = mem::replace(&mut self.controllers, Vec::new(alloc));
-        self.controllers = renew_at(alloc, hands_on, controllers, at)?;
+        self.controllers = renew_at(alloc, hands_on, seals, controllers, at)?;
         Ok(())
     }
 
@@ -319,8 +319,7 @@ impl Ends {
 
     /// This member is in the place of the one of that number, if there is one.
     pub(crate) fn put_member(&mut self, at: usize, member: Member)
-        requires running { member_is_stopped member ≡ false }
-        requires plain { sealing_in member ≡ None }
+        requires { member_is_stopped member ≡ false }
         ensures { self.new ≡ with_member at member self.old }
     {
         if at < self.members.len() {
@@ -342,14 +341,12 @@ impl Ends {
 }
 
 /// A member is told to change to the secret: its actions, of which there are none where it changes to another one
-/// already. It runs on and seals nothing, but for want of memory.
-#[tactic(auto, using(crate::proofs::ChangeLaws::changes_so, crate::proofs::ChangeLaws::change_runs, crate::proofs::ChangeLaws::change_plain, crate::proofs::ChangeLaws::change_short))]
+/// already. It runs on, but for want of memory.
+#[tactic(auto, using(crate::proofs::ChangeLaws::changes_so, crate::proofs::ChangeLaws::change_runs, crate::proofs::ChangeLaws::change_short))]
 fn change_member(alloc: Global, member: &mut Member, secret: [u8; 16]) -> Result<Actions, NoMemory>
-    requires running { member_is_stopped member.old ≡ false }
-    requires plain { sealing_in member.old ≡ None }
+    requires { member_is_stopped member.old ≡ false }
     ensures answer { IfOk result (λ actions. HasChanged actions member.old secret member.new) }
     ensures runs { OnOk result (member_is_stopped member.new ≡ false) }
-    ensures plain { OnOk result (sealing_in member.new ≡ None) }
     ensures short { IfOk result (λ actions. AreShortSends actions) }
 {
     match member.change(alloc, secret) {
@@ -363,6 +360,7 @@ fn change_member(alloc: Global, member: &mut Member, secret: [u8; 16]) -> Result
 fn renew_at(
     alloc: Global,
     hands_on: bool,
+    seals: bool,
     controllers: Vec<Controller>,
     at: usize,
 ) -> Result<Vec<Controller>, NoMemory>
@@ -370,25 +368,29 @@ fn renew_at(
     ensures { IfOk result (λ after. (old : ControllerState) →
         slice_get controllers.items at ≡ Some old →
         after.items ≡ slice_set controllers.items at
-        (fresh_controller hands_on old.table old.name)) }
+        (fresh_controller hands_on seals old.table old.name)) }
 {
     let mut controllers = controllers;
     let (table, name) = controllers.remove(at).into_parts();
-    controllers.insert(at, fresh_controller(alloc, hands_on, table, name)?)?;
+    controllers.insert(at, fresh_controller(alloc, hands_on, seals, table, name)?)?;
     Ok(controllers)
 }
 
-/// A controller of that name over these accounts, which hands logons on to the controllers of trusted domains or asks
-/// nobody.
+/// A controller of that name over these accounts, which can seal or can't. One that can hands logons on to the
+/// controllers of trusted domains; one that can't does so or asks nobody.
 pub(crate) fn fresh_controller(
     alloc: Global,
     hands_on: bool,
+    seals: bool,
     table: Table,
     name: Name,
 ) -> Result<Controller, NoMemory>
-    ensures { IfOk result (λ controller. controller ≡ fresh_controller hands_on table name) }
+    ensures { IfOk result
+        (λ controller. controller ≡ fresh_controller hands_on seals table name) }
 {
-    if hands_on {
+    if seals {
+        Controller::with_sealing(alloc, table, name)
+    } else if hands_on {
         Controller::with_trusts(alloc, table, name)
     } else {
         Controller::new(alloc, table, name)

@@ -20,7 +20,9 @@ mod state;
 mod world;
 
 pub use counting::Report;
-pub use laws::{a_run_ends_in_its_last_state, who_asks_nobody_hears_alone};
+pub use laws::{
+    a_run_ends_in_its_last_state, who_asks_nobody_hears_alone, who_seals_nothing_hears_plainly,
+};
 pub use moves::{Move, Moves, moves_from, moves_have_forms};
 pub use plan::{ClientPlans, MemberPlans, Plan, Tables};
 pub use world::{World, WorldRefused};

@@ -3,7 +3,7 @@
 ghost use Rattle.std.specs.Prelude.{◌≡◌, ◌+◌, ◌<◌, ◌^◌, true, map, length, All, IfOk};
 ghost use Rattle.logon_client.specs.Machine.{fresh_client};
 ghost use Rattle.logon_client.specs.Plans.{CanLogOn};
-ghost use Rattle.member_server.specs.Machine.{fresh_member};
+ghost use Rattle.member_server.specs.SealStep.{sealing_member};
 ghost use Rattle.world_moves.specs.World.{IsPlan, first_world, first_controllers};
 
 use crate::bag::Bag;
@@ -30,6 +30,7 @@ pub(crate) fn first_state(alloc: Global, plan: Plan) -> Result<State, NoMemory>
         members,
         clients,
         hands_on,
+        seals,
         now,
         seed,
     } = plan;
@@ -37,6 +38,7 @@ pub(crate) fn first_state(alloc: Global, plan: Plan) -> Result<State, NoMemory>
     let ends = first_ends(
         alloc,
         hands_on,
+        seals,
         tables,
         controllers,
         &members,
@@ -47,6 +49,7 @@ pub(crate) fn first_state(alloc: Global, plan: Plan) -> Result<State, NoMemory>
         member_plans: members,
         client_plans,
         hands_on,
+        seals,
         links: WorldLinks::new(alloc),
         open_links: OpenLinks::new(alloc),
         bag: Bag::new(alloc),
@@ -62,18 +65,19 @@ pub(crate) fn first_state(alloc: Global, plan: Plan) -> Result<State, NoMemory>
 fn first_ends(
     alloc: Global,
     hands_on: bool,
+    seals: bool,
     tables: Tables,
     names: Names,
     members: &MemberPlans,
     clients: &ClientTasks,
 ) -> Result<Ends, NoMemory>
     ensures { IfOk result (λ ends. ends ≡ record {
-      controllers = first_controllers hands_on tables names;
-      members = map fresh_member members.now;
+      controllers = first_controllers hands_on seals tables names;
+      members = map sealing_member members.now;
       clients = map fresh_client clients.now;
     }) }
 {
-    let controllers = first_controllers(alloc, hands_on, tables, names)?;
+    let controllers = first_controllers(alloc, hands_on, seals, tables, names)?;
     let members = first_members(alloc, members)?;
     let clients = first_clients(alloc, clients)?;
     if !can_be_numbered(controllers.len(), members.len(), clients.len()) {
@@ -96,17 +100,18 @@ fn can_be_numbered(controllers: usize, members: usize, clients: usize) -> bool
 fn first_controllers(
     alloc: Global,
     hands_on: bool,
+    seals: bool,
     tables: Tables,
     names: Names,
 ) -> Result<Vec<Controller>, NoMemory>
     ensures { IfOk result (λ controllers.
-        controllers.items ≡ first_controllers hands_on tables names) }
+        controllers.items ≡ first_controllers hands_on seals tables names) }
 {
     let mut controllers = Vec::new(alloc);
     let mut names = names.into_vec().into_iter();
     for table in tables.into_vec() {
         match names.next() {
-            Some(name) => controllers.push(fresh_controller(alloc, hands_on, table, name)?)?,
+            Some(name) => controllers.push(fresh_controller(alloc, hands_on, seals, table, name)?)?,
             None => return Ok(controllers),
         }
     }
@@ -115,11 +120,11 @@ fn first_controllers(
 
 /// The members, by their plans.
 fn first_members(alloc: Global, plans: &MemberPlans) -> Result<Vec<Member>, NoMemory>
-    ensures { IfOk result (λ members. members.items ≡ map fresh_member plans.now) }
+    ensures { IfOk result (λ members. members.items ≡ map sealing_member plans.now) }
 {
     let mut members = Vec::new(alloc);
     for plan in plans.items() {
-        members.push(Member::new(alloc, plan.copy(alloc)?)?)?;
+        members.push(Member::with_sealing(alloc, plan.copy(alloc)?)?)?;
     }
     Ok(members)
 }

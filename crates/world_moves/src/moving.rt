@@ -329,10 +329,12 @@ impl State {
         ensures outcomes { OnErr result (KeepsOutcomes self.old self.new) }
     {
         match end {
-            EndId::Controller(at) => self.ends.renew_controller(alloc, self.hands_on, at),
+            EndId::Controller(at) => self
+                .ends
+                .renew_controller(alloc, self.hands_on, self.seals, at),
             EndId::Member(at) => match self.member_plans.get(at) {
                 Some(plan) => {
-                    let member = Member::new(alloc, plan.copy(alloc)?)?;
+                    let member = Member::with_sealing(alloc, plan.copy(alloc)?)?;
                     self.ends.put_member(at, member);
                     Ok(())
                 }

@@ -28,6 +28,9 @@ pub type ClientPlans = List<ClientPlan>;
 ///
 /// Where `hands_on` is set, each controller hands logons on to the controllers of the domains that its table trusts,
 /// whose addresses are such numbers too. Where it isn't, none does, and trusted domains of a table are passed over.
+///
+/// Where `seals` is set, each controller can seal, and hands logons on too, whatever `hands_on` says. The channel of a
+/// member seals where its own plan says so.
 #[derive(Drop)]
 pub struct Plan {
     pub tables: Tables,
@@ -35,6 +38,7 @@ pub struct Plan {
     pub members: MemberPlans,
     pub clients: ClientPlans,
     pub hands_on: bool,
+    pub seals: bool,
     pub now: u64,
     pub seed: [u8; 32],
 }

@@ -16,14 +16,15 @@ pub struct WaitingDial {
 }
 
 /// The state of a world: the ends, the plans from which members and clients are made, whether controllers are made such
-/// that they hand logons on, all links that were made, those that are open at a side, the bag, the dials that wait, the
-/// moment in units of 100 ns since 1601-01-01, the maker of challenges, and the counts.
+/// that they hand logons on, and such that they can seal, all links that were made, those that are open at a side, the
+/// bag, the dials that wait, the moment in units of 100 ns since 1601-01-01, the maker of challenges, and the counts.
 #[derive(Drop)]
 pub struct State {
     pub ends: Ends,
     pub member_plans: MemberPlans,
     pub client_plans: ClientTasks,
     pub hands_on: bool,
+    pub seals: bool,
     pub links: WorldLinks,
     pub open_links: OpenLinks,
     pub bag: Bag,

@@ -5,6 +5,7 @@ use Rattle.std.proofs.Common.{inl, refl}
 use Rattle.logon_runs.specs.FirstLogon.ExampleLogon.{ann_moves, ann_plan}
 use Rattle.world_moves.specs.Unforwarded.{IsJudgedAlone}
 use Rattle.world_moves.proofs.AloneLaws.{plain_plan}
+use Rattle.world_moves.specs.Plain.{NothingSeals}
 use Rattle.domain_world.specs.Headline.{Proved}
 use Rattle.domain_world.proofs.HeadlineLaws.{all_proved}
 use Rattle.claim_examples.specs.AnnAccepted.{AnnIsAccepted}
@@ -14,14 +15,15 @@ use Rattle.claim_examples.proofs.Runs.ClearRunLaws.{first_logons_are_clear}
 pub ann_is_accepted : AnnIsAccepted
 ann_is_accepted =
     let clear = first_logons_are_clear in
-    let alone : IsJudgedAlone ann_plan ann_moves = inl (plain_plan ann_plan refl) in
+    let alone : IsJudgedAlone ann_plan ann_moves = inl (plain_plan ann_plan refl refl) in
+    let nothing : NothingSeals ann_plan = record { controllers = refl; members = (refl, tt) } in
     let proved : Proved ann_plan ann_moves = all_proved ann_plan ann_moves in
-    let only = proved.only alone clear.schedule clear.ann.clear in
+    let only = proved.only nothing alone clear.schedule clear.ann.clear in
     record {
       proved = proved;
       only = only;
-      all = proved.all alone clear.schedule clear.ann.clear;
-      keys = proved.keys alone clear.schedule clear.ann.clear;
+      all = proved.all nothing alone clear.schedule clear.ann.clear;
+      keys = proved.keys nothing alone clear.schedule clear.ann.clear;
       accepted = clear.ann.accepted only;
       keyed = ann_keyed;
     }

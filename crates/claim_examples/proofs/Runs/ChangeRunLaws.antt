@@ -190,7 +190,7 @@ leaves_none moves judged older at_controller secrets few other schedule is =
       clear = clear;
       own = own;
       has = record { hash = ap Seen.hash is; held = ap Seen.held is; kept = ap Seen.kept is };
-      claimed = λ proved. proved.never_apart (inl (plain_plan changing_plan refl)) schedule clear own 0 changing_begins;
+      claimed = λ proved. proved.never_apart (record { controllers = refl; members = (refl, tt) }) (inl (plain_plan changing_plan refl refl)) schedule clear own 0 changing_begins;
     }
 
 in_shown : ended_in (past changing_plan in_moves).world (past changing_plan in_moves).book

@@ -48,6 +48,7 @@ use Rattle.world_moves.specs.Choosing.{chosen_place}
 use Rattle.world_moves.specs.Forms.{HasForms}
 use Rattle.world_moves.specs.World.{IsPlan, World, first_world, happens, run}
 use Rattle.world_moves.proofs.AloneLaws.{plain_plan}
+use Rattle.world_moves.specs.Plain.{NothingSeals}
 use Rattle.domain_world.specs.Claims.{AcceptsOnlyGranted, IsAccepted, TravelsAsZeros, Wraps}
 use Rattle.domain_world.specs.Claims.Completeness.{IsPlainMove, IsQuiet, IsQuietAt, OneAtATime, started_in}
 use Rattle.domain_world.specs.Claims.LetIn.{IsLetInBy, LetsInWhoAsked}
@@ -368,12 +369,12 @@ module _ (plan : Plan) (client member controller : ℕ) (can : CanComeIn plan cl
       meets_trail seen_so (turn_moves ++ turn_moves ++ turn_moves ++ move.Onward ∷ echo_moves silent) (EndsSo silent)
       (turns_trail seen_so (move.Onward ∷ echo_moves silent) (EndsSo silent) (end_trail seen_so silent refl)) 0 blank (record { apart = refl; few = omega arith; marked = refl })
 
-  lets_in_clearly : LetsInClearly (past plan (logon_moves number (can.task.echo == 0)))
-  lets_in_clearly =
+  lets_in_clearly : NothingSeals plan → LetsInClearly (past plan (logon_moves number (can.task.echo == 0)))
+  lets_in_clearly nothing =
       let now : Past = past plan (logon_moves number (can.task.echo == 0)) in
       record {
         clear = record { apart = ends_so.0; onward = no_wrap now.book ends_so.1 };
-        told = asked_so now (lets_in_who_asked plan (logon_moves number (can.task.echo == 0))) ends_so.2.0;
+        told = asked_so now (lets_in_who_asked plan (logon_moves number (can.task.echo == 0)) nothing) ends_so.2.0;
         accepted = λ only. accepted_so now only ends_so.2.0;
       }
 
@@ -411,11 +412,14 @@ ann_rests =
     subst (λ (silent : Bool). IsQuiet (run (logon_moves 0 silent) (first_world ann_plan))) (ann_echoes can)
     (rests_so (run (logon_moves 0 (can.task.echo == 0)) (first_world ann_plan)) _ refl refl an_example_logs_on.comes.rests)
 
+ann_unsealed : NothingSeals ann_plan
+ann_unsealed = record { controllers = refl; members = (refl, tt) }
+
 ann_clear : LetsInClearly (past ann_plan ann_moves)
 ann_clear =
     let can : CanComeIn ann_plan 0 0 0 = an_example_logs_on.can in
     subst (λ (silent : Bool). LetsInClearly (past ann_plan (logon_moves 0 silent))) (ann_echoes can)
-    (lets_in_clearly ann_plan 0 0 0 can an_example_logs_on.schedule.start an_example_logs_on.schedule.forms 0 refl (ann_arrives can))
+    (lets_in_clearly ann_plan 0 0 0 can an_example_logs_on.schedule.start an_example_logs_on.schedule.forms 0 refl (ann_arrives can) ann_unsealed)
 
 ann_channel : HasSharedChannel (past ann_plan ann_moves)
 ann_channel =
@@ -435,8 +439,8 @@ ann_quiet = (record { dials = refl; units = refl }, later_quiet (drop 1 ann_move
 
 pub first_logons_are_clear : FirstLogonsAreClear
 first_logons_are_clear = record {
-  first = λ plan client member controller number is forms chosen can arrives.
-      lets_in_clearly plan client member controller can is forms number chosen arrives;
+  first = λ plan client member controller number is forms nothing chosen can arrives.
+      lets_in_clearly plan client member controller can is forms number chosen arrives nothing;
   stands = λ plan client member controller number is forms chosen can arrives. shared_channel plan client member controller number is forms chosen can arrives;
   schedule = an_example_logs_on.schedule;
   ann = ann_clear;
@@ -444,16 +448,17 @@ first_logons_are_clear = record {
   claimed = λ proved.
       let clear = ann_clear.clear in
       let schedule = an_example_logs_on.schedule in
-      let alone : IsJudgedAlone ann_plan ann_moves = inl (plain_plan ann_plan refl) in
+      let alone : IsJudgedAlone ann_plan ann_moves = inl (plain_plan ann_plan refl refl) in
+      let nothing : NothingSeals ann_plan = ann_unsealed in
       record {
-        only = proved.only alone schedule clear;
-        all = proved.all alone schedule clear;
-        keys = proved.keys alone schedule clear;
-        counts = proved.counts alone schedule clear;
-        sequences = proved.sequences alone schedule clear;
-        called = proved.called alone schedule clear;
-        answered = proved.answered alone schedule clear.apart;
-        never_apart = proved.never_apart alone schedule clear;
+        only = proved.only nothing alone schedule clear;
+        all = proved.all nothing alone schedule clear;
+        keys = proved.keys nothing alone schedule clear;
+        counts = proved.counts nothing alone schedule clear;
+        sequences = proved.sequences nothing alone schedule clear;
+        called = proved.called nothing alone schedule clear;
+        answered = proved.answered nothing alone schedule clear.apart;
+        never_apart = proved.never_apart nothing alone schedule clear;
       };
   begins = ann_begins;
   plain = ann_plain;

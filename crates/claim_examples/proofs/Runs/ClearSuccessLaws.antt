@@ -40,7 +40,8 @@ use Rattle.logon_runs.proofs.FirstLogon.FirstLogonRunLaws.{joined_still}
 use Rattle.logon_runs.proofs.FirstLogon.FirstWorldLaws.{comes_first, first_shows, first_worlds_run}
 use Rattle.logon_runs.proofs.Scenes.LinkSceneLaws.{meetings_are_seen}
 use Rattle.domain_world.specs.Claims.OneByOne.{HaveOwnMembers}
-use Rattle.world_moves.proofs.AloneLaws.{plain_plan}
+use Rattle.world_moves.proofs.AloneLaws.{alone_if}
+use Rattle.world_moves.specs.Alone.{IsPlainAlone}
 use Rattle.domain_world.proofs.Clear.ClearWalkLaws.{none_clashes}
 use Rattle.domain_world.proofs.Completeness.ApartLaws.{own_member}
 use Rattle.domain_world.proofs.Completeness.SuccessLaws.{each_succeeds}
@@ -217,13 +218,16 @@ ann_each = (own_member ann_plan ann_moves 0 ann_can_so, tt)
 ann_comes_so : ComesOneAtATime ann_clashed ann_moves
 ann_comes_so = record { schedule = ann_comes.schedule; plain = ann_comes.plain; once = ann_comes.once; quiet = ann_comes.quiet }
 
+ann_alone : IsPlainAlone ann_plan
+ann_alone = alone_if ann_plan (record { controllers = refl; members = (refl, tt) }) refl
+
 pub ann_can_succeed : AnnCanSucceed
 ann_can_succeed = record {
   can = ann_can_so;
   comes = ann_comes;
   arrives = ann_arrives;
-  succeeds = (each_succeeds ann_plan ann_moves (plain_plan ann_plan refl) ann_comes).0 ann_can_so ann_arrives;
+  succeeds = (each_succeeds ann_plan ann_moves ann_alone ann_comes).0 ann_can_so ann_arrives;
   each = ann_each;
-  unclashed = none_clashes ann_plan ann_moves (plain_plan ann_plan refl);
+  unclashed = none_clashes ann_plan ann_moves ann_alone;
   fails_clash = λ claim. let is : true ≡ false = claim ann_comes_so ann_each in absurd (let x = is in cc);
 }

@@ -58,7 +58,7 @@ lets_in s v unit later after left closed link cause domain name key more shows f
     let actions : List Action = action.Close closed cause ∷ action.Told link (outcome.In domain name key) ∷ more in
     let comes : Comes s unit later (Member v.at_member) = first_comes s v unit later (Member v.at_member) shows first in
     let s1 : State = settle comes.number s in
-    let heard = waiting_comes.member s1 v.at_member v.member after (event.Bytes unit.link unit.bytes) left actions shows.member
+    let heard = waiting_comes.member s1 v.at_member v.member after (event.Bytes unit.link unit.bytes) left actions shows.member shows.plain
     (ap₂ (λ (now : ℕ) (l : List (List ℕ)). member_step_of v.member (event.Bytes unit.link unit.bytes) now l) shows.moment shows.left ∙ steps
     ∙ ap (λ (l : List (List ℕ)). whole_step l left actions after) (sym shows.left)) in
     let given = comes.given ∙ ap (λ (h : AfterHearing). (done (Member v.at_member) h).given) heard in

@@ -37,12 +37,13 @@ use Rattle.world_moves.specs.declared.links.Route.TheVariants.{ToController}
 use Rattle.world_moves.specs.declared.moves.Move.{Move}
 use Rattle.world_moves.specs.declared.plan.Plan.{Plan}
 use Rattle.world_moves.specs.declared.state.State.{State}
-use Rattle.world_moves.specs.Acting.{Given, AfterHearing, given_by, hear, heard_by, hear_and_act}
+use Rattle.world_moves.specs.Acting.{Given, AfterHearing, given_by, heard_by}
 use Rattle.world_moves.specs.Counting.{is_in}
-use Rattle.world_moves.specs.Ends.{EndStep, actions_by, client_step, controller_step, member_step, no_step}
+use Rattle.world_moves.specs.Ends.{EndStep, actions_by, client_step, no_step}
 use Rattle.world_moves.specs.Links.{acceptor_of}
 use Rattle.world_moves.specs.Moving.{begun, with_link}
-use Rattle.world_moves.specs.World.{World, first_world}
+use Rattle.world_moves.specs.World.{World}
+use Rattle.world_moves.specs.Plain.{NothingSeals, hear_plain as hear, plain_controller_step as controller_step, plain_member_step as member_step, plain_world}
 use Rattle.domain_world.specs.Claims.LetIn.{IsLetInBy, LetsInWhoAsked}
 use Rattle.domain_world.specs.Past.{Delivery, at_member, note_at, note_client, note_controller, note_member, note_messages, note_turns, numbers_on, past, told_by, told_in, Past, controller_asked}
 use Rattle.step_notes.proofs.Members.KeptLogonLaws.{HasFor, IfDialled, IsFor, KeptIn, bytes_keep, each_found, kept_so, one_before}
@@ -54,7 +55,7 @@ use Rattle.domain_world.proofs.Messages.MessageNoteLaws.{AreCarried, IsAnsweredF
 use Rattle.domain_world.proofs.Frames.TurnFrameLaws.{turns_told}
 use Rattle.domain_world.proofs.Frames.EndFrameLaws.{Ends, KeepsEndsBy, every_ends_after, ends_in}
 use Rattle.domain_world.proofs.Moves.NoBytesLaws.{IsNoBytes}
-use Rattle.domain_world.proofs.Frames.EveryStepLaws.{every_noted as noted_by}
+use Rattle.domain_world.proofs.Frames.EveryStepLaws.{act_plain as hear_and_act, every_noted as noted_by}
 use Rattle.domain_world.proofs.Frames.MoveKeepLaws.{every}
 use Rattle.domain_world.proofs.Frames.EventLaws.{calm_no_bytes}
 use Rattle.domain_world.proofs.Frames.GivenLaws.{told_cases}
@@ -347,7 +348,7 @@ fresh_kept [] Kept fresh k m there = absurd cc
 fresh_kept (plan ∷ plans) Kept fresh zero m there = let is : fresh_member plan ≡ m = cc in subst (λ (x : MemberState). Kept x.running) is (fresh plan)
 fresh_kept (plan ∷ plans) Kept fresh (suc k) m there = fresh_kept plans Kept fresh k m there
 
-first_kept : (plan : Plan) (on : Option Delivery) → IsKept 0 on (ends_in (first_world plan).state) [] blank
+first_kept : (plan : Plan) (on : Option Delivery) → IsKept 0 on (ends_in (plain_world plan).state) [] blank
 first_kept plan on = record {
   keeps = record {
     each = λ k m there. fresh_kept plan.members (λ r. KeptIn (HasFor (Late on [] k) 0 k []) (λ number. IsDialledBy [] k number) r) (λ one. (tt, tt)) k m there;
@@ -357,12 +358,12 @@ first_kept plan on = record {
   let_in = tt;
 }
 
-pub run_holds : (plan : Plan) (moves : List Move) → HoldsOf (past plan moves).world (past plan moves).book
-run_holds plan moves =
+pub run_holds : (plan : Plan) (moves : List Move) → NothingSeals plan → HoldsOf (past plan moves).world (past plan moves).book
+run_holds plan moves nothing =
     let p : Past = past plan moves in
-    let kept : IsKept p.world.moves None (ends_in p.world.state) [] p.book = every_ends_after IsKept kept_on plan moves (first_kept plan) in
+    let kept : IsKept p.world.moves None (ends_in p.world.state) [] p.book = every_ends_after IsKept kept_on plan moves nothing (first_kept plan) in
     record { keeps = kept.keeps; known = kept.known }
 
 -- in every run a member lets in only who asked
-pub lets_in_who_asked : (plan : Plan) (moves : List Move) → LetsInWhoAsked (past plan moves)
-lets_in_who_asked plan moves = (run_holds plan moves).known
+pub lets_in_who_asked : (plan : Plan) (moves : List Move) → NothingSeals plan → LetsInWhoAsked (past plan moves)
+lets_in_who_asked plan moves nothing = (run_holds plan moves nothing).known

@@ -21,12 +21,12 @@ use Rattle.world_moves.specs.declared.links.EndId.TheVariants.{Controller, Membe
 use Rattle.world_moves.specs.declared.links.Route.{Route}
 use Rattle.world_moves.specs.declared.links.Route.TheVariants.{Between, ToController, Stranger, ToMember}
 use Rattle.world_moves.specs.declared.state.State.{State}
-use Rattle.world_moves.specs.Acting.{Given, given_by, hear}
+use Rattle.world_moves.specs.Acting.{Given, given_by}
 use Rattle.world_moves.specs.Ends.{EndStates, EndStep, actions_by}
 use Rattle.world_moves.specs.Links.{acceptor_of, dialler_of}
-use Rattle.world_moves.specs.Moving.{renewed, changed}
+use Rattle.world_moves.specs.Moving.{changed}
 use Rattle.world_moves.specs.Counting.{is_in}
-use Rattle.world_moves.proofs.EndKindLaws.{IfMember, is_member, members_by, renew_by, step_by}
+use Rattle.world_moves.proofs.EndKindLaws.{IfMember, is_member}
 use Rattle.wire_base.proofs.ListLaws.{got_append, got_last}
 use Rattle.step_notes.proofs.Members.KeptLogonLaws.{Dials, HasFor, KeptIn, kept_so, step_keeps}
 use Rattle.step_notes.proofs.Members.TurnAnswerLaws.{none_whole}
@@ -37,6 +37,8 @@ use Rattle.domain_world.proofs.Frames.EndFrameLaws.{IsCalm, by_calm}
 use Rattle.domain_world.proofs.Moves.OpenMadeLaws.{IsOnSide}
 use Rattle.domain_world.proofs.Frames.EventLaws.{by_no_bytes}
 use Rattle.world_moves.proofs.ChangeLaws.{by_change, member_begun}
+use Rattle.world_moves.specs.Plain.{hear_plain as hear, renewed_plain as renewed}
+use Rattle.world_moves.proofs.PlainKindLaws.{members_plain as members_by, plain_by as step_by, renew_plain_by as renew_by}
 
 -- ---- whom members let in
 

@@ -33,11 +33,10 @@ use Rattle.world_moves.specs.declared.links.Route.{Route}
 use Rattle.world_moves.specs.declared.plan.Plan.{Plan}
 use Rattle.world_moves.specs.declared.state.State.{State}
 use Rattle.world_moves.specs.Acting.{Given, AfterHearing, done, heard_by}
-use Rattle.world_moves.specs.Ends.{EndStates, EndStep, member_step}
+use Rattle.world_moves.specs.Ends.{EndStates, EndStep}
 use Rattle.world_moves.specs.Links.{acceptor_of, is_own, kind_of}
 use Rattle.world_moves.specs.MemberPlans.{AreAlikeButSecrets}
 use Rattle.world_moves.specs.Moving.{begun, with_link, changed}
-use Rattle.world_moves.specs.World.{first_world}
 use Rattle.world_moves.specs.Alone.{alone_controller_step as controller_step, hear_alone as hear}
 use Rattle.domain_world.specs.Claims.{IsLinkOf}
 use Rattle.domain_world.specs.Claims.MarkedUnits.{AnswersHaveCalls, CallsAreMarked, IsMarkedAsCall, IsMarkedAsReply, RepliesAreMarked}
@@ -84,6 +83,7 @@ use Rattle.domain_world.proofs.Calls.OutStepLaws.{HasOne, IsOf}
 use Rattle.domain_world.proofs.Calls.WholeOutLaws.{AreAccepted, one_acceptor}
 use Rattle.domain_world.proofs.Moves.RequesterLaws.{asked_stays}
 use Rattle.world_moves.proofs.KeptLaws.{plans_alike}
+use Rattle.world_moves.specs.Plain.{plain_member_step as member_step, plain_world}
 
 -- ---- what is to hold
 
@@ -93,7 +93,7 @@ record IsCallOn (plan : Plan) (links : List Route) (sent : List Sent) (link n : 
   accepted : IsAcceptedBy links member link
   mark : Mark
   marked : IsMarkedAs sent n mark
-  call : IsCallMark (controller_asked (OfMember member) (first_world plan).state) mark
+  call : IsCallMark (controller_asked (OfMember member) (plain_world plan).state) mark
 
 record MarksStand (plan : Plan) (links : List Route) (b : Book) : Type 0 where
   calls : AllGood (IsCallOn plan links b.sent) b.messages
@@ -111,7 +111,7 @@ MarksRestOn n s given b = MarkSide n s b
 
 -- the plans of the members stay but for their secrets, and so does how many ends there are
 abbrev MarksHold : Plan → RunFact
-MarksHold plan n s given b = AreAlikeButSecrets plan.members s.member_plans × SameEnds (first_world plan).state.ends s.ends × MarksStand plan s.links b
+MarksHold plan n s given b = AreAlikeButSecrets plan.members s.member_plans × SameEnds (plain_world plan).state.ends s.ends × MarksStand plan s.links b
 
 ends_on : (first middle last : EndStates) → SameEnds first middle → SameEnds middle last → SameEnds first last
 ends_on first middle last one other =
@@ -207,7 +207,7 @@ logons_accepted links messages k place logon accepted has =
     subst (λ (link : ℕ). IsAcceptedBy links k link) found.1.link (subst (λ (j : ℕ). IsAcceptedBy links j found.0.link) found.1.same_member found.2)
 
 module _ (plan : Plan) (m : MemberState) (at : ℕ) (w : Delivery) (piece : List ℕ) (s after : State) (b : Book) (n : ℕ) (side : MarkSide n s b) (there : slice_get s.ends.members at ≡ Some m)
-    (plans : AreAlikeButSecrets plan.members s.member_plans) (same : SameEnds (first_world plan).state.ends s.ends) where
+    (plans : AreAlikeButSecrets plan.members s.member_plans) (same : SameEnds (plain_world plan).state.ends s.ends) where
   abbrev IsOwnLink : ℕ → Type 0
   IsOwnLink link = IsAcceptedBy s.links at link
 
@@ -247,7 +247,7 @@ module _ (plan : Plan) (m : MemberState) (at : ℕ) (w : Delivery) (piece : List
         accepted = own;
         mark = mark;
         marked = marked;
-        call = subst (λ (number : ℕ). IsCallMark number mark) (asked_stays (OfMember at) (first_world plan).state s plans same) call;
+        call = subst (λ (number : ℕ). IsCallMark number mark) (asked_stays (OfMember at) (plain_world plan).state s plans same) call;
       }) w.link units numbers ready numbered)
       (all_join (IsGood Good) b.messages new
       (good_so (IsCallOn plan s.links b.sent) Good (λ link k it. call_still plan s.links s.links b.sent sent (λ j on accepted. accepted) grow link k it) b.messages stand.calls)
@@ -265,7 +265,7 @@ module _ (plan : Plan) (m : MemberState) (at : ℕ) (w : Delivery) (piece : List
 -- ---- through all moves
 
 module _ (plan : Plan) where
-  end_stands : (n : ℕ) (end : EndId) (w : Delivery) (piece : List ℕ) (s : State) (b : Book) → MarkSide n s b → AreAlikeButSecrets plan.members s.member_plans → SameEnds (first_world plan).state.ends s.ends →
+  end_stands : (n : ℕ) (end : EndId) (w : Delivery) (piece : List ℕ) (s : State) (b : Book) → MarkSide n s b → AreAlikeButSecrets plan.members s.member_plans → SameEnds (plain_world plan).state.ends s.ends →
       IsAtSide s.links w.link w.back end → CameFrom w.source s w piece → (IsServer end → length b.sent ≡ length s.bag) → MarksStand plan s.links b →
       MarksStand plan s.links (note_at (Some end) w piece s (hear_and_act end (event.Bytes w.link piece) s).state b)
   end_stands n end w piece s b side plans same here came even stand =
@@ -280,7 +280,7 @@ module _ (plan : Plan) where
 
   quietly : (n : ℕ) (end : EndId) (what : Event) (s : State) (given : Given) (b : Book) → MarksHold plan n s given b → HasHeard (MarksHold plan) AnyAction (n + 1) end (hear end what s) given b
   quietly n end what s given b holds = record {
-    holds = (holds.0, ends_on (first_world plan).state.ends s.ends (hear end what s).state.ends holds.1 (step_same end what s.moment s.ends s.chances), holds.2);
+    holds = (holds.0, ends_on (plain_world plan).state.ends s.ends (hear end what s).state.ends holds.1 (step_same end what s.moment s.ends s.chances), holds.2);
     fine = all_any (hear end what s).actions;
   }
 
@@ -289,7 +289,7 @@ module _ (plan : Plan) where
   client_begins n client own s given b holds = record {
     holds = (
       holds.0,
-      ends_on (first_world plan).state.ends s.ends (begun client own s).state.ends holds.1 (record { controllers = refl; members = refl; clients = sym (length-set s.ends.clients client _) }),
+      ends_on (plain_world plan).state.ends s.ends (begun client own s).state.ends holds.1 (record { controllers = refl; members = refl; clients = sym (length-set s.ends.clients client _) }),
       holds.2,
     );
     fine = all_any (begun client own s).actions;
@@ -309,7 +309,7 @@ module _ (plan : Plan) where
     comes = λ n end w piece s given b here came bytes marked side holds. record {
       holds = (
         holds.0,
-        ends_on (first_world plan).state.ends s.ends (hear end (event.Bytes w.link piece) s).state.ends holds.1 (step_same end (event.Bytes w.link piece) s.moment s.ends s.chances),
+        ends_on (plain_world plan).state.ends s.ends (hear end (event.Bytes w.link piece) s).state.ends holds.1 (step_same end (event.Bytes w.link piece) s.moment s.ends s.chances),
         end_stands n end w piece s b side holds.0 holds.1 here came marked holds.2,
       );
       fine = all_any (hear end (event.Bytes w.link piece) s).actions;
@@ -320,9 +320,9 @@ module _ (plan : Plan) where
     forgets = λ n end s given b side holds. holds;
     settles = λ n number s given b side holds. holds;
     dials = λ n s given b side holds. holds;
-    renews = λ n end s given b side holds. (holds.0, ends_on (first_world plan).state.ends s.ends (renewed end s).ends holds.1 (renew_same end s), holds.2);
+    renews = λ n end s given b side holds. (holds.0, ends_on (plain_world plan).state.ends s.ends (renewed end s).ends holds.1 (renew_same end s), holds.2);
     changes = λ n member secret s given b side holds. record {
-      holds = (holds.0, ends_on (first_world plan).state.ends s.ends (changed member secret s).state.ends holds.1 (change_same member secret s), holds.2);
+      holds = (holds.0, ends_on (plain_world plan).state.ends s.ends (changed member secret s).state.ends holds.1 (change_same member secret s), holds.2);
       fine = all_any (changed member secret s).actions;
     };
     ticks = λ n more s given b side holds. holds;
@@ -339,8 +339,8 @@ marks_rest : (plan : Plan) (n : ℕ) (s : State) (given : Given) (b : Book) → 
 marks_rest plan n s given b known few =
     record { quiet = known.0.0.0; own = known.1.kinds; calls = known.0.0.1 few (drawn_differ plan s known.0.1) }
 
-marks_first : (plan : Plan) → MarksHold plan 0 (first_world plan).state [] blank
-marks_first plan = (refl, same_ends (first_world plan).state.ends, record { calls = tt; replies = tt; opened = tt })
+marks_first : (plan : Plan) → MarksHold plan 0 (plain_world plan).state [] blank
+marks_first plan = (refl, same_ends (plain_world plan).state.ends, record { calls = tt; replies = tt; opened = tt })
 
 -- what is known, with what holds of marks while few steps were taken
 abbrev MarkFacts : Plan → RunFact
@@ -382,8 +382,8 @@ calls_marked plan moves nobody schedule =
       number = it.call.number;
       timestamp = it.call.timestamp;
       mark = it.marked.is ∙ it.call.is;
-      controller = it.call.named ∙ ap (λ (k : ℕ). controller_asked (OfMember k) (first_world plan).state) member ∙ sym (asked_stays (OfMember message.member) (first_world plan).state p.world.state holds.0 holds.1);
-    }) holds.2.calls (messages_own plan moves (draws_differ plan moves)).each
+      controller = it.call.named ∙ ap (λ (k : ℕ). controller_asked (OfMember k) (plain_world plan).state) member ∙ sym (asked_stays (OfMember message.member) (plain_world plan).state p.world.state holds.0 holds.1);
+    }) holds.2.calls (messages_own plan moves nobody.plain (draws_differ plan moves)).each
 
 -- and a message whose answer was taken has a call: no other message came on its link
 pub answers_have_calls : OfSchedules (λ plan moves. AnswersHaveCalls (past plan moves))
@@ -393,7 +393,7 @@ answers_have_calls plan moves nobody schedule =
     let found : Placed (IsCalledOn message.link) messages =
     placed (IsCalledOn message.link) messages (got_all (IfAnswered messages) messages k message (schedules_called plan moves nobody schedule) there u reply) in
     let same : found.item ≡ message =
-    apart_same (λ (one : MessageTaken). one.link) messages (messages_apart plan moves) found.place k found.item message found.there there found.is.0 in
+    apart_same (λ (one : MessageTaken). one.link) messages (messages_apart plan moves nobody.plain) found.place k found.item message found.there there found.is.0 in
     (found.is.1, ap (λ (one : MessageTaken). one.call) (sym same) ∙ found.is.2))
 
 -- and so is the reply to each call that passed, and came in a unit of the bag

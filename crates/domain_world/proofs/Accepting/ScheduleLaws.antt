@@ -47,8 +47,8 @@ units_heard plan moves nobody schedule =
       back = replies_back plan moves nobody schedule;
       told = turns.told;
       let_in = turns.let_in;
-      made = messages_made plan moves schedule;
-      taken = messages_taken plan moves;
+      made = messages_made plan moves nobody.plain schedule;
+      taken = messages_taken plan moves nobody.plain;
     }
 
 -- and no two requests on a channel have one number

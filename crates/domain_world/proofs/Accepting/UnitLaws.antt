@@ -7,7 +7,7 @@ use Rattle.step_notes.specs.Records.{RequesterId, Sent}
 use Rattle.world_moves.specs.declared.moves.Move.{Move}
 use Rattle.world_moves.specs.declared.plan.Plan.{Plan}
 use Rattle.world_moves.specs.Draws.{DrawsDiffer}
-use Rattle.world_moves.specs.Alone.{HandsNothingOn}
+use Rattle.world_moves.specs.Alone.{IsPlainAlone}
 use Rattle.domain_world.specs.Accepting.Answered.{AnswersAreHeard}
 use Rattle.domain_world.specs.Accepting.Carried.{CallsHaveNumbers}
 use Rattle.domain_world.specs.Accepting.Units.{HasMarksOf, RunsAreHeard, UnitsAreHeard}
@@ -36,16 +36,16 @@ calls_numbered : (past : Past) (r : Requests RequesterId) → HasMarksOf past r 
 calls_numbered past r marks apart n m number timestamp later c d one other there also mark mark_too same =
     requests_numbered past r marks apart n m number c d one other there also (subst (IsRequest c number) (sym mark) (refl, refl)) (subst (IsRequest d number) (sym mark_too) (refl, refl)) same
 
-pub heard_in : (plan : Plan) (moves : List Move) → HandsNothingOn plan → UnitsAreHeard (past plan moves) → DrawsDiffer (past plan moves).world → AnswersAreHeard (past plan moves)
+pub heard_in : (plan : Plan) (moves : List Move) → IsPlainAlone plan → UnitsAreHeard (past plan moves) → DrawsDiffer (past plan moves).world → AnswersAreHeard (past plan moves)
 heard_in plan moves nobody heard differ =
     let its : Past = past plan moves in
     record {
       passes = passes_unclashed plan moves;
       alike = carried_heard.alike its heard.judged;
       asks = carried_heard.asks its heard.judged heard.called;
-      answers = carried_heard.answers its heard.whole (marks_have_their_way plan moves) heard.judged (passes_unclashed plan moves) (replies_carry plan moves nobody) heard.numbers heard.openings heard.turns;
+      answers = carried_heard.answers its heard.whole (marks_have_their_way plan moves nobody.plain) heard.judged (passes_unclashed plan moves) (replies_carry plan moves nobody) heard.numbers heard.openings heard.turns;
       told = read_back.told its heard.back heard.told;
-      messages = messages_apart plan moves;
+      messages = messages_apart plan moves nobody.plain;
       let_in = read_back.let_in its heard.back heard.let_in;
       keys = keys_made its heard.made heard.taken;
     }

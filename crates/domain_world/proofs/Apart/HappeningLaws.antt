@@ -27,7 +27,7 @@ use Rattle.domain_world.specs.Claims.NeverApart.{BeginsAlike, ComesTo, HasItsAcc
 use Rattle.domain_world.specs.Past.{Past, past}
 use Rattle.wire_base.proofs.ListLaws.{no_some, some_is}
 use Rattle.domain_world.proofs.Judgements.GrantLaws.{IsPlanned, stand_after}
-use Rattle.world_moves.specs.Alone.{HandsNothingOn}
+use Rattle.world_moves.specs.Alone.{IsPlainAlone}
 
 -- ---- accounts that differ in what moves alone
 
@@ -93,7 +93,7 @@ get_there [] k below = absurd (omega (arith, below))
 get_there (first ∷ items) zero below = (first, refl)
 get_there (first ∷ items) (suc k) below = get_there items k (omega (arith, below))
 
-pub account_there : (plan : Plan) (moves : List Move) → HandsNothingOn plan → (member : ℕ) (begins : BeginsAlike plan member) → HasItsAccount (past plan moves) member begins
+pub account_there : (plan : Plan) (moves : List Move) → IsPlainAlone plan → (member : ℕ) (begins : BeginsAlike plan member) → HasItsAccount (past plan moves) member begins
 account_there plan moves nobody member begins =
     let p : Past = past plan moves in
     let k : ℕ = begins.controller in

@@ -30,7 +30,7 @@ use Rattle.world_moves.specs.Acting.{Given, forget, given_by, keep_by, plans_aft
 use Rattle.world_moves.specs.Ends.{EndStates, EndStep, actions_by}
 use Rattle.world_moves.specs.Links.{acceptor_of, same_end}
 use Rattle.world_moves.specs.Moving.{changed, with_link}
-use Rattle.world_moves.specs.World.{first_world, kept_by as kept_in_plan}
+use Rattle.world_moves.specs.World.{kept_by as kept_in_plan}
 use Rattle.domain_world.specs.Claims.NeverApart.{MembersKeepWhatTheyHold}
 use Rattle.domain_world.specs.Past.{Past, past}
 use Rattle.domain_world.specs.Schedules.{OfSchedules}
@@ -41,6 +41,7 @@ use Rattle.domain_world.proofs.Messages.MessageOnceLaws.{set_cases}
 use Rattle.domain_world.proofs.Moves.MarkPlaceLaws.{got_map}
 use Rattle.domain_world.proofs.Frames.MoveFrameLaws.{HoldsAfterMoves}
 use Rattle.world_moves.specs.Alone.{alone_end_step as end_step}
+use Rattle.world_moves.specs.Plain.{plain_world}
 use Rattle.domain_world.proofs.Frames.AloneStepLaws.{alone_by as step_by, renew_alone as renew, renew_alone_by as renew_by}
 use Rattle.domain_world.proofs.Frames.AloneFrameLaws.{moves_keep_alone}
 use Rattle.domain_world.proofs.Frames.MoveKeepLaws.{KeepsMoves, MoveFact, NoSide}
@@ -471,7 +472,7 @@ kept_keeps m = record {
 
 -- ---- of each schedule
 
-pub first_keeps : (plan : Plan) (m : ℕ) (own : MemberPlan) → slice_get plan.members m ≡ Some own → AreSecrets own.secrets → KeepsSo m [] (first_world plan).state.member_plans (first_world plan).state.ends.members
+pub first_keeps : (plan : Plan) (m : ℕ) (own : MemberPlan) → slice_get plan.members m ≡ Some own → AreSecrets own.secrets → KeepsSo m [] (plain_world plan).state.member_plans (plain_world plan).state.ends.members
 first_keeps plan m own is are = record {
   kept = λ other there. subst (λ (p : MemberPlan). AreSecrets p.secrets) (some_is own other (sym is ∙ there)) are;
   texts = tt;

@@ -1,7 +1,7 @@
 -- In every run each member that runs has the names of its plan, there are as many ends as at first, and plans stay but
 -- for their secrets. It serves `Proved.never_apart`.
-use Rattle.std.proofs.Common.{◌≡◌, ℕ, ◌+◌, List, [], ◌++◌, length, inl, inr, Option, Some, None, slice_get, slice_set, refl, sym, ap, subst, ◌∙◌}
-use Rattle.std.proofs.lemmas.List.{length-set}
+use Rattle.std.proofs.Common.{◌≡◌, ℕ, suc, ◌+◌, Bool, false, List, [], ◌∷◌, ◌++◌, length, inl, inr, Option, Some, None, slice_get, slice_set, refl, sym, ap, subst, ◌∙◌}
+use Rattle.std.proofs.lemmas.List.{length-map, length-set}
 use Rattle.outside.specs.declared.action.Action.TheVariants as action
 use Rattle.outside.specs.declared.action.CloseCause.TheVariants as close
 use Rattle.outside.specs.declared.action.DropCause.{DropCause}
@@ -18,7 +18,9 @@ use Rattle.member_server.specs.declared.plan.MemberPlan.{MemberPlan}
 use Rattle.member_server.specs.declared.state.Logons.{Logons}
 use Rattle.member_server.specs.declared.state.Running.{Running}
 use Rattle.member_server.specs.declared.state.Work.{Work}
+use Rattle.account_table.specs.AccountTable.{AccountTable}
 use Rattle.member_server.specs.Machine.{fresh_member, step_of}
+use Rattle.member_server.specs.SealStep.{sealing_member}
 use Rattle.member_server.specs.Outcomes.{end_logon, tell_at, without_link}
 use Rattle.member_server.specs.State.{State as MemberState}
 use Rattle.member_server.specs.Turns.{end_turn, keep_ended, lose_turn, with_requester}
@@ -35,7 +37,6 @@ use Rattle.world_moves.specs.Ends.{EndStates, EndStep}
 use Rattle.world_moves.specs.Links.{acceptor_of}
 use Rattle.world_moves.specs.MemberPlans.{AreAlikeButSecrets, but_secret}
 use Rattle.world_moves.specs.Moving.{begun, changed, with_link}
-use Rattle.world_moves.specs.World.{first_world}
 use Rattle.world_moves.proofs.ChangeLaws.{by_change, member_begun}
 use Rattle.world_moves.proofs.KeptLaws.{plans_alike}
 use Rattle.wire_base.proofs.ListLaws.{some_is}
@@ -46,6 +47,8 @@ use Rattle.domain_world.proofs.Moves.MarkPlaceLaws.{got_map}
 use Rattle.domain_world.proofs.Moves.MemberPlanLaws.{found_but_secret}
 use Rattle.domain_world.proofs.Frames.StepFrameLaws.{AnyAction, HasHeard, StepKeeps, NoFact, RunFact, all_any}
 use Rattle.world_moves.specs.Alone.{hear_alone as hear}
+use Rattle.world_moves.specs.Plain.{plain_world}
+use Rattle.world_moves.specs.World.{first_controllers, first_ends}
 use Rattle.domain_world.proofs.Frames.AloneStepLaws.{alone_by as step_by, renew_alone_by as renew_by, renewed_alone as renewed}
 
 -- ---- a step of a member leaves the names of its plan
@@ -127,11 +130,26 @@ AllNamed plans members =
 
 pub record NamesStand (plan : Plan) (s : State) : Type 0 where
   pub plans : AreAlikeButSecrets plan.members s.member_plans
-  pub ends : SameEnds (first_world plan).state.ends s.ends
+  pub ends : SameEnds (plain_world plan).state.ends s.ends
   pub named : AllNamed plan.members s.ends.members
 
 abbrev pub NamesFact : Plan → RunFact
 NamesFact plan n s given b = NamesStand plan s
+
+-- as many controllers are made, whether they can seal or not
+same_many : (hands_on one other : Bool) (tables : List AccountTable) (names : List (List ℕ)) →
+    length (first_controllers hands_on one tables names) ≡ length (first_controllers hands_on other tables names)
+same_many hands_on one other [] names = refl
+same_many hands_on one other (table ∷ tables) [] = refl
+same_many hands_on one other (table ∷ tables) (name ∷ names) = ap suc (same_many hands_on one other tables names)
+
+-- a world has as many ends, whether they seal or not
+pub plain_same : (plan : Plan) → SameEnds (plain_world plan).state.ends (first_ends plan)
+plain_same plan = record {
+  controllers = same_many plan.hands_on false plan.seals plan.tables plan.controllers;
+  members = length-map plan.members fresh_member ∙ sym (length-map plan.members sealing_member);
+  clients = refl;
+}
 
 ends_on : (one other third : EndStates) → SameEnds one other → SameEnds other third → SameEnds one third
 ends_on one other third first second = record {
@@ -160,7 +178,7 @@ module _ (plan : Plan) where
   heard_stands n end what s given b now stands = record {
     holds = record {
       plans = stands.plans;
-      ends = ends_on (first_world plan).state.ends s.ends (hear end what s).state.ends stands.ends (hear_same end what s);
+      ends = ends_on (plain_world plan).state.ends s.ends (hear end what s).state.ends stands.ends (hear_same end what s);
       named = step_stands what s end stands.named;
     };
     fine = all_any (hear end what s).actions;
@@ -209,13 +227,13 @@ module _ (plan : Plan) where
     dials = λ n s given b none stands. record { plans = stands.plans; ends = stands.ends; named = stands.named };
     renews = λ n end s given b none stands. record {
       plans = stands.plans;
-      ends = ends_on (first_world plan).state.ends s.ends (renewed end s).ends stands.ends (renew_same end s);
+      ends = ends_on (plain_world plan).state.ends s.ends (renewed end s).ends stands.ends (renew_same end s);
       named = renewed_named end s stands;
     };
     changes = λ n member secret s given b none stands. record {
       holds = record {
         plans = stands.plans;
-        ends = ends_on (first_world plan).state.ends s.ends (changed member secret s).state.ends stands.ends (change_same member secret s);
+        ends = ends_on (plain_world plan).state.ends s.ends (changed member secret s).state.ends stands.ends (change_same member secret s);
         named = changed_named member secret s stands.named;
       };
       fine = all_any (changed member secret s).actions;
@@ -224,10 +242,10 @@ module _ (plan : Plan) where
     over = λ n at s given b none stands. record { plans = stands.plans; ends = stands.ends; named = stands.named };
   }
 
-  pub first_names : NamesFact plan 0 (first_world plan).state [] blank
+  pub first_names : NamesFact plan 0 (plain_world plan).state [] blank
   first_names = record {
     plans = refl;
-    ends = same_ends (first_world plan).state.ends;
+    ends = same_ends (plain_world plan).state.ends;
     named = λ k m own is there.
         let made = got_map fresh_member plan.members k m is in
         subst (λ (x : MemberState). IsNamed own.computer x.running) made.2 (ap (λ (p : MemberPlan). p.computer) (some_is made.0 own (sym made.1 ∙ there)));

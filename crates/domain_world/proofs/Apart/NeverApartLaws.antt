@@ -14,7 +14,7 @@ use Rattle.world_moves.specs.declared.moves.Move.{Move}
 use Rattle.world_moves.specs.declared.plan.Plan.{Plan}
 use Rattle.world_moves.specs.declared.state.State.{State}
 use Rattle.world_moves.specs.Acting.{Given}
-use Rattle.world_moves.specs.Alone.{HandsNothingOn}
+use Rattle.world_moves.specs.Alone.{IsPlainAlone}
 use Rattle.world_moves.specs.Forms.{IsSchedule}
 use Rattle.domain_world.specs.Claims.{IsClear}
 use Rattle.domain_world.specs.Claims.NeverApart.{BeginsAlike, HasItsAccount, MembersAreNeverApart, has_foreign_set}
@@ -45,7 +45,7 @@ use Rattle.domain_world.proofs.Calls.CallComesLaws.{IsWhole}
 use Rattle.domain_world.proofs.Calls.CallHoldsLaws.{marks_in, views_at}
 use Rattle.domain_world.proofs.Calls.CallStepLaws.{most_steps}
 
-module _ (plan : Plan) (moves : List Move) (nobody : HandsNothingOn plan) (schedule : IsSchedule plan moves) (clear : IsClear (past plan moves).book)
+module _ (plan : Plan) (moves : List Move) (nobody : IsPlainAlone plan) (schedule : IsSchedule plan moves) (clear : IsClear (past plan moves).book)
     (none_foreign : has_foreign_set (past plan moves).book.judged ≡ false) (member : ℕ) (begins : BeginsAlike plan member) where
   abbrev last : Book
   last = (past plan moves).book
@@ -96,7 +96,7 @@ module _ (plan : Plan) (moves : List Move) (nobody : HandsNothingOn plan) (sched
         others_fit plan member begins place asks n at m w piece s after given b apart is here came even help (beside_has plan member begins place asks n (coming w) s given b known) few differ;
   }
 
-pub never_apart : (plan : Plan) (moves : List Move) → HandsNothingOn plan → IsSchedule plan moves → IsClear (past plan moves).book → MembersAreNeverApart (past plan moves)
+pub never_apart : (plan : Plan) (moves : List Move) → IsPlainAlone plan → IsSchedule plan moves → IsClear (past plan moves).book → MembersAreNeverApart (past plan moves)
 never_apart plan moves nobody schedule clear none_foreign member begins =
     let its_last : Book = (past plan moves).book in
     let its_bag : List BagUnit = (past plan moves).world.state.bag in

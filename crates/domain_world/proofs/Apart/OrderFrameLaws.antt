@@ -24,7 +24,7 @@ use Rattle.world_moves.specs.declared.links.EndId.{EndId}
 use Rattle.world_moves.specs.declared.links.EndId.TheVariants.{Controller, Member}
 use Rattle.world_moves.specs.declared.state.State.{State}
 use Rattle.world_moves.specs.Acting.{Given}
-use Rattle.world_moves.specs.Ends.{EndStates, EndStep, client_step, member_step}
+use Rattle.world_moves.specs.Ends.{EndStates, EndStep, client_step}
 use Rattle.world_moves.specs.Moving.{changed}
 use Rattle.world_moves.proofs.ChangeLaws.{by_change}
 use Rattle.world_moves.proofs.EndKindLaws.{IfMember}
@@ -53,6 +53,7 @@ use Rattle.domain_world.proofs.Calls.StepApartLaws.{seen_member}
 use Rattle.domain_world.proofs.Calls.WholeNotedLaws.{none_marked, placed_part}
 use Rattle.step_notes.specs.Served.{units_if_taken}
 use Rattle.world_moves.specs.Alone.{alone_controller_step as controller_step, hear_alone as hear}
+use Rattle.world_moves.specs.Plain.{plain_member_step as member_step}
 use Rattle.domain_world.proofs.Frames.AloneStepLaws.{act_alone as hear_and_act, alone_by as step_by, renew_alone_by as renew_by, renewed_alone as renewed}
 
 -- ---- what is to hold

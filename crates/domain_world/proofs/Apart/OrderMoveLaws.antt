@@ -25,7 +25,6 @@ use Rattle.world_moves.specs.Forms.{IsSchedule}
 use Rattle.world_moves.specs.Acting.{Given, forget, plans_after}
 use Rattle.world_moves.specs.Links.{acceptor_of}
 use Rattle.world_moves.specs.Moving.{with_link}
-use Rattle.world_moves.specs.World.{first_world}
 use Rattle.world_moves.proofs.KeptLaws.{plans_alike}
 use Rattle.domain_world.specs.Accepting.Answered.{IsItsWay}
 use Rattle.domain_world.specs.Claims.OpeningReplies.{IsReplyOfOpening}
@@ -57,7 +56,8 @@ use Rattle.domain_world.proofs.Calls.MarkWayLaws.{ways_stay}
 use Rattle.domain_world.proofs.Calls.StepApartLaws.{seen_member}
 use Rattle.domain_world.proofs.Frames.AloneFrameLaws.{moves_keep_alone}
 use Rattle.domain_world.proofs.Frames.MoveKeepLaws.{Both, KeepsMoves, MoveFact, NoSide, coming, join_moves, started}
-use Rattle.world_moves.specs.Alone.{HandsNothingOn}
+use Rattle.world_moves.specs.Alone.{IsPlainAlone}
+use Rattle.world_moves.specs.Plain.{plain_world}
 use Rattle.domain_world.proofs.Moves.OpenMadeLaws.{on_side}
 
 -- ---- what units of the bag are
@@ -184,19 +184,19 @@ module _ (plan : Plan) (base : Asker) (alone : AsksAlone plan base.who base.comp
       let fresh : seen_member controller (Some (fresh_member made.0)) ≡ Some v = ap (λ (x : MemberState). seen_member controller (Some x)) made.2 ∙ seen in
       no_some c (ap (λ (x : View). x.stands) (some_is _ v fresh) ∙ stands)
 
-  pub order_first : OrderKept base 0 (first_world plan).state [] blank
+  pub order_first : OrderKept base 0 (plain_world plan).state [] blank
   order_first few differ told =
-      (stay_in_order ℕ).first (requests_at 0 plan.members (first_world plan).state.ends (first_world plan).state.chances.drawn []) base.who base.controller base.computer (λ unit number timestamp c there. got_nothing unit _ there)
+      (stay_in_order ℕ).first (requests_at 0 plan.members (plain_world plan).state.ends (plain_world plan).state.chances.drawn []) base.who base.controller base.computer (λ unit number timestamp c there. got_nothing unit _ there)
       (λ i v c seen stands. none_stands i (slice_get (map fresh_member plan.members) i) _ v c refl seen stands)
 
-  pub known_first : (moves : List Move) → IsSchedule plan moves → (on : Option Delivery) → Known plan 0 (started 0 on) (first_world plan).state [] blank
+  pub known_first : (moves : List Move) → IsSchedule plan moves → (on : Option Delivery) → Known plan 0 (started 0 on) (plain_world plan).state [] blank
   known_first moves schedule on = (
     first_marked acceptings_of NothingElse IsUnit nothing_else (new_marked acceptings_of NothingElse IsUnit units_stay) plan on tt,
     ((((quiet_first plan schedule.start schedule.forms, first_calls plan), judged_first), first_names plan), tt),
   )
 
   -- after a run
-  pub order_run : (moves : List Move) → HandsNothingOn plan → IsSchedule plan moves → HoldsAfterMoves (Unit {0}) (Both (Known plan) OrderMove) plan moves
+  pub order_run : (moves : List Move) → IsPlainAlone plan → IsSchedule plan moves → HoldsAfterMoves (Unit {0}) (Both (Known plan) OrderMove) plan moves
   order_run moves nobody schedule =
       moves_keep_alone (Unit {0}) (Both (Known plan) OrderMove) (join_moves (Unit {0}) (Known plan) OrderMove (known_keep plan) order_moves) plan moves nobody (λ known. has_bytes plan moves nobody schedule)
       (λ on. (known_first moves schedule on, order_first))

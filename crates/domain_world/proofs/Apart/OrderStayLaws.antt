@@ -20,9 +20,10 @@ use Rattle.member_server.specs.declared.plan.MemberPlan.{MemberPlan}
 use Rattle.member_server.specs.declared.state.Running.{Running}
 use Rattle.step_notes.specs.Records.{MessageTaken, Sent}
 use Rattle.world_moves.specs.declared.links.Route.{Route}
-use Rattle.world_moves.specs.Ends.{EndStates, member_step, with_member}
+use Rattle.world_moves.specs.Ends.{EndStates, with_member}
 use Rattle.world_moves.specs.MemberPlans.{AreAlikeButSecrets}
 use Rattle.world_moves.proofs.ChangeLaws.{member_begun}
+use Rattle.world_moves.specs.Plain.{plain_member_step as member_step}
 use Rattle.domain_world.specs.Accepting.SeenSteps.{Differ, HearsNone, NoRequests, requests_after, seen_or, seen_running}
 use Rattle.domain_world.specs.Past.{controller_of_plan}
 use Rattle.domain_world.proofs.Apart.StepOrderLaws.{step_in_order}

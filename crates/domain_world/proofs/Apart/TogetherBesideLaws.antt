@@ -8,7 +8,7 @@ use Rattle.world_moves.specs.declared.plan.Plan.{Plan}
 use Rattle.world_moves.specs.declared.state.State.{State}
 use Rattle.world_moves.specs.Acting.{Given}
 use Rattle.world_moves.specs.Forms.{IsSchedule}
-use Rattle.world_moves.specs.World.{first_world}
+use Rattle.world_moves.specs.Plain.{plain_world}
 use Rattle.domain_world.specs.Claims.NeverApart.{BeginsAlike}
 use Rattle.domain_world.specs.Past.{Delivery}
 use Rattle.domain_world.proofs.Accepting.Turns.TurnRunLaws.{TurnAction, TurnSide, side_first, side_keeps as turns_keep_on}
@@ -89,7 +89,7 @@ module _ (plan : Plan) (member : ℕ) (begins : BeginsAlike plan member) (place 
   pub beside_has : (n : ℕ) (q : Progress) (s : State) (given : Given) (b : Book) → Beside n q s given b → Base n q s given b
   beside_has n q s given b all = all.0.0.0.0.0
 
-  pub first_beside : (moves : List Move) → IsSchedule plan moves → AreSecrets begins.own.secrets → (on : Option Delivery) → Beside 0 (started 0 on) (first_world plan).state [] blank
+  pub first_beside : (moves : List Move) → IsSchedule plan moves → AreSecrets begins.own.secrets → (on : Option Delivery) → Beside 0 (started 0 on) (plain_world plan).state [] blank
   first_beside moves schedule are on = (
     ((((first_beneath plan member begins place asks moves schedule are on, first_known plan), ((side_first plan moves schedule, first_own plan), tt)), first_stands plan), first_by_plan plan),
     first_follows plan,

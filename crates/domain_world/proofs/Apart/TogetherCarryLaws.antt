@@ -22,8 +22,8 @@ use Rattle.world_moves.specs.declared.links.Route.TheVariants.{ToController}
 use Rattle.world_moves.specs.declared.plan.Plan.{Plan}
 use Rattle.world_moves.specs.declared.state.State.{State}
 use Rattle.world_moves.specs.Acting.{Given, AfterHearing, heard_by}
-use Rattle.world_moves.specs.Ends.{member_step}
 use Rattle.world_moves.proofs.LinkFrameLaws.{actions_stay}
+use Rattle.world_moves.specs.Plain.{plain_member_step as member_step}
 use Rattle.domain_world.specs.Accepting.Carried.{IsWholeUnit}
 use Rattle.domain_world.specs.Claims.NeverApart.{BeginsAlike}
 use Rattle.domain_world.specs.Past.{Delivery, controller_asked, marks_of, note_member}

@@ -37,7 +37,7 @@ use Rattle.world_moves.specs.declared.links.EndId.{EndId}
 use Rattle.world_moves.specs.declared.links.EndId.TheVariants.{Client, Controller, Member}
 use Rattle.world_moves.specs.declared.state.State.{State}
 use Rattle.world_moves.specs.Acting.{Given, given_by}
-use Rattle.world_moves.specs.Ends.{EndStates, EndStep, actions_by, member_step}
+use Rattle.world_moves.specs.Ends.{EndStates, EndStep, actions_by}
 use Rattle.world_moves.specs.Links.{same_end}
 use Rattle.world_moves.specs.Moving.{changed}
 use Rattle.world_moves.proofs.ChangeLaws.{by_change, member_begun, text_begun}
@@ -74,6 +74,7 @@ use Rattle.domain_world.proofs.Calls.StepApartLaws.{seen_member, seen_with}
 use Rattle.domain_world.proofs.Calls.WholeNotedLaws.{no_requests_marked, none_marked, placed_part}
 use Rattle.step_notes.specs.Served.{units_if_taken}
 use Rattle.world_moves.specs.Alone.{alone_controller_step as controller_step, alone_end_step as end_step}
+use Rattle.world_moves.specs.Plain.{plain_member_step as member_step}
 use Rattle.domain_world.proofs.Frames.AloneStepLaws.{alone_by as step_by, renew_alone_by as renew_by, renewed_alone as renewed}
 
 -- ---- what it rests on

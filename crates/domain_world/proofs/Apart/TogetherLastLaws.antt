@@ -26,7 +26,7 @@ use Rattle.world_moves.specs.declared.moves.Move.{Move}
 use Rattle.world_moves.specs.declared.plan.Plan.{Plan}
 use Rattle.world_moves.specs.declared.state.State.{State}
 use Rattle.world_moves.specs.Acting.{Given}
-use Rattle.world_moves.specs.Alone.{HandsNothingOn}
+use Rattle.world_moves.specs.Alone.{IsPlainAlone}
 use Rattle.world_moves.specs.Forms.{IsSchedule}
 use Rattle.world_moves.specs.World.{first_world}
 use Rattle.domain_world.specs.Accepting.Carried.{IsTakenInTurn}
@@ -42,7 +42,7 @@ use Rattle.domain_world.proofs.Accepting.ScheduleLaws.{units_heard}
 use Rattle.domain_world.proofs.Accepting.Turns.TurnFactLaws.{AreApart, GrowsTo, SameEnds, apart_from, apart_front, marks_before, past_at, taken_stays, world_in}
 use Rattle.domain_world.proofs.Accepting.Turns.TurnMarkLaws.{marks_known}
 use Rattle.domain_world.proofs.Apart.HappeningLaws.{run_same}
-use Rattle.domain_world.proofs.Apart.NamedPlanLaws.{NamesStand}
+use Rattle.domain_world.proofs.Apart.NamedPlanLaws.{NamesStand, plain_same}
 use Rattle.domain_world.proofs.Apart.OrderToldLaws.{IsEarlier, RepliesFrom, within}
 use Rattle.domain_world.proofs.Apart.TogetherBookLaws.{passed_units, units_if}
 use Rattle.domain_world.proofs.Apart.TogetherTakeLaws.{IsSetReply, WaitsBy}
@@ -134,7 +134,7 @@ pub record IsSetOut (b : Book) (c : Requester) (d : ChannelIdentity) : Type 0 wh
 
 -- ---- by the last book
 
-module _ (plan : Plan) (moves : List Move) (nobody : HandsNothingOn plan) (schedule : IsSchedule plan moves) (clear : IsClear (past plan moves).book) where
+module _ (plan : Plan) (moves : List Move) (nobody : IsPlainAlone plan) (schedule : IsSchedule plan moves) (clear : IsClear (past plan moves).book) where
   abbrev p : Past
   p = past plan moves
 
@@ -152,7 +152,7 @@ module _ (plan : Plan) (moves : List Move) (nobody : HandsNothingOn plan) (sched
   answered_last taken turn =
       let heard : UnitsAreHeard p = units_heard plan moves nobody schedule in
       let replies = replies_carry plan moves nobody in
-      let its = replies_to p heard.whole (marks_have_their_way plan moves) heard.judged (passes_unclashed plan moves) replies heard.numbers clear.apart heard.openings taken turn in
+      let its = replies_to p heard.whole (marks_have_their_way plan moves nobody.plain) heard.judged (passes_unclashed plan moves) replies heard.numbers clear.apart heard.openings taken turn in
       let replied = subst (λ (m : Mark). IsReplyOfOne p.book.judged taken.reply (plain_form p.book.sent taken.reply turn.carrier) m) its.mark (replies taken.reply turn.carrier its.sent turn.there its.there) in
       one_weaker (λ (j : Judging). (j.reply ≡ Some taken.reply) × IsReplyOfCall its.channel its.number taken.call j (plain_form p.book.sent taken.reply turn.carrier)) (IsAnswering taken turn) p.book.judged
       (λ j of. record { reply = of.0; channel = its.channel; number = its.number; of = of.1 }) replied
@@ -167,8 +167,8 @@ module _ (plan : Plan) (moves : List Move) (nobody : HandsNothingOn plan) (sched
   ends_last s names =
       let same = (run_same moves (first_world plan)).ends in
       record {
-        controllers = sym names.ends.controllers ∙ sym same.controllers;
-        members = sym names.ends.members ∙ sym same.members;
+        controllers = sym names.ends.controllers ∙ (plain_same plan).controllers ∙ sym same.controllers;
+        members = sym names.ends.members ∙ (plain_same plan).members ∙ sym same.members;
         clients = sym names.ends.clients ∙ sym same.clients;
       }
 
@@ -194,7 +194,7 @@ module _ (plan : Plan) (moves : List Move) (nobody : HandsNothingOn plan) (sched
 
   pub apart_at : (s : State) (b : Book) → Leads s b → AreApart (links_in b.messages)
   apart_at s b leads =
-      apart_front (links_in b.messages) leads.earlier.links (subst AreApart leads.earlier.messages (apart_from last.messages (messages_apart plan moves)))
+      apart_front (links_in b.messages) leads.earlier.links (subst AreApart leads.earlier.messages (apart_from last.messages (messages_apart plan moves nobody.plain)))
 
   -- what is known of the calls of a member's turns
   calls_at : (n : ℕ) (s : State) (given : Given) (b : Book) → OwnHolds plan n s given b → Leads s b → n ≤ most_steps → Differ s.chances.drawn → (member controller : ℕ) (running : Running) →

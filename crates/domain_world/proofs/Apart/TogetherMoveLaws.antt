@@ -23,7 +23,7 @@ use Rattle.world_moves.specs.declared.links.EndId.TheVariants.{Client, Controlle
 use Rattle.world_moves.specs.declared.links.Route.{Route}
 use Rattle.world_moves.specs.declared.state.State.{State}
 use Rattle.world_moves.specs.Acting.{Given, forget, given_by, perform_quietly, plans_after, shut_link}
-use Rattle.world_moves.specs.Ends.{EndStates, EndStep, actions_by, client_step, member_step}
+use Rattle.world_moves.specs.Ends.{EndStates, EndStep, actions_by, client_step}
 use Rattle.world_moves.specs.Links.{acceptor_of}
 use Rattle.world_moves.specs.Moving.{settle, with_link}
 use Rattle.domain_world.specs.Accepting.Carried.{IsWholeUnit}
@@ -52,6 +52,7 @@ use Rattle.domain_world.proofs.Calls.CallStepLaws.{most_steps}
 use Rattle.domain_world.proofs.Calls.CalledUnitLaws.{heard_still}
 use Rattle.domain_world.proofs.Calls.LooserLaws.{calls_before}
 use Rattle.world_moves.specs.Alone.{alone_controller_step as controller_step, alone_end_step as end_step, hear_alone as hear}
+use Rattle.world_moves.specs.Plain.{plain_member_step as member_step}
 use Rattle.domain_world.proofs.Frames.AloneStepLaws.{act_alone as hear_and_act}
 use Rattle.domain_world.proofs.Frames.MoveKeepLaws.{IsHeard, KeepsMoves, MoveFact, Progress, coming, started, waiting, with_rest}
 

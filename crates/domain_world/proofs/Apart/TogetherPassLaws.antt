@@ -21,7 +21,7 @@ use Rattle.domain_world.proofs.Apart.OrderToldLaws.{IsEarlier}
 use Rattle.domain_world.proofs.Accepting.AnsweredRunLaws.{is_proved}
 use Rattle.domain_world.proofs.Apart.TogetherBookLaws.{AllJudgedSo, IsTakenSo, Pairing, is_taken, passed_units, units_if}
 use Rattle.domain_world.proofs.Moves.DrawnRunLaws.{draws_differ}
-use Rattle.world_moves.specs.Alone.{HandsNothingOn}
+use Rattle.world_moves.specs.Alone.{IsPlainAlone}
 
 -- ---- no call in a unit passes twice
 
@@ -113,7 +113,7 @@ module _ (p : Pairing) (r : Requests ℕ) (held : SecretsState) (out : Option �
 
 -- ---- of schedules
 
-pub schedules_pass_once : (plan : Plan) (moves : List Move) → HandsNothingOn plan → IsSchedule plan moves → IsClear (past plan moves).book → PassOnce (past plan moves).book.judged
+pub schedules_pass_once : (plan : Plan) (moves : List Move) → IsPlainAlone plan → IsSchedule plan moves → IsClear (past plan moves).book → PassOnce (past plan moves).book.judged
 schedules_pass_once plan moves nobody schedule clear =
     once_by_places (past plan moves).book.judged
     (no_twice (past plan moves) (is_proved plan moves nobody (draws_differ plan moves)) (heard_in plan moves nobody (units_heard plan moves nobody schedule) (draws_differ plan moves)) clear)

@@ -34,7 +34,7 @@ use Rattle.world_moves.specs.Ends.{EndStates}
 use Rattle.world_moves.specs.Forms.{HasForms, IsBlock, IsMemberPlan, IsSchedule}
 use Rattle.world_moves.specs.MemberPlans.{but_secret}
 use Rattle.world_moves.specs.Moving.{end_of_peer}
-use Rattle.world_moves.specs.World.{first_ends, first_world}
+use Rattle.world_moves.specs.World.{first_ends}
 use Rattle.domain_world.specs.Claims.AcceptedOpenings.{AsksAlone}
 use Rattle.domain_world.specs.Claims.Hashes.{hash_after, hash_at}
 use Rattle.domain_world.specs.Claims.NeverApart.{BeginsAlike, HasItsAccount, IsAmong, IsNeverApart}
@@ -42,7 +42,7 @@ use Rattle.domain_world.specs.Past.{Delivery, controller_number, controller_of_p
 use Rattle.domain_world.proofs.Quiet.QuietRunLaws.{bytes_handed, has_bytes, is_quiet}
 use Rattle.domain_world.proofs.Apart.HappeningLaws.{alike_place}
 use Rattle.domain_world.proofs.Apart.KeptTextLaws.{Kept, first_keeps, kept_keeps, secrets_in}
-use Rattle.domain_world.proofs.Apart.NamedPlanLaws.{NamesStand}
+use Rattle.domain_world.proofs.Apart.NamedPlanLaws.{NamesStand, plain_same}
 use Rattle.domain_world.proofs.Apart.OrderMoveLaws.{Known, OrderMove, known_first, known_keep, order_first, order_moves, suits_known}
 use Rattle.domain_world.proofs.Apart.OrderSuitLaws.{SuitSide}
 use Rattle.domain_world.proofs.Apart.TogetherBookLaws.{Pairing, hash_is, hash_now}
@@ -62,7 +62,8 @@ use Rattle.domain_world.proofs.Calls.CallHoldsLaws.{CallsHold, controller_same}
 use Rattle.domain_world.proofs.Frames.AloneFrameLaws.{moves_keep_alone}
 use Rattle.domain_world.proofs.Frames.MoveKeepLaws.{Both, KeepsMoves, MoveFact, NoSide, Progress, beside, coming, join_moves, started}
 use Rattle.domain_world.proofs.Accepting.Heard.BoundOpeningLaws.{AsksWell, all_fresh_so, asks_written, no_part as nothing_told}
-use Rattle.world_moves.specs.Alone.{HandsNothingOn}
+use Rattle.world_moves.specs.Alone.{IsPlainAlone}
+use Rattle.world_moves.specs.Plain.{plain_world}
 use Rattle.domain_controller.proofs.TrustPlaceLaws.{got_all}
 
 -- a fact that rests on one side rests on another that has it
@@ -136,7 +137,7 @@ pub its_place : (plan : Plan) (member : ℕ) (begins : BeginsAlike plan member) 
 its_place plan member begins = placed_at begins.table.accounts (machine_name begins.own.computer) begins.account begins.found
 
 -- its hash is that by the calls that set one
-pub hash_of_run : (plan : Plan) (moves : List Move) → HandsNothingOn plan → (member : ℕ) (begins : BeginsAlike plan member) (has : HasItsAccount (past plan moves) member begins) →
+pub hash_of_run : (plan : Plan) (moves : List Move) → IsPlainAlone plan → (member : ℕ) (begins : BeginsAlike plan member) (has : HasItsAccount (past plan moves) member begins) →
     has.account.hash ≡ hash_now begins.secret begins.controller (its_place plan member begins).place (past plan moves).book.judged
 hash_of_run plan moves nobody member begins has =
     let first : IsPlacedAt begins.table.accounts (machine_name begins.own.computer) begins.account = its_place plan member begins in
@@ -149,7 +150,7 @@ hash_of_run plan moves nobody member begins has =
     (sym last.found ∙ alike_place (machine_name begins.own.computer) begins.table.accounts has.state.table.accounts differ.accounts ∙ first.found) in
     let hash : Option (List ℕ) → Type 0 = λ found. found ≡ hash_after (hash_at begins.table first.place) begins.controller first.place (past plan moves).book.judged in
     let now : hash_at has.state.table first.place ≡ hash_after (hash_at begins.table first.place) begins.controller first.place (past plan moves).book.judged =
-    hashes_follow plan moves begins.controller has.state begins.table begins.is_table has.at first.place in
+    hashes_follow plan moves nobody.plain begins.controller has.state begins.table begins.is_table has.at first.place in
     let old : hash_at begins.table first.place ≡ Some begins.secret = ap (option_map (λ (a : Account). a.hash)) first.there ∙ ap (λ (h : List ℕ). Some h) begins.hash in
     let new : hash_at has.state.table first.place ≡ Some has.account.hash =
     ap (λ (k : ℕ). hash_at has.state.table k) (sym same) ∙ ap (option_map (λ (a : Account). a.hash)) last.there in
@@ -207,7 +208,11 @@ module _ (plan : Plan) (member : ℕ) (begins : BeginsAlike plan member) (place 
         tries = λ at m there. one_tries s.ends.members at m there known.1.0;
         texts = known.0.1.1;
         there = first_there;
-        asks = controller_same (slice_get s.member_plans member) (first_ends plan) s.ends (record { controllers = sym names.ends.controllers; members = sym names.ends.members; clients = sym names.ends.clients })
+        asks = controller_same (slice_get s.member_plans member) (first_ends plan) s.ends (record {
+          controllers = sym names.ends.controllers ∙ (plain_same plan).controllers;
+          members = sym names.ends.members ∙ (plain_same plan).members;
+          clients = sym names.ends.clients;
+        })
             ∙ plan_asks (slice_get s.member_plans member) (first_ends plan) (own_alike s names) begins.reaches;
         named = λ few differ running there.
             let holds : CallsHold n s.member_plans s.ends s.chances.drawn s.links b.sent b.messages = known.0.0.0.1.0.0.0.1 few differ in
@@ -221,11 +226,11 @@ module _ (plan : Plan) (member : ℕ) (begins : BeginsAlike plan member) (place 
 
   -- ---- a run
 
-  first_together : TogetherSo p [] (first_world plan).state.member_plans (first_world plan).state.ends.members blank
+  first_together : TogetherSo p [] (plain_world plan).state.member_plans (plain_world plan).state.ends.members blank
   first_together st there =
       let made = got_map fresh_member plan.members member st there in
       let own : begins.own ≡ made.0 = some_is begins.own made.0 (sym begins.is_plan ∙ made.1) in
-      subst (λ (x : MemberState). TiesHold p [] (first_world plan).state.member_plans blank x.running) (ap fresh_member own ∙ made.2) (record {
+      subst (λ (x : MemberState). TiesHold p [] (plain_world plan).state.member_plans blank x.running) (ap fresh_member own ∙ made.2) (record {
         coherent = (tries_its_secrets.fresh begins.own).coherent;
         out = None;
         waits = refl;
@@ -247,7 +252,7 @@ module _ (plan : Plan) (member : ℕ) (begins : BeginsAlike plan member) (place 
       (seed_alike member s.member_plans running.logons.plan own is (seeded member [] s.member_plans s.ends.members running there help.texts)) _ ties.together.among
 
   -- at first
-  pub first_beneath : (moves : List Move) → IsSchedule plan moves → AreSecrets begins.own.secrets → (on : Option Delivery) → Beneath 0 (started 0 on) (first_world plan).state [] blank
+  pub first_beneath : (moves : List Move) → IsSchedule plan moves → AreSecrets begins.own.secrets → (on : Option Delivery) → Beneath 0 (started 0 on) (plain_world plan).state [] blank
   first_beneath moves schedule are on = (
     (
       ((known_first plan (asker_for p) (asks_alone plan member begins) moves schedule on), order_first plan (asker_for p) (asks_alone plan member begins)),
@@ -269,13 +274,13 @@ module _ (plan : Plan) (member : ℕ) (begins : BeginsAlike plan member) (place 
     all_keep : KeepsMoves (Unit {0}) NoSide (Both More Together)
     all_keep = join_moves (Unit {0}) More Together more_keep (sided (TogetherSide p Knows More) More Together side_of (together_moves p Knows More known fits))
 
-    run_together : (moves : List Move) → HandsNothingOn plan → IsSchedule plan moves → ((on : Option Delivery) → More 0 (started 0 on) (first_world plan).state [] blank) →
+    run_together : (moves : List Move) → IsPlainAlone plan → IsSchedule plan moves → ((on : Option Delivery) → More 0 (started 0 on) (plain_world plan).state [] blank) →
         HoldsAfterMoves (Unit {0}) (Both More Together) plan moves
     run_together moves nobody schedule first =
         moves_keep_alone (Unit {0}) (Both More Together) all_keep plan moves nobody (λ unit. has_bytes plan moves nobody schedule) (λ on. (first on, λ few differ knows. first_together))
 
     -- the hash is among the secrets that it holds, and among those that it kept
-    pub never_apart_so : (moves : List Move) → HandsNothingOn plan → IsSchedule plan moves → ((on : Option Delivery) → More 0 (started 0 on) (first_world plan).state [] blank) →
+    pub never_apart_so : (moves : List Move) → IsPlainAlone plan → IsSchedule plan moves → ((on : Option Delivery) → More 0 (started 0 on) (plain_world plan).state [] blank) →
         (has : HasItsAccount (past plan moves) member begins) → has.account.hash ≡ hash_now begins.secret begins.controller place (past plan moves).book.judged →
         Knows (past plan moves).world.state.bag (past plan moves).book → IsNeverApart (past plan moves) member begins
     never_apart_so moves nobody schedule first has hash knows =

@@ -81,11 +81,12 @@ use Rattle.world_moves.specs.declared.moves.Move.{Move}
 use Rattle.world_moves.specs.declared.plan.Plan.{Plan}
 use Rattle.world_moves.specs.declared.state.State.{State}
 use Rattle.world_moves.specs.Acting.{Given, AfterHearing, heard_by}
-use Rattle.world_moves.specs.Alone.{HandsNothingOn}
-use Rattle.world_moves.specs.Ends.{EndStep, member_step}
+use Rattle.world_moves.specs.Alone.{IsPlainAlone}
+use Rattle.world_moves.specs.Ends.{EndStep}
 use Rattle.world_moves.specs.Forms.{IsSchedule, IsTable}
 use Rattle.world_moves.specs.Links.{kind_of}
 use Rattle.world_moves.proofs.LinkFrameLaws.{actions_stay}
+use Rattle.world_moves.specs.Plain.{plain_member_step as member_step}
 use Rattle.std.proofs.lemmas.List.Elements.{recursion_from_All}
 use Rattle.wire_base.proofs.ListLaws.{got_append}
 use Rattle.domain_world.specs.Accepting.Carried.{IsTakenInTurn}
@@ -264,7 +265,7 @@ still_stepped end what s =
 
 -- ---- of a member that begins alike
 
-module _ (plan : Plan) (moves : List Move) (nobody : HandsNothingOn plan) (schedule : IsSchedule plan moves) (clear : IsClear (past plan moves).book) (member : ℕ) (begins : BeginsAlike plan member) where
+module _ (plan : Plan) (moves : List Move) (nobody : IsPlainAlone plan) (schedule : IsSchedule plan moves) (clear : IsClear (past plan moves).book) (member : ℕ) (begins : BeginsAlike plan member) where
   abbrev p : Past
   p = past plan moves
 

@@ -47,7 +47,7 @@ use Rattle.world_moves.specs.declared.moves.Move.{Move}
 use Rattle.world_moves.specs.declared.plan.Plan.{Plan}
 use Rattle.world_moves.specs.declared.state.State.{State}
 use Rattle.world_moves.specs.Acting.{Given}
-use Rattle.world_moves.specs.Alone.{HandsNothingOn, alone_controller_step as controller_step}
+use Rattle.world_moves.specs.Alone.{IsPlainAlone, alone_controller_step as controller_step}
 use Rattle.world_moves.specs.Forms.{IsSchedule}
 use Rattle.outside.specs.declared.event.Event.TheVariants as event
 use Rattle.domain_world.specs.Accepting.Carried.{IsWholeUnit}
@@ -194,7 +194,7 @@ sets_if (Some channel) j place sets = sets_at j.asked j.table place sets
 
 -- ---- a controller
 
-module _ (plan : Plan) (moves : List Move) (nobody : HandsNothingOn plan) (schedule : IsSchedule plan moves) (clear : IsClear (past plan moves).book)
+module _ (plan : Plan) (moves : List Move) (nobody : IsPlainAlone plan) (schedule : IsSchedule plan moves) (clear : IsClear (past plan moves).book)
     (none_foreign : has_foreign_set (past plan moves).book.judged ≡ false) (member : ℕ) (begins : BeginsAlike plan member) where
   abbrev last : Book
   last = (past plan moves).book
@@ -229,7 +229,7 @@ module _ (plan : Plan) (moves : List Move) (nobody : HandsNothingOn plan) (sched
         well = got_all (IsJudgedWell bag) last.judged at j (judged_stand plan moves nobody schedule).judged there;
         by = got_all (IsByPlan plan) last.judged at j (stand_after plan moves nobody).judged there;
         requested = λ channel n passed came.
-            called (past plan moves) heard.whole (marks_have_their_way plan moves) heard.judged (passes_unclashed plan moves) (replies_carry plan moves nobody) heard.numbers clear.apart at channel j n
+            called (past plan moves) heard.whole (marks_have_their_way plan moves nobody.plain) heard.judged (passes_unclashed plan moves) (replies_carry plan moves nobody) heard.numbers clear.apart at channel j n
             j.number there passed came refl;
       })
 

@@ -25,7 +25,7 @@ use Rattle.domain_world.proofs.Judgements.Openings.OpeningRunLaws.{openings_in_o
 use Rattle.domain_world.proofs.Calls.CallHoldsLaws.{mark_there, marks_in}
 use Rattle.domain_world.proofs.Sequences.ReplyCallLaws.{replies_answer}
 use Rattle.domain_world.proofs.Moves.MarkedLaws.{each_marked}
-use Rattle.world_moves.specs.Alone.{HandsNothingOn}
+use Rattle.world_moves.specs.Alone.{IsPlainAlone}
 
 -- ---- none twice
 
@@ -84,10 +84,10 @@ module _ (p : Past) (even : length p.book.sent ≡ length p.world.state.bag) (an
       (answers n unit.0 found.0 c number request unit.1 found.1 found.2).passed
 
 -- so it is of each schedule without a clash
-pub schedules_tell : (plan : Plan) (moves : List Move) → HandsNothingOn plan → IsSchedule plan moves → (past plan moves).book.clash ≡ false → Told (past plan moves).book
+pub schedules_tell : (plan : Plan) (moves : List Move) → IsPlainAlone plan → IsSchedule plan moves → (past plan moves).book.clash ≡ false → Told (past plan moves).book
 schedules_tell plan moves nobody schedule clear = record {
   clash = clear;
-  once = once_by_pairs (past plan moves).book.accepted (openings_in_order plan moves).once;
+  once = once_by_pairs (past plan moves).book.accepted (openings_in_order plan moves nobody.plain).once;
   openings = all_weaker (λ (one : ChannelAccepted). (n : ℕ) → one.source ≡ InUnit n → IsMarkedAsOpened (past plan moves) one n) (OpensIn (marks_in (past plan moves).book.sent))
       (past plan moves).book.accepted (opens_one (past plan moves) (replies_to_openings plan moves nobody schedule clear)) (openings_marked plan moves nobody schedule);
   replies = request_is (past plan moves) (each_marked plan moves) (replies_answer plan moves nobody schedule clear);

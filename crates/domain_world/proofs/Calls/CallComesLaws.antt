@@ -38,8 +38,9 @@ use Rattle.world_moves.specs.declared.links.Route.{Route}
 use Rattle.world_moves.specs.declared.links.Route.TheVariants.{ToController}
 use Rattle.world_moves.specs.declared.state.State.{State}
 use Rattle.world_moves.specs.Acting.{heard_by, perform_all, unit_on}
-use Rattle.world_moves.specs.Ends.{EndStep, actions_by, member_step}
+use Rattle.world_moves.specs.Ends.{EndStep, actions_by}
 use Rattle.world_moves.specs.Alone.{alone_controller_step as controller_step}
+use Rattle.world_moves.specs.Plain.{plain_member_step as member_step}
 use Rattle.domain_world.specs.Accepting.SeenSteps.{HearsNone, IsPlaced, NoRequests, requests_after}
 use Rattle.domain_world.specs.Accepting.Answered.{IsItsWay}
 use Rattle.domain_world.specs.Past.{Delivery, at_controller, at_member, first_of, marks_of, note_messages, numbers_on, sent_at, controller_asked}

@@ -39,12 +39,11 @@ use Rattle.world_moves.specs.declared.plan.Plan.{Plan}
 use Rattle.world_moves.specs.declared.state.State.{State}
 use Rattle.world_moves.specs.Acting.{Given, plans_after}
 use Rattle.world_moves.specs.Draws.{DrawsDiffer}
-use Rattle.world_moves.specs.Ends.{EndStates, EndStep, member_step}
+use Rattle.world_moves.specs.Ends.{EndStates, EndStep}
 use Rattle.world_moves.specs.Forms.{IsSchedule}
 use Rattle.world_moves.specs.Links.{acceptor_of, kind_of}
 use Rattle.world_moves.specs.Moving.{begun, with_link, changed}
-use Rattle.world_moves.specs.World.{first_world}
-use Rattle.world_moves.specs.Alone.{HandsNothingOn, alone_controller_step as controller_step, hear_alone as hear}
+use Rattle.world_moves.specs.Alone.{IsPlainAlone, alone_controller_step as controller_step, hear_alone as hear}
 use Rattle.world_moves.proofs.EndKindLaws.{IfMember}
 use Rattle.domain_world.specs.Accepting.SeenSteps.{NoRequests}
 use Rattle.domain_world.specs.Accepting.Carried.{IsWholeUnit}
@@ -57,7 +56,7 @@ use Rattle.domain_world.proofs.Frames.AloneStepLaws.{act_alone as hear_and_act, 
 use Rattle.domain_world.proofs.Accepting.LetInStepLaws.{IsDialledBy, Meets, MeetsMember, calm_meets, last_accepted, side_meets}
 use Rattle.domain_world.proofs.Quiet.QuietRunLaws.{one_piece, has_bytes, is_quiet, quiet_first, quiet_keeps}
 use Rattle.domain_world.proofs.Quiet.QuietStepLaws.{QuietAction, QuietFact}
-use Rattle.domain_world.proofs.Accepting.RunBeginLaws.{first_apart}
+use Rattle.domain_world.proofs.Accepting.RunBeginLaws.{plain_apart}
 use Rattle.domain_world.proofs.Frames.BagFrameLaws.{IsServer}
 use Rattle.domain_world.proofs.Moves.ComingLaws.{CameFrom, CameInUnit, IsPieceOf, came_in_unit}
 use Rattle.domain_world.proofs.Moves.MarkPlaceLaws.{got_map}
@@ -74,6 +73,7 @@ use Rattle.domain_world.proofs.Calls.ByRequesterLaws.{by_requester, by_requester
 use Rattle.authenticators.specs.Channels.{ChannelIdentity}
 use Rattle.world_moves.proofs.ChangeLaws.{by_change}
 use Rattle.world_moves.proofs.KeptLaws.{plans_alike}
+use Rattle.world_moves.specs.Plain.{plain_member_step as member_step, plain_world}
 
 -- ---- a unit that comes on the link of a turn is whole, and comes in one piece
 
@@ -266,12 +266,12 @@ fresh_holds controller k plan =
     record { asks = fresh_asks plan; kept = (tt, tt); accepts = tt; out = λ pending logon turn reply there. absurd (none_out pending turn) }
 
 -- nothing was asked yet
-pub first_calls : (plan : Plan) → CallsKept 0 (first_world plan).state [] blank
+pub first_calls : (plan : Plan) → CallsKept 0 (plain_world plan).state [] blank
 first_calls plan = λ few differ. record {
-  apart = first_apart plan;
+  apart = plain_apart plan;
   members = λ k m there.
       let found = got_map fresh_member plan.members k m there in
-      subst (λ (x : MemberState). MemberHolds [] [] [] (controller_asked (OfMember k) (first_world plan).state) k x.running) found.2 (fresh_holds _ k found.0);
+      subst (λ (x : MemberState). MemberHolds [] [] [] (controller_asked (OfMember k) (plain_world plan).state) k x.running) found.2 (fresh_holds _ k found.0);
   accepted = tt;
   answered = tt;
 }
@@ -327,7 +327,7 @@ calls_stand plan moves steps kept few schedule differ =
 
 -- so a schedule whose draws differ stands as it is to, where any fact is kept by which its ends are quiet
 pub stand_so : (Quiet : RunFact) (Fine : ActionFact) → ((n : ℕ) (s : State) (given : Given) (b : Book) → Quiet n s given b → IsQuiet s) → StepKeeps NoFact Quiet Fine →
-    (plan : Plan) (moves : List Move) → HandsNothingOn plan → Quiet 0 (first_world plan).state [] blank → HasBytes plan moves → IsSchedule plan moves →
+    (plan : Plan) (moves : List Move) → IsPlainAlone plan → Quiet 0 (plain_world plan).state [] blank → HasBytes plan moves → IsSchedule plan moves →
     DrawsDiffer (past plan moves).world → RunsStandSo plan moves
 stand_so Quiet Fine so keeps plan moves nobody first bytes schedule differ =
     let both : StepKeeps NoFact (BothFacts Quiet CallsKept) (BothFine Fine AnyAction) =

@@ -22,7 +22,7 @@ use Rattle.step_notes.proofs.Members.CallKeptLaws.{fresh_asks, change_asks}
 use Rattle.step_notes.proofs.Members.KeptLogonLaws.{Dials}
 use Rattle.step_notes.proofs.Members.UnservedLaws.{Opens}
 use Rattle.world_moves.specs.declared.links.Route.{Route}
-use Rattle.world_moves.specs.Ends.{EndStates, client_step, member_step, with_client, with_member}
+use Rattle.world_moves.specs.Ends.{EndStates, client_step, with_client, with_member}
 use Rattle.world_moves.specs.Alone.{alone_controller_step as controller_step}
 use Rattle.domain_world.specs.Accepting.SeenSteps.{CoherentIf, Differ, HearsNone, requests_after, seen_or, seen_running}
 use Rattle.domain_world.specs.Past.{controller_of_plan}
@@ -32,6 +32,7 @@ use Rattle.domain_world.proofs.Calls.OutStepLaws.{MemberHolds, StaysKnown, none_
 use Rattle.domain_world.proofs.Calls.StepApartLaws.{other_apart, seen_member}
 use Rattle.domain_world.proofs.Calls.LooserLaws.{looser}
 use Rattle.world_moves.proofs.ChangeLaws.{member_begun}
+use Rattle.world_moves.specs.Plain.{plain_member_step as member_step}
 
 -- more steps than those of a schedule, and few enough that no number comes round
 abbrev pub most_steps : ℕ

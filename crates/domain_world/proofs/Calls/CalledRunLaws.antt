@@ -17,8 +17,8 @@ use Rattle.world_moves.specs.declared.moves.Move.{Move}
 use Rattle.world_moves.specs.declared.plan.Plan.{Plan}
 use Rattle.world_moves.specs.declared.state.State.{State}
 use Rattle.world_moves.specs.Acting.{Given}
-use Rattle.world_moves.specs.World.{first_world}
-use Rattle.world_moves.specs.Alone.{HandsNothingOn}
+use Rattle.world_moves.specs.Alone.{IsPlainAlone}
+use Rattle.world_moves.specs.Plain.{plain_world}
 use Rattle.domain_world.specs.Accepting.Carried.{IsCalledFor, MessagesAreCalled}
 use Rattle.domain_world.specs.Claims.{info_asked}
 use Rattle.domain_world.specs.Past.{past}
@@ -75,7 +75,7 @@ all_own (message ∷ messages) apart = (
 
 -- in every run
 pub messages_called : (Holds : RunFact) (Fine : ActionFact) → StepKeeps NoFact Holds Fine → ((n : ℕ) (s : State) (given : Given) (b : Book) → Holds n s given b → CallSide s) →
-    (plan : Plan) (moves : List Move) → HandsNothingOn plan → HasBytes plan moves → Holds 0 (first_world plan).state [] blank → MessagesAreCalled (past plan moves)
+    (plan : Plan) (moves : List Move) → IsPlainAlone plan → HasBytes plan moves → Holds 0 (plain_world plan).state [] blank → MessagesAreCalled (past plan moves)
 messages_called Holds Fine keeps gives plan moves nobody has holds =
     let messages : List MessageTaken = (past plan moves).book.messages in
     let bag : List BagUnit = (past plan moves).world.state.bag in
@@ -94,7 +94,7 @@ messages_called Holds Fine keeps gives plan moves nobody has holds =
       again = at.again;
       info = own at.logon at.asked;
       level = at.level;
-    }) called (all_own messages (messages_apart plan moves))
+    }) called (all_own messages (messages_apart plan moves nobody.plain))
 
 -- ---- by what keeps the ends quiet
 

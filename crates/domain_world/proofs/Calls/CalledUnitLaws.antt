@@ -47,7 +47,7 @@ use Rattle.world_moves.specs.declared.links.Route.TheVariants.{ToController}
 use Rattle.world_moves.specs.declared.state.State.{State}
 use Rattle.world_moves.specs.Acting.{Given, AfterHearing, done, heard_by, perform_all, perform_quietly, unit_on}
 use Rattle.world_moves.specs.Choosing.{places_from}
-use Rattle.world_moves.specs.Ends.{EndStep, actions_by, member_step}
+use Rattle.world_moves.specs.Ends.{EndStep, actions_by}
 use Rattle.world_moves.specs.Links.{is_accepted_by, is_own, kind_of}
 use Rattle.world_moves.specs.Alone.{hear_alone}
 use Rattle.domain_world.specs.Claims.{info_asked}
@@ -57,6 +57,7 @@ use Rattle.step_notes.proofs.Members.KeptLogonLaws.{IfDialled, OfEach, each_foun
 use Rattle.step_notes.proofs.Members.RequestOrderLaws.{requests_first}
 use Rattle.world_moves.proofs.LinkFrameLaws.{actions_stay}
 use Rattle.world_moves.proofs.QuietLaws.{sent_goes}
+use Rattle.world_moves.specs.Plain.{plain_member_step as member_step}
 use Rattle.domain_world.proofs.Frames.AloneNoteLaws.{note_alone as note_at, note_controller_alone as note_controller}
 use Rattle.domain_world.proofs.Frames.AloneStepLaws.{act_alone as hear_and_act}
 use Rattle.domain_world.proofs.Accepting.LetInLaws.{none_if_taken}

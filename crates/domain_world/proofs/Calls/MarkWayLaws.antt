@@ -49,19 +49,21 @@ use Rattle.world_moves.specs.declared.state.State.{State}
 use Rattle.world_moves.specs.declared.links.EndId.{EndId}
 use Rattle.world_moves.specs.declared.links.EndId.TheVariants.{Controller, Member, Client}
 use Rattle.world_moves.specs.declared.links.Route.{Route}
-use Rattle.world_moves.specs.Acting.{AfterHearing, hear_and_act, heard_by}
+use Rattle.world_moves.specs.Acting.{AfterHearing, heard_by}
 use Rattle.world_moves.specs.Bag.{settle_at}
-use Rattle.world_moves.specs.Ends.{EndStep, client_step, controller_step, member_step}
+use Rattle.world_moves.specs.Ends.{EndStep, client_step}
 use Rattle.domain_world.specs.Accepting.Answered.{IsItsWay, MarksHaveTheirWay}
 use Rattle.domain_world.specs.Past.{Delivery, answers_of, asked_in_turn, asking_by, asking_marks, asking_notes, at_controller, beside_mark, controller_asked, forward_mark, heard_marks, is_sent_on, mark_or, marks_by, marks_of, note_at, note_given, note_messages, past, sent_at, still_waits}
 use Rattle.wire_base.proofs.ListLaws.{got_nothing, some_is}
 use Rattle.world_moves.proofs.LinkFrameLaws.{StaysOnLinks, actions_stay, quiet_stays}
+use Rattle.world_moves.specs.Plain.{NothingSeals, plain_controller_step as controller_step, plain_member_step as member_step}
 use Rattle.domain_world.proofs.Frames.BagFrameLaws.{IsMarked, IsOfUnit, IsServer, MarksStay, OfEachUnit, UnitFact, bag_at, each_more, marked_by, marked_more, member_marks, others_marked, settled_each}
 use Rattle.domain_world.proofs.Frames.FrameLaws.{Fact}
-use Rattle.domain_world.proofs.Frames.EveryStepLaws.{every_acted, stepped}
+use Rattle.domain_world.proofs.Frames.EveryStepLaws.{act_plain as hear_and_act, every_acted, stepped}
 use Rattle.domain_world.proofs.Moves.MarkPlaceLaws.{settled_length}
 use Rattle.domain_world.proofs.Moves.MarkedLaws.{heard_length}
-use Rattle.domain_world.proofs.Frames.MoveFrameLaws.{HoldsAfterMoves, moves_keep}
+use Rattle.domain_world.proofs.Frames.MoveFrameLaws.{HoldsAfterMoves}
+use Rattle.domain_world.proofs.Frames.PlainFrameLaws.{moves_keep_plain}
 use Rattle.domain_world.proofs.Frames.MoveKeepLaws.{AtWork, KeepsMovesBy, MoveFact, NoSide, every}
 use Rattle.domain_world.proofs.Moves.OpenMadeLaws.{IsMore, IsOnSide, MoreOf, goes_on, no_more, side_of}
 use Rattle.domain_world.proofs.Frames.TurnFrameLaws.{asked_book, asked_marks, turns_sent}
@@ -401,9 +403,9 @@ first_ways : (on : Option Delivery) → GoTheirWay on None [] [] []
 first_ways on = record { each = λ number one there. absurd (got_nothing number one there); all = all_on on [] [] [] refl }
 
 -- in every run
-pub marks_have_their_way : (plan : Plan) (moves : List Move) → MarksHaveTheirWay (past plan moves)
-marks_have_their_way plan moves number unit one there marked =
-    let after : HoldsAfterMoves ⊥ Ways plan moves = moves_keep ⊥ Ways ways_keep plan moves (λ none. absurd none) first_ways in
+pub marks_have_their_way : (plan : Plan) (moves : List Move) → NothingSeals plan → MarksHaveTheirWay (past plan moves)
+marks_have_their_way plan moves nothing number unit one there marked =
+    let after : HoldsAfterMoves ⊥ Ways plan moves = moves_keep_plain ⊥ Ways ways_keep plan moves nothing (λ none. absurd none) first_ways in
     let is : IsOfUnit OfUnit tt (past plan moves).world.state.bag number one.mark = after.holds.each number one marked in
     subst (λ (u : BagUnit). IsItsWay u.back one.mark) (some_is is.unit unit (sym is.there ∙ there)) is.holds
 

@@ -31,7 +31,7 @@ use Rattle.world_moves.specs.declared.plan.Plan.{Plan}
 use Rattle.world_moves.specs.declared.state.State.{State}
 use Rattle.world_moves.specs.Draws.{DrawsDiffer}
 use Rattle.world_moves.specs.Links.{acceptor_of}
-use Rattle.world_moves.specs.World.{first_world}
+use Rattle.world_moves.specs.Plain.{NothingSeals, plain_world}
 use Rattle.domain_world.specs.Claims.{IsUnusedChallenge}
 use Rattle.domain_world.specs.Claims.OwnChallenges.{HasOwnChallenge, MessagesHaveOwnChallenges}
 use Rattle.domain_world.specs.Past.{Delivery, Past, at_member, change_if, change_message, note_member, note_messages, note_turn, past, with_answer, with_call}
@@ -305,7 +305,7 @@ owns_on = record {
   anew = λ notes plan at members chances links kept. own_put notes members chances.drawn links at (fresh_member plan) kept tt;
 }
 
-first_owns : (plan : Plan) → AreOwn (notes_of blank) (first_world plan).state.ends.members (first_world plan).state.chances.drawn (first_world plan).state.links
+first_owns : (plan : Plan) → AreOwn (notes_of blank) (plain_world plan).state.ends.members (plain_world plan).state.chances.drawn (plain_world plan).state.links
 first_owns plan = record { drew = tt; apart = λ i j d lt within. absurd (omega (arith, within)); each = λ k m there. fresh_links plan.members (IsOwn [] [] k) k m there; messages = tt }
 
 -- a message that is its link's own is for its unused challenge, where no two draws are alike and no link took two
@@ -341,16 +341,16 @@ apart_so challenges drawn drew differ apart i j d lt within same =
     (All-from_recursion (IsDrawn drawn) challenges drew i d (omega (arith, lt, within)) ∙ ap (λ (challenge : List ℕ). Some challenge) same))
 
 -- in every run each link has its own CHALLENGE
-pub links_own : (plan : Plan) (moves : List Move) →
+pub links_own : (plan : Plan) (moves : List Move) → NothingSeals plan →
     AreOwn (notes_of (past plan moves).book) (past plan moves).world.state.ends.members (past plan moves).world.state.chances.drawn (past plan moves).world.state.links
-links_own plan moves = members_after notes_of Owns owns_on plan moves (first_owns plan)
+links_own plan moves nothing = members_after notes_of Owns owns_on plan moves nothing (first_owns plan)
 
 -- in every run whose draws differ each message is for the own unused challenge of its link
-pub messages_own : (plan : Plan) (moves : List Move) → DrawsDiffer (past plan moves).world → MessagesHaveOwnChallenges (past plan moves)
-messages_own plan moves differ =
+pub messages_own : (plan : Plan) (moves : List Move) → NothingSeals plan → DrawsDiffer (past plan moves).world → MessagesHaveOwnChallenges (past plan moves)
+messages_own plan moves nothing differ =
     let run : Past = past plan moves in
-    let kept : AreOwn (notes_of run.book) run.world.state.ends.members run.world.state.chances.drawn run.world.state.links = links_own plan moves in
+    let kept : AreOwn (notes_of run.book) run.world.state.ends.members run.world.state.chances.drawn run.world.state.links = links_own plan moves nothing in
     record {
-      each = bare_all run (own_unused run kept.drew differ (messages_once plan moves)) run.book.messages kept.messages;
+      each = bare_all run (own_unused run kept.drew differ (messages_once plan moves nothing)) run.book.messages kept.messages;
       apart = apart_so run.book.challenges run.world.state.chances.drawn kept.drew differ kept.apart;
     }

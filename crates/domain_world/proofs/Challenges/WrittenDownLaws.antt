@@ -14,6 +14,7 @@ use Rattle.wire_base.proofs.ListLaws.{one_weaker}
 use Rattle.step_notes.specs.Records.{MessageTaken}
 use Rattle.world_moves.specs.declared.moves.Move.{Move}
 use Rattle.world_moves.specs.declared.plan.Plan.{Plan}
+use Rattle.world_moves.specs.Plain.{NothingSeals}
 use Rattle.domain_world.specs.Claims.WrittenDown.{IsChallengeOf, IsMessageOf, MembersAreWrittenDown}
 use Rattle.domain_world.specs.Past.{Past, past}
 use Rattle.step_notes.proofs.Members.KeptLogonLaws.{HasFor, IsFor, KeptIn, each_found}
@@ -63,11 +64,11 @@ challenge_is run member (Some one) running number link bound challenge flags run
 
 -- ---- a run
 
-pub members_written_down : (plan : Plan) (moves : List Move) → MembersAreWrittenDown (past plan moves)
-members_written_down plan moves =
+pub members_written_down : (plan : Plan) (moves : List Move) → NothingSeals plan → MembersAreWrittenDown (past plan moves)
+members_written_down plan moves nothing =
     let run : Past = past plan moves in
-    let holds : HoldsOf run.world run.book = run_holds plan moves in
-    let own = links_own plan moves in
+    let holds : HoldsOf run.world run.book = run_holds plan moves nothing in
+    let own = links_own plan moves nothing in
     record {
       logons = λ member m running place logon at runs there.
           logon_is run member m.running running place logon (λ number. IsDialledBy run.world.state.links member number) runs (holds.keeps.each member m at) there;

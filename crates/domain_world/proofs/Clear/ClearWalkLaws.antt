@@ -55,7 +55,7 @@ use Rattle.domain_world.proofs.Moves.MemberPlanLaws.{found_but_secret}
 use Rattle.domain_world.proofs.Frames.AloneFrameLaws.{stands_first}
 use Rattle.world_moves.specs.Choosing.{chosen_place}
 use Rattle.world_moves.specs.declared.moves.Move.TheVariants as move
-use Rattle.world_moves.specs.Alone.{HandsNothingOn}
+use Rattle.world_moves.specs.Alone.{IsPlainAlone}
 
 -- ---- how far a logon is
 
@@ -333,11 +333,11 @@ module _ (plan : Plan) (is : IsPlan plan) (forms : HasForms plan) (servers : Has
 
 -- ---- a run
 
-first_along : (plan : Plan) (moves : List Move) → HandsNothingOn plan → ComesOneAtATime (past plan moves) moves → Along plan moves (first_world plan)
+first_along : (plan : Plan) (moves : List Move) → IsPlainAlone plan → ComesOneAtATime (past plan moves) moves → Along plan moves (first_world plan)
 first_along plan moves nobody comes =
     record { plain = comes.plain; quiet = comes.quiet; same = ends_stay.none (first_world plan).state; below = comes.schedule.forms.now; stands = stands_first plan nobody }
 
-with_servers : (plan : Plan) (moves : List Move) → HandsNothingOn plan → HasServers plan → NoneClashes (past plan moves) moves
+with_servers : (plan : Plan) (moves : List Move) → IsPlainAlone plan → HasServers plan → NoneClashes (past plan moves) moves
 with_servers plan moves nobody servers comes owns =
     let first : World = first_world plan in
     let is : IsPlan plan = comes.schedule.start in
@@ -346,7 +346,7 @@ with_servers plan moves nobody servers comes owns =
     (inl (record { rest = logons_come_to_rest.first plan is forms nobody; enough = first_enough plan (length moves) comes.schedule.few }, record { apart = refl; marked = refl }))
 
 -- by whether there is a controller, and a member
-by_servers : (plan : Plan) (moves : List Move) (nobody : HandsNothingOn plan) (tables : List AccountTable) (members : List MemberPlan) → plan.tables ≡ tables → plan.members ≡ members → NoneClashes (past plan moves) moves
+by_servers : (plan : Plan) (moves : List Move) (nobody : IsPlainAlone plan) (tables : List AccountTable) (members : List MemberPlan) → plan.tables ≡ tables → plan.members ≡ members → NoneClashes (past plan moves) moves
 by_servers plan moves nobody [] members no_table is comes owns = no_servers plan moves nobody comes.schedule (first_along plan moves nobody comes) (inl no_table)
 by_servers plan moves nobody (table ∷ tables) [] is no_member comes owns = no_servers plan moves nobody comes.schedule (first_along plan moves nobody comes) (inr no_member)
 by_servers plan moves nobody (table ∷ tables) (member ∷ members) is are comes owns =
@@ -360,5 +360,5 @@ by_servers plan moves nobody (table ∷ tables) (member ∷ members) is are come
       is_member_plan = ap (λ (all : List MemberPlan). slice_get all 0) are;
     }) comes owns
 
-pub none_clashes : (plan : Plan) (moves : List Move) → HandsNothingOn plan → NoneClashes (past plan moves) moves
+pub none_clashes : (plan : Plan) (moves : List Move) → IsPlainAlone plan → NoneClashes (past plan moves) moves
 none_clashes plan moves nobody = by_servers plan moves nobody plan.tables plan.members refl refl

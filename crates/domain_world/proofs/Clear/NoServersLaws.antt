@@ -43,7 +43,7 @@ use Rattle.logon_runs.proofs.AnyAnswer.AnyLogonLaws.{controller_within, many_con
 use Rattle.logon_runs.proofs.Scenes.StepOnLaws.{by_step}
 use Rattle.wire_base.proofs.ListLaws.{got_nothing, some_is}
 use Rattle.world_moves.specs.Choosing.{chosen_place}
-use Rattle.world_moves.specs.Alone.{HandsNothingOn, hear_alone}
+use Rattle.world_moves.specs.Alone.{IsPlainAlone, hear_alone}
 use Rattle.domain_world.specs.Past.{Delivery, book, controller_asked, note, note_member, past}
 use Rattle.domain_world.proofs.Frames.AloneNoteLaws.{note_alone as note_at}
 use Rattle.domain_world.proofs.Frames.AloneStepLaws.{act_alone}
@@ -149,7 +149,7 @@ clear_keeps = record {
   over = λ n at s given b quiet clear. clear;
 }
 
-pub clear_while : (plan : Plan) (moves : List Move) → HandsNothingOn plan → IsSchedule plan moves → AreToMembers (past plan moves).world.state.links → (past plan moves).book.clash ≡ false
+pub clear_while : (plan : Plan) (moves : List Move) → IsPlainAlone plan → IsSchedule plan moves → AreToMembers (past plan moves).world.state.links → (past plan moves).book.clash ≡ false
 clear_while plan moves nobody is all =
     let after : HoldsAfterRun (BothFacts QuietFact ClearFact) plan moves =
     run_keeps (BothFacts QuietFact ClearFact) (BothFine QuietAction AnyAction) (join QuietFact ClearFact QuietAction AnyAction quiet_keeps clear_keeps) plan moves nobody (has_bytes plan moves nobody is)
@@ -234,7 +234,7 @@ no_route (Controller from) None route never is = absurd (some_not is)
 
 no_controllers : (plan : Plan) (s : State) → plan.tables ≡ [] → HasSameEnds (first_world plan).state s → (peer : List ℕ) (at : ℕ) → end_of_peer peer s.ends ≡ Some (Controller at) → ⊥
 no_controllers plan s none same peer at is =
-    omega (arith, controller_within peer s.ends at is, same.ends.controllers, many_controllers plan.hands_on plan.tables plan.controllers, ap length none)
+    omega (arith, controller_within peer s.ends at is, same.ends.controllers, many_controllers plan.hands_on plan.seals plan.tables plan.controllers, ap length none)
 
 step_stays : (plan : Plan) (what : Move) (s : State) → plan.tables ≡ [] → HasSameEnds (first_world plan).state s → IsStepOn what → AreToMembers s.links → AreToMembers (act s what).state.links
 step_stays plan what s none same steps all =
@@ -373,7 +373,7 @@ clear_bare plan (what ∷ moves) w b none along bare clean =
 
 -- ---- a run
 
-pub no_servers : (plan : Plan) (moves : List Move) → HandsNothingOn plan → IsSchedule plan moves → Along plan moves (first_world plan) → (plan.tables ≡ []) ⊎ (plan.members ≡ []) → (past plan moves).book.clash ≡ false
+pub no_servers : (plan : Plan) (moves : List Move) → IsPlainAlone plan → IsSchedule plan moves → Along plan moves (first_world plan) → (plan.tables ≡ []) ⊎ (plan.members ≡ []) → (past plan moves).book.clash ≡ false
 no_servers plan moves nobody is along (inl tables) = clear_while plan moves nobody is (links_stay plan moves (first_world plan) tables along tt)
 no_servers plan moves nobody is along (inr members) =
     clear_bare plan moves (first_world plan) blank members along (record { links = refl; opened = refl; bag = refl; dials = tt }) (record { apart = refl; marked = refl })

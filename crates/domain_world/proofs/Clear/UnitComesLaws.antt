@@ -246,7 +246,7 @@ asks_lead s t next number what reply frames sent computers left moment count mar
     own_notes t.at_controller (Some came.number) b.sent (turn_units m t.link bytes s.moment s.chances.left)
     (subst (λ (all : List TurnNote). AllByRecursion (λ (note : TurnNote). clashes note.checked (Some came.number) b.sent ≡ false) all) (sym notes) (refl, tt)) in
     let has = member_comes s unit [] t.at_member came m shows.member t.at_controller (named_so s t names) k count b fine own in
-    let heard = waiting_comes.member s1 t.at_member m later (event.Bytes t.link bytes) s.chances.left sends shows.member
+    let heard = waiting_comes.member s1 t.at_member m later (event.Bytes t.link bytes) s.chances.left sends shows.member refl
     (ap₂ (λ (now : ℕ) (l : List (List ℕ)). member_step_of m (event.Bytes t.link bytes) now l) shows.moment shows.left
     ∙ steps
     ∙ ap (λ (l : List (List ℕ)). whole_step l l sends later) (sym shows.left)) in

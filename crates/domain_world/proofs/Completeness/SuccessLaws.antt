@@ -21,7 +21,7 @@ use Rattle.world_moves.specs.Choosing.{chosen_place}
 use Rattle.world_moves.specs.Forms.{HasForms}
 use Rattle.world_moves.specs.Moving.{act, start}
 use Rattle.world_moves.specs.World.{IsPlan, World, first_world, happens, outcome_by, run}
-use Rattle.world_moves.specs.Alone.{HandsNothingOn}
+use Rattle.world_moves.specs.Alone.{IsPlainAlone}
 use Rattle.logon_runs.specs.AnyAnswer.AnyLogons.{HasServers}
 use Rattle.logon_runs.specs.Scenes.Others.{IsStepOn}
 use Rattle.logon_runs.specs.Rests.{CanBeGranted, HasBegun, HasEnough, coming_of}
@@ -245,7 +245,7 @@ first_enough plan moves few = record {
   blocks = first_left_blocks plan;
 }
 
-pub each_succeeds : (plan : Plan) (moves : List Move) → HandsNothingOn plan → EachSucceeds (past plan moves) moves
+pub each_succeeds : (plan : Plan) (moves : List Move) → IsPlainAlone plan → EachSucceeds (past plan moves) moves
 each_succeeds plan moves nobody comes =
     let first : World = first_world plan in
     let is : IsPlan plan = comes.schedule.start in

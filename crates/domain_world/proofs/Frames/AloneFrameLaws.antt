@@ -1,6 +1,7 @@
--- A world whose controllers ask nobody, through its moves: no controller dials, so that no link is between controllers,
--- and each end hears as it does alone. So whatever is shown of ends that hear alone holds of every run of a plan that
--- hands nothing on. It serves `drive`, and the other laws of every such run.
+-- A world in which nothing seals and whose controllers ask nobody, through its moves: no controller dials, so that no
+-- link is between controllers, and each end hears as it does alone. So whatever is shown of ends that hear alone holds
+-- of every run of a plan that hands nothing on and in which nothing seals. It serves `drive` and
+-- the other laws of every such run.
 use Rattle.std.proofs.Common.{◌≡◌, ℕ, Bool, true, List, [], ◌∷◌, ◌++◌, drop, length, inl, inr, Option, Some, None, Result, Ok, Err, slice_get, refl, sym, subst}
 use Rattle.std.specs.Prelude.{filter}
 use Rattle.std.specs.List.{AllByRecursion}
@@ -29,19 +30,22 @@ use Rattle.world_moves.specs.declared.moves.Move.{Move}
 use Rattle.world_moves.specs.declared.plan.Plan.{Plan}
 use Rattle.world_moves.specs.declared.state.State.{State}
 use Rattle.world_moves.specs.declared.state.WaitingDial.{WaitingDial}
-use Rattle.world_moves.specs.Acting.{Given, AfterHearing, dials_of_action, done, forget, given_by, hear, is_of_other}
-use Rattle.world_moves.specs.Alone.{AsksNobody, HandsNothingOn, hear_alone}
+use Rattle.world_moves.specs.Acting.{Given, AfterHearing, dials_of_action, done, forget, given_by, is_of_other}
+use Rattle.world_moves.specs.Alone.{AsksNobody, IsPlainAlone, hear_alone}
 use Rattle.world_moves.specs.Ends.{EndStep, actions_by}
 use Rattle.world_moves.specs.Links.{acceptor_of, dialler_of}
 use Rattle.world_moves.specs.Moving.{begun, changed, with_link}
+use Rattle.world_moves.specs.Plain.{IsPlain, hear_plain as hear, plain_world, renewed_plain as renewed}
 use Rattle.world_moves.specs.World.{World, first_world, happens, run}
 use Rattle.domain_world.specs.Past.{Delivery, book}
 use Rattle.wire_base.proofs.ListLaws.{all_weaker, at_end, got_nothing}
-use Rattle.world_moves.proofs.AloneLaws.{first_alone, hears_so_alone, moves_alone}
+use Rattle.world_moves.proofs.AloneLaws.{alone_first, change_asks, first_alone, hears_asks, plainly_alone as hears_so_alone, renew_asks}
+use Rattle.world_moves.proofs.PlainLaws.{first_plain, moved_plain}
 use Rattle.domain_world.proofs.Frames.AloneNoteLaws.{note_alone, notes_alone}
 use Rattle.domain_world.proofs.Frames.AloneStepLaws.{alone_by, renews_alone}
-use Rattle.domain_world.proofs.Frames.MoveFrameLaws.{HoldsAfterMoves, later_keeps, moves_carry, moves_keep, placed_next}
+use Rattle.domain_world.proofs.Frames.MoveFrameLaws.{HoldsAfterMoves, placed_next}
 use Rattle.domain_world.proofs.Frames.MoveKeepLaws.{Both, IsHeard, KeepsCalmMoves, KeepsCalmMovesBy, KeepsMoves, KeepsMovesBy, MoveFact, NoSide, Progress, but_renewed, coming, every, join_moves, started, waiting, with_rest}
+use Rattle.domain_world.proofs.Frames.PlainFrameLaws.{later_keeps_plain, moves_carry_plain, moves_keep_plain}
 use Rattle.domain_world.proofs.Moves.NoBytesLaws.{IsBeside, IsNoBytes, does_nothing_else}
 use Rattle.domain_world.proofs.Moves.OpenMadeLaws.{IsApart, IsAtSide, IsOnSide}
 use Rattle.domain_world.proofs.Moves.PlacedLaws.{HandsBytes, HasBytes, IsBytesBag, IsPlaced, placed_first}
@@ -194,7 +198,7 @@ more_apart links route all new number one there =
 -- an end has heard something
 heard_alone : (p : Progress) (end : EndId) (what : Event) (s : State) → GoesAlone p s → GoesAlone (with_rest (given_by end (hear end what s).actions) p) (hear end what s).state
 heard_alone p end what s goes = record {
-  state = record { asks = moves_alone.acting.hears end what s goes.state.asks; dials = goes.state.dials; links = goes.state.links };
+  state = record { asks = hears_asks end what s goes.state.asks; dials = goes.state.dials; links = goes.state.links };
   dial = goes.dial;
   rest = both_behind (given_by end (hear end what s).actions) p.rest
       (subst (λ (heard : AfterHearing). DialsAreOthers (given_by end heard.actions)) (sym (hears_so_alone end what s goes.state.asks)) (alone_dials end what s)) goes.rest;
@@ -253,7 +257,7 @@ alone_keeps Known = record {
   };
   renews = λ n at end s b none goes. record {
     state = record {
-      asks = moves_alone.renews end (forget end s) goes.state.asks;
+      asks = renew_asks end (forget end s) goes.state.asks;
       dials = dials_left (is_of_other end) s.dials goes.state.dials;
       links = goes.state.links;
     };
@@ -261,7 +265,7 @@ alone_keeps Known = record {
     rest = tt;
   };
   changes = λ n at member secret s b formed none goes. record {
-    state = record { asks = moves_alone.changes member secret s goes.state.asks; dials = goes.state.dials; links = goes.state.links };
+    state = record { asks = change_asks member secret s goes.state.asks; dials = goes.state.dials; links = goes.state.links };
     dial = tt;
     rest = both_behind (given_by (Member member) (changed member secret s).actions) [] (others_do (Member member) (changed member secret s).actions tt) tt;
   };
@@ -343,27 +347,27 @@ module _ (Known : Type 0) (Holds : MoveFact) where
 
 -- ---- a run of a plan that hands nothing on
 
-first_is_alone : (plan : Plan) → HandsNothingOn plan → IsAlone (first_world plan).state
-first_is_alone plan nobody = record { asks = first_alone plan nobody; dials = tt; links = λ number route there. absurd (got_nothing number route there) }
+first_is_alone : (plan : Plan) → IsPlainAlone plan → IsAlone (plain_world plan).state
+first_is_alone plan nobody = record { asks = alone_first plan nobody; dials = tt; links = λ number route there. absurd (got_nothing number route there) }
 
 starts_alone : (at : ℕ) (on : Option Delivery) (s : State) → IsAlone s → GoesAlone (started at on) s
 starts_alone at on s is = record { state = is; dial = tt; rest = tt }
 
-pub moves_keep_alone : (Known : Type 0) (Holds : MoveFact) → KeepsMoves Known NoSide Holds → (plan : Plan) (moves : List Move) → HandsNothingOn plan → (Known → HasBytes plan moves) →
-    ((on : Option Delivery) → Holds 0 (started 0 on) (first_world plan).state [] blank) → HoldsAfterMoves Known Holds plan moves
+pub moves_keep_alone : (Known : Type 0) (Holds : MoveFact) → KeepsMoves Known NoSide Holds → (plan : Plan) (moves : List Move) → IsPlainAlone plan → (Known → HasBytes plan moves) →
+    ((on : Option Delivery) → Holds 0 (started 0 on) (plain_world plan).state [] blank) → HoldsAfterMoves Known Holds plan moves
 moves_keep_alone Known Holds keeps plan moves nobody has holds =
     let after : HoldsAfterMoves Known (Both AloneFact Holds) plan moves =
-    moves_keep Known (Both AloneFact Holds) (both_keep Known Holds keeps) plan moves has (λ on. (starts_alone 0 on (first_world plan).state (first_is_alone plan nobody), holds on)) in
+    moves_keep_plain Known (Both AloneFact Holds) (both_keep Known Holds keeps) plan moves nobody.plain has (λ on. (starts_alone 0 on (plain_world plan).state (first_is_alone plan nobody), holds on)) in
     record { steps = after.steps; holds = after.holds.1; few = after.few }
 
 -- so it is where what is handed in are bytes, and what holds says so of the bag
 pub moves_carry_alone : (Holds : MoveFact) → KeepsMoves (Unit {0}) NoSide Holds → ((n at : ℕ) (s : State) (b : Book) → Holds n (started at None) s [] b → IsBytesBag s.bag) →
-    (plan : Plan) (moves : List Move) → HandsNothingOn plan → AllByRecursion HandsBytes moves → ((on : Option Delivery) → Holds 0 (started 0 on) (first_world plan).state [] blank) →
+    (plan : Plan) (moves : List Move) → IsPlainAlone plan → AllByRecursion HandsBytes moves → ((on : Option Delivery) → Holds 0 (started 0 on) (plain_world plan).state [] blank) →
     HoldsAfterMoves (Unit {0}) Holds plan moves
 moves_carry_alone Holds keeps says plan moves nobody handed holds =
     let after : HoldsAfterMoves (Unit {0}) (Both AloneFact Holds) plan moves =
-    moves_carry (Both AloneFact Holds) (both_keep (Unit {0}) Holds keeps) (λ n at s b both. says n at s b both.1) plan moves handed
-    (λ on. (starts_alone 0 on (first_world plan).state (first_is_alone plan nobody), holds on)) in
+    moves_carry_plain (Both AloneFact Holds) (both_keep (Unit {0}) Holds keeps) (λ n at s b both. says n at s b both.1) plan moves nobody.plain handed
+    (λ on. (starts_alone 0 on (plain_world plan).state (first_is_alone plan nobody), holds on)) in
     record { steps = after.steps; holds = after.holds.1; few = after.few }
 
 -- ---- from any such world on
@@ -371,19 +375,26 @@ moves_carry_alone Holds keeps says plan moves nobody handed holds =
 -- links and units have their places there besides
 pub record StandsAlone (s : State) : Type 0 where
   pub placed : IsPlaced s
+  pub plain : IsPlain s
   pub alone : IsAlone s
 
-pub stands_first : (plan : Plan) → HandsNothingOn plan → StandsAlone (first_world plan).state
-stands_first plan nobody = record { placed = placed_first plan; alone = first_is_alone plan nobody }
+pub stands_first : (plan : Plan) → IsPlainAlone plan → StandsAlone (first_world plan).state
+stands_first plan nobody = record {
+  placed = placed_first plan;
+  plain = first_plain plan nobody.plain;
+  alone = record { asks = first_alone plan nobody; dials = tt; links = λ number route there. absurd (got_nothing number route there) };
+}
 
 pub later_keeps_alone : (Holds : MoveFact) → KeepsMoves ⊥ NoSide Holds → (moves : List Move) (w : World) (b : Book) → StandsAlone w.state →
     ((on : Option Delivery) → Holds 0 (started w.moves on) w.state [] b) → (n : ℕ) × Holds n (started (run moves w).moves None) (run moves w).state [] (book moves w b)
 later_keeps_alone Holds keeps moves w b stands holds =
-    let later = later_keeps (Both AloneFact Holds) (both_keep ⊥ Holds keeps) moves w b stands.placed (λ on. (starts_alone w.moves on w.state stands.alone, holds on)) in (later.0, later.1.1)
+    let later = later_keeps_plain (Both AloneFact Holds) (both_keep ⊥ Holds keeps) moves w b stands.placed stands.plain (λ on. (starts_alone w.moves on w.state stands.alone, holds on)) in
+    (later.0, later.1.1)
 
 -- it is such a world after each move
 pub stands_next : (what : Move) (w : World) (b : Book) → StandsAlone w.state → StandsAlone (happens w what).state
 stands_next what w b stands = record {
   placed = placed_next what w b stands.placed;
-  alone = (later_keeps AloneFact (alone_keeps ⊥) (what ∷ []) w b stands.placed (λ on. starts_alone w.moves on w.state stands.alone)).1.state;
+  plain = moved_plain what w.state stands.plain;
+  alone = (later_keeps_plain AloneFact (alone_keeps ⊥) (what ∷ []) w b stands.placed stands.plain (λ on. starts_alone w.moves on w.state stands.alone)).1.state;
 }

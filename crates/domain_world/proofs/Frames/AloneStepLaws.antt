@@ -19,9 +19,9 @@ use Rattle.world_moves.specs.declared.links.EndId.TheVariants.{Controller, Membe
 use Rattle.world_moves.specs.declared.state.State.{State}
 use Rattle.world_moves.specs.Acting.{Acted, done}
 use Rattle.world_moves.specs.Alone.{AsksNobody, TrustsNobody, alone_controller_step, alone_end_step, hear_alone}
-use Rattle.world_moves.specs.Ends.{EndStates, EndStep, client_done, client_step, controller_done, fresh_controller, member_done, member_step, no_step, renew_controller, with_client, with_member}
-use Rattle.world_moves.specs.Moving.{renew, renewed}
-use Rattle.world_moves.proofs.EndKindLaws.{renew_by}
+use Rattle.world_moves.specs.Ends.{EndStates, EndStep, client_done, client_step, controller_done, fresh_controller, member_done, no_step, renew_controller, with_client, with_member}
+use Rattle.world_moves.specs.Plain.{plain_member_step as member_step, renew_plain as renew, renewed_plain as renewed}
+use Rattle.world_moves.proofs.PlainKindLaws.{renew_plain_by as renew_by}
 
 -- an end hears something as it does alone, and does what it then does
 abbrev pub act_alone : EndId → Event → State → Acted
@@ -68,7 +68,7 @@ module _ (what : Event) (now : ℕ) (ends : EndStates) (chances : Drawing) where
 -- ---- an end is made anew: a controller is made as one that asks nobody
 
 abbrev pub renew_controller_alone : Option ControllerState → ℕ → EndStates → EndStates
-renew_controller_alone found at ends = renew_controller false found at ends
+renew_controller_alone found at ends = renew_controller false false found at ends
 
 abbrev pub renew_alone : EndId → State → EndStates
 renew_alone end s = renew end (record s { hands_on = false })
@@ -86,17 +86,17 @@ renew_alone_by P s none controllers members clients end = renew_by P (record s {
 
 -- a controller that is made from a table, whether it is to hand logons on or not
 pub fresh_by : (P : ControllerState → Type 0) (table : AccountTable) (name : List ℕ) → P (first_state table name) → P (first_trust_state table name) → (hands_on : Bool) →
-    P (fresh_controller hands_on table name)
+    P (fresh_controller hands_on false table name)
 fresh_by P table name plain trusts false = plain
 fresh_by P table name plain trusts true = trusts
 
 -- so it is where nobody is asked
-fresh_alone : (hands_on : Bool) (table : AccountTable) (name : List ℕ) → TrustsNobody hands_on table → fresh_controller hands_on table name ≡ first_state table name
+fresh_alone : (hands_on : Bool) (table : AccountTable) (name : List ℕ) → TrustsNobody hands_on table → fresh_controller hands_on false table name ≡ first_state table name
 fresh_alone false table name nobody = refl
 fresh_alone true table name nobody = steps_alone.without_trusts table name nobody
 
 controller_alone : (hands_on : Bool) (found : Option ControllerState) (at : ℕ) (ends : EndStates) → ((c : ControllerState) → found ≡ Some c → TrustsNobody hands_on c.table) →
-    renew_controller hands_on found at ends ≡ renew_controller_alone found at ends
+    renew_controller hands_on false found at ends ≡ renew_controller_alone found at ends
 controller_alone hands_on None at ends nobody = refl
 controller_alone hands_on (Some c) at ends nobody =
     ap (λ (new : ControllerState). record ends { controllers = slice_set ends.controllers at new }) (fresh_alone hands_on c.table c.name (nobody c refl))

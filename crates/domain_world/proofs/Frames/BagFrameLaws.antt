@@ -23,13 +23,13 @@ use Rattle.world_moves.specs.declared.plan.Plan.{Plan}
 use Rattle.world_moves.specs.declared.state.State.{State}
 use Rattle.world_moves.specs.Acting.{AfterHearing, done, heard_by}
 use Rattle.world_moves.specs.Bag.{settle_at, settled}
-use Rattle.world_moves.specs.Ends.{EndStep, actions_by, client_step, member_step}
-use Rattle.world_moves.specs.World.{first_world}
-use Rattle.world_moves.specs.Alone.{HandsNothingOn, alone_controller_step as controller_step}
+use Rattle.world_moves.specs.Ends.{EndStep, actions_by, client_step}
+use Rattle.world_moves.specs.Alone.{IsPlainAlone, alone_controller_step as controller_step}
 use Rattle.domain_world.specs.Past.{Delivery, at_controller, beside_mark, marks_of, note_client, note_given, note_member, note_messages, numbers_on, past, sent_at, still_waits}
 use Rattle.wire_base.proofs.ListLaws.{got_append, got_nothing}
 use Rattle.world_moves.proofs.LinkFrameLaws.{IsOnLink, StaysOnLinks, actions_stay, quiet_stays}
 use Rattle.world_moves.proofs.EndKindLaws.{is_client}
+use Rattle.world_moves.specs.Plain.{plain_member_step as member_step, plain_world}
 use Rattle.domain_world.proofs.Frames.AloneNoteLaws.{alone_answers as answers_of, note_alone as note_at, note_controller_alone as note_controller}
 use Rattle.domain_world.proofs.Frames.AloneStepLaws.{act_alone as hear_and_act}
 use Rattle.domain_world.proofs.Frames.FrameLaws.{Fact, HoldsIn, StaysWritten, OfSide, side_keeps}
@@ -385,11 +385,11 @@ module _ {X : Type 0} (part : Book → X) (Side : X → Fact) (P : UnitFact X) (
   pub marked_keep : (Known : Type 0) → KeepsMoves Known NoSide (Both (OfSide part Side written) (MarkFact part P))
   marked_keep Known = join_moves Known (OfSide part Side written) (MarkFact part P) (side_keeps part Side written Known) (marks_keep Known)
 
-  pub first_marked : (plan : Plan) (on : Option Delivery) → HoldsIn (Side (part blank)) (first_world plan).state →
-      Both (OfSide part Side written) (MarkFact part P) 0 (started 0 on) (first_world plan).state [] blank
+  pub first_marked : (plan : Plan) (on : Option Delivery) → HoldsIn (Side (part blank)) (plain_world plan).state →
+      Both (OfSide part Side written) (MarkFact part P) 0 (started 0 on) (plain_world plan).state [] blank
   first_marked plan on holds = (holds, record { each = λ number one there. absurd (got_nothing number one there); all = all_for on [] [] [] refl; none = refl })
 
-  run_marked : (plan : Plan) (moves : List Move) → HandsNothingOn plan → HoldsIn (Side (part blank)) (first_world plan).state →
+  run_marked : (plan : Plan) (moves : List Move) → IsPlainAlone plan → HoldsIn (Side (part blank)) (plain_world plan).state →
       OfEachUnit P (part (past plan moves).book) (past plan moves).world.state.bag (past plan moves).book.sent
   run_marked plan moves nobody holds =
       let after : HoldsAfterMoves ⊥ (Both (OfSide part Side written) (MarkFact part P)) plan moves =
@@ -413,8 +413,8 @@ new_marked part Side P stays = record {
 }
 
 -- in every run it holds of each unit
-pub run_stays_marked : {X : Type 0} (part : Book → X) (Side : X → Fact) (P : UnitFact X) → StaysWritten part Side → MarksStay part Side P → (plan : Plan) (moves : List Move) → HandsNothingOn plan →
-    HoldsIn (Side (part blank)) (first_world plan).state →
+pub run_stays_marked : {X : Type 0} (part : Book → X) (Side : X → Fact) (P : UnitFact X) → StaysWritten part Side → MarksStay part Side P → (plan : Plan) (moves : List Move) → IsPlainAlone plan →
+    HoldsIn (Side (part blank)) (plain_world plan).state →
     OfEachUnit P (part (past plan moves).book) (past plan moves).world.state.bag (past plan moves).book.sent
 run_stays_marked part Side P written stays plan moves nobody holds = run_marked part Side P written (new_marked part Side P stays) plan moves nobody holds
 

@@ -13,8 +13,8 @@ use Rattle.world_moves.specs.declared.plan.Plan.{Plan}
 use Rattle.world_moves.specs.declared.state.State.{State}
 use Rattle.world_moves.specs.Acting.{Given, perform_quietly}
 use Rattle.world_moves.specs.Moving.{settle}
-use Rattle.world_moves.specs.World.{first_world}
-use Rattle.world_moves.specs.Alone.{HandsNothingOn}
+use Rattle.world_moves.specs.Alone.{IsPlainAlone}
+use Rattle.world_moves.specs.Plain.{plain_world}
 use Rattle.world_moves.proofs.LinkFrameLaws.{quiet_stays}
 use Rattle.domain_world.specs.Past.{Delivery, note_given, past}
 use Rattle.domain_world.proofs.Frames.AloneNoteLaws.{note_alone as note_at}
@@ -99,7 +99,7 @@ module _ {X : Type 0} (Holds : RunFact) (Fine : ActionFact) (keeps : StepKeeps N
   }
 
   -- in every run
-  pub run_fits : (plan : Plan) (moves : List Move) → HandsNothingOn plan → HasBytes plan moves → Holds 0 (first_world plan).state [] blank → HoldsIn (Side (part blank)) (first_world plan).state →
+  pub run_fits : (plan : Plan) (moves : List Move) → IsPlainAlone plan → HasBytes plan moves → Holds 0 (plain_world plan).state [] blank → HoldsIn (Side (part blank)) (plain_world plan).state →
       Fits [] blank → Fits (past plan moves).world.state.bag (past plan moves).book
   run_fits plan moves nobody has holds side fits =
       let known : Type 0 = Unit {0} in

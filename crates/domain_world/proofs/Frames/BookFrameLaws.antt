@@ -12,7 +12,7 @@ use Rattle.world_moves.specs.Acting.{Given, hear_and_act}
 use Rattle.world_moves.specs.World.{World}
 use Rattle.domain_world.specs.Past.{Delivery, book, note_at, note_given, past}
 use Rattle.domain_world.proofs.Frames.MoveFrameLaws.{HoldsAfterMoves, later_keeps, moves_keep}
-use Rattle.domain_world.proofs.Frames.MoveKeepLaws.{KeepsMovesBy, MoveFact, NoSide, every}
+use Rattle.domain_world.proofs.Frames.MoveKeepLaws.{KeepsMovesBy, MoveFact, NoSide, any}
 use Rattle.domain_world.proofs.Moves.PlacedLaws.{IsPlaced}
 
 module _ (Holds : Book → Type 0)
@@ -21,7 +21,7 @@ module _ (Holds : Book → Type 0)
   abbrev OfBook : MoveFact
   OfBook n p s given b = Holds b
 
-  book_keeps : KeepsMovesBy every ⊥ NoSide OfBook
+  book_keeps : KeepsMovesBy any ⊥ NoSide OfBook
   book_keeps = record {
     closes = λ n p end link s given b work none holds. holds;
     opens = λ n at dial route s given b out none holds. holds;

@@ -17,20 +17,21 @@ use Rattle.world_moves.specs.declared.links.Route.{Route}
 use Rattle.world_moves.specs.declared.moves.Move.{Move}
 use Rattle.world_moves.specs.declared.plan.Plan.{Plan}
 use Rattle.world_moves.specs.declared.state.State.{State}
-use Rattle.world_moves.specs.Acting.{hear_and_act}
-use Rattle.world_moves.specs.Ends.{EndStates, EndStep, client_step, end_step}
+use Rattle.world_moves.specs.Ends.{EndStates, EndStep, client_step}
 use Rattle.world_moves.specs.Links.{acceptor_of}
-use Rattle.world_moves.specs.Moving.{renewed, changed}
-use Rattle.world_moves.proofs.EndKindLaws.{IfClient, clients_by, is_controller, renew_by}
+use Rattle.world_moves.specs.Moving.{changed}
+use Rattle.world_moves.proofs.EndKindLaws.{IfClient, is_controller}
 use Rattle.domain_world.specs.Past.{Delivery, note_at, note_client, past}
 use Rattle.domain_world.proofs.Messages.MessageOnceLaws.{each_put}
 use Rattle.domain_world.proofs.Frames.EndFrameLaws.{EndFact, IsCalm, KeepsEndsBy, by_calm, every_ends_after}
 use Rattle.domain_world.proofs.Moves.MarkPlaceLaws.{got_map}
 use Rattle.domain_world.proofs.Moves.OpenMadeLaws.{IsAtSide, IsOnSide}
 use Rattle.domain_world.proofs.Frames.EndNoteLaws.{made_so}
-use Rattle.domain_world.proofs.Frames.EveryStepLaws.{dialled_apart, every_noted as noted_by}
+use Rattle.domain_world.proofs.Frames.EveryStepLaws.{act_plain as hear_and_act, dialled_apart, every_noted as noted_by}
 use Rattle.domain_world.proofs.Frames.MoveKeepLaws.{every}
 use Rattle.world_moves.proofs.ChangeLaws.{by_change}
+use Rattle.world_moves.specs.Plain.{NothingSeals, plain_end_step as end_step, renewed_plain as renewed}
+use Rattle.world_moves.proofs.PlainKindLaws.{clients_plain as clients_by, renew_plain_by as renew_by}
 use Rattle.outside.specs.declared.action.Action.{Action}
 
 -- ---- what is to hold
@@ -183,8 +184,8 @@ module _ (plans : List ClientPlan) (Fits : ClientFact) (Made : MadeFact) (keeps 
     made = made;
   }
 
--- after all moves of a run
-pub clients_after : (plan : Plan) (moves : List Move) (Fits : ClientFact) (Made : MadeFact) (keeps : KeepsClients plan.clients Fits Made) → Made [] [] →
+-- after all moves of a run in which nothing seals
+pub clients_after : (plan : Plan) (moves : List Move) → NothingSeals plan → (Fits : ClientFact) (Made : MadeFact) (keeps : KeepsClients plan.clients Fits Made) → Made [] [] →
     AreKept plan.clients Fits Made keeps (past plan moves).world.state.ends.clients (past plan moves).world.state.links (past plan moves).book.made
-clients_after plan moves Fits Made keeps made =
-    (every_ends_after (OfClients plan.clients Fits Made keeps) (of_keeps plan.clients Fits Made keeps) plan moves (λ on. record { same = refl; kept = first_kept plan.clients Fits Made keeps made })).kept
+clients_after plan moves nothing Fits Made keeps made =
+    (every_ends_after (OfClients plan.clients Fits Made keeps) (of_keeps plan.clients Fits Made keeps) plan moves nothing (λ on. record { same = refl; kept = first_kept plan.clients Fits Made keeps made })).kept

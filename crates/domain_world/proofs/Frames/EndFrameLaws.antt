@@ -20,13 +20,15 @@ use Rattle.world_moves.specs.Ends.{EndStates}
 use Rattle.world_moves.specs.Links.{acceptor_of}
 use Rattle.world_moves.specs.Moving.{begun, changed, with_link}
 use Rattle.world_moves.specs.World.{World, first_world, happens, run}
-use Rattle.world_moves.specs.Alone.{HandsNothingOn}
+use Rattle.world_moves.specs.Alone.{IsPlainAlone}
+use Rattle.world_moves.specs.Plain.{IsPlain, NothingSeals, plain_world}
 use Rattle.domain_world.specs.Claims.Sessions.{restart_of}
 use Rattle.domain_world.specs.Past.{Delivery, book, note, note_given, past}
 use Rattle.domain_world.proofs.Moves.ComingLaws.{CameFrom}
 use Rattle.domain_world.proofs.Frames.AloneFrameLaws.{StandsAlone, later_keeps_alone, moves_keep_alone}
-use Rattle.domain_world.proofs.Frames.MoveFrameLaws.{HoldsAfterMoves, move_keeps, moves_keep}
-use Rattle.domain_world.proofs.Frames.MoveKeepLaws.{How, KeepsMovesBy, alone, every, KeepsCalmMovesBy, KeepsMoves, MoveFact, NoSide}
+use Rattle.domain_world.proofs.Frames.MoveFrameLaws.{HoldsAfterMoves, moves_keep}
+use Rattle.domain_world.proofs.Frames.MoveKeepLaws.{How, KeepsMovesBy, alone, any, every, KeepsCalmMovesBy, KeepsMoves, MoveFact, NoSide}
+use Rattle.domain_world.proofs.Frames.PlainFrameLaws.{move_keeps_plain, moves_keep_plain}
 use Rattle.domain_world.proofs.Moves.PlacedLaws.{IsPlaced}
 
 -- ---- what is to hold
@@ -131,9 +133,9 @@ module _ (Holds : EndFact) (keeps : KeepsCalmEndsBy every Holds) where
   }
 
   -- through one move at which no end is made anew
-  pub ends_through : (what : Move) (w : World) (b : Book) → restart_of what w.state ≡ None → IsPlaced w.state → ((on : Option Delivery) → Holds w.moves on (ends_in w.state) [] b) →
+  pub ends_through : (what : Move) (w : World) (b : Book) → restart_of what w.state ≡ None → IsPlaced w.state → IsPlain w.state → ((on : Option Delivery) → Holds w.moves on (ends_in w.state) [] b) →
       (next : Option Delivery) → Holds (happens w what).moves next (ends_in (happens w what).state) [] (note w what b)
-  ends_through what w b none placed holds = (move_keeps OfCalmMoves calm_ends_keep what w b none placed holds).1
+  ends_through what w b none placed plain holds = (move_keeps_plain OfCalmMoves calm_ends_keep what w b none placed plain holds).1
 
 abbrev pub OfMoves : EndFact → MoveFact
 OfMoves Holds n p s given b = Holds p.at p.on (ends_in s) given b
@@ -165,7 +167,7 @@ module _ (Holds : EndFact) (keeps : KeepsEnds Holds) where
   pub ends_keep : (Known : Type 0) → KeepsMoves Known NoSide (OfMoves Holds)
   ends_keep Known = ends_keep_by alone Holds keeps Known
 
-  pub ends_after : (plan : Plan) (moves : List Move) → HandsNothingOn plan → ((on : Option Delivery) → Holds 0 on (ends_in (first_world plan).state) [] blank) →
+  pub ends_after : (plan : Plan) (moves : List Move) → IsPlainAlone plan → ((on : Option Delivery) → Holds 0 on (ends_in (plain_world plan).state) [] blank) →
       Holds (past plan moves).world.moves None (ends_in (past plan moves).world.state) [] (past plan moves).book
   ends_after plan moves nobody holds =
       let after : HoldsAfterMoves ⊥ (OfMoves Holds) plan moves = moves_keep_alone ⊥ (OfMoves Holds) (ends_keep ⊥) plan moves nobody (λ none. absurd none) holds in after.holds
@@ -175,8 +177,14 @@ module _ (Holds : EndFact) (keeps : KeepsEnds Holds) where
       Holds (run moves w).moves None (ends_in (run moves w).state) [] (book moves w b)
   ends_later moves w b stands holds = (later_keeps_alone (OfMoves Holds) (ends_keep ⊥) moves w b stands holds).1
 
--- in every run, whether controllers ask others or not
-pub every_ends_after : (Holds : EndFact) → KeepsEndsBy every Holds → (plan : Plan) (moves : List Move) → ((on : Option Delivery) → Holds 0 on (ends_in (first_world plan).state) [] blank) →
+-- in any run
+pub any_ends_after : (Holds : EndFact) → KeepsEndsBy any Holds → (plan : Plan) (moves : List Move) → ((on : Option Delivery) → Holds 0 on (ends_in (first_world plan).state) [] blank) →
     Holds (past plan moves).world.moves None (ends_in (past plan moves).world.state) [] (past plan moves).book
-every_ends_after Holds keeps plan moves holds =
-    let after : HoldsAfterMoves ⊥ (OfMoves Holds) plan moves = moves_keep ⊥ (OfMoves Holds) (ends_keep_by every Holds keeps ⊥) plan moves (λ none. absurd none) holds in after.holds
+any_ends_after Holds keeps plan moves holds =
+    let after : HoldsAfterMoves ⊥ (OfMoves Holds) plan moves = moves_keep ⊥ (OfMoves Holds) (ends_keep_by any Holds keeps ⊥) plan moves (λ none. absurd none) holds in after.holds
+
+-- in every run in which nothing seals, whether controllers ask others or not
+pub every_ends_after : (Holds : EndFact) → KeepsEndsBy every Holds → (plan : Plan) (moves : List Move) → NothingSeals plan → ((on : Option Delivery) → Holds 0 on (ends_in (plain_world plan).state) [] blank) →
+    Holds (past plan moves).world.moves None (ends_in (past plan moves).world.state) [] (past plan moves).book
+every_ends_after Holds keeps plan moves nothing holds =
+    let after : HoldsAfterMoves ⊥ (OfMoves Holds) plan moves = moves_keep_plain ⊥ (OfMoves Holds) (ends_keep_by every Holds keeps ⊥) plan moves nothing (λ none. absurd none) holds in after.holds

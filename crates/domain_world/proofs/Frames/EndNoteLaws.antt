@@ -15,9 +15,10 @@ use Rattle.step_notes.specs.Records.{Book, ChannelAccepted, Judging, MessageMade
 use Rattle.world_moves.specs.declared.links.EndId.{EndId}
 use Rattle.world_moves.specs.declared.links.EndId.TheVariants.{Controller, Member, Client}
 use Rattle.world_moves.specs.declared.state.State.{State}
-use Rattle.world_moves.specs.Ends.{EndStep, client_done, client_step, controller_done, member_done, member_step, no_step}
+use Rattle.world_moves.specs.Ends.{EndStep, client_done, client_step, controller_done, member_done, no_step}
 use Rattle.world_moves.specs.Acting.{done, heard_by}
 use Rattle.world_moves.specs.Alone.{alone_controller_step as controller_step, alone_end_step as end_step}
+use Rattle.world_moves.specs.Plain.{plain_member_step as member_step}
 use Rattle.domain_world.specs.Past.{Delivery, note_answers, note_client, note_controller as note_every, note_member, note_messages}
 use Rattle.domain_world.proofs.Frames.AloneNoteLaws.{note_alone as note_at, note_controller_alone as note_controller}
 use Rattle.domain_world.proofs.Frames.AloneStepLaws.{act_alone as hear_and_act}

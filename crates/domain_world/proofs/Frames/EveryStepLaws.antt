@@ -1,5 +1,6 @@
--- What a step of an end comes to in every world, whether its controllers ask others or not: it leaves a rest of the
--- challenges that were left, and ends of one kind leave those of the others. So it is of what is written down of bytes.
+-- What a step of an end comes to in every world in which nothing seals, whether its controllers ask others or not: it
+-- leaves a rest of the challenges that were left, and ends of one kind leave those of the others. So it is of what is
+-- written down of bytes.
 -- It serves `draws_of_runs_differ`, `Proved.let_in`, `Proved.messages` and others that look at no controller.
 use Rattle.std.proofs.Common.{◌≡◌, ℕ, Bool, true, false, List, [], ◌++◌, Option, Some, None, Ok, Err, slice_get, refl, sym, subst, append-nil}
 use Rattle.wire_base.specs.Maps.{lookup, same_number, take_out}
@@ -36,15 +37,21 @@ use Rattle.world_moves.specs.declared.links.EndId.TheVariants.{Controller, Membe
 use Rattle.world_moves.specs.declared.links.Route.{Route}
 use Rattle.world_moves.specs.declared.links.Route.TheVariants.{ToMember, ToController, Between, Stranger}
 use Rattle.world_moves.specs.declared.state.State.{State}
-use Rattle.world_moves.specs.Acting.{done, hear_and_act, heard_by}
-use Rattle.world_moves.specs.Ends.{EndStates, EndStep, client_done, client_step, controller_done, controller_step, end_step, member_done, member_step, no_step}
+use Rattle.world_moves.specs.Acting.{Acted, done, heard_by}
+use Rattle.world_moves.specs.Ends.{EndStates, EndStep, client_done, client_step, controller_done, member_done, no_step}
 use Rattle.world_moves.specs.Links.{dialler_of}
 use Rattle.domain_world.specs.Past.{Delivery, note_at, note_client, note_controller, note_member, note_messages}
-use Rattle.world_moves.proofs.EndKindLaws.{is_controller, step_by as end_by}
+use Rattle.world_moves.proofs.EndKindLaws.{is_controller}
+use Rattle.world_moves.specs.Plain.{hear_plain, plain_controller_step as controller_step, plain_end_step as end_step, plain_member_step as member_step}
+use Rattle.world_moves.proofs.PlainKindLaws.{plain_by as end_by}
 use Rattle.domain_world.proofs.Frames.EndNoteLaws.{OfControllers}
 use Rattle.domain_world.proofs.Frames.TurnFrameLaws.{turns_told}
 use Rattle.domain_world.proofs.Moves.LeftLaws.{DrawsOn}
 use Rattle.domain_world.proofs.Moves.OpenMadeLaws.{IsApart, IsAtSide, IsOnSide}
+
+-- an end hears something as one that can't seal, and does what it then does
+abbrev pub act_plain : EndId → Event → State → Acted
+act_plain end what s = done end (hear_plain end what s)
 
 -- ---- a controller leaves a rest of the challenges
 
@@ -168,11 +175,11 @@ pub every_acted : (P : EndId → EndStep → State → Book → Type 0) (w : Del
     ((at : ℕ) (c : ClientState) → slice_get s.ends.clients at ≡ Some c →
     let step : EndStep = client_step (Some c) at (event.Bytes w.link piece) s.moment s.ends s.chances in
     P (Client at) step (stepped (Client at) step s) (note_client (Some c) at w piece s b)) →
-    (end : EndId) → let after : State = (hear_and_act end (event.Bytes w.link piece) s).state in
+    (end : EndId) → let after : State = (act_plain end (event.Bytes w.link piece) s).state in
     P end (end_step end (event.Bytes w.link piece) s.moment s.ends s.chances) after (note_at (Some end) w piece s after b)
 every_acted P w piece s b none controllers members clients end =
     let what : Event = event.Bytes w.link piece in
-    let after : State = (hear_and_act end what s).state in
+    let after : State = (act_plain end what s).state in
     every_noted (λ (one : EndId) (step : EndStep) (now : Book). after ≡ stepped one step s → P one step after now) w piece s after b
     (λ one is. subst (λ (later : State). P one (no_step s.ends s.chances) later b) (sym is) (none one))
     (λ at c there is.

@@ -23,7 +23,7 @@ use Rattle.world_moves.specs.Acting.{Given}
 use Rattle.world_moves.specs.Ends.{EndStates, EndStep, with_client, with_member}
 use Rattle.world_moves.specs.Links.{acceptor_of}
 use Rattle.world_moves.specs.Moving.{changed}
-use Rattle.world_moves.specs.World.{World, first_world, run}
+use Rattle.world_moves.specs.World.{World, run}
 use Rattle.domain_world.specs.Past.{Delivery, book, note_given, past}
 use Rattle.domain_world.proofs.Frames.AloneNoteLaws.{note_alone as note_at}
 use Rattle.domain_world.proofs.Frames.AloneStepLaws.{act_alone as hear_and_act, renew_alone_by as renew_by, renewed_alone as renewed}
@@ -31,7 +31,8 @@ use Rattle.domain_world.proofs.Frames.EndFrameLaws.{EndFact, IsCalm, KeepsEnds, 
 use Rattle.domain_world.proofs.Frames.MoveKeepLaws.{KeepsMoves, MoveFact, NoSide}
 use Rattle.domain_world.proofs.Frames.AloneFrameLaws.{StandsAlone}
 use Rattle.world_moves.specs.declared.plan.Plan.{Plan}
-use Rattle.world_moves.specs.Alone.{HandsNothingOn, alone_end_step as end_step}
+use Rattle.world_moves.specs.Alone.{IsPlainAlone, alone_end_step as end_step}
+use Rattle.world_moves.specs.Plain.{plain_world}
 use Rattle.world_moves.proofs.ChangeLaws.{by_change, member_begun}
 
 -- ---- what is to hold
@@ -159,7 +160,7 @@ module _ {X : Type 0} (part : Book → X) (Fits : X → PlannedFact) (written : 
   }
 
   -- through all moves of a run
-  pub run_stays_by_plans : (plan : Plan) (moves : List Move) → HandsNothingOn plan → HoldsByPlans (Fits (part blank)) (first_world plan).state →
+  pub run_stays_by_plans : (plan : Plan) (moves : List Move) → IsPlainAlone plan → HoldsByPlans (Fits (part blank)) (plain_world plan).state →
       HoldsByPlans (Fits (part (past plan moves).book)) (past plan moves).world.state
   run_stays_by_plans plan moves nobody holds = ends_after Planned planned_keeps plan moves nobody (λ on. holds)
 
@@ -174,7 +175,7 @@ module _ {X : Type 0} (part : Book → X) (Fits : X → Fact) (written : StaysWr
       ends_keep (Planned part (λ x plans. Fits x) (written_by_plans part Fits written)) (planned_keeps part (λ x plans. Fits x) (written_by_plans part Fits written)) Known
 
   -- through all moves of a run
-  pub run_stays : (plan : Plan) (moves : List Move) → HandsNothingOn plan → HoldsIn (Fits (part blank)) (first_world plan).state → HoldsIn (Fits (part (past plan moves).book)) (past plan moves).world.state
+  pub run_stays : (plan : Plan) (moves : List Move) → IsPlainAlone plan → HoldsIn (Fits (part blank)) (plain_world plan).state → HoldsIn (Fits (part (past plan moves).book)) (past plan moves).world.state
   run_stays plan moves nobody holds = run_stays_by_plans part (λ x plans. Fits x) (written_by_plans part Fits written) plan moves nobody holds
 
   -- the same from any world on

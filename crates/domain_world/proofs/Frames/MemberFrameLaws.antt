@@ -17,23 +17,23 @@ use Rattle.world_moves.specs.declared.links.Route.{Route}
 use Rattle.world_moves.specs.declared.moves.Move.{Move}
 use Rattle.world_moves.specs.declared.plan.Plan.{Plan}
 use Rattle.world_moves.specs.declared.state.State.{State}
-use Rattle.world_moves.specs.Acting.{Given, hear, hear_and_act}
+use Rattle.world_moves.specs.Acting.{Given}
 use Rattle.world_moves.specs.Ends.{EndStates, EndStep, drawn_on}
 use Rattle.world_moves.specs.Links.{acceptor_of}
 use Rattle.world_moves.specs.Moving.{with_link}
-use Rattle.world_moves.specs.World.{first_world}
 use Rattle.world_moves.specs.Alone.{alone_end_step as end_step}
 use Rattle.domain_world.specs.Past.{Delivery, note_at, note_given, note_member, past}
 use Rattle.domain_world.proofs.Frames.AloneNoteLaws.{alone_answers, note_alone}
 use Rattle.domain_world.proofs.Frames.AloneStepLaws.{alone_by as step_by}
 use Rattle.domain_world.proofs.Frames.EndNoteLaws.{OfMembers, noted_by}
-use Rattle.world_moves.proofs.EndKindLaws.{renew_by, step_by as every_by}
 use Rattle.domain_world.proofs.Frames.EndFrameLaws.{EndFact, KeepsEndsBy, every_ends_after}
-use Rattle.domain_world.proofs.Frames.EveryStepLaws.{every_draws, every_noted}
+use Rattle.domain_world.proofs.Frames.EveryStepLaws.{act_plain as hear_and_act, every_draws, every_noted}
 use Rattle.domain_world.proofs.Frames.MoveKeepLaws.{every}
 use Rattle.domain_world.proofs.Frames.FrameLaws.{calm_quiet, Fact, HoldsAfter, HoldsIn, IsQuiet, StaysWritten}
 use Rattle.domain_world.proofs.Moves.LeftLaws.{DrawsOn, end_draws}
 use Rattle.world_moves.proofs.ChangeLaws.{by_change, member_begun}
+use Rattle.world_moves.specs.Plain.{NothingSeals, hear_plain as hear, plain_world}
+use Rattle.world_moves.proofs.PlainKindLaws.{plain_by as every_by, renew_plain_by as renew_by}
 use Rattle.member_server.specs.declared.state.Running.{Running}
 
 -- of the members, what was drawn and is left, and the links
@@ -167,7 +167,7 @@ module _ {X : Type 0} (part : Book → X) (Fits : X → MembersFact) (keeps : Ke
     over = λ at on next s given b fits. subst (λ (x : X). Fits x s.ends.members s.chances s.links) (sym (keeps.given at given s b)) fits;
   }
 
-  -- in every run
-  pub members_after : (plan : Plan) (moves : List Move) → Fits (part blank) (first_world plan).state.ends.members (first_world plan).state.chances (first_world plan).state.links →
+  -- in every run in which nothing seals
+  pub members_after : (plan : Plan) (moves : List Move) → NothingSeals plan → Fits (part blank) (plain_world plan).state.ends.members (plain_world plan).state.chances (plain_world plan).state.links →
       Fits (part (past plan moves).book) (past plan moves).world.state.ends.members (past plan moves).world.state.chances (past plan moves).world.state.links
-  members_after plan moves fits = every_ends_after OfEvery every_keeps plan moves (λ on. fits)
+  members_after plan moves nothing fits = every_ends_after OfEvery every_keeps plan moves nothing (λ on. fits)

@@ -42,7 +42,7 @@ use Rattle.world_moves.proofs.LinkFrameLaws.{LinkFact, StaysOnLinks, closed_stay
 use Rattle.world_moves.proofs.OpenLaws.{forgotten_fewer, put_more, taken_fewer, taken_one}
 use Rattle.world_moves.proofs.QuietLaws.{closes_alone}
 use Rattle.domain_world.proofs.Moves.ComingLaws.{CameFrom, IsFromOutside, IsLinkOf, chosen_of, handed_outside, kept_same, piece_bytes, route_dials, run_still}
-use Rattle.domain_world.proofs.Frames.MoveKeepLaws.{AtWork, IsHeard, KeepsCalmMovesBy, KeepsMovesBy, MoveFact, NoSide, Progress, but_renewed, coming, every, started, waiting, with_rest}
+use Rattle.domain_world.proofs.Frames.MoveKeepLaws.{AtWork, IsHeard, KeepsCalmMovesBy, KeepsMovesBy, MoveFact, NoSide, Progress, any, but_renewed, coming, started, waiting, with_rest}
 use Rattle.domain_world.proofs.Moves.OpenMadeLaws.{IsOnSide, hears_side}
 use Rattle.domain_world.proofs.Moves.PlacedLaws.{Placed, IsPlaced, placed_stay, Since, since_sent, HandsBytes, IsBytesBag, bag_before, settled_bag, settled_link, same_piece, HasBytes, bytes_in}
 
@@ -64,7 +64,7 @@ none_dialled (dial ∷ dials) none = absurd (let x = none in cc)
 
 -- ---- a part of a move
 
-module _ (Known : Type 0) (Holds : MoveFact) (keeps : KeepsCalmMovesBy every Known NoSide Holds) where
+module _ (Known : Type 0) (Holds : MoveFact) (keeps : KeepsCalmMovesBy any Known NoSide Holds) where
   -- it holds after it, and no more steps were taken than are allowed; a link that is open allows two
   record After (p : Progress) (most : ℕ) (acted : Acted) (given : Given) (b : Book) : Type 0 where
     steps : ℕ
@@ -441,8 +441,8 @@ module _ (Known : Type 0) (Holds : MoveFact) (keeps : KeepsCalmMovesBy every Kno
 
 -- ---- a run
 
-module _ (Known : Type 0) (Holds : MoveFact) (keeps : KeepsMovesBy every Known NoSide Holds) where
-  abbrev Calm : KeepsCalmMovesBy every Known NoSide Holds
+module _ (Known : Type 0) (Holds : MoveFact) (keeps : KeepsMovesBy any Known NoSide Holds) where
+  abbrev Calm : KeepsCalmMovesBy any Known NoSide Holds
   Calm = but_renewed Known Holds keeps
 
   -- a move, at which an end may be made anew
@@ -468,7 +468,7 @@ module _ (Known : Type 0) (Holds : MoveFact) (keeps : KeepsMovesBy every Known N
       record { steps = later.steps; holds = later.holds; few = λ known. omega (arith, later.few known, moved.few known) }
 
 -- the same where what holds says of the bag that its units are short, and have bytes
-module _ (Holds : MoveFact) (keeps : KeepsMovesBy every (Unit {0}) NoSide Holds)
+module _ (Holds : MoveFact) (keeps : KeepsMovesBy any (Unit {0}) NoSide Holds)
     (says : (n at : ℕ) (s : State) (b : Book) → Holds n (started at None) s [] b → IsBytesBag s.bag) where
   carry_part : (moves : List Move) (n : ℕ) (w : World) (b : Book) → AllByRecursion HandsBytes moves → IsPlaced w.state → HoldsFor (Unit {0}) Holds (Calm (Unit {0}) Holds keeps) n w.moves w.state b →
       Ran (Unit {0}) Holds keeps n moves w b
@@ -487,7 +487,7 @@ pub record HoldsAfterMoves (Known : Type 0) (Holds : MoveFact) (plan : Plan) (mo
   pub holds : Holds steps (started (past plan moves).world.moves None) (past plan moves).world.state [] (past plan moves).book
   pub few : Known → steps + 2 * length (past plan moves).world.state.open_links ≤ 10 * length moves
 
-pub moves_keep : (Known : Type 0) (Holds : MoveFact) → KeepsMovesBy every Known NoSide Holds → (plan : Plan) (moves : List Move) → (Known → HasBytes plan moves) →
+pub moves_keep : (Known : Type 0) (Holds : MoveFact) → KeepsMovesBy any Known NoSide Holds → (plan : Plan) (moves : List Move) → (Known → HasBytes plan moves) →
     ((on : Option Delivery) → Holds 0 (started 0 on) (first_world plan).state [] blank) → HoldsAfterMoves Known Holds plan moves
 moves_keep Known Holds keeps plan moves has holds =
     let bag : List BagUnit = (past plan moves).world.state.bag in
@@ -498,7 +498,7 @@ moves_keep Known Holds keeps plan moves has holds =
     record { steps = ran.steps; holds = ran.holds None; few = λ known. omega (arith, ran.few known) }
 
 -- so it is where what is handed in are bytes, and what holds says so of the bag
-pub moves_carry : (Holds : MoveFact) → KeepsMovesBy every (Unit {0}) NoSide Holds → ((n at : ℕ) (s : State) (b : Book) → Holds n (started at None) s [] b → IsBytesBag s.bag) →
+pub moves_carry : (Holds : MoveFact) → KeepsMovesBy any (Unit {0}) NoSide Holds → ((n at : ℕ) (s : State) (b : Book) → Holds n (started at None) s [] b → IsBytesBag s.bag) →
     (plan : Plan) (moves : List Move) → AllByRecursion HandsBytes moves → ((on : Option Delivery) → Holds 0 (started 0 on) (first_world plan).state [] blank) →
     HoldsAfterMoves (Unit {0}) Holds plan moves
 moves_carry Holds keeps says plan moves handed holds =
@@ -509,7 +509,7 @@ moves_carry Holds keeps says plan moves handed holds =
 -- ---- from any world on
 
 -- So it does after a run from any world in which links and units have their places, where nothing of bytes is asked.
-pub later_keeps : (Holds : MoveFact) → KeepsMovesBy every ⊥ NoSide Holds → (moves : List Move) (w : World) (b : Book) → IsPlaced w.state → ((on : Option Delivery) → Holds 0 (started w.moves on) w.state [] b) →
+pub later_keeps : (Holds : MoveFact) → KeepsMovesBy any ⊥ NoSide Holds → (moves : List Move) (w : World) (b : Book) → IsPlaced w.state → ((on : Option Delivery) → Holds 0 (started w.moves on) w.state [] b) →
     (n : ℕ) × Holds n (started (run moves w).moves None) (run moves w).state [] (book moves w b)
 later_keeps Holds keeps moves w b placed holds =
     let ran : Ran ⊥ Holds keeps 0 moves w b = run_part ⊥ Holds keeps moves 0 w b (λ none. absurd none) (λ none. absurd none) placed holds in (ran.steps, ran.holds None)
@@ -518,7 +518,7 @@ later_keeps Holds keeps moves w b placed holds =
 abbrev AnyMove : MoveFact
 AnyMove n p s given b = Unit {0}
 
-any_keeps : KeepsMovesBy every ⊥ NoSide AnyMove
+any_keeps : KeepsMovesBy any ⊥ NoSide AnyMove
 any_keeps = record {
   closes = λ n p end link s given b work none holds. tt;
   opens = λ n at dial route s given b out none holds. tt;
@@ -548,7 +548,7 @@ placed_next what w b placed =
 -- ---- a move at which no end is made anew
 
 -- it holds on through it, though it isn't known to where one is
-pub move_keeps : (Holds : MoveFact) → KeepsCalmMovesBy every ⊥ NoSide Holds → (what : Move) (w : World) (b : Book) → restart_of what w.state ≡ None → IsPlaced w.state →
+pub move_keeps : (Holds : MoveFact) → KeepsCalmMovesBy any ⊥ NoSide Holds → (what : Move) (w : World) (b : Book) → restart_of what w.state ≡ None → IsPlaced w.state →
     ((on : Option Delivery) → Holds 0 (started w.moves on) w.state [] b) →
     (n : ℕ) × ((next : Option Delivery) → Holds n (started (happens w what).moves next) (happens w what).state [] (note w what b))
 move_keeps Holds keeps what w b none placed holds =

@@ -20,6 +20,7 @@ use Rattle.world_moves.specs.Acting.{Given, AfterHearing, done, forget, given_by
 use Rattle.world_moves.specs.Alone.{hear_alone}
 use Rattle.world_moves.specs.Links.{acceptor_of, dialler_of}
 use Rattle.world_moves.specs.Moving.{answered_link, begun, changed, renewed, settle, tick, with_link, without_first}
+use Rattle.world_moves.specs.Plain.{hear_plain, renewed_plain}
 use Rattle.domain_world.specs.Past.{Delivery, note_at, note_given}
 use Rattle.domain_world.proofs.Frames.AloneNoteLaws.{note_alone}
 use Rattle.domain_world.proofs.Frames.AloneStepLaws.{renewed_alone}
@@ -38,16 +39,25 @@ pub record How : Type 1 where
   -- the link's number, and the direction, `back` to the end that dialled
   pub at_side : List Route → ℕ → Bool → EndId → Type 0
 
--- in every world
-abbrev pub every : How
-every = record {
+-- in any world
+abbrev pub any : How
+any = record {
   hears = λ end what s. hear end what s;
   renews = λ end s. renewed end s;
   notes = λ end w piece s after b. note_at end w piece s after b;
   at_side = λ links link back end. IsOnSide links link back end;
 }
 
--- in a world whose controllers ask nobody: no link is between controllers
+-- in every world in which nothing seals
+abbrev pub every : How
+every = record {
+  hears = λ end what s. hear_plain end what s;
+  renews = λ end s. renewed_plain end s;
+  notes = λ end w piece s after b. note_at end w piece s after b;
+  at_side = λ links link back end. IsOnSide links link back end;
+}
+
+-- in one whose controllers ask nobody: no link is between controllers
 abbrev pub alone : How
 alone = record {
   hears = λ end what s. hear_alone end what s;

@@ -21,8 +21,8 @@ use Rattle.world_moves.specs.declared.state.State.{State}
 use Rattle.world_moves.specs.Acting.{Given, AfterHearing, forget, given_by, perform_quietly, shut_link}
 use Rattle.world_moves.specs.Links.{acceptor_of}
 use Rattle.world_moves.specs.Moving.{answered_link, begun, changed, settle, tick, with_link, without_first}
-use Rattle.world_moves.specs.World.{first_world}
-use Rattle.world_moves.specs.Alone.{HandsNothingOn, hear_alone as hear}
+use Rattle.world_moves.specs.Alone.{IsPlainAlone, hear_alone as hear}
+use Rattle.world_moves.specs.Plain.{plain_world}
 use Rattle.domain_world.specs.Past.{Delivery, note_given, past}
 use Rattle.domain_world.proofs.Frames.AloneNoteLaws.{note_alone as note_at}
 use Rattle.domain_world.proofs.Frames.AloneStepLaws.{act_alone as hear_and_act, renewed_alone as renewed}
@@ -276,8 +276,8 @@ Marked = Both Nothing (MarkFact no_part no_more_of)
 -- where something else is known in each move, with which it holds on where a move is over
 pub run_beside : {Over : Type 0} → (Holds : RunFact) (Fine : ActionFact) → KeepsWith Over NoFact Holds Fine → (Also : MoveFact) → KeepsMoves (Unit {0}) NoSide Also →
     ((n at : ℕ) (on : Option Delivery) (s : State) (given : Given) (b : Book) → Also n (started at on) s given b → Holds n s given b → Holds n s [] (note_given at given s b)) →
-    (plan : Plan) (moves : List Move) → HandsNothingOn plan → HasBytes plan moves → ((on : Option Delivery) → Also 0 (started 0 on) (first_world plan).state [] blank) →
-    Holds 0 (first_world plan).state [] blank → HoldsAfterRun Holds plan moves
+    (plan : Plan) (moves : List Move) → IsPlainAlone plan → HasBytes plan moves → ((on : Option Delivery) → Also 0 (started 0 on) (plain_world plan).state [] blank) →
+    Holds 0 (plain_world plan).state [] blank → HoldsAfterRun Holds plan moves
 run_beside Holds Fine keeps Also also over plan moves nobody has more holds =
     let known : Type 0 = Unit {0} in
     let beneath : MoveFact = Both Marked Also in
@@ -290,14 +290,14 @@ run_beside Holds Fine keeps Also also over plan moves nobody has more holds =
     (λ on. ((first_marked no_part no_side no_more_of nothing_written nothing_marked plan on tt, more on), (holds, tt))) in
     record { steps = after.steps; holds = after.holds.1.0; few = after.few tt }
 
-pub run_keeps : (Holds : RunFact) (Fine : ActionFact) → StepKeeps NoFact Holds Fine → (plan : Plan) (moves : List Move) → HandsNothingOn plan → HasBytes plan moves →
-    Holds 0 (first_world plan).state [] blank → HoldsAfterRun Holds plan moves
+pub run_keeps : (Holds : RunFact) (Fine : ActionFact) → StepKeeps NoFact Holds Fine → (plan : Plan) (moves : List Move) → IsPlainAlone plan → HasBytes plan moves →
+    Holds 0 (plain_world plan).state [] blank → HoldsAfterRun Holds plan moves
 run_keeps Holds Fine keeps plan moves nobody has holds =
     run_beside Holds Fine keeps Nothing (side_keeps no_part no_side nothing_written (Unit {0})) (λ n at on s given b none. keeps.over n at s given b tt) plan moves nobody has (λ on. tt) holds
 
 -- so it is where what is handed in are bytes, and what holds says of the bag that its units are short, and have bytes
 pub run_carries : (Holds : RunFact) (Fine : ActionFact) → StepKeeps NoFact Holds Fine → ((n : ℕ) (s : State) (b : Book) → Holds n s [] b → IsBytesBag s.bag) →
-    (plan : Plan) (moves : List Move) → HandsNothingOn plan → AllByRecursion HandsBytes moves → Holds 0 (first_world plan).state [] blank → HoldsAfterRun Holds plan moves
+    (plan : Plan) (moves : List Move) → IsPlainAlone plan → AllByRecursion HandsBytes moves → Holds 0 (plain_world plan).state [] blank → HoldsAfterRun Holds plan moves
 run_carries Holds Fine keeps says plan moves nobody handed holds =
     let known : Type 0 = Unit {0} in
     let all : KeepsMoves known NoSide (Both Marked (OfSteps Holds Fine)) =

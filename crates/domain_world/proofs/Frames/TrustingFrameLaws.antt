@@ -2,7 +2,7 @@
 -- book that controllers' bytes change alone, whether controllers hand logons on or not: whatever holds through each
 -- step of a controller, and as others draw. It is an instance of `EndFrameLaws`. It serves `Proved.grants`,
 -- `Proved.tables` and `Proved.replays`.
-use Rattle.std.proofs.Common.{◌≡◌, ℕ, Bool, List, length, Some, slice_get, slice_set, sym, subst}
+use Rattle.std.proofs.Common.{false, ◌≡◌, ℕ, Bool, List, length, Some, slice_get, slice_set, sym, subst}
 use Rattle.outside.specs.Drawing.{Drawing}
 use Rattle.outside.specs.declared.action.Action.{Action}
 use Rattle.outside.specs.declared.event.Event.{Event}
@@ -14,19 +14,19 @@ use Rattle.world_moves.specs.declared.links.EndId.{EndId}
 use Rattle.world_moves.specs.declared.moves.Move.{Move}
 use Rattle.world_moves.specs.declared.plan.Plan.{Plan}
 use Rattle.world_moves.specs.declared.state.State.{State}
-use Rattle.world_moves.specs.Acting.{Given, hear, hear_and_act}
+use Rattle.world_moves.specs.Acting.{Given}
 use Rattle.world_moves.specs.Ends.{EndStates, EndStep, drawn_on, fresh_controller}
 use Rattle.world_moves.specs.Links.{acceptor_of}
 use Rattle.world_moves.specs.Moving.{with_link}
-use Rattle.world_moves.specs.World.{first_world}
 use Rattle.world_moves.proofs.ChangeLaws.{by_change}
-use Rattle.world_moves.proofs.EndKindLaws.{renew_by, step_by}
+use Rattle.world_moves.specs.Plain.{NothingSeals, hear_plain as hear, plain_world}
+use Rattle.world_moves.proofs.PlainKindLaws.{plain_by as step_by, renew_plain_by as renew_by}
 use Rattle.domain_world.specs.Past.{Delivery, note_at, note_controller, note_given, past}
 use Rattle.domain_world.proofs.Frames.ControllerFrameLaws.{ControllersFact}
 use Rattle.domain_world.proofs.Frames.EndFrameLaws.{EndFact, KeepsEndsBy, every_ends_after}
 use Rattle.domain_world.proofs.Frames.EndNoteLaws.{OfControllers}
 use Rattle.domain_world.proofs.Frames.EventLaws.{calm_no_bytes}
-use Rattle.domain_world.proofs.Frames.EveryStepLaws.{every_draws, every_noted}
+use Rattle.domain_world.proofs.Frames.EveryStepLaws.{act_plain as hear_and_act, every_draws, every_noted}
 use Rattle.domain_world.proofs.Frames.MoveKeepLaws.{every}
 use Rattle.domain_world.proofs.Moves.LeftLaws.{DrawsOn}
 use Rattle.domain_world.proofs.Moves.NoBytesLaws.{IsNoBytes}
@@ -51,7 +51,7 @@ pub record KeepsTrusting {X : Type 0} (part : Book → X) (Fits : X → Controll
       TrustingStepped (Fits (part (note_controller (Some c) at w piece s after b))) c at (event.Bytes w.link piece) s.moment s.ends.controllers s.chances
   -- it is made anew
   pub anew : (x : X) (c : ControllerState) (at : ℕ) (hands_on : Bool) (controllers : List ControllerState) (chances : Drawing) → slice_get controllers at ≡ Some c → Fits x controllers chances →
-      Fits x (slice_set controllers at (fresh_controller hands_on c.table c.name)) chances
+      Fits x (slice_set controllers at (fresh_controller hands_on false c.table c.name)) chances
 
 module _ {X : Type 0} (part : Book → X) (Fits : X → ControllersFact) (keeps : KeepsTrusting part Fits) where
   abbrev OfTrusting : EndFact
@@ -93,7 +93,7 @@ module _ {X : Type 0} (part : Book → X) (Fits : X → ControllersFact) (keeps 
     over = λ at on next s given b fits. subst (λ (x : X). Fits x s.ends.controllers s.chances) (sym (keeps.given at given s b)) fits;
   }
 
-  -- in every run
-  pub controllers_after : (plan : Plan) (moves : List Move) → Fits (part blank) (first_world plan).state.ends.controllers (first_world plan).state.chances →
+  -- in every run in which nothing seals
+  pub controllers_after : (plan : Plan) (moves : List Move) → NothingSeals plan → Fits (part blank) (plain_world plan).state.ends.controllers (plain_world plan).state.chances →
       Fits (part (past plan moves).book) (past plan moves).world.state.ends.controllers (past plan moves).world.state.chances
-  controllers_after plan moves fits = every_ends_after OfTrusting trusting_keeps plan moves (λ on. fits)
+  controllers_after plan moves nothing fits = every_ends_after OfTrusting trusting_keeps plan moves nothing (λ on. fits)

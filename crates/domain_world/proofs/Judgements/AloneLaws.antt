@@ -10,7 +10,7 @@ use Rattle.step_notes.specs.Judged.{IsJudgedRight, IsNextOn, IsRightOf}
 use Rattle.step_notes.specs.Records.{Judging, JudgementTold, given_in}
 use Rattle.world_moves.specs.declared.moves.Move.{Move}
 use Rattle.world_moves.specs.declared.plan.Plan.{Plan}
-use Rattle.world_moves.specs.Alone.{HandsNothingOn}
+use Rattle.world_moves.specs.Alone.{IsPlainAlone}
 use Rattle.domain_world.specs.Claims.{TellsOfCallsAlone}
 use Rattle.domain_world.specs.Claims.Statuses.{TellsItsStatus}
 use Rattle.domain_world.specs.Past.{past}
@@ -43,7 +43,7 @@ all_judge [] right status = tt
 all_judge (j ∷ judgings) right status = one_judges j.how j (tellings judgings) refl right.0 status.0 (all_judge judgings right.1 status.1)
 
 -- in every run a controller tells of calls alone
-pub tells_of_calls : (plan : Plan) (moves : List Move) → HandsNothingOn plan → TellsOfCallsAlone (past plan moves)
+pub tells_of_calls : (plan : Plan) (moves : List Move) → IsPlainAlone plan → TellsOfCallsAlone (past plan moves)
 tells_of_calls plan moves nobody =
     subst (λ told. AllByRecursion IsOfCall told) (judgements_told plan moves nobody)
     (all_judge (past plan moves).book.judged (judged_rightly plan moves) (each_status plan moves nobody))

@@ -1,6 +1,6 @@
 -- In every run of a plan that hands nothing on each call was judged by the accounts of the plan, and told with its
 -- status. It serves `Proved.alone`, `Proved.let_on` and `Proved.statuses`.
-use Rattle.std.proofs.Common.{◌≡◌, Bool, ℕ, zero, suc, true, List, [], ◌∷◌, ◌++◌, Option, Some, None, Ok, Err, inl, inr, slice_get, slice_set, refl, sym, ap, subst, ◌∙◌}
+use Rattle.std.proofs.Common.{false, ◌≡◌, Bool, ℕ, zero, suc, true, List, [], ◌∷◌, ◌++◌, Option, Some, None, Ok, Err, inl, inr, slice_get, slice_set, refl, sym, ap, subst, ◌∙◌}
 use Rattle.std.specs.List.{AllByRecursion}
 use Rattle.wire_base.specs.Maps.{lookup, same_number}
 use Rattle.authenticators.specs.SecureChannels.{SecureChannelState}
@@ -30,9 +30,10 @@ use Rattle.step_notes.specs.ReplySends.{done_on}
 use Rattle.world_moves.specs.declared.moves.Move.{Move}
 use Rattle.world_moves.specs.declared.plan.Plan.{Plan}
 use Rattle.world_moves.specs.declared.state.State.{State}
-use Rattle.world_moves.specs.World.{first_controllers, first_world}
-use Rattle.world_moves.specs.Alone.{HandsNothingOn}
+use Rattle.world_moves.specs.World.{first_controllers}
+use Rattle.world_moves.specs.Alone.{IsPlainAlone}
 use Rattle.world_moves.specs.Ends.{fresh_controller}
+use Rattle.world_moves.specs.Plain.{plain_world}
 use Rattle.domain_world.specs.Claims.Statuses.{TellsItsStatus}
 use Rattle.domain_world.specs.Past.{Delivery, at_controller, judged_of, numbers_on, past}
 use Rattle.step_notes.proofs.Controllers.JudgedStepLaws.{told_kept}
@@ -188,17 +189,17 @@ stand_on plan = record {
 
 -- ---- at first
 
-pub first_planned : (hands_on : Bool) (tables : List AccountTable) (names : List (List ℕ)) (at : ℕ) (c : ControllerState) → slice_get (first_controllers hands_on tables names) at ≡ Some c →
+pub first_planned : (hands_on : Bool) (tables : List AccountTable) (names : List (List ℕ)) (at : ℕ) (c : ControllerState) → slice_get (first_controllers hands_on false tables names) at ≡ Some c →
     (slice_get tables at ≡ Some c.table) × (slice_get names at ≡ Some c.name)
 first_planned hands_on [] names at c there = absurd cc
 first_planned hands_on (table ∷ tables) [] at c there = absurd cc
 first_planned hands_on (table ∷ tables) (name ∷ names) zero c there =
-    let is : fresh_controller hands_on table name ≡ c = cc in
+    let is : fresh_controller hands_on false table name ≡ c = cc in
     subst (λ (x : ControllerState). (Some table ≡ Some x.table) × (Some name ≡ Some x.name)) is
     (fresh_by (λ (x : ControllerState). (Some table ≡ Some x.table) × (Some name ≡ Some x.name)) table name (refl, refl) (refl, refl) hands_on)
 first_planned hands_on (table ∷ tables) (name ∷ names) (suc at) c there = first_planned hands_on tables names at c there
 
-pub first_stands : (plan : Plan) → StandsByPlan plan [] (first_world plan).state.ends.controllers
+pub first_stands : (plan : Plan) → StandsByPlan plan [] (plain_world plan).state.ends.controllers
 first_stands plan = record {
   judged = tt;
   each = λ at c there. let both = first_planned plan.hands_on plan.tables plan.controllers at c there in
@@ -206,12 +207,12 @@ first_stands plan = record {
 }
 
 -- after all moves of a run
-pub stand_after : (plan : Plan) (moves : List Move) → HandsNothingOn plan → StandsByPlan plan (past plan moves).book.judged (past plan moves).world.state.ends.controllers
+pub stand_after : (plan : Plan) (moves : List Move) → IsPlainAlone plan → StandsByPlan plan (past plan moves).book.judged (past plan moves).world.state.ends.controllers
 stand_after plan moves nobody =
     run_stays judgings_of (AmongControllers judgings_of (ByPlan plan) (stand_on plan)) (controllers_written judgings_of (ByPlan plan) (stand_on plan)) plan moves nobody (first_stands plan)
 
 -- in every run each call that passed was told with its status
-pub each_status : (plan : Plan) (moves : List Move) → HandsNothingOn plan → AllByRecursion TellsItsStatus (past plan moves).book.judged
+pub each_status : (plan : Plan) (moves : List Move) → IsPlainAlone plan → AllByRecursion TellsItsStatus (past plan moves).book.judged
 each_status plan moves nobody =
     all_weaker (IsByPlan plan) TellsItsStatus (past plan moves).book.judged (λ j planned. planned.1)
     (stand_after plan moves nobody).judged

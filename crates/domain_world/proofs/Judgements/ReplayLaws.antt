@@ -23,8 +23,9 @@ use Rattle.step_notes.specs.Marking.{is_channel}
 use Rattle.step_notes.specs.Records.{Judging, computer_named, given_in, timestamp_in}
 use Rattle.world_moves.specs.declared.moves.Move.{Move}
 use Rattle.world_moves.specs.declared.plan.Plan.{Plan}
-use Rattle.world_moves.specs.World.{first_controllers, first_world}
+use Rattle.world_moves.specs.World.{first_controllers}
 use Rattle.world_moves.specs.Ends.{fresh_controller}
+use Rattle.world_moves.specs.Plain.{NothingSeals, plain_world}
 use Rattle.domain_world.specs.Claims.{ReplaysBySum, moved_if, moved_on, passed_on, judged_timestamp}
 use Rattle.domain_world.specs.Past.{numbers_on, past}
 use Rattle.channel_events.proofs.TimestampLaws.{moved_none, moved_one}
@@ -61,7 +62,7 @@ follow_on = record {
       bytes_follow c b.judged at w piece s (numbers_on w.link true s.bag after.bag) is follow;
   anew = λ judgings c at hands_on controllers chances is follow.
       let left : List (List ℕ) = chances.left in
-      controller_put judgings judgings left left controllers at (fresh_controller hands_on c.table c.name) follow (record {
+      controller_put judgings judgings left left controllers at (fresh_controller hands_on false c.table c.name) follow (record {
         order = follow.order;
         kept = fresh_by (λ (new : ControllerState). AreKeptIf judgings left at new.running) c.table c.name (fresh_kept judgings left at) (fresh_kept judgings left at) hands_on;
         fewer = record { front = []; is = refl };
@@ -83,32 +84,32 @@ apart_from (challenge ∷ left) differ = (
 )
 
 fresh_controllers : (hands_on : Bool) (tables : List AccountTable) (names : List (List ℕ)) (judgings : List Judging) (left : List (List ℕ)) (controller at : ℕ) (c : ControllerState) →
-    slice_get (first_controllers hands_on tables names) at ≡ Some c → AreKeptIf judgings left controller c.running
+    slice_get (first_controllers hands_on false tables names) at ≡ Some c → AreKeptIf judgings left controller c.running
 fresh_controllers hands_on [] names judgings left controller at c there = absurd cc
 fresh_controllers hands_on (table ∷ tables) [] judgings left controller at c there = absurd cc
 fresh_controllers hands_on (table ∷ tables) (name ∷ names) judgings left controller zero c there =
-    let is : fresh_controller hands_on table name ≡ c = cc in
+    let is : fresh_controller hands_on false table name ≡ c = cc in
     let kept = fresh_kept judgings left controller in
     subst (λ (x : ControllerState). AreKeptIf judgings left controller x.running) is
     (fresh_by (λ (x : ControllerState). AreKeptIf judgings left controller x.running) table name kept kept hands_on)
 fresh_controllers hands_on (table ∷ tables) (name ∷ names) judgings left controller (suc at) c there = fresh_controllers hands_on tables names judgings left controller at c there
 
-first_follows : (plan : Plan) → SeedsFollow [] (first_world plan).state.chances.left (first_world plan).state.ends.controllers
+first_follows : (plan : Plan) → SeedsFollow [] (plain_world plan).state.chances.left (plain_world plan).state.ends.controllers
 first_follows plan =
-    let left : List (List ℕ) = (first_world plan).state.chances.left in
+    let left : List (List ℕ) = (plain_world plan).state.chances.left in
     record {
       order = record { moved = tt; unheard = none_heard left; apart = apart_from left (challenges_from-distinct plan.seed 0 (most_draws - 0) (omega arith) (omega arith)) };
       each = λ at c there. fresh_controllers plan.hands_on plan.tables plan.controllers [] left at at c there;
     }
 
 -- after every run what each controller keeps of computers follows what was judged
-pub seeds_kept : (plan : Plan) (moves : List Move) →
+pub seeds_kept : (plan : Plan) (moves : List Move) → NothingSeals plan →
     SeedsFollow (past plan moves).book.judged (past plan moves).world.state.chances.left (past plan moves).world.state.ends.controllers
-seeds_kept plan moves = controllers_after judgings_of Follows follow_on plan moves (first_follows plan)
+seeds_kept plan moves nothing = controllers_after judgings_of Follows follow_on plan moves nothing (first_follows plan)
 
 -- in every run each call that was judged met its channel's seed moved so
-seeds_follow : (plan : Plan) (moves : List Move) → AreMoved (past plan moves).book.judged
-seeds_follow plan moves = (seeds_kept plan moves).order.moved
+seeds_follow : (plan : Plan) (moves : List Move) → NothingSeals plan → AreMoved (past plan moves).book.judged
+seeds_follow plan moves nothing = (seeds_kept plan moves nothing).order.moved
 
 -- ---- the claim
 
@@ -244,9 +245,9 @@ by_sum channel between earlier second first moved right passed same again =
     )
 
 -- in every run a replay passes by the sum of timestamps
-pub replays_by_sum : (plan : Plan) (moves : List Move) → ReplaysBySum (past plan moves)
-replays_by_sum plan moves channel later between earlier second first all passed same again =
+pub replays_by_sum : (plan : Plan) (moves : List Move) → NothingSeals plan → ReplaysBySum (past plan moves)
+replays_by_sum plan moves nothing channel later between earlier second first all passed same again =
     by_sum channel between earlier second first
-    (later_moved later second (between ++ first ∷ earlier) (subst (λ (judgings : List Judging). AreMoved judgings) all (seeds_follow plan moves)))
+    (later_moved later second (between ++ first ∷ earlier) (subst (λ (judgings : List Judging). AreMoved judgings) all (seeds_follow plan moves nothing)))
     (later_right later second (between ++ first ∷ earlier) (subst (λ (judgings : List Judging). AreRight judgings) all (judged_rightly plan moves)))
     passed same again

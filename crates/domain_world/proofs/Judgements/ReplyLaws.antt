@@ -40,8 +40,9 @@ use Rattle.world_moves.specs.declared.moves.Move.{Move}
 use Rattle.world_moves.specs.declared.plan.Plan.{Plan}
 use Rattle.world_moves.specs.declared.state.State.{State}
 use Rattle.world_moves.specs.Acting.{done, heard_by}
-use Rattle.world_moves.specs.Ends.{actions_by, member_step}
-use Rattle.world_moves.specs.Alone.{HandsNothingOn}
+use Rattle.world_moves.specs.Ends.{actions_by}
+use Rattle.world_moves.specs.Alone.{IsPlainAlone}
+use Rattle.world_moves.specs.Plain.{plain_member_step as member_step}
 use Rattle.domain_world.specs.Claims.Replies.{IsReplyOfOne, RepliesCarryTheirJudgement}
 use Rattle.domain_world.specs.Past.{Delivery, controller_asked, is_sent_on, judged_of, later_of, marks_by, marks_of, note_member, number_sent, numbers_on, onto, past, with_reply}
 use Rattle.wire_base.proofs.ListLaws.{got_nothing, one_behind, some_is}
@@ -275,7 +276,7 @@ replies_stay = record {
 -- ---- a run
 
 -- in every run each reply carries what was judged
-pub replies_carry : (plan : Plan) (moves : List Move) → HandsNothingOn plan → RepliesCarryTheirJudgement (past plan moves)
+pub replies_carry : (plan : Plan) (moves : List Move) → IsPlainAlone plan → RepliesCarryTheirJudgement (past plan moves)
 replies_carry plan moves nobody number unit sent there marked =
     let judgings : List Judging = (past plan moves).book.judged in
     let of : IsOfUnit OfUnit judgings (past plan moves).world.state.bag number sent.mark =

@@ -19,9 +19,9 @@ use Rattle.world_moves.specs.declared.moves.Move.{Move}
 use Rattle.world_moves.specs.declared.moves.Move.TheVariants as move
 use Rattle.world_moves.specs.declared.plan.Plan.{Plan}
 use Rattle.world_moves.specs.declared.state.State.{State}
-use Rattle.world_moves.specs.Acting.{forget, hear_and_act}
+use Rattle.world_moves.specs.Acting.{forget}
 use Rattle.world_moves.specs.Choosing.{chosen_place}
-use Rattle.world_moves.specs.Ends.{EndStates, EndStep, count_of, end_step, fresh_controller, renew_client, renew_controller, renew_member}
+use Rattle.world_moves.specs.Ends.{EndStates, EndStep, count_of, fresh_controller, renew_client, renew_controller}
 use Rattle.world_moves.specs.Links.{acceptor_of}
 use Rattle.world_moves.specs.Moving.{act, renewed, restart_at, restart_by}
 use Rattle.world_moves.specs.World.{World, first_world, happens, run}
@@ -34,7 +34,7 @@ use Rattle.domain_world.proofs.Messages.MessageOnceLaws.{each_put}
 use Rattle.domain_world.proofs.Frames.AloneStepLaws.{fresh_by}
 use Rattle.domain_world.proofs.Frames.EndFrameLaws.{EndFact, KeepsCalmEndsBy, ends_through}
 use Rattle.domain_world.proofs.Frames.EndNoteLaws.{judged_so}
-use Rattle.domain_world.proofs.Frames.EveryStepLaws.{every_noted as noted_by}
+use Rattle.domain_world.proofs.Frames.EveryStepLaws.{act_plain as hear_and_act, every_noted as noted_by}
 use Rattle.domain_world.proofs.Frames.MoveFrameLaws.{placed_next}
 use Rattle.domain_world.proofs.Frames.MoveKeepLaws.{every}
 use Rattle.domain_world.proofs.Frames.EventLaws.{calm_no_bytes}
@@ -45,7 +45,9 @@ use Rattle.domain_world.proofs.Judgements.Openings.OpeningRunLaws.{each_fresh}
 use Rattle.domain_world.proofs.Judgements.ChainLaws.{AreChained, IsBy, left_behind, left_of}
 use Rattle.domain_world.proofs.Judgements.SessionStepLaws.{RunningChains, RunsWith, kept_sessions, step_chains}
 use Rattle.world_moves.proofs.ChangeLaws.{by_change}
-use Rattle.world_moves.proofs.EndKindLaws.{step_by}
+use Rattle.world_moves.specs.Plain.{IsPlain, NothingSeals, plain_end_step as end_step, renew_plain_member as renew_member, renewed_plain}
+use Rattle.world_moves.proofs.PlainKindLaws.{plain_by as step_by}
+use Rattle.world_moves.proofs.PlainLaws.{first_plain, moved_plain, renews_plainly, world_plain}
 use Rattle.outside.specs.declared.action.Action.{Action}
 
 -- ---- since when
@@ -338,7 +340,7 @@ module _ (at : ℕ) (starts : List ControllerRenewed) (judgings : List Judging) 
       (omega arith, all_weaker (λ (one : ControllerRenewed). one.moves ≤ at) (λ (one : ControllerRenewed). one.moves ≤ at + 1) starts (λ one is. omega (arith, is)) early)
 
   controller_anew : (hands_on : Bool) (found : Option ControllerState) (k : ℕ) (ends : EndStates) → slice_get ends.controllers k ≡ found → Stand starts at judgings ends.controllers →
-      Stand (renewal k ∷ starts) (at + 1) judgings (renew_controller hands_on found k ends).controllers
+      Stand (renewal k ∷ starts) (at + 1) judgings (renew_controller hands_on false found k ends).controllers
   controller_anew hands_on None k ends is stands = record {
     judged = judged_later (renewal k) judgings refl stands.made stands.judged;
     each = λ n c there.
@@ -349,7 +351,7 @@ module _ (at : ℕ) (starts : List ControllerRenewed) (judgings : List Judging) 
   controller_anew hands_on (Some c) k ends is stands = record {
     judged = judged_later (renewal k) judgings refl stands.made stands.judged;
     each = each_put (λ (n : ℕ) (x : ControllerState). RunsWith (sessions_since n (last_start n (renewal k ∷ starts)) judgings) x.running) ends.controllers k
-        (fresh_controller hands_on c.table c.name) (λ n x differs there. other_kept k n x.running (ne_eqb k n (λ same. differs (sym same))) (stands.each n x there))
+        (fresh_controller hands_on false c.table c.name) (λ n x differs there. other_kept k n x.running (ne_eqb k n (λ same. differs (sym same))) (stands.each n x there))
         (fresh_by (λ (x : ControllerState). RunsWith (sessions_since k (last_start k (renewal k ∷ starts)) judgings) x.running) c.table c.name (own_fresh k stands.made) (own_fresh k stands.made) hands_on);
     made = (later_stands starts at judgings ends.controllers stands).made;
     early = anew_early stands.early k;
@@ -364,7 +366,7 @@ module _ (at : ℕ) (starts : List ControllerRenewed) (judgings : List Judging) 
   client_anew (Some plan) k ends = refl
 
   end_anew : (end : EndId) (s : State) → Stand starts at judgings s.ends.controllers →
-      Stand (renewal_by (Some end) (at + 1) ++ starts) (at + 1) judgings (renewed end (forget end s)).ends.controllers
+      Stand (renewal_by (Some end) (at + 1) ++ starts) (at + 1) judgings (renewed_plain end (forget end s)).ends.controllers
   end_anew (Controller k) s stands = controller_anew s.hands_on (slice_get s.ends.controllers k) k s.ends refl stands
   end_anew (Member k) s stands =
       subst (λ (controllers : List ControllerState). Stand starts (at + 1) judgings controllers) (sym (member_anew (slice_get s.member_plans k) k s.ends))
@@ -400,22 +402,23 @@ restarts (move.Tick more) at s b end is = absurd (no_some end is)
 
 -- ---- a run
 
-one_move : (end : Option EndId) (what : Move) (w : World) (b : Book) (starts : List ControllerRenewed) → restart_of what w.state ≡ end → IsPlaced w.state →
+one_move : (end : Option EndId) (what : Move) (w : World) (b : Book) (starts : List ControllerRenewed) → restart_of what w.state ≡ end → IsPlaced w.state → IsPlain w.state →
     Stand starts w.moves b.judged w.state.ends.controllers →
     Stand (renewal_by end (w.moves + 1) ++ starts) (w.moves + 1) (note w what b).judged (happens w what).state.ends.controllers
-one_move None what w b starts is placed stands = ends_through (SessionsHold starts) (stands_on starts) what w b is placed (λ on. stands) None
-one_move (Some end) what w b starts is placed stands =
+one_move None what w b starts is placed plain stands = ends_through (SessionsHold starts) (stands_on starts) what w b is placed plain (λ on. stands) None
+one_move (Some end) what w b starts is placed plain stands =
     let so : IsRestart what w.moves w.state b end = restarts what w.moves w.state b end is in
     subst (λ (s : State). Stand (renewal_by (Some end) (w.moves + 1) ++ starts) (w.moves + 1) (note_coming what w.moves w.state b).judged s.ends.controllers) (sym so.acts)
     (subst (λ (x : Book). Stand (renewal_by (Some end) (w.moves + 1) ++ starts) (w.moves + 1) x.judged (renewed end (forget end w.state)).ends.controllers) (sym so.notes)
-    (end_anew w.moves starts b.judged end w.state stands))
+    (subst (λ (ends : EndStates). Stand (renewal_by (Some end) (w.moves + 1) ++ starts) (w.moves + 1) b.judged ends.controllers) (sym (renews_plainly end (forget end w.state) plain))
+    (end_anew w.moves starts b.judged end w.state stands)))
 
-all_moves : (moves : List Move) (w : World) (b : Book) (starts : List ControllerRenewed) → IsPlaced w.state → Stand starts w.moves b.judged w.state.ends.controllers →
+all_moves : (moves : List Move) (w : World) (b : Book) (starts : List ControllerRenewed) → IsPlaced w.state → IsPlain w.state → Stand starts w.moves b.judged w.state.ends.controllers →
     Stand (renewals moves w starts) (run moves w).moves (book moves w b).judged (run moves w).state.ends.controllers
-all_moves [] w b starts placed stands = stands
-all_moves (what ∷ moves) w b starts placed stands =
-    all_moves moves (happens w what) (note w what b) (renewal_by (restart_of what w.state) (w.moves + 1) ++ starts) (placed_next what w b placed)
-    (one_move (restart_of what w.state) what w b starts refl placed stands)
+all_moves [] w b starts placed plain stands = stands
+all_moves (what ∷ moves) w b starts placed plain stands =
+    all_moves moves (happens w what) (note w what b) (renewal_by (restart_of what w.state) (w.moves + 1) ++ starts) (placed_next what w b placed) (moved_plain what w.state plain)
+    (one_move (restart_of what w.state) what w b starts refl placed plain stands)
 
 -- in every run sessions follow the calls
 pub record SessionsStand (plan : Plan) (moves : List Move) : Type 0 where
@@ -423,13 +426,14 @@ pub record SessionsStand (plan : Plan) (moves : List Move) : Type 0 where
   pub each : (k : ℕ) (c : ControllerState) → slice_get (past plan moves).world.state.ends.controllers k ≡ Some c →
       RunsWith (sessions_since k (last_start k (renewals moves (first_world plan) [])) (past plan moves).book.judged) c.running
 
-pub sessions_stand : (plan : Plan) (moves : List Move) → SessionsStand plan moves
-sessions_stand plan moves =
+pub sessions_stand : (plan : Plan) (moves : List Move) → NothingSeals plan → SessionsStand plan moves
+sessions_stand plan moves nothing =
     let stands : Stand (renewals moves (first_world plan) []) (past plan moves).world.moves (past plan moves).book.judged (past plan moves).world.state.ends.controllers =
-    all_moves moves (first_world plan) blank [] (placed_first plan) (record {
+    all_moves moves (first_world plan) blank [] (placed_first plan) (first_plain plan nothing)
+    (subst (λ (w : World). Stand [] 0 [] w.state.ends.controllers) (sym (world_plain plan nothing)) (record {
       judged = tt;
       each = λ k c there. each_fresh (λ (x : ControllerState). RunsWith [] x.running) (λ table name. refl) (λ table name. refl) plan.hands_on plan.tables plan.controllers k c there;
       made = tt;
       early = tt;
-    }) in
+    })) in
     record { judged = stands.judged; each = stands.each }

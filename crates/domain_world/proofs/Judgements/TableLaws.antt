@@ -21,8 +21,8 @@ use Rattle.step_notes.specs.Records.{Book, Judging, computer_named, given_in}
 use Rattle.world_moves.specs.declared.moves.Move.{Move}
 use Rattle.world_moves.specs.declared.plan.Plan.{Plan}
 use Rattle.world_moves.specs.declared.state.State.{State}
-use Rattle.world_moves.specs.World.{first_world}
 use Rattle.world_moves.specs.Ends.{fresh_controller}
+use Rattle.world_moves.specs.Plain.{NothingSeals, plain_world}
 use Rattle.domain_world.specs.Claims.Tables.{AreByEarlier, IsLeft, TablesFollowVerdicts, accounts_after, accounts_if, left_by, left_if, left_on}
 use Rattle.domain_world.specs.Past.{Delivery, answers_of, at_controller, judged_of, later_of, note_answers, number_sent, numbers_on, onto, past, with_reply}
 use Rattle.step_notes.proofs.Controllers.JudgedStepLaws.{on_next}
@@ -230,7 +230,7 @@ stand_trusting plan = record {
   comes = λ c at w piece s after b is stands.
       controller_comes c (trust_step_of c (event.Bytes w.link piece) s.moment s.chances.left).state plan at w (answers_of at c w piece s) s after b is (step_chains at c w piece s) stands;
   anew = λ judgings c at hands_on controllers chances is stands.
-      same_put plan judgings controllers at c (fresh_controller hands_on c.table c.name) is
+      same_put plan judgings controllers at c (fresh_controller hands_on false c.table c.name) is
       (fresh_by (λ (new : ControllerState). new.table ≡ c.table) c.table c.name refl refl hands_on) stands;
 }
 
@@ -239,15 +239,15 @@ stand_trusting plan = record {
 one_table : (one other : AccountTable) → Some one ≡ Some other → one ≡ other
 one_table one other is = cc
 
-pub first_stands : (plan : Plan) → Stand plan [] (first_world plan).state.ends.controllers
+pub first_stands : (plan : Plan) → Stand plan [] (plain_world plan).state.ends.controllers
 first_stands plan = record {
   judged = tt;
   each = λ at c there planned is. one_table c.table planned (sym (first_planned plan.hands_on plan.tables plan.controllers at c there).0 ∙ is);
 }
 
 -- in every run accounts change by verdicts alone
-pub tables_follow : (plan : Plan) (moves : List Move) → TablesFollowVerdicts (past plan moves)
-tables_follow plan moves =
+pub tables_follow : (plan : Plan) (moves : List Move) → NothingSeals plan → TablesFollowVerdicts (past plan moves)
+tables_follow plan moves nothing =
     let stands : Stand plan (past plan moves).book.judged (past plan moves).world.state.ends.controllers =
-    controllers_after judgings_of (TablesStand plan) (stand_trusting plan) plan moves (first_stands plan) in
+    controllers_after judgings_of (TablesStand plan) (stand_trusting plan) plan moves nothing (first_stands plan) in
     record { judged = stands.judged; stands = stands.each }

@@ -23,7 +23,7 @@ use Rattle.world_moves.specs.declared.moves.Move.{Move}
 use Rattle.world_moves.specs.declared.plan.Plan.{Plan}
 use Rattle.world_moves.specs.declared.state.State.{State}
 use Rattle.world_moves.specs.Acting.{Given, given_by}
-use Rattle.world_moves.specs.Ends.{EndStep, actions_by, client_step, member_step}
+use Rattle.world_moves.specs.Ends.{EndStep, actions_by, client_step}
 use Rattle.world_moves.specs.Links.{acceptor_of}
 use Rattle.world_moves.specs.Moving.{begun, with_link, changed}
 use Rattle.domain_world.specs.Claims.{AreRightlyTold, AreTheirJudgements, judgements_of_calls}
@@ -44,8 +44,9 @@ use Rattle.domain_world.proofs.Frames.EventLaws.{calm_no_bytes}
 use Rattle.outside.specs.declared.action.Action.TheVariants as action
 use Rattle.outside.specs.declared.action.Judged.TheVariants as judged
 use Rattle.outside.specs.declared.event.Event.TheVariants as event
-use Rattle.world_moves.specs.Alone.{HandsNothingOn, hear_alone}
+use Rattle.world_moves.specs.Alone.{IsPlainAlone, hear_alone}
 use Rattle.world_moves.proofs.EndKindLaws.{is_controller}
+use Rattle.world_moves.specs.Plain.{plain_member_step as member_step}
 
 -- ---- what is told of calls
 
@@ -262,7 +263,7 @@ told_keeps = record {
   over = λ at on next s given b told. told;
 }
 
-pub judgements_told : (plan : Plan) (moves : List Move) → HandsNothingOn plan → tellings (past plan moves).book.judged ≡ (past plan moves).book.judgements
+pub judgements_told : (plan : Plan) (moves : List Move) → IsPlainAlone plan → tellings (past plan moves).book.judged ≡ (past plan moves).book.judgements
 judgements_told plan moves nobody = ends_after ToldSoFar told_keeps plan moves nobody (λ on. refl)
 
 -- ---- each is right

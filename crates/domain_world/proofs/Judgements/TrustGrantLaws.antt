@@ -43,7 +43,7 @@ use Rattle.step_notes.proofs.Controllers.TrustedStepLaws.{IsTrusted, trusted_how
 use Rattle.world_moves.specs.declared.moves.Move.{Move}
 use Rattle.world_moves.specs.declared.plan.Plan.{Plan}
 use Rattle.world_moves.specs.Ends.{fresh_controller}
-use Rattle.world_moves.specs.World.{first_world}
+use Rattle.world_moves.specs.Plain.{NothingSeals, plain_world}
 use Rattle.domain_world.specs.Claims.Grants.{GrantsWhoMayLogOn, IsGrantedRightly, IsToBeGranted, users_of}
 use Rattle.domain_world.specs.Claims.Statuses.{TellsItsStatus}
 use Rattle.domain_world.specs.Past.{answers_of, at_controller, judged_of, note_controller, numbers_on, past}
@@ -152,7 +152,7 @@ controller_put plan judgings now controllers at c new there keeps all stands =
       ];
     }
 
-fresh_keeps : (c : ControllerState) (hands_on : Bool) → KeepsPlan c (fresh_controller hands_on c.table c.name)
+fresh_keeps : (c : ControllerState) (hands_on : Bool) → KeepsPlan c (fresh_controller hands_on false c.table c.name)
 fresh_keeps c hands_on =
     fresh_by (λ (new : ControllerState). KeepsPlan c new) c.table c.name (states-none c.table, refl) (states-none c.table, refl) hands_on
 
@@ -173,10 +173,10 @@ stand_on plan = record {
       (onto_hold (IsByTable plan) (judged_of answers numbers) b.judged (judged_hold (IsByTable plan) (λ j number holds. by_reply plan j number holds) answers numbers each) stands.judged)
       stands;
   anew = λ judgings c at hands_on controllers chances is stands.
-      controller_put plan judgings judgings controllers at c (fresh_controller hands_on c.table c.name) is (fresh_keeps c hands_on) stands.judged stands;
+      controller_put plan judgings judgings controllers at c (fresh_controller hands_on false c.table c.name) is (fresh_keeps c hands_on) stands.judged stands;
 }
 
-first_stands : (plan : Plan) → StandsByTable plan [] (first_world plan).state.ends.controllers
+first_stands : (plan : Plan) → StandsByTable plan [] (plain_world plan).state.ends.controllers
 first_stands plan = record {
   judged = tt;
   each = λ at c there. let both = first_planned plan.hands_on plan.tables plan.controllers at c there in
@@ -184,12 +184,12 @@ first_stands plan = record {
 }
 
 -- in every run
-stand_after : (plan : Plan) (moves : List Move) → StandsByTable plan (past plan moves).book.judged (past plan moves).world.state.ends.controllers
-stand_after plan moves = controllers_after judgings_of (ByTable plan) (stand_on plan) plan moves (first_stands plan)
+stand_after : (plan : Plan) (moves : List Move) → NothingSeals plan → StandsByTable plan (past plan moves).book.judged (past plan moves).world.state.ends.controllers
+stand_after plan moves nothing = controllers_after judgings_of (ByTable plan) (stand_on plan) plan moves nothing (first_stands plan)
 
 -- each call that passed was told with its status, unless it came for a trusted domain
-pub each_told : (plan : Plan) (moves : List Move) → AllByRecursion IsToldSo (past plan moves).book.judged
-each_told plan moves = all_weaker (IsByTable plan) IsToldSo (past plan moves).book.judged (λ j planned. planned.1) (stand_after plan moves).judged
+pub each_told : (plan : Plan) (moves : List Move) → NothingSeals plan → AllByRecursion IsToldSo (past plan moves).book.judged
+each_told plan moves nothing = all_weaker (IsByTable plan) IsToldSo (past plan moves).book.judged (λ j planned. planned.1) (stand_after plan moves nothing).judged
 
 -- ---- each is granted rightly
 
@@ -252,6 +252,6 @@ all_rightly plan (j ∷ judgings) planned right users = (
 )
 
 -- in every run a controller grants a Logon call exactly where it is to be granted, by the accounts of the plan
-pub grants_who_may : (plan : Plan) (moves : List Move) → AllByRecursion (HasUsers plan) (past plan moves).book.judged → GrantsWhoMayLogOn (past plan moves)
-grants_who_may plan moves users =
-    all_rightly plan (past plan moves).book.judged (stand_after plan moves).judged (judged_rightly plan moves) users
+pub grants_who_may : (plan : Plan) (moves : List Move) → NothingSeals plan → AllByRecursion (HasUsers plan) (past plan moves).book.judged → GrantsWhoMayLogOn (past plan moves)
+grants_who_may plan moves nothing users =
+    all_rightly plan (past plan moves).book.judged (stand_after plan moves nothing).judged (judged_rightly plan moves) users

@@ -20,21 +20,19 @@ use Rattle.world_moves.specs.declared.links.EndId.{EndId}
 use Rattle.world_moves.specs.declared.moves.Move.{Move}
 use Rattle.world_moves.specs.declared.plan.Plan.{Plan}
 use Rattle.world_moves.specs.declared.state.State.{State}
-use Rattle.world_moves.specs.Acting.{hear_and_act}
-use Rattle.world_moves.specs.Ends.{EndStates, EndStep, client_step, end_step, member_step}
+use Rattle.world_moves.specs.Ends.{EndStates, EndStep, client_step}
 use Rattle.world_moves.specs.Forms.{IsClientPlan, IsSchedule}
 use Rattle.world_moves.specs.Links.{acceptor_of}
-use Rattle.world_moves.specs.Moving.{renewed}
-use Rattle.world_moves.specs.World.{first_world}
 use Rattle.world_moves.proofs.ChangeLaws.{by_change}
-use Rattle.world_moves.proofs.EndKindLaws.{renew_by, step_by}
+use Rattle.world_moves.specs.Plain.{NothingSeals, plain_end_step as end_step, plain_member_step as member_step, plain_world, renewed_plain as renewed}
+use Rattle.world_moves.proofs.PlainKindLaws.{plain_by as step_by, renew_plain_by as renew_by}
 use Rattle.domain_world.specs.Accepting.KeysMade.{IsMadeFrom, MessagesAreMade}
 use Rattle.domain_world.specs.Past.{Delivery, note_at, note_client, past}
 use Rattle.domain_world.proofs.Messages.ClientOfferLaws.{AreMadeFrom, HasNames}
 use Rattle.domain_world.proofs.Messages.ClientPlanLaws.{TaskIn, client_made, task_stays}
 use Rattle.domain_world.proofs.Messages.MessageOnceLaws.{each_put}
 use Rattle.domain_world.proofs.Frames.EndFrameLaws.{EndFact, KeepsEndsBy, every_ends_after}
-use Rattle.domain_world.proofs.Frames.EveryStepLaws.{every_draws, every_noted as noted_by}
+use Rattle.domain_world.proofs.Frames.EveryStepLaws.{act_plain as hear_and_act, every_draws, every_noted as noted_by}
 use Rattle.domain_world.proofs.Moves.LeftLaws.{AreEights, eights_after, first_eights}
 use Rattle.domain_world.proofs.Frames.MoveKeepLaws.{every}
 use Rattle.domain_world.proofs.Lists.AllLaws.{all_join}
@@ -146,7 +144,7 @@ fresh_names [] k c names there = absurd cc
 fresh_names (plan ∷ plans) zero c names there = let is : fresh_client plan ≡ c = cc in subst (λ (x : ClientState). TaskIn HasNames x.running) is names.0
 fresh_names (plan ∷ plans) (suc k) c names there = fresh_names plans k c names.1 there
 
-first_answers : (plan : Plan) → AllByRecursion HasNames plan.clients → Answers [] plan.clients (first_world plan).state.ends (first_world plan).state.chances
+first_answers : (plan : Plan) → AllByRecursion HasNames plan.clients → Answers [] plan.clients (plain_world plan).state.ends (plain_world plan).state.chances
 first_answers plan names = record {
   names = names;
   each = λ k c there. fresh_names plan.clients k c names there;
@@ -165,8 +163,8 @@ form_names : (plan : ClientPlan) → IsClientPlan plan → HasNames plan
 form_names plan forms = (units_are plan.user forms.user, units_are plan.domain forms.domain)
 
 -- in every schedule each message that a client made is the answer of its plan
-pub messages_made : (plan : Plan) (moves : List Move) → IsSchedule plan moves → MessagesAreMade (past plan moves)
-messages_made plan moves schedule =
+pub messages_made : (plan : Plan) (moves : List Move) → NothingSeals plan → IsSchedule plan moves → MessagesAreMade (past plan moves)
+messages_made plan moves nothing schedule =
     let names : AllByRecursion HasNames plan.clients =
     recursion_from_All HasNames plan.clients (All-weaker IsClientPlan HasNames form_names plan.clients schedule.forms.clients) in
-    (every_ends_after AnswersSoFar answers_keep plan moves (λ on. first_answers plan names)).from
+    (every_ends_after AnswersSoFar answers_keep plan moves nothing (λ on. first_answers plan names)).from

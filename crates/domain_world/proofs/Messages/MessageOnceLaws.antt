@@ -20,7 +20,7 @@ use Rattle.world_moves.specs.declared.moves.Move.{Move}
 use Rattle.world_moves.specs.declared.plan.Plan.{Plan}
 use Rattle.world_moves.specs.declared.state.State.{State}
 use Rattle.world_moves.specs.Links.{acceptor_of}
-use Rattle.world_moves.specs.World.{first_world}
+use Rattle.world_moves.specs.Plain.{NothingSeals, plain_world}
 use Rattle.domain_world.specs.Past.{Delivery, at_member, note_member, note_messages, past}
 use Rattle.wire_base.proofs.ListLaws.{got_append, got_behind}
 use Rattle.step_notes.proofs.Members.UnservedLaws.{LinksIn, Opens, Took, bytes_took, in_so, step_known}
@@ -190,7 +190,7 @@ fresh_links (plan ∷ plans) May zero m there =
     let is : fresh_member plan ≡ m = cc in subst (λ (x : MemberState). LinksIn May x.running) is tt
 fresh_links (plan ∷ plans) May (suc k) m there = fresh_links plans May k m there
 
-first_kept : (plan : Plan) → IsTakenOnce [] (first_world plan).state.ends.members (first_world plan).state.links
+first_kept : (plan : Plan) → IsTakenOnce [] (plain_world plan).state.ends.members (plain_world plan).state.links
 first_kept plan = record {
   once = λ i j d lt within. absurd (omega (arith, within));
   below = All-nil (λ (one : ℕ). one < 0);
@@ -198,5 +198,5 @@ first_kept plan = record {
 }
 
 -- in every run a link takes at most one AUTHENTICATE
-pub messages_once : (plan : Plan) (moves : List Move) → AllPairs (λ (one other : ℕ). one ≢ other) (past plan moves).book.taken
-messages_once plan moves = (members_after takings_of MessagesAreKept keeps_on plan moves (first_kept plan)).once
+pub messages_once : (plan : Plan) (moves : List Move) → NothingSeals plan → AllPairs (λ (one other : ℕ). one ≢ other) (past plan moves).book.taken
+messages_once plan moves nothing = (members_after takings_of MessagesAreKept keeps_on plan moves nothing (first_kept plan)).once

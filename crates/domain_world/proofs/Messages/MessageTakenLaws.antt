@@ -30,7 +30,7 @@ use Rattle.world_moves.specs.declared.moves.Move.{Move}
 use Rattle.world_moves.specs.declared.plan.Plan.{Plan}
 use Rattle.world_moves.specs.declared.state.State.{State}
 use Rattle.world_moves.specs.Links.{acceptor_of}
-use Rattle.world_moves.specs.World.{first_world}
+use Rattle.world_moves.specs.Plain.{NothingSeals, plain_world}
 use Rattle.domain_world.specs.Accepting.KeysMade.{IsTakenAsSent, MessagesAreTakenAsSent}
 use Rattle.domain_world.specs.Past.{Delivery, Past, at_member, change_if, change_message, note_member, note_messages, note_turn, past, with_answer, with_call}
 use Rattle.wire_base.proofs.ListLaws.{all_weaker, got_behind, one_before, one_behind}
@@ -299,7 +299,7 @@ sends_on = record {
   anew = λ written plan at members chances links kept. member_put written members links chances.left chances.left at (fresh_member plan) kept kept.eights tt;
 }
 
-first_sends : (plan : Plan) → AreAsSent (written_of blank) (first_world plan).state.ends.members (first_world plan).state.links (first_world plan).state.chances.left
+first_sends : (plan : Plan) → AreAsSent (written_of blank) (plain_world plan).state.ends.members (plain_world plan).state.links (plain_world plan).state.chances.left
 first_sends plan = record {
   below = tt;
   apart = λ i j d lt within. absurd (omega (arith, within));
@@ -324,11 +324,11 @@ sent_for challenges apart message its l sent there same =
     }
 
 -- in every run each message is taken as it was sent for
-pub messages_taken : (plan : Plan) (moves : List Move) → MessagesAreTakenAsSent (past plan moves)
-messages_taken plan moves =
+pub messages_taken : (plan : Plan) (moves : List Move) → NothingSeals plan → MessagesAreTakenAsSent (past plan moves)
+messages_taken plan moves nothing =
     let run : Past = past plan moves in
     let kept : AreAsSent (written_of run.book) run.world.state.ends.members run.world.state.links run.world.state.chances.left =
-    members_after written_of Sends sends_on plan moves (first_sends plan) in
+    members_after written_of Sends sends_on plan moves nothing (first_sends plan) in
     all_by_place (λ (message : MessageTaken). AllByRecursion (λ (sent : ChallengeSent). sent.link ≡ message.link → IsTakenAsSent message sent) run.book.challenges) run.book.messages
     (λ k message here. all_by_place (λ (sent : ChallengeSent). sent.link ≡ message.link → IsTakenAsSent message sent) run.book.challenges
     (λ l sent there same. sent_for run.book.challenges kept.apart message (got_all (IsForSent run.book.challenges) run.book.messages k message kept.messages here) l sent there same))

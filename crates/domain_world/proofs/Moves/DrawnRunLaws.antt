@@ -14,28 +14,34 @@ use Rattle.outside.specs.declared.event.Event.TheVariants as event
 use Rattle.outside.proofs.CounterLaws.{blocks-challenges_from, challenges_from-distinct, challenges_from-none}
 use Rattle.domain_controller.specs.State.{State as ControllerState}
 use Rattle.domain_controller.specs.Step as controller
+use Rattle.domain_controller.specs.SealStep as sealing
 use Rattle.domain_controller.specs.TrustStep as trusting
+use Rattle.domain_controller.specs.declared.sealed.Sealing.{Sealing}
 use Rattle.domain_controller.specs.declared.state.Running.{Running as ControllerRunning}
 use Rattle.logon_client.specs.Machine as client
 use Rattle.logon_client.specs.State.{State as ClientState}
 use Rattle.logon_client.specs.declared.outcome.ClientOutcome.{ClientOutcome}
 use Rattle.logon_client.specs.declared.state.Running.{Running as ClientRunning}
 use Rattle.member_server.specs.Machine as member
+use Rattle.member_server.specs.SealStep as sealed
 use Rattle.member_server.specs.State.{State as MemberState}
 use Rattle.member_server.specs.declared.state.Running.{Running as MemberRunning}
+use Rattle.member_server.specs.declared.state.TurnSealing.{TurnSealing}
+use Rattle.step_notes.proofs.Members.RestLaws.{client_leaves_rest, member_leaves}
 use Rattle.world_moves.specs.declared.links.EndId.{EndId}
 use Rattle.world_moves.specs.declared.moves.Move.{Move}
 use Rattle.world_moves.specs.declared.plan.Plan.{Plan}
 use Rattle.world_moves.specs.Draws.{DrawsAreBlocks, DrawsDiffer}
-use Rattle.world_moves.specs.Ends.{EndStates, EndStep, end_step as every_step}
+use Rattle.world_moves.specs.Ends.{EndStates, EndStep, end_step as any_step}
 use Rattle.world_moves.specs.Links.{acceptor_of}
 use Rattle.world_moves.specs.Alone.{alone_end_step as end_step}
+use Rattle.world_moves.proofs.EndKindLaws.{step_by as any_by}
 use Rattle.domain_world.specs.Past.{past}
-use Rattle.world_moves.proofs.EndKindLaws.{step_by as every_by}
 use Rattle.domain_world.proofs.Frames.AloneStepLaws.{alone_by as end_by}
-use Rattle.domain_world.proofs.Frames.EndFrameLaws.{EndFact, KeepsEndsBy, every_ends_after}
-use Rattle.domain_world.proofs.Frames.EveryStepLaws.{every_rests}
-use Rattle.domain_world.proofs.Frames.MoveKeepLaws.{every}
+use Rattle.domain_world.proofs.Frames.EndFrameLaws.{EndFact, KeepsEndsBy, any_ends_after}
+use Rattle.domain_world.proofs.Frames.AnyStepLaws.{sealed_rest, sealing_rest, taken_rest}
+use Rattle.domain_world.proofs.Frames.EveryStepLaws.{controller_rest as plain_rest}
+use Rattle.domain_world.proofs.Frames.MoveKeepLaws.{any}
 use Rattle.domain_world.proofs.Moves.LeftLaws.{end_rests}
 
 -- ---- a step
@@ -92,33 +98,53 @@ end_all end what now ends chances =
     (λ at c is rest. same_all chances (client.step_of c what now chances.left).drawn (client.step_of c what now chances.left).left (client_draws c.running c what now chances.left rest)) end
     (end_rests end what now ends chances)
 
--- the same in every world, whether its controllers ask others or not
+-- of a controller that may ask others
 trusting_draws : (r : Option ControllerRunning) (c : ControllerState) (what : Event) (now : ℕ) (left : List (List ℕ)) → IsRest (trusting.trust_step_on r c what now left).left left →
     DrawsRest (trusting.trust_step_on r c what now left) left
 trusting_draws None c what now left rest = refl
 trusting_draws (Some running) c what now left rest = part_draws _ _ _ left (trusting.trust_step_part running c what now left) rest
 
-every_all : (end : EndId) (what : Event) (now : ℕ) (ends : EndStates) (chances : Drawing) → all_of (every_step end what now ends chances).chances ≡ all_of chances
-every_all end what now ends chances =
-    every_by (λ (one : EndId) (step : EndStep). IsRest step.chances.left chances.left → all_of step.chances ≡ all_of chances) what now ends chances (λ one rest. refl)
-    (λ at c is rest.
-    same_all chances (trusting.trust_step_of c what now chances.left).drawn (trusting.trust_step_of c what now chances.left).left (trusting_draws c.running c what now chances.left rest))
-    (λ at m is rest. same_all chances (member.step_of m what now chances.left).drawn (member.step_of m what now chances.left).left (member_draws m.running m what now chances.left rest))
-    (λ at c is rest. same_all chances (client.step_of c what now chances.left).drawn (client.step_of c what now chances.left).left (client_draws c.running c what now chances.left rest)) end
-    (every_rests end what now ends chances)
+-- of a controller that can seal
+sealing_draws : (r : Option ControllerRunning) (kept : Sealing) (c : ControllerState) (what : Event) (now : ℕ) (left : List (List ℕ)) → DrawsRest (sealing.seal_step_on r kept c what now left) left
+sealing_draws None kept c what now left = refl
+sealing_draws (Some running) kept c what now left =
+    part_draws _ _ _ left (sealing.seal_step_part running kept c what now left) (sealing_rest (Some running) kept c what now left)
+
+any_controller_draws : (kept : Option Sealing) (c : ControllerState) (what : Event) (now : ℕ) (left : List (List ℕ)) → DrawsRest (sealing.step_with kept c what now left) left
+any_controller_draws None c what now left = trusting_draws c.running c what now left (plain_rest c.running c what now left)
+any_controller_draws (Some kept) c what now left = sealing_draws c.running kept c what now left
+
+-- and of any member
+member_draws_with : (kept : Option TurnSealing) (running : MemberRunning) (m : MemberState) (what : Event) (now : ℕ) (left : List (List ℕ)) →
+    DrawsRest (sealed.step_with kept running m what now left) left
+member_draws_with None running m what now left = member_draws (Some running) m what now left (member_leaves (record { running = Some running }) what now left)
+member_draws_with (Some kept) running m what now left =
+    part_draws _ _ _ left (sealed.sealed_part running kept.is_link_sealed what now left) (taken_rest left (sealed.sealed_part running kept.is_link_sealed what now left) (sealed_rest running kept.is_link_sealed what now left))
+
+any_member_draws : (r : Option MemberRunning) (m : MemberState) (what : Event) (now : ℕ) (left : List (List ℕ)) → DrawsRest (sealed.any_step_on r m what now left) left
+any_member_draws None m what now left = refl
+any_member_draws (Some running) m what now left = member_draws_with running.sealing running m what now left
+
+any_all : (end : EndId) (what : Event) (now : ℕ) (ends : EndStates) (chances : Drawing) → all_of (any_step end what now ends chances).chances ≡ all_of chances
+any_all end what now ends chances =
+    any_by (λ (one : EndId) (step : EndStep). all_of step.chances ≡ all_of chances) what now ends chances (λ one. refl)
+    (λ at c is.
+    let step = sealing.seal_step_of c what now chances.left in same_all chances step.drawn step.left (any_controller_draws c.trusting.sealing c what now chances.left))
+    (λ at m is. let step = sealed.any_step_of m what now chances.left in same_all chances step.drawn step.left (any_member_draws m.running m what now chances.left))
+    (λ at c is. let step = client.step_of c what now chances.left in same_all chances step.drawn step.left (client_draws c.running c what now chances.left (client_leaves_rest c what now chances.left))) end
 
 -- ---- a run
 
 abbrev AreOf : List (List ℕ) → EndFact
 AreOf all at on now given b = all_of now.chances ≡ all
 
-of_stays : (all : List (List ℕ)) → KeepsEndsBy every (AreOf all)
+of_stays : (all : List (List ℕ)) → KeepsEndsBy any (AreOf all)
 of_stays all = record {
-  calm = λ at on end what s given b calm is. every_all end what s.moment s.ends s.chances ∙ is;
-  dialled = λ at end link s given b side is. every_all end (event.Dialled link) s.moment s.ends s.chances ∙ is;
-  opens = λ at route s given b is. every_all (acceptor_of route) (event.Opened (length s.links)) s.moment s.ends s.chances ∙ is;
+  calm = λ at on end what s given b calm is. any_all end what s.moment s.ends s.chances ∙ is;
+  dialled = λ at end link s given b side is. any_all end (event.Dialled link) s.moment s.ends s.chances ∙ is;
+  opens = λ at route s given b is. any_all (acceptor_of route) (event.Opened (length s.links)) s.moment s.ends s.chances ∙ is;
   begins = λ at client plan s b there is. is;
-  comes = λ end w piece s given b side came is. every_all end (event.Bytes w.link piece) s.moment s.ends s.chances ∙ is;
+  comes = λ end w piece s given b side came is. any_all end (event.Bytes w.link piece) s.moment s.ends s.chances ∙ is;
   renews = λ at end s b is. is;
   changes = λ at member secret s b is. is;
   over = λ at on next s given b is. is;
@@ -130,7 +156,7 @@ given_all plan = challenges_from plan.seed 0 0 (most_draws - 0)
 
 run_all : (plan : Plan) (moves : List Move) → all_of (past plan moves).world.state.chances ≡ given_all plan
 run_all plan moves =
-    every_ends_after (AreOf (given_all plan)) (of_stays (given_all plan)) plan moves
+    any_ends_after (AreOf (given_all plan)) (of_stays (given_all plan)) plan moves
     (λ on. ap (λ (drawn : List (List ℕ)). drawn ++ given_all plan) (challenges_from-none plan.seed 0 0))
 
 -- ---- a front of them

@@ -33,8 +33,8 @@ use Rattle.step_notes.proofs.Members.RestLaws.{client_leaves_rest, member_leaves
 use Rattle.world_moves.specs.declared.links.EndId.{EndId}
 use Rattle.world_moves.specs.declared.plan.Plan.{Plan}
 use Rattle.world_moves.specs.Ends.{EndStates, EndStep}
-use Rattle.world_moves.specs.World.{first_world}
 use Rattle.world_moves.specs.Alone.{alone_end_step as end_step}
+use Rattle.world_moves.specs.Plain.{plain_world}
 use Rattle.domain_world.proofs.Frames.AloneStepLaws.{alone_by as end_by}
 
 -- challenges of 8 bytes
@@ -59,7 +59,7 @@ first_blocks seed count =
     recursion_from_All (λ (challenge : List ℕ). length challenge ≡ 8) (challenges_from seed 0 0 count)
     (All-weaker IsBlock (λ (challenge : List ℕ). length challenge ≡ 8) (λ challenge block. block.eight) (challenges_from seed 0 0 count) (blocks-challenges_from seed 0 0 count))
 
-pub first_eights : (plan : Plan) → AreEights (first_world plan).state.chances.left
+pub first_eights : (plan : Plan) → AreEights (plain_world plan).state.chances.left
 first_eights plan = first_blocks plan.seed (most_draws - 0)
 
 -- and they are bytes
@@ -72,7 +72,7 @@ first_all seed count =
     (All-weaker IsBlock (λ (challenge : List ℕ). stubs.IsBlock 8 challenge) (λ challenge block. (block.eight, bytes_from_all challenge block.bytes)) (challenges_from seed 0 0 count)
     (blocks-challenges_from seed 0 0 count))
 
-pub first_left_blocks : (plan : Plan) → AreBlocks (first_world plan).state.chances.left
+pub first_left_blocks : (plan : Plan) → AreBlocks (plain_world plan).state.chances.left
 first_left_blocks plan = first_all plan.seed (most_draws - 0)
 
 -- ---- a controller

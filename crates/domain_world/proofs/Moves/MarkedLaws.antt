@@ -28,7 +28,7 @@ use Rattle.world_moves.proofs.LinkFrameLaws.{heard_stays}
 use Rattle.domain_world.proofs.Frames.BagFrameLaws.{bag_at, member_marks}
 use Rattle.domain_world.proofs.Moves.MarkPlaceLaws.{marks_length, settled_length}
 use Rattle.domain_world.proofs.Frames.MoveFrameLaws.{HoldsAfterMoves, moves_keep}
-use Rattle.domain_world.proofs.Frames.MoveKeepLaws.{KeepsMovesBy, MoveFact, NoSide, every}
+use Rattle.domain_world.proofs.Frames.MoveKeepLaws.{KeepsMovesBy, MoveFact, NoSide, any}
 use Rattle.domain_world.proofs.Moves.OpenMadeLaws.{IsMore, MoreOf, goes_on, no_more}
 use Rattle.domain_world.proofs.Frames.TurnFrameLaws.{asked_book, turns_sent}
 
@@ -121,7 +121,7 @@ act_few : (to : Option State) (end : EndId) (what : Action) (s : State) (sent : 
 act_few None end what s sent few = omega (arith, few, length-append s.bag (units_of_action s.links end what))
 act_few (Some after) end what s sent few = few
 
-few_keep : KeepsMovesBy every ⊥ NoSide AreFew
+few_keep : KeepsMovesBy any ⊥ NoSide AreFew
 few_keep = record {
   closes = λ n p end link s given b work none few. few;
   opens = λ n at dial route s given b out none few. few;

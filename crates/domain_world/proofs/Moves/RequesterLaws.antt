@@ -21,7 +21,7 @@ use Rattle.world_moves.specs.declared.state.State.{State}
 use Rattle.world_moves.specs.Ends.{EndStates, with_member}
 use Rattle.world_moves.specs.Links.{same_end}
 use Rattle.world_moves.specs.MemberPlans.{AreAlikeButSecrets}
-use Rattle.world_moves.specs.World.{first_world}
+use Rattle.world_moves.specs.Plain.{plain_world}
 use Rattle.domain_world.specs.Claims.SharedSequences.{ChannelStands}
 use Rattle.domain_world.specs.Past.{controller_asked, controller_of_plan, requester_at, requester_in, running_in}
 use Rattle.domain_world.proofs.Accepting.Turns.TurnFactLaws.{SameEnds}
@@ -146,7 +146,7 @@ asked_put P plans at new ends none here others who =
 
 -- what holds of a requester that is made anew holds of each in the first world
 pub asker_first : (P : RequesterId → Option Running → Type 0) (plan : Plan) → ((who : RequesterId) → P who None) → ((who : RequesterId) (own : MemberPlan) → P who (fresh_member own).running) →
-    (who : RequesterId) → P who (asker_in who (first_world plan).state.ends)
+    (who : RequesterId) → P who (asker_in who (plain_world plan).state.ends)
 asker_first P plan none fresh (OfMember k) = by (slice_get (map fresh_member plan.members) k) refl
   where
     by : (found : Option MemberState) → slice_get (map fresh_member plan.members) k ≡ found → P (OfMember k) (running_in found)

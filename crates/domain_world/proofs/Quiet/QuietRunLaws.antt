@@ -59,7 +59,7 @@ use Rattle.world_moves.specs.declared.plan.Plan.{Plan}
 use Rattle.world_moves.specs.declared.state.State.{State}
 use Rattle.world_moves.specs.Acting.{Given, perform_quietly, unit_on, units_of_action, plans_after}
 use Rattle.world_moves.specs.Bag.{piece_limit, pieces_in, pieces_of, settle_at, AreShortUnits, HaveBytes}
-use Rattle.world_moves.specs.Ends.{fresh_controller, EndStates, renew_member, with_member}
+use Rattle.world_moves.specs.Ends.{fresh_controller, EndStates, with_member}
 use Rattle.world_moves.specs.Forms.{HasForms, IsMemberPlan, IsTable}
 use Rattle.world_moves.specs.Links.{acceptor_of, dialler_of, kind_of}
 use Rattle.world_moves.specs.Moving.{settle, with_link, changed}
@@ -84,6 +84,7 @@ use Rattle.world_moves.proofs.ChangeLaws.{by_change, member_begun}
 use Rattle.world_moves.proofs.KeptLaws.{plans_alike}
 use Rattle.world_moves.specs.MemberPlans.{AreAlikeButSecrets}
 use Rattle.world_moves.specs.Alone.{hear_alone as hear}
+use Rattle.world_moves.specs.Plain.{plain_world, renew_plain_member as renew_member}
 
 -- ---- links
 
@@ -407,12 +408,12 @@ quiet_keeps = record {
 -- ---- at first
 
 controllers_first : (links : List Route) (hands_on : Bool) (tables : List AccountTable) (names : List (List ℕ)) → All IsTable tables → All IsName names → (i : ℕ) (c : ControllerState) →
-    slice_get (first_controllers hands_on tables names) i ≡ Some c → ControllerIsQuiet links c
+    slice_get (first_controllers hands_on false tables names) i ≡ Some c → ControllerIsQuiet links c
 controllers_first links hands_on [] names ranges are i c there = absurd (got_nothing i c there)
 controllers_first links hands_on (table ∷ tables) [] ranges are i c there = absurd (got_nothing i c there)
 controllers_first links hands_on (table ∷ tables) (name ∷ names) ranges are zero c there =
     let range = sends_are_whole.first table name (table_in_range table (All-head IsTable table tables ranges)) (All-head IsName name names are) in
-    subst (λ (one : ControllerState). ControllerIsQuiet links one) (some_is (fresh_controller hands_on table name) c there)
+    subst (λ (one : ControllerState). ControllerIsQuiet links one) (some_is (fresh_controller hands_on false table name) c there)
     (fresh_by (λ (one : ControllerState). ControllerIsQuiet links one) table name (record { range = range; well = tt })
     (record { range = record { name = range.name; table = range.table; running = range.running }; well = tt }) hands_on)
 controllers_first links hands_on (table ∷ tables) (name ∷ names) ranges are (suc i) c there =
@@ -446,7 +447,7 @@ tasks_first [] all k plan there = absurd (got_nothing k plan there)
 tasks_first (first ∷ plans) all zero plan there = subst CanLogOn (some_is first plan there) (All-head CanLogOn first plans all)
 tasks_first (first ∷ plans) all (suc k) plan there = tasks_first plans (All-tail CanLogOn first plans all) k plan there
 
-pub quiet_first : (plan : Plan) → IsPlan plan → HasForms plan → QuietState (first_world plan).state
+pub quiet_first : (plan : Plan) → IsPlan plan → HasForms plan → QuietState (plain_world plan).state
 quiet_first plan start forms = record {
   bag = λ n unit there. absurd (got_nothing n unit there);
   controllers = controllers_first [] plan.hands_on plan.tables plan.controllers forms.tables forms.controllers;

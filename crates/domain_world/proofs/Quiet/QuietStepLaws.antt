@@ -41,10 +41,11 @@ use Rattle.world_moves.specs.declared.links.LinkKind.TheVariants as kind
 use Rattle.world_moves.specs.declared.links.Route.{Route}
 use Rattle.world_moves.specs.declared.links.Route.TheVariants.{ToMember, ToController}
 use Rattle.world_moves.specs.declared.state.State.{State}
-use Rattle.world_moves.specs.Ends.{EndStates, EndStep, actions_by, client_step, member_step}
+use Rattle.world_moves.specs.Ends.{EndStates, EndStep, actions_by, client_step}
 use Rattle.world_moves.specs.Links.{acceptor_of}
 use Rattle.world_moves.specs.Alone.{alone_controller_step as controller_step, alone_end_step as end_step}
 use Rattle.world_moves.proofs.EndKindLaws.{IfClient, IfController, IfMember}
+use Rattle.world_moves.specs.Plain.{plain_member_step as member_step}
 use Rattle.domain_world.specs.Accepting.Runs.{IsOfMember}
 use Rattle.wire_base.proofs.ListLaws.{some_is}
 use Rattle.domain_world.proofs.Frames.AloneStepLaws.{alone_by as step_by}

@@ -18,7 +18,6 @@ use Rattle.world_moves.specs.Acting.{Given, AfterHearing, forget, given_by, perf
 use Rattle.world_moves.specs.Ends.{EndStates}
 use Rattle.world_moves.specs.Links.{acceptor_of}
 use Rattle.world_moves.specs.Moving.{begun, changed, with_link, without_first}
-use Rattle.world_moves.specs.World.{first_world}
 use Rattle.domain_world.specs.Past.{turns_in, past}
 use Rattle.domain_world.proofs.Frames.AloneStepLaws.{act_alone as hear_and_act, renewed_alone as renewed}
 use Rattle.domain_world.proofs.Frames.EndNoteLaws.{bytes_turns}
@@ -26,7 +25,8 @@ use Rattle.domain_world.proofs.Frames.AloneFrameLaws.{moves_keep_alone}
 use Rattle.domain_world.proofs.Frames.MoveFrameLaws.{HoldsAfterMoves}
 use Rattle.domain_world.proofs.Frames.MoveKeepLaws.{KeepsMoves, MoveFact, NoSide}
 use Rattle.world_moves.specs.declared.plan.Plan.{Plan}
-use Rattle.world_moves.specs.Alone.{HandsNothingOn, hear_alone as hear}
+use Rattle.world_moves.specs.Alone.{IsPlainAlone, hear_alone as hear}
+use Rattle.world_moves.specs.Plain.{plain_world}
 
 -- What is to hold: of whose dial is answered, and of what was given and isn't done yet; of the members' plans, the
 -- ends, the dials and the draws; and of what was given in this move, and the turns that are written down.
@@ -95,6 +95,6 @@ module _ (Holds : DialFact) (keeps : KeepsDials Holds) where
     over = λ n at on next s given b none holds. keeps.over s given b.turns holds;
   }
 
-  pub dials_after : (plan : Plan) (moves : List Move) → HandsNothingOn plan → AtState Holds None [] (first_world plan).state [] [] → AtState Holds None [] (past plan moves).world.state [] (past plan moves).book.turns
+  pub dials_after : (plan : Plan) (moves : List Move) → IsPlainAlone plan → AtState Holds None [] (plain_world plan).state [] [] → AtState Holds None [] (past plan moves).world.state [] (past plan moves).book.turns
   dials_after plan moves nobody holds =
       let after : HoldsAfterMoves ⊥ OfDials plan moves = moves_keep_alone ⊥ OfDials (dials_keep ⊥) plan moves nobody (λ none. absurd none) (λ on. holds) in after.holds

@@ -5,7 +5,7 @@ use Rattle.world_moves.specs.declared.moves.Move.{Move}
 use Rattle.world_moves.specs.declared.plan.Plan.{Plan}
 use Rattle.world_moves.specs.declared.state.State.{State}
 use Rattle.world_moves.specs.declared.state.WaitingDial.{WaitingDial}
-use Rattle.world_moves.specs.Alone.{HandsNothingOn}
+use Rattle.world_moves.specs.Alone.{IsPlainAlone}
 use Rattle.domain_world.specs.Claims.SharedSequences.{OneTurnIsOut, dials_of}
 use Rattle.domain_world.specs.Past.{past, controller_asked, running_in}
 use Rattle.domain_world.proofs.Moves.DrawnRunLaws.{draws_differ}
@@ -30,7 +30,7 @@ dials_count k (dial ∷ dials) =
 
 -- ---- of every run
 
-pub one_turn : (plan : Plan) (moves : List Move) → HandsNothingOn plan → OneTurnIsOut (past plan moves)
+pub one_turn : (plan : Plan) (moves : List Move) → IsPlainAlone plan → OneTurnIsOut (past plan moves)
 one_turn plan moves nobody member m running there runs =
     let s : State = (past plan moves).world.state in
     let known : AtState TurnsKnown None [] s [] (past plan moves).book.turns = dials_after TurnsKnown turns_keep plan moves nobody (first_known plan) in

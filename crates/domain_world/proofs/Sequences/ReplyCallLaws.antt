@@ -25,7 +25,7 @@ replies_answer plan moves nobody schedule clear n unit one channel number reques
     let all : UnitsAreHeard p = units_heard plan moves nobody schedule in
     let replied = subst (λ (m : Mark). IsReplyOfOne p.book.judged n (plain_form p.book.sent n unit) m) mark (replies_carry plan moves nobody n unit one bag there) in
     let found = placed (λ (j : Judging). (j.reply ≡ Some n) × IsReplyOfCall channel number request j (plain_form p.book.sent n unit)) p.book.judged replied in
-    let asked = requested p all.whole (marks_have_their_way plan moves) all.judged (passes_unclashed plan moves) (replies_carry plan moves nobody) all.numbers clear found.place channel found.item request number
+    let asked = requested p all.whole (marks_have_their_way plan moves nobody.plain) all.judged (passes_unclashed plan moves) (replies_carry plan moves nobody) all.numbers clear found.place channel found.item request number
     (plain_form p.book.sent n unit) found.there found.is.1 in
     record {
       sent = asked.sent;

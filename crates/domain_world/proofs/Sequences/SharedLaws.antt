@@ -267,7 +267,7 @@ pub sequences_follow : SequencesFollow
 sequences_follow plan moves nobody heard stamped called clear =
     let differ : DrawsDiffer (past plan moves).world = draws_differ plan moves in
     sequence_shared (past plan moves) (is_proved plan moves nobody differ) (heard_in plan moves nobody heard differ) clear heard.whole heard.judged stamped called (sequences_own plan moves nobody)
-    (past plan moves).world.state.chances.left (seeds_kept plan moves)
+    (past plan moves).world.state.chances.left (seeds_kept plan moves nobody.plain)
 
 -- ---- a call whose answer was taken
 
@@ -275,7 +275,7 @@ pub taken_pass : TakenCallsPass
 taken_pass plan moves nobody heard clear n is =
     let p : Past = past plan moves in
     let replies = replies_carry plan moves nobody in
-    let its = replies_to p heard.whole (marks_have_their_way plan moves) heard.judged (passes_unclashed plan moves) replies heard.numbers clear heard.openings is.taken is.turn in
+    let its = replies_to p heard.whole (marks_have_their_way plan moves nobody.plain) heard.judged (passes_unclashed plan moves) replies heard.numbers clear heard.openings is.taken is.turn in
     let replied = subst (λ (m : Mark). IsReplyOfOne p.book.judged is.taken.reply (plain_form p.book.sent is.taken.reply is.turn.carrier) m) its.mark (replies is.taken.reply is.turn.carrier its.sent is.turn.there its.there) in
     one_weaker (λ (j : Judging). (j.reply ≡ Some is.taken.reply) × IsReplyOfCall its.channel its.number is.taken.call j (plain_form p.book.sent is.taken.reply is.turn.carrier)) (IsPassedIn n) p.book.judged
     (λ j of. (passed_of (has_passed j.how) j its.channel refl of.1.passed, of.1.came ∙ ap InUnit is.call)) replied

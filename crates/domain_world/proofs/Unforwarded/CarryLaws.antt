@@ -7,6 +7,7 @@ use Rattle.world_moves.specs.declared.plan.Plan.{Plan}
 use Rattle.world_moves.specs.Forms.{IsSchedule}
 use Rattle.world_moves.specs.Unforwarded.{IsUnforwarded, alone_plan}
 use Rattle.world_moves.specs.World.{World}
+use Rattle.world_moves.specs.Plain.{NothingSeals}
 use Rattle.domain_world.specs.Accepting.Answered.{CallsAskForMessages}
 use Rattle.domain_world.specs.Accepting.Carried.{MarkedUnitsAreWhole}
 use Rattle.domain_world.specs.Accepting.Sequences.{RepliesAnswerCalls, TurnsAreCalled}
@@ -30,7 +31,7 @@ use Rattle.domain_world.proofs.Unforwarded.ErasedLaws.{runs_alone}
 use Rattle.domain_world.proofs.Unforwarded.RunSeenLaws.{complete_so, one_by_one_so, schedule_seen}
 use Rattle.domain_world.proofs.Unforwarded.SeenLaws.{all_so, answered_so, call_marks_so, called_so, once_so, one_turn_so, only_so, opened_by_so, opened_marks_so, opened_so, own_so, reply_marks_so, seen, shared_so}
 
-module _ (plan : Plan) (moves : List Move) (is : IsUnforwarded plan moves) (alone : IsProvedAlone (alone_plan plan) moves) where
+module _ (plan : Plan) (moves : List Move) (nothing : NothingSeals plan) (is : IsUnforwarded plan moves) (alone : IsProvedAlone (alone_plan plan) moves) where
   abbrev run_seen : Past
   run_seen = past plan moves
 
@@ -39,7 +40,7 @@ module _ (plan : Plan) (moves : List Move) (is : IsUnforwarded plan moves) (alon
   other = past (alone_plan plan) moves
 
   same : other ≡ seen run_seen
-  same = ap₂ (λ (w : World) (b : Book). record { plan = alone_plan plan; world = w; book = b }) (runs_alone plan moves is) (books_alone plan moves is)
+  same = ap₂ (λ (w : World) (b : Book). record { plan = alone_plan plan; world = w; book = b }) (runs_alone plan moves nothing is) (books_alone plan moves nothing is)
 
   -- what holds of it holds of this run, as it is where nobody can be asked
   on : (Holds : Past → Type 0) → Holds other → Holds (seen run_seen)
@@ -49,10 +50,10 @@ module _ (plan : Plan) (moves : List Move) (is : IsUnforwarded plan moves) (alon
   schedule_alone schedule = schedule_seen plan moves schedule
 
   calm_so : run_seen.book.clash ≡ false → other.book.clash ≡ false
-  calm_so calm = ap (λ (b : Book). b.clash) (books_alone plan moves is) ∙ calm
+  calm_so calm = ap (λ (b : Book). b.clash) (books_alone plan moves nothing is) ∙ calm
 
   clear_so : IsClear run_seen.book → IsClear other.book
-  clear_so clear = subst IsClear (sym (books_alone plan moves is)) clear
+  clear_so clear = subst IsClear (sym (books_alone plan moves nothing is)) clear
 
   carried_over : IsProvedAlone plan moves
   carried_over = record {
@@ -79,8 +80,8 @@ module _ (plan : Plan) (moves : List Move) (is : IsUnforwarded plan moves) (alon
     call_marks = λ schedule. call_marks_so run_seen (on CallsAreMarked (alone.call_marks (schedule_alone schedule)));
     reply_marks = λ schedule. reply_marks_so run_seen (on RepliesAreMarked (alone.reply_marks (schedule_alone schedule)));
     opened_marks = λ schedule. opened_marks_so run_seen (on OpeningsAreMarked (alone.opened_marks (schedule_alone schedule)));
-    complete = complete_so plan moves is (on (λ (q : Past). EachSucceeds q moves) alone.complete);
-    one_by_one = one_by_one_so plan moves is (on (λ (q : Past). NoneClashes q moves) alone.one_by_one);
+    complete = complete_so plan moves nothing is (on (λ (q : Past). EachSucceeds q moves) alone.complete);
+    one_by_one = one_by_one_so plan moves nothing is (on (λ (q : Past). NoneClashes q moves) alone.one_by_one);
     never_apart = λ schedule clear. never_apart_so run_seen (on MembersAreNeverApart (alone.never_apart (schedule_alone schedule) (clear_so clear)));
   }
 

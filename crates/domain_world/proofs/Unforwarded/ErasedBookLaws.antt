@@ -42,6 +42,7 @@ use Rattle.world_moves.specs.Links.{handed_links, hearer_of, links_of}
 use Rattle.world_moves.specs.Moving.{act, come_by, come_on_own, deliver_by, deliver_on, deliver_unit, hand_on, onward_by, settle}
 use Rattle.world_moves.specs.Unforwarded.{IsUnforwarded, alone_plan, erased, erased_controller, erased_ends, erased_world}
 use Rattle.world_moves.specs.World.{World, actions_of_run, first_world, happens, run, run_of}
+use Rattle.world_moves.specs.Plain.{NothingSeals}
 use Rattle.domain_world.specs.Past.{Delivery, answers_of, at_controller, beside_mark, book, controller_number, controller_of, controller_of_plan, is_sent_on, mark_or, note, note_answers, note_at, note_chosen, note_client, note_coming, note_controller, note_deliver, note_given, note_hand, note_member, note_messages, note_on, note_onward, note_own, note_piece, note_pieces, note_turns, note_unit, numbers_on, past, running_in, sent_at, still_waits, turns_by, turns_in, waits_at, with_marks, with_taken}
 use Rattle.domain_world.proofs.Frames.AloneNoteLaws.{answers_alike, none_asked, quiet_noted}
 use Rattle.domain_world.proofs.Unforwarded.ErasedLaws.{IsFine, IsSame, IsStill, as_many, controller_same, first_erased, first_still, fine_first, get_mapped, happens_same, move_same, part_erased_answer, peer_same, piece_fine, piece_same, told_later}
@@ -117,7 +118,7 @@ end_noted : (end : Option EndId) (w : Delivery) (piece : List ℕ) (s after : St
 end_noted None w piece s after b still fine = refl
 end_noted (Some (Controller at)) w piece s after b still fine =
     ap (λ (found : Option ControllerState). note_controller found at w piece (erased s) (erased after) b) (get_mapped erased_controller s.ends.controllers at)
-    ∙ controller_noted (slice_get s.ends.controllers at) at w piece s after b (λ c is. (still at c is, controller_same at (event.Bytes w.link piece) s c is still fine))
+    ∙ controller_noted (slice_get s.ends.controllers at) at w piece s after b (λ c is. (still.1 at c is, controller_same at (event.Bytes w.link piece) s c is still fine))
 end_noted (Some (Member at)) w piece s after b still fine = member_noted (slice_get s.ends.members at) at w piece s after b
 end_noted (Some (Client at)) w piece s after b still fine = client_noted (slice_get s.ends.clients at) at w piece s b
 
@@ -210,7 +211,7 @@ module _ (after : State) (still : IsStill after) where
   waits_same one =
       let controllers : List ControllerState = after.ends.controllers in
       ap (λ (found : Option ControllerState). waits_at found one) (get_mapped erased_controller controllers one.judging.controller)
-      ∙ waits_found (slice_get controllers one.judging.controller) one (λ c is. still one.judging.controller c is)
+      ∙ waits_found (slice_get controllers one.judging.controller) one (λ c is. still.1 one.judging.controller c is)
 
   beside_same : (forwards : List Forward) (unit : BagUnit) → beside_mark forwards (erased after) unit ≡ beside_mark forwards after unit
   beside_same [] unit = refl
@@ -252,6 +253,6 @@ book_same (what ∷ moves) w b still told some =
     ∙ book_same moves (happens w what) (note w what b) (move_same what w.state still fine).still (told_later what moves w told) some
 
 -- the run as it is written down, where nobody can be asked
-pub books_alone : (plan : Plan) (moves : List Move) → IsUnforwarded plan moves → (past (alone_plan plan) moves).book ≡ (past plan moves).book
-books_alone plan moves is =
-    ap (λ (w : World). book moves w blank) (first_erased plan) ∙ book_same moves (first_world plan) blank (first_still plan) is.told is.left
+pub books_alone : (plan : Plan) (moves : List Move) → NothingSeals plan → IsUnforwarded plan moves → (past (alone_plan plan) moves).book ≡ (past plan moves).book
+books_alone plan moves nothing is =
+    ap (λ (w : World). book moves w blank) (first_erased plan nothing) ∙ book_same moves (first_world plan) blank (first_still plan nothing) is.told is.left

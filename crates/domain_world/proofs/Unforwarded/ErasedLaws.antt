@@ -39,10 +39,12 @@ use Rattle.world_moves.specs.Choosing.{chosen_in, chosen_place}
 use Rattle.world_moves.specs.Ends.{EndStates, EndStep, acceptors_in, actions_by, change_by, client_step, controller_done, controller_step, count_of, end_at, end_in, end_step, fresh_controller, member_step, renew_client, renew_controller, renew_member}
 use Rattle.world_moves.specs.Links.{acceptor_of, handed_links, hearer_of, hearer_on, links_of, other_hearer}
 use Rattle.world_moves.specs.Moving.{act, answer_by, answered_link, begun, change_at, changed, changed_by, come_by, come_on_own, connect_by, connect_first, deliver_by, deliver_on, deliver_unit, end_of_peer, fail_first, hand_on, lose_by, onward_by, open_link, renew, restart_at, restart_by, route_to, settle, shut_at, shut_by, start_at, start_by, stranger_at, stranger_by, tick, with_link, without_first}
+use Rattle.world_moves.specs.Plain.{CantSeal, NothingSeals, plain_controller_step}
 use Rattle.world_moves.specs.Unforwarded.{RunsAlone, alone_plan, erased, erased_controller, erased_ends, erased_world}
 use Rattle.world_moves.specs.World.{World, actions_in, actions_of_run, first_controllers, first_world, given_at, happens, run, run_of}
+use Rattle.world_moves.proofs.PlainLaws.{controller_plain, of_found}
 use Rattle.world_moves.proofs.StateFrameLaws.{HoldsActing, HoldsMoving, StateFact, actions_so, closed_so, hears_so, move_so, pieces_so}
-use Rattle.domain_world.proofs.Frames.EveryStepLaws.{every_rests}
+use Rattle.domain_world.proofs.Frames.AnyStepLaws.{any_rests}
 
 -- ---- what is left out
 
@@ -62,8 +64,9 @@ erased_stepped step = record step { state = erased_controller step.state }
 abbrev pub AreStill : List ControllerState → Type 0
 AreStill controllers = (at : ℕ) (c : ControllerState) → slice_get controllers at ≡ Some c → NoneIsAsked c.trusting
 
+-- its controllers can't seal, and are made so anew
 abbrev pub IsStill : State → Type 0
-IsStill s = AreStill s.ends.controllers
+IsStill s = (s.seals ≡ false) × AreStill s.ends.controllers
 
 abbrev pub told_given : Given → ℕ
 told_given given = told_trusts (actions_in given)
@@ -118,7 +121,7 @@ shrinks : HoldsActing Shrinks
 shrinks = record {
   none = λ s some. some;
   both = λ s between after first later some. first (later some);
-  hears = λ end what s some. rest_left _ s.chances.left (every_rests end what s.moment s.ends s.chances) some;
+  hears = λ end what s some. rest_left _ s.chances.left (any_rests end what s.moment s.ends s.chances) some;
   acts = λ end what s some. some;
   shuts = λ link s some. some;
 }
@@ -202,8 +205,8 @@ record EndsStill (step other : EndStep) : Type 0 where
   still : AreStill step.ends.controllers
 
 controller_found : (found : Option ControllerState) (at : ℕ) (what : Event) (now : ℕ) (ends : EndStates) (chances : Drawing) → slice_get ends.controllers at ≡ found →
-    AreStill ends.controllers → told_trusts (controller_step found at what now ends chances).actions ≡ 0 → 1 ≤ length (controller_step found at what now ends chances).chances.left →
-    EndsStill (controller_step found at what now ends chances) (controller_step (option_map erased_controller found) at what now (erased_ends ends) chances)
+    AreStill ends.controllers → told_trusts (plain_controller_step found at what now ends chances).actions ≡ 0 → 1 ≤ length (plain_controller_step found at what now ends chances).chances.left →
+    EndsStill (plain_controller_step found at what now ends chances) (plain_controller_step (option_map erased_controller found) at what now (erased_ends ends) chances)
 controller_found None at what now ends chances is still told some = record { is = refl; still = still }
 controller_found (Some c) at what now ends chances is still told some =
     let step : Stepped ControllerState = trust_step_of c what now chances.left in
@@ -225,13 +228,38 @@ client_found : (found : Option ClientState) (at : ℕ) (what : Event) (now : ℕ
 client_found None at what now ends chances still = record { is = refl; still = still }
 client_found (Some c) at what now ends chances still = record { is = refl; still = still }
 
+-- a controller that waits for no other one's answer can't seal
+steps_plainly : (ends : EndStates) (at : ℕ) (what : Event) (now : ℕ) (chances : Drawing) → AreStill ends.controllers →
+    controller_step (slice_get ends.controllers at) at what now ends chances ≡ plain_controller_step (slice_get ends.controllers at) at what now ends chances
+steps_plainly ends at what now chances still =
+    controller_plain (slice_get ends.controllers at) at what now ends chances
+    (of_found CantSeal ends.controllers at (slice_get ends.controllers at) refl (λ c is. (still at c is).unsealing))
+
+-- nor can one that asks nobody
+erased_plainly : (found : Option ControllerState) (at : ℕ) (what : Event) (now : ℕ) (ends : EndStates) (chances : Drawing) →
+    controller_step (option_map erased_controller found) at what now ends chances ≡ plain_controller_step (option_map erased_controller found) at what now ends chances
+erased_plainly None at what now ends chances = refl
+erased_plainly (Some c) at what now ends chances = refl
+
+controller_still : (ends : EndStates) (at : ℕ) (what : Event) (now : ℕ) (chances : Drawing) → AreStill ends.controllers →
+    told_trusts (controller_step (slice_get ends.controllers at) at what now ends chances).actions ≡ 0 →
+    1 ≤ length (controller_step (slice_get ends.controllers at) at what now ends chances).chances.left →
+    EndsStill (controller_step (slice_get ends.controllers at) at what now ends chances)
+    (controller_step (option_map erased_controller (slice_get ends.controllers at)) at what now (erased_ends ends) chances)
+controller_still ends at what now chances still =
+    let found : Option ControllerState = slice_get ends.controllers at in
+    let plain : EndStep = plain_controller_step found at what now ends chances in
+    subst (λ (step : EndStep). told_trusts step.actions ≡ 0 → 1 ≤ length step.chances.left →
+    EndsStill step (controller_step (option_map erased_controller found) at what now (erased_ends ends) chances)) (sym (steps_plainly ends at what now chances still))
+    (subst (λ (other : EndStep). told_trusts plain.actions ≡ 0 → 1 ≤ length plain.chances.left → EndsStill plain other) (sym (erased_plainly found at what now (erased_ends ends) chances))
+    (controller_found found at what now ends chances refl still))
+
 ends_still : (end : EndId) (what : Event) (now : ℕ) (ends : EndStates) (chances : Drawing) → AreStill ends.controllers →
     told_trusts (end_step end what now ends chances).actions ≡ 0 → 1 ≤ length (end_step end what now ends chances).chances.left →
     EndsStill (end_step end what now ends chances) (end_step end what now (erased_ends ends) chances)
 ends_still (Controller at) what now ends chances still told some =
     subst (λ (found : Option ControllerState). EndsStill (controller_step (slice_get ends.controllers at) at what now ends chances) (controller_step found at what now (erased_ends ends) chances))
-    (sym (get_mapped erased_controller ends.controllers at))
-    (controller_found (slice_get ends.controllers at) at what now ends chances refl still told some)
+    (sym (get_mapped erased_controller ends.controllers at)) (controller_still ends at what now chances still told some)
 ends_still (Member at) what now ends chances still told some = member_found (slice_get ends.members at) at what now ends chances still
 ends_still (Client at) what now ends chances still told some = client_found (slice_get ends.clients at) at what now ends chances still
 
@@ -242,8 +270,8 @@ record HearsStill (h other : AfterHearing) : Type 0 where
 hear_still : (end : EndId) (what : Event) (s : State) → IsStill s → told_trusts (hear end what s).actions ≡ 0 → 1 ≤ length (hear end what s).state.chances.left →
     HearsStill (hear end what s) (hear end what (erased s))
 hear_still end what s still told some =
-    let goes = ends_still end what s.moment s.ends s.chances still told some in
-    record { is = ap (λ (step : EndStep). heard_by step (erased s)) goes.is; still = goes.still }
+    let goes = ends_still end what s.moment s.ends s.chances still.1 told some in
+    record { is = ap (λ (step : EndStep). heard_by step (erased s)) goes.is; still = (still.0, goes.still) }
 
 -- ---- parts of a move
 
@@ -269,12 +297,13 @@ record StaysQuiet (s after other : State) : Type 0 where
   is : other ≡ erased after
   ends : after.ends ≡ s.ends
   chances : after.chances ≡ s.chances
+  seals : after.seals ≡ s.seals
 
 quiet_same : (end : EndId) (actions : List Action) (s : State) → StaysQuiet s (perform_all_quietly end actions s) (perform_all_quietly end actions (erased s))
-quiet_same end [] s = record { is = refl; ends = refl; chances = refl }
+quiet_same end [] s = record { is = refl; ends = refl; chances = refl; seals = refl }
 quiet_same end (what ∷ actions) s =
     let rest = quiet_same end actions (perform_quietly end what s) in
-    record { is = rest.is; ends = rest.ends; chances = rest.chances }
+    record { is = rest.is; ends = rest.ends; chances = rest.chances; seals = rest.seals }
 
 closed_same : (end : Option EndId) (link : ℕ) (s : State) → IsStill s → IsFine (closed_at end link s) → IsSame (closed_at end link s) (closed_at end link (erased s))
 closed_same None link s still fine = none_done s still
@@ -286,7 +315,7 @@ closed_same (Some end) link s still fine =
     record {
       is = ap (λ (h : AfterHearing). record { state = perform_all_quietly end h.actions h.state; given = given_by end h.actions }) goes.is
           ∙ ap (λ (after : State). record { state = after; given = given_by end heard.actions }) rest.is;
-      still = subst (λ (ends : EndStates). AreStill ends.controllers) (sym rest.ends) goes.still;
+      still = (rest.seals ∙ goes.still.0, subst (λ (ends : EndStates). AreStill ends.controllers) (sym rest.ends) goes.still.1);
     }
 
 close_same : (there : Option OpenLink) (end : EndId) (link : ℕ) (s : State) → IsStill s → IsFine (close_open there end link s) →
@@ -338,11 +367,14 @@ hears_same end what s still fine = done_same end (hear end what s) (hear end wha
 pub controller_same : (at : ℕ) (what : Event) (s : State) (c : ControllerState) → slice_get s.ends.controllers at ≡ Some c → IsStill s → IsFine (hear_and_act (Controller at) what s) →
     trust_step_of c what s.moment s.chances.left ≡ step_of c what s.moment s.chances.left
 controller_same at what s c is still fine =
-    let good = fine_heard (Controller at) (hear (Controller at) what s) fine in
-    let of : (told_trusts (controller_step (Some c) at what s.moment s.ends s.chances).actions ≡ 0) × (1 ≤ length (controller_step (Some c) at what s.moment s.ends s.chances).chances.left) =
-    subst (λ (found : Option ControllerState). (told_trusts (controller_step found at what s.moment s.ends s.chances).actions ≡ 0)
-    × (1 ≤ length (controller_step found at what s.moment s.ends s.chances).chances.left)) is good in
-    step_same c what s.moment s.chances.left (still at c is) (answers_here.step c what s.moment s.chances.left (still at c is)) of.0 of.1
+    let heard = fine_heard (Controller at) (hear (Controller at) what s) fine in
+    let good : (told_trusts (plain_controller_step (slice_get s.ends.controllers at) at what s.moment s.ends s.chances).actions ≡ 0)
+    × (1 ≤ length (plain_controller_step (slice_get s.ends.controllers at) at what s.moment s.ends s.chances).chances.left) =
+    subst (λ (step : EndStep). (told_trusts step.actions ≡ 0) × (1 ≤ length step.chances.left)) (steps_plainly s.ends at what s.moment s.chances still.1) heard in
+    let of : (told_trusts (plain_controller_step (Some c) at what s.moment s.ends s.chances).actions ≡ 0) × (1 ≤ length (plain_controller_step (Some c) at what s.moment s.ends s.chances).chances.left) =
+    subst (λ (found : Option ControllerState). (told_trusts (plain_controller_step found at what s.moment s.ends s.chances).actions ≡ 0)
+    × (1 ≤ length (plain_controller_step found at what s.moment s.ends s.chances).chances.left)) is good in
+    step_same c what s.moment s.chances.left (still.1 at c is) (answers_here.step c what s.moment s.chances.left (still.1 at c is)) of.0 of.1
 
 pub hears_if_same : (end : Option EndId) (what : Event) (s : State) → IsStill s → IsFine (hear_and_act_if end what s) →
     IsSame (hear_and_act_if end what s) (hear_and_act_if end what (erased s))
@@ -496,11 +528,11 @@ shut_at_same (Some number) s still fine = shut_same (slice_get s.open_links numb
 
 -- ---- ends that are made anew
 
-fresh_erased : (hands_on : Bool) (table : AccountTable) (name : List ℕ) → erased_controller (fresh_controller hands_on table name) ≡ first_state table name
+fresh_erased : (hands_on : Bool) (table : AccountTable) (name : List ℕ) → erased_controller (fresh_controller hands_on false table name) ≡ first_state table name
 fresh_erased false table name = refl
 fresh_erased true table name = refl
 
-fresh_still : (hands_on : Bool) (table : AccountTable) (name : List ℕ) → NoneIsAsked (fresh_controller hands_on table name).trusting
+fresh_still : (hands_on : Bool) (table : AccountTable) (name : List ℕ) → NoneIsAsked (fresh_controller hands_on false table name).trusting
 fresh_still false table name = record { nobody = tt; none = refl; idle = refl; unsealing = refl }
 fresh_still true table name = answers_here.first table name
 
@@ -509,10 +541,10 @@ record RenewsStill (ends other : EndStates) : Type 0 where
   still : AreStill ends.controllers
 
 renew_found : (hands_on : Bool) (found : Option ControllerState) (at : ℕ) (ends : EndStates) → AreStill ends.controllers →
-    RenewsStill (renew_controller hands_on found at ends) (renew_controller false (option_map erased_controller found) at (erased_ends ends))
+    RenewsStill (renew_controller hands_on false found at ends) (renew_controller false false (option_map erased_controller found) at (erased_ends ends))
 renew_found hands_on None at ends still = record { is = refl; still = still }
 renew_found hands_on (Some c) at ends still =
-    let new : ControllerState = fresh_controller hands_on c.table c.name in
+    let new : ControllerState = fresh_controller hands_on false c.table c.name in
     record {
       is = ap (λ (one : ControllerState). record (erased_ends ends) { controllers = slice_set (map erased_controller ends.controllers) at one }) (sym (fresh_erased hands_on c.table c.name))
           ∙ ap (λ (controllers : List ControllerState). record (erased_ends ends) { controllers = controllers }) (set_mapped erased_controller ends.controllers at new);
@@ -529,17 +561,19 @@ renew_client_same (Some plan) at ends still = record { is = refl; still = still 
 
 renew_same : (end : EndId) (s : State) → IsStill s → RenewsStill (renew end s) (renew end (erased s))
 renew_same (Controller at) s still =
-    subst (λ (found : Option ControllerState). RenewsStill (renew (Controller at) s) (renew_controller false found at (erased_ends s.ends)))
-    (sym (get_mapped erased_controller s.ends.controllers at)) (renew_found s.hands_on (slice_get s.ends.controllers at) at s.ends still)
-renew_same (Member at) s still = renew_member_same (slice_get s.member_plans at) at s.ends still
-renew_same (Client at) s still = renew_client_same (slice_get s.client_plans at) at s.ends still
+    subst (λ (seals : Bool). RenewsStill (renew_controller s.hands_on seals (slice_get s.ends.controllers at) at s.ends)
+    (renew_controller false seals (slice_get (erased_ends s.ends).controllers at) at (erased_ends s.ends))) (sym still.0)
+    (subst (λ (found : Option ControllerState). RenewsStill (renew_controller s.hands_on false (slice_get s.ends.controllers at) at s.ends) (renew_controller false false found at (erased_ends s.ends)))
+    (sym (get_mapped erased_controller s.ends.controllers at)) (renew_found s.hands_on (slice_get s.ends.controllers at) at s.ends still.1))
+renew_same (Member at) s still = renew_member_same (slice_get s.member_plans at) at s.ends still.1
+renew_same (Client at) s still = renew_client_same (slice_get s.client_plans at) at s.ends still.1
 
 restart_by_same : (end : Option EndId) (s : State) → IsStill s → IsSame (nothing_done (restart_by end s)) (nothing_done (restart_by end (erased s)))
 restart_by_same None s still = none_done s still
 restart_by_same (Some end) s still =
     let gone : State = forget end s in
     let anew = renew_same end gone still in
-    record { is = ap (λ (ends : EndStates). nothing_done (record (erased gone) { ends = ends })) anew.is; still = anew.still }
+    record { is = ap (λ (ends : EndStates). nothing_done (record (erased gone) { ends = ends })) anew.is; still = (still.0, anew.still) }
 
 restart_at_same : (number : Option ℕ) (s : State) → IsStill s → IsSame (nothing_done (restart_at number s)) (nothing_done (restart_at number (erased s)))
 restart_at_same None s still = none_done s still
@@ -582,26 +616,33 @@ move_same (move.Tick more) s still fine = none_done (tick more s) still
 
 -- ---- at first
 
-first_by : (hands_on : Bool) (tables : List AccountTable) (names : List (List ℕ)) → map erased_controller (first_controllers hands_on tables names) ≡ first_controllers false tables names
+first_by : (hands_on : Bool) (tables : List AccountTable) (names : List (List ℕ)) → map erased_controller (first_controllers hands_on false tables names) ≡ first_controllers false false tables names
 first_by hands_on [] names = refl
 first_by hands_on (table ∷ tables) [] = refl
 first_by hands_on (table ∷ tables) (name ∷ names) =
     ap₂ (λ (one : ControllerState) (rest : List ControllerState). one ∷ rest) (fresh_erased hands_on table name) (first_by hands_on tables names)
 
-pub first_same : (plan : Plan) → (first_world (alone_plan plan)).state ≡ erased (first_world plan).state
-first_same plan =
-    ap (λ (controllers : List ControllerState). record (first_world (alone_plan plan)).state { ends = record (first_world plan).state.ends { controllers = controllers } })
-    (sym (first_by plan.hands_on plan.tables plan.controllers))
+-- where controllers can't seal
+controllers_by : (hands_on seals : Bool) (tables : List AccountTable) (names : List (List ℕ)) → seals ≡ false →
+    map erased_controller (first_controllers hands_on seals tables names) ≡ first_controllers false seals tables names
+controllers_by hands_on true tables names unsealed = absurd cc
+controllers_by hands_on false tables names unsealed = first_by hands_on tables names
 
-still_each : (hands_on : Bool) (tables : List AccountTable) (names : List (List ℕ)) → AreStill (first_controllers hands_on tables names)
+pub first_same : (plan : Plan) → NothingSeals plan → (first_world (alone_plan plan)).state ≡ erased (first_world plan).state
+first_same plan nothing =
+    ap (λ (controllers : List ControllerState). record (first_world (alone_plan plan)).state { ends = record (first_world plan).state.ends { controllers = controllers } })
+    (sym (controllers_by plan.hands_on plan.seals plan.tables plan.controllers nothing.controllers))
+
+still_each : (hands_on : Bool) (tables : List AccountTable) (names : List (List ℕ)) → AreStill (first_controllers hands_on false tables names)
 still_each hands_on [] names at c is = absurd cc
 still_each hands_on (table ∷ tables) [] at c is = absurd cc
 still_each hands_on (table ∷ tables) (name ∷ names) zero c is =
-    subst (λ (one : ControllerState). NoneIsAsked one.trusting) (let same : fresh_controller hands_on table name ≡ c = cc in same) (fresh_still hands_on table name)
+    subst (λ (one : ControllerState). NoneIsAsked one.trusting) (let same : fresh_controller hands_on false table name ≡ c = cc in same) (fresh_still hands_on table name)
 still_each hands_on (table ∷ tables) (name ∷ names) (suc at) c is = still_each hands_on tables names at c is
 
-pub first_still : (plan : Plan) → IsStill (first_world plan).state
-first_still plan = still_each plan.hands_on plan.tables plan.controllers
+pub first_still : (plan : Plan) → NothingSeals plan → IsStill (first_world plan).state
+first_still plan nothing =
+    (nothing.controllers, subst (λ (seals : Bool). AreStill (first_controllers plan.hands_on seals plan.tables plan.controllers)) (sym nothing.controllers) (still_each plan.hands_on plan.tables plan.controllers))
 
 -- ---- a run
 
@@ -633,8 +674,8 @@ run_same (what ∷ moves) w still told some =
     ap (λ (later : World). run moves later) (happens_same what w still fine)
     ∙ run_same moves (happens w what) (move_same what w.state still fine).still (told_later what moves w told) some
 
-pub first_erased : (plan : Plan) → first_world (alone_plan plan) ≡ erased_world (first_world plan)
-first_erased plan = ap (λ (s : State). record { state = s; moves = 0; stopped = false }) (first_same plan)
+pub first_erased : (plan : Plan) → NothingSeals plan → first_world (alone_plan plan) ≡ erased_world (first_world plan)
+first_erased plan nothing = ap (λ (s : State). record { state = s; moves = 0; stopped = false }) (first_same plan nothing)
 
 pub runs_alone : RunsAlone
-runs_alone plan moves is = ap (run moves) (first_erased plan) ∙ run_same moves (first_world plan) (first_still plan) is.told is.left
+runs_alone plan moves nothing is = ap (run moves) (first_erased plan nothing) ∙ run_same moves (first_world plan) (first_still plan nothing) is.told is.left

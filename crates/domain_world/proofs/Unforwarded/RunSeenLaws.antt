@@ -1,9 +1,10 @@
 -- What is claimed of a run move by move, in which no call comes for a trusted domain, is alike where nobody can be
 -- asked. It serves `claims_hold_of_runs`.
-use Rattle.std.proofs.Common.{◌≡◌, ◌≤◌, ℕ, Bool, List, [], ◌∷◌, length, option_map, Option, Some, None, slice_get, if◌then◌else◌, refl, sym, ap, ap₂, subst, ◌∙◌}
+use Rattle.std.proofs.Common.{◌≡◌, ◌≤◌, ℕ, suc, Bool, false, List, [], ◌∷◌, length, option_map, Option, Some, None, slice_get, if◌then◌else◌, refl, sym, ap, ap₂, subst, ◌∙◌}
 use Rattle.std.specs.Prelude.{AllPairs, IsSomeAnd}
 use Rattle.wire_base.specs.Names.{SameName}
 use Rattle.logon_stubs.specs.declared.info.NetworkInfo.{NetworkInfo}
+use Rattle.account_table.specs.AccountTable.{AccountTable}
 use Rattle.sam_logon.specs.MayLogOn.{MayLogOn}
 use Rattle.wire_base.proofs.ListLaws.{all_weaker}
 use Rattle.domain_controller.specs.State.{State as ControllerState}
@@ -15,16 +16,17 @@ use Rattle.world_moves.specs.declared.moves.Move.{Move}
 use Rattle.world_moves.specs.declared.moves.Move.TheVariants as move
 use Rattle.world_moves.specs.declared.plan.Plan.{Plan}
 use Rattle.world_moves.specs.declared.state.State.{State}
-use Rattle.world_moves.specs.Ends.{EndStates}
+use Rattle.world_moves.specs.Ends.{end_in}
 use Rattle.world_moves.specs.Forms.{IsSchedule}
 use Rattle.world_moves.specs.Links.{is_end}
 use Rattle.world_moves.specs.Moving.{act, end_of_peer}
-use Rattle.world_moves.specs.Unforwarded.{IsUnforwarded, alone_plan, erased, erased_controller, erased_ends, erased_world}
-use Rattle.world_moves.specs.World.{World, actions_of_run, first_ends, first_world, happens, run, run_of}
+use Rattle.world_moves.specs.Unforwarded.{IsUnforwarded, alone_plan, erased, erased_controller, erased_world}
+use Rattle.world_moves.specs.World.{World, actions_of_run, first_controllers, first_ends, first_world, happens, run, run_of}
+use Rattle.world_moves.specs.Plain.{NothingSeals}
 use Rattle.domain_world.specs.Claims.Completeness.{CanSucceed, ComesOneAtATime, EachSucceeds, InEachState, IsQuiet, IsQuietAt, MayLogOnIn, OneAtATime, OwnKeysArrive, Succeeds, info_planned, members_of, started_in}
 use Rattle.domain_world.specs.Claims.OneByOne.{HasOwnMember, NoneClashes}
 use Rattle.domain_world.specs.Past.{Past, past}
-use Rattle.domain_world.proofs.Unforwarded.ErasedLaws.{IsFine, IsStill, fine_first, first_erased, first_same, first_still, get_mapped, happens_same, move_same, peer_same, told_later}
+use Rattle.domain_world.proofs.Unforwarded.ErasedLaws.{IsFine, IsStill, fine_first, first_erased, first_still, get_mapped, happens_same, move_same, told_later}
 use Rattle.domain_world.proofs.Unforwarded.SeenLaws.{seen}
 
 -- ---- what holds of worlds through a run
@@ -48,8 +50,8 @@ goes_later what moves w goes = record {
 goes_same : (what : Move) (moves : List Move) (w : World) → GoesOn (what ∷ moves) w → erased_world (happens w what) ≡ happens (erased_world w) what
 goes_same what moves w goes = sym (happens_same what w goes.still (goes_fine what moves w goes))
 
-goes_first : (plan : Plan) (moves : List Move) → IsUnforwarded plan moves → GoesOn moves (first_world plan)
-goes_first plan moves is = record { still = first_still plan; told = is.told; left = is.left }
+goes_first : (plan : Plan) (moves : List Move) → NothingSeals plan → IsUnforwarded plan moves → GoesOn moves (first_world plan)
+goes_first plan moves nothing is = record { still = first_still plan nothing; told = is.told; left = is.left }
 
 -- ---- one at a time
 
@@ -93,12 +95,12 @@ schedule_seen plan moves s = record {
   move_forms = s.move_forms;
 }
 
-comes_seen : (plan : Plan) (moves : List Move) → IsUnforwarded plan moves → ComesOneAtATime (past plan moves) moves → ComesOneAtATime (seen (past plan moves)) moves
-comes_seen plan moves is comes = record {
+comes_seen : (plan : Plan) (moves : List Move) → NothingSeals plan → IsUnforwarded plan moves → ComesOneAtATime (past plan moves) moves → ComesOneAtATime (seen (past plan moves)) moves
+comes_seen plan moves nothing is comes = record {
   schedule = schedule_seen plan moves comes.schedule;
   plain = comes.plain;
   once = comes.once;
-  quiet = subst (λ (w : World). OneAtATime moves w) (sym (first_erased plan)) (one_at_a_time moves (first_world plan) (goes_first plan moves is) comes.quiet);
+  quiet = subst (λ (w : World). OneAtATime moves w) (sym (first_erased plan nothing)) (one_at_a_time moves (first_world plan) (goes_first plan moves nothing is) comes.quiet);
 }
 
 -- ---- who may log on
@@ -124,28 +126,35 @@ may_each controller info (what ∷ moves) w goes may = (
 
 -- ---- the ends of a plan
 
-pub ends_seen : (plan : Plan) → first_ends (alone_plan plan) ≡ erased_ends (first_ends plan)
-ends_seen plan = ap (λ (s : State). s.ends) (first_same plan)
+-- as many controllers are made, whether they hand logons on or not
+as_many_first : (hands_on seals : Bool) (tables : List AccountTable) (names : List (List ℕ)) →
+    length (first_controllers false seals tables names) ≡ length (first_controllers hands_on seals tables names)
+as_many_first hands_on seals [] names = refl
+as_many_first hands_on seals (table ∷ tables) [] = refl
+as_many_first hands_on seals (table ∷ tables) (name ∷ names) = ap (λ (many : ℕ). suc many) (as_many_first hands_on seals tables names)
 
 pub peer_seen : (peer : List ℕ) (plan : Plan) → end_of_peer peer (first_ends (alone_plan plan)) ≡ end_of_peer peer (first_ends plan)
-peer_seen peer plan = ap (end_of_peer peer) (ends_seen plan) ∙ peer_same peer (first_ends plan)
+peer_seen [] plan = refl
+peer_seen (number ∷ []) plan =
+    ap (λ (controllers : ℕ). end_in number controllers (length (first_ends plan).members) (length (first_ends plan).clients)) (as_many_first plan.hands_on plan.seals plan.tables plan.controllers)
+peer_seen (number ∷ other ∷ more) plan = refl
 
 abbrev kept_if : Bool → MemberPlan → List MemberPlan → List MemberPlan
 kept_if kept plan plans = if kept then plan ∷ plans else plans
 
-members_same : (ends : EndStates) (controller : ℕ) (plans : List MemberPlan) → members_of (erased_ends ends) controller plans ≡ members_of ends controller plans
-members_same ends controller [] = refl
-members_same ends controller (plan ∷ plans) =
-    ap₂ (λ (end : Option EndId) (rest : List MemberPlan). kept_if (is_end end (Controller controller)) plan rest) (peer_same plan.controller ends) (members_same ends controller plans)
+members_same : (plan : Plan) (controller : ℕ) (plans : List MemberPlan) → members_of (first_ends (alone_plan plan)) controller plans ≡ members_of (first_ends plan) controller plans
+members_same whole controller [] = refl
+members_same whole controller (plan ∷ plans) =
+    ap₂ (λ (end : Option EndId) (rest : List MemberPlan). kept_if (is_end end (Controller controller)) plan rest) (peer_seen plan.controller whole) (members_same whole controller plans)
 
 members_seen : (plan : Plan) (controller : ℕ) → members_of (first_ends (alone_plan plan)) controller plan.members ≡ members_of (first_ends plan) controller plan.members
-members_seen plan controller = ap (λ (ends : EndStates). members_of ends controller plan.members) (ends_seen plan) ∙ members_same (first_ends plan) controller plan.members
+members_seen plan controller = members_same plan controller plan.members
 
 abbrev NamesApart : MemberPlan → MemberPlan → Type 0
 NamesApart one other = SameName one.computer other.computer → ⊥
 
-can_seen : (plan : Plan) (moves : List Move) (client : ℕ) → IsUnforwarded plan moves → CanSucceed plan moves client → CanSucceed (alone_plan plan) moves client
-can_seen plan moves client is can = record {
+can_seen : (plan : Plan) (moves : List Move) (client : ℕ) → NothingSeals plan → IsUnforwarded plan moves → CanSucceed plan moves client → CanSucceed (alone_plan plan) moves client
+can_seen plan moves client nothing is can = record {
   task = can.task;
   is_task = can.is_task;
   member = can.member;
@@ -161,23 +170,23 @@ can_seen plan moves client is can = record {
   account = can.account;
   found = can.found;
   hash = can.hash;
-  may = subst (λ (w : World). InEachState (MayLogOnIn can.controller (info_planned can.task)) moves w) (sym (first_erased plan))
-      (may_each can.controller (info_planned can.task) moves (first_world plan) (goes_first plan moves is) can.may);
+  may = subst (λ (w : World). InEachState (MayLogOnIn can.controller (info_planned can.task)) moves w) (sym (first_erased plan nothing))
+      (may_each can.controller (info_planned can.task) moves (first_world plan) (goes_first plan moves nothing is) can.may);
 }
 
-succeeds_so : (plan : Plan) (moves : List Move) (client : ℕ) (is : IsUnforwarded plan moves) (can : CanSucceed plan moves client) →
-    Succeeds (seen (past plan moves)) moves client (can_seen plan moves client is can) → Succeeds (past plan moves) moves client can
+succeeds_so : (plan : Plan) (moves : List Move) (client : ℕ) (nothing : NothingSeals plan) (is : IsUnforwarded plan moves) (can : CanSucceed plan moves client) →
+    Succeeds (seen (past plan moves)) moves client (can_seen plan moves client nothing is can) → Succeeds (past plan moves) moves client can
 unfolding can_seen
-succeeds_so plan moves client is can s = record { key = s.key; is_in = s.is_in; told = s.told }
+succeeds_so plan moves client nothing is can s = record { key = s.key; is_in = s.is_in; told = s.told }
 
 abbrev SucceedsIf : Past → List Move → ℕ → Type 0
 SucceedsIf p moves client = (can : CanSucceed p.plan moves client) → OwnKeysArrive p moves client can → Succeeds p moves client can
 
-pub complete_so : (plan : Plan) (moves : List Move) → IsUnforwarded plan moves → EachSucceeds (seen (past plan moves)) moves → EachSucceeds (past plan moves) moves
+pub complete_so : (plan : Plan) (moves : List Move) → NothingSeals plan → IsUnforwarded plan moves → EachSucceeds (seen (past plan moves)) moves → EachSucceeds (past plan moves) moves
 unfolding can_seen
-complete_so plan moves is x = λ comes.
+complete_so plan moves nothing is x = λ comes.
     all_weaker (SucceedsIf (seen (past plan moves)) moves) (SucceedsIf (past plan moves) moves) (started_in moves (length plan.clients))
-    (λ client has. λ can keys. succeeds_so plan moves client is can (has (can_seen plan moves client is can) keys)) (x (comes_seen plan moves is comes))
+    (λ client has. λ can keys. succeeds_so plan moves client nothing is can (has (can_seen plan moves client nothing is can) keys)) (x (comes_seen plan moves nothing is comes))
 
 -- ---- no credential clashes
 
@@ -186,6 +195,6 @@ own_seen plan client has = λ task member work controller table is_task is_membe
     let own = has task member work controller table is_task (sym (peer_seen task.server plan) ∙ is_member) is_work (sym (peer_seen work.controller plan) ∙ is_controller) is_table in
     (own.0, subst (λ (members : List MemberPlan). AllPairs NamesApart members) (sym (members_seen plan controller)) own.1)
 
-pub one_by_one_so : (plan : Plan) (moves : List Move) → IsUnforwarded plan moves → NoneClashes (seen (past plan moves)) moves → NoneClashes (past plan moves) moves
-one_by_one_so plan moves is x = λ comes own.
-    x (comes_seen plan moves is comes) (all_weaker (HasOwnMember plan) (HasOwnMember (alone_plan plan)) (started_in moves (length plan.clients)) (own_seen plan) own)
+pub one_by_one_so : (plan : Plan) (moves : List Move) → NothingSeals plan → IsUnforwarded plan moves → NoneClashes (seen (past plan moves)) moves → NoneClashes (past plan moves) moves
+one_by_one_so plan moves nothing is x = λ comes own.
+    x (comes_seen plan moves nothing is comes) (all_weaker (HasOwnMember plan) (HasOwnMember (alone_plan plan)) (started_in moves (length plan.clients)) (own_seen plan) own)

@@ -13,7 +13,7 @@ use Rattle.controller_calls.specs.declared.calls.JudgedCall.{JudgedCall}
 use Rattle.world_moves.specs.declared.bag.BagUnit.{BagUnit}
 use Rattle.world_moves.specs.declared.moves.Move.{Move}
 use Rattle.world_moves.specs.declared.plan.Plan.{Plan}
-use Rattle.world_moves.specs.Alone.{HandsNothingOn}
+use Rattle.world_moves.specs.Alone.{IsPlainAlone}
 use Rattle.domain_world.specs.Accepting.Carried.{IsTakenInTurn, IsWholeUnit, call_carried, call_judged}
 use Rattle.domain_world.specs.Accepting.Units.{UnitsAreHeard}
 use Rattle.domain_world.specs.Claims.{IsClear}
@@ -126,10 +126,10 @@ RepliesAnswerCalls past =
 -- the call whose answer was taken passed, where there was no clash
 abbrev pub TakenCallsPass : Type 0
 TakenCallsPass =
-    (plan : Plan) (moves : List Move) → HandsNothingOn plan → UnitsAreHeard (past plan moves) → (past plan moves).book.clash ≡ false → (n : ℕ) → IsTakenFor (past plan moves) n →
+    (plan : Plan) (moves : List Move) → IsPlainAlone plan → UnitsAreHeard (past plan moves) → (past plan moves).book.clash ≡ false → (n : ℕ) → IsTakenFor (past plan moves) n →
     HasPassed (past plan moves) n
 
 abbrev pub SequencesFollow : Type 0
 SequencesFollow =
-    (plan : Plan) (moves : List Move) → HandsNothingOn plan → UnitsAreHeard (past plan moves) → CallsAreStamped (past plan moves) → TurnsAreCalled (past plan moves) →
+    (plan : Plan) (moves : List Move) → IsPlainAlone plan → UnitsAreHeard (past plan moves) → CallsAreStamped (past plan moves) → TurnsAreCalled (past plan moves) →
     IsClear (past plan moves).book → SequencesAreShared (past plan moves)

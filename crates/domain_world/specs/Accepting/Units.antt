@@ -6,7 +6,7 @@ use Rattle.step_notes.specs.Records.{RequesterId, Sent}
 use Rattle.world_moves.specs.declared.moves.Move.{Move}
 use Rattle.world_moves.specs.declared.plan.Plan.{Plan}
 use Rattle.world_moves.specs.Draws.{DrawsDiffer}
-use Rattle.world_moves.specs.Alone.{HandsNothingOn}
+use Rattle.world_moves.specs.Alone.{IsPlainAlone}
 use Rattle.domain_world.specs.Accepting.Answered.{AnswersAreHeard}
 use Rattle.domain_world.specs.Accepting.Carried.{AnswersAreInTurn, CallsHaveNumbers, JudgedAsCarried, MarkedUnitsAreWhole, MessagesAreCalled, OpeningsAreApart}
 use Rattle.domain_world.specs.Accepting.KeysMade.{MessagesAreMade, MessagesAreTakenAsSent}
@@ -35,14 +35,14 @@ HasMarksOf past r = r.marks ≡ map (λ (one : Sent). one.mark) past.book.sent
 
 pub record RunsAreHeard : Type 0 where
   pub numbers : (past : Past) (r : Requests RequesterId) → HasMarksOf past r → CallsAreApart r → CallsHaveNumbers past
-  pub heard : (plan : Plan) (moves : List Move) → HandsNothingOn plan → UnitsAreHeard (past plan moves) → DrawsDiffer (past plan moves).world → AnswersAreHeard (past plan moves)
-  pub only : (plan : Plan) (moves : List Move) → HandsNothingOn plan → UnitsAreHeard (past plan moves) → DrawsDiffer (past plan moves).world → IsClear (past plan moves).book →
+  pub heard : (plan : Plan) (moves : List Move) → IsPlainAlone plan → UnitsAreHeard (past plan moves) → DrawsDiffer (past plan moves).world → AnswersAreHeard (past plan moves)
+  pub only : (plan : Plan) (moves : List Move) → IsPlainAlone plan → UnitsAreHeard (past plan moves) → DrawsDiffer (past plan moves).world → IsClear (past plan moves).book →
       AcceptsOnlyGranted (past plan moves)
-  pub all : (plan : Plan) (moves : List Move) → HandsNothingOn plan → UnitsAreHeard (past plan moves) → DrawsDiffer (past plan moves).world → IsClear (past plan moves).book →
+  pub all : (plan : Plan) (moves : List Move) → IsPlainAlone plan → UnitsAreHeard (past plan moves) → DrawsDiffer (past plan moves).world → IsClear (past plan moves).book →
       AcceptsAllGranted (past plan moves)
-  pub keys : (plan : Plan) (moves : List Move) → HandsNothingOn plan → UnitsAreHeard (past plan moves) → DrawsDiffer (past plan moves).world → IsClear (past plan moves).book →
+  pub keys : (plan : Plan) (moves : List Move) → IsPlainAlone plan → UnitsAreHeard (past plan moves) → DrawsDiffer (past plan moves).world → IsClear (past plan moves).book →
       KeysAgree (past plan moves)
-  pub counts : (plan : Plan) (moves : List Move) → HandsNothingOn plan → UnitsAreHeard (past plan moves) → DrawsDiffer (past plan moves).world → IsClear (past plan moves).book →
+  pub counts : (plan : Plan) (moves : List Move) → IsPlainAlone plan → UnitsAreHeard (past plan moves) → DrawsDiffer (past plan moves).world → IsClear (past plan moves).book →
       EachCallRaisesOnce (past plan moves)
-  pub names : (plan : Plan) (moves : List Move) → HandsNothingOn plan → UnitsAreHeard (past plan moves) → DrawsDiffer (past plan moves).world → (past plan moves).book.clash ≡ false →
+  pub names : (plan : Plan) (moves : List Move) → IsPlainAlone plan → UnitsAreHeard (past plan moves) → DrawsDiffer (past plan moves).world → (past plan moves).book.clash ≡ false →
       LetsInByName (past plan moves)

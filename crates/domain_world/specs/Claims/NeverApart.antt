@@ -24,7 +24,7 @@ use Rattle.world_moves.specs.declared.plan.Plan.{Plan}
 use Rattle.world_moves.specs.Moving.{end_of_peer}
 use Rattle.world_moves.specs.World.{first_ends, kept_of}
 use Rattle.domain_world.specs.Past.{Past, past}
-use Rattle.world_moves.specs.Alone.{HandsNothingOn}
+use Rattle.world_moves.specs.Alone.{IsPlainAlone}
 
 -- ---- a stranger's call that sets a secret
 
@@ -130,6 +130,6 @@ pub record ComesTo (past : Past) (member : ℕ) (begins : BeginsAlike past.plan 
 
 -- Its controller has the account at every state, and where a run came to such happenings the two are not apart.
 pub record NeverApartByHappenings : Type 0 where
-  pub there : (plan : Plan) (moves : List Move) → HandsNothingOn plan → (member : ℕ) (begins : BeginsAlike plan member) → HasItsAccount (past plan moves) member begins
+  pub there : (plan : Plan) (moves : List Move) → IsPlainAlone plan → (member : ℕ) (begins : BeginsAlike plan member) → HasItsAccount (past plan moves) member begins
   pub follows : (past : Past) (member : ℕ) (begins : BeginsAlike past.plan member) (has : HasItsAccount past member begins) → ComesTo past member begins has.account →
       IsNeverApart past member begins

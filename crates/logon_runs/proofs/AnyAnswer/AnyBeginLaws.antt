@@ -145,6 +145,7 @@ module _ (plan : Plan) (s : State) (rest : AtRest plan s) (client member control
     member = (rest.members member work three.is_member_plan).rests;
     controller = desk.rests;
     alone = refl;
+    plain = refl;
     links = refl;
     opened = rest.opened;
     units = rest.units;

@@ -5,7 +5,7 @@ use Rattle.std.specs.Prelude.{map, nat_lt}
 use Rattle.std.proofs.lemmas.Bool.{ltb-false, ltb-true}
 use Rattle.account_table.specs.AccountTable.{AccountTable}
 use Rattle.logon_client.specs.declared.plan.ClientPlan.{ClientPlan}
-use Rattle.member_server.specs.Machine.{fresh_member}
+use Rattle.member_server.specs.SealStep.{sealing_member}
 use Rattle.member_server.specs.declared.plan.MemberPlan.{MemberPlan}
 use Rattle.world_moves.specs.declared.links.EndId.{EndId}
 use Rattle.world_moves.specs.declared.links.EndId.TheVariants.{Client, Controller, Member}
@@ -57,12 +57,12 @@ pub controller_within : (peer : List ℕ) (ends : EndStates) (at : ℕ) → end_
 unfolding IsWithin
 controller_within peer ends at is = subst (IsWithin (length ends.controllers) (length ends.members) (length ends.clients)) is (within_ends peer ends)
 
-pub many_controllers : (hands_on : Bool) (tables : List AccountTable) (names : List (List ℕ)) → length (first_controllers hands_on tables names) ≤ length tables
-many_controllers hands_on [] names = omega arith
-many_controllers hands_on (table ∷ tables) [] = omega arith
-many_controllers hands_on (table ∷ tables) (name ∷ names) = omega (arith, many_controllers hands_on tables names)
+pub many_controllers : (hands_on seals : Bool) (tables : List AccountTable) (names : List (List ℕ)) → length (first_controllers hands_on seals tables names) ≤ length tables
+many_controllers hands_on seals [] names = omega arith
+many_controllers hands_on seals (table ∷ tables) [] = omega arith
+many_controllers hands_on seals (table ∷ tables) (name ∷ names) = omega (arith, many_controllers hands_on seals tables names)
 
-pub many_members : (members : List MemberPlan) → length (map fresh_member members) ≡ length members
+pub many_members : (members : List MemberPlan) → length (map sealing_member members) ≡ length members
 many_members [] = refl
 many_members (member ∷ members) = ap suc (many_members members)
 
@@ -81,7 +81,7 @@ module _ (plan : Plan) (client : ℕ) (task : ClientPlan) (servers : HasServers 
   by_controller : (member : ℕ) (work : MemberPlan) (found : Option EndId) → slice_get plan.members member ≡ Some work → end_of_peer task.server (first_ends plan) ≡ Some (Member member) →
       end_of_peer work.controller (first_ends plan) ≡ found → Goal
   by_controller member work (Some (Controller at)) is_work to_member is_end =
-      let table : HasItem plan.tables at = item_at plan.tables at (omega (arith, controller_within work.controller (first_ends plan) at is_end, many_controllers plan.hands_on plan.tables plan.controllers)) in
+      let table : HasItem plan.tables at = item_at plan.tables at (omega (arith, controller_within work.controller (first_ends plan) at is_end, many_controllers plan.hands_on plan.seals plan.tables plan.controllers)) in
       reached member at work table.item is_work table.is to_member (inl is_end)
   by_controller member work (Some (Member at)) is_work to_member is_end = by_any member work is_work to_member (ap (λ (end : Option EndId). route_to (Member member) end) is_end)
   by_controller member work (Some (Client at)) is_work to_member is_end = by_any member work is_work to_member (ap (λ (end : Option EndId). route_to (Member member) end) is_end)

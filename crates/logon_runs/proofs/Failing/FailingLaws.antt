@@ -26,6 +26,7 @@ use Rattle.logon_client.specs.State.{State as ClientState}
 use Rattle.logon_client.specs.Machine.{step_of as client_step_of, fault_outcome}
 use Rattle.logon_client.specs.declared.state.Phase.TheVariants as client_phase
 use Rattle.logon_client.specs.declared.state.Question.TheVariants as client_question
+use Rattle.member_server.specs.SealStep.{SealsNothing}
 use Rattle.member_server.specs.State.{State as MemberState}
 use Rattle.member_server.specs.Machine.{step_of as member_step_of}
 use Rattle.world_moves.specs.declared.bag.BagUnit.{BagUnit}
@@ -56,7 +57,7 @@ use Rattle.logon_runs.proofs.Scenes.LinkSceneLaws.{closes_own, heard_down, heard
 use Rattle.logon_runs.proofs.Scenes.SceneLaws.{Leaves, performed_quietly, quietly_leave, scenes_go_on}
 use Rattle.logon_runs.proofs.Scenes.TurnSceneLaws.{closes_turn, heard_back}
 use Rattle.logon_runs.proofs.Scenes.TurningSceneLaws.{scenes_turn}
-use Rattle.logon_runs.proofs.Scenes.WaitingLaws.{waiting_comes}
+use Rattle.logon_runs.proofs.Scenes.WaitingLaws.{plain_after, waiting_comes}
 
 -- ---- a dial that reaches nobody
 
@@ -65,9 +66,9 @@ lands_failed : (s : State) (v : Scene) (end : EndId) (peer : List ℕ) (dials : 
     route_to end (end_of_peer peer s.ends) ≡ None → AllByRecursion IsNoClose actions →
     hear end event.DialFailed (without_first s) ≡ after_hearing ends v.left actions (without_first s) →
     slice_get ends.clients v.at_client ≡ Some client → slice_get ends.members v.at_member ≡ Some member → slice_get ends.controllers v.at_controller ≡ Some controller →
-    controller.trusting ≡ no_trusting →
+    controller.trusting ≡ no_trusting → SealsNothing member →
     Shows (connect s).state (with_actions end actions v.left (record v { client = client; member = member; controller = controller; dials = dials }))
-lands_failed s v end peer dials ends actions client member controller shows waits reaches none_close heard is_client is_member is_controller alone =
+lands_failed s v end peer dials ends actions client member controller shows waits reaches none_close heard is_client is_member is_controller alone plain =
     let s1 : State = without_first s in
     let s2 : State = (after_hearing ends v.left actions s1).state in
     let s3 : State = perform_all_quietly end actions s2 in
@@ -82,6 +83,7 @@ lands_failed s v end peer dials ends actions client member controller shows wait
       member = ap (λ (e : EndStates). slice_get e.members v.at_member) leaves.ends ∙ is_member;
       controller = ap (λ (e : EndStates). slice_get e.controllers v.at_controller) leaves.ends ∙ is_controller;
       alone = alone;
+      plain = plain;
       links = leaves.links ∙ shows.links;
       opened = leaves.opened ∙ shows.opened;
       units = leaves.units ∙ ap₂ (λ (u : List BagUnit) (l : List Route). u ++ units_sent l end actions) shows.units shows.links;
@@ -99,7 +101,7 @@ client_fails s v peer dials after actions shows waits reaches none_close step =
     (waiting_comes.client (without_first s) v.at_client v.client after event.DialFailed v.left actions shows.client
     (ap₂ (λ (now : ℕ) (l : List (List ℕ)). client_step_of v.client event.DialFailed now l) shows.moment shows.left ∙ step
     ∙ ap (λ (l : List (List ℕ)). whole_step l v.left actions after) (sym shows.left)))
-    (got_set s.ends.clients v.at_client v.client after shows.client) shows.member shows.controller shows.alone
+    (got_set s.ends.clients v.at_client v.client after shows.client) shows.member shows.controller shows.alone shows.plain
 
 member_fails : (s : State) (v : Scene) (peer : List ℕ) (dials : List WaitingDial) (after : MemberState) (actions : List Action) → Shows s v →
     v.dials ≡ record { end = Member v.at_member; peer = peer } ∷ dials → route_to (Member v.at_member) (end_of_peer peer s.ends) ≡ None → AllByRecursion IsNoClose actions →
@@ -107,10 +109,11 @@ member_fails : (s : State) (v : Scene) (peer : List ℕ) (dials : List WaitingDi
     Shows (connect s).state (with_actions (Member v.at_member) actions v.left (record v { member = after; dials = dials }))
 member_fails s v peer dials after actions shows waits reaches none_close step =
     lands_failed s v (Member v.at_member) peer dials (with_member_at v.at_member after s.ends) actions v.client after v.controller shows waits reaches none_close
-    (waiting_comes.member (without_first s) v.at_member v.member after event.DialFailed v.left actions shows.member
+    (waiting_comes.member (without_first s) v.at_member v.member after event.DialFailed v.left actions shows.member shows.plain
     (ap₂ (λ (now : ℕ) (l : List (List ℕ)). member_step_of v.member event.DialFailed now l) shows.moment shows.left ∙ step
     ∙ ap (λ (l : List (List ℕ)). whole_step l v.left actions after) (sym shows.left)))
     shows.client (got_set s.ends.members v.at_member v.member after shows.member) shows.controller shows.alone
+    (plain_after v.member after event.DialFailed v.moment v.left v.left actions shows.plain step)
 
 pub failings_are_seen : FailingsAreSeen
 failings_are_seen = record {

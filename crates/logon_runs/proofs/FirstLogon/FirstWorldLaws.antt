@@ -26,7 +26,8 @@ use Rattle.domain_controller.proofs.TurnOutLaws.{got_map}
 use Rattle.logon_client.specs.declared.outcome.ClientOutcome.TheVariants.{In}
 use Rattle.logon_client.specs.Machine.{fresh_client}
 use Rattle.logon_client.specs.Plans.{CanLogOn}
-use Rattle.member_server.specs.Machine.{fresh_member}
+use Rattle.member_server.specs.SealStep.{sealing_member}
+use Rattle.member_server.proofs.SealLaws.{plain_members_stay}
 use Rattle.world_moves.specs.declared.plan.Plan.{Plan}
 use Rattle.world_moves.specs.Choosing.{chosen_place}
 use Rattle.world_moves.specs.Forms.{HasForms, IsClientPlan, IsMemberPlan, IsTable}
@@ -66,18 +67,19 @@ at_place P items None item all is = absurd cc
 at_place P items (Some at) item all is = got_all P items at item all is
 
 -- the controller is made of its table and its name
-controller_of : (hands_on : Bool) (tables : List AccountTable) (names : List (List ℕ)) (at : ℕ) (table : AccountTable) (name : List ℕ) → slice_get tables at ≡ Some table → slice_get names at ≡ Some name →
-    slice_get (first_controllers hands_on tables names) at ≡ Some (fresh_controller hands_on table name)
-controller_of hands_on [] names at table name is_table is_name = absurd cc
-controller_of hands_on (first ∷ tables) [] at table name is_table is_name = absurd cc
-controller_of hands_on (first ∷ tables) (other ∷ names) zero table name is_table is_name = cc
-controller_of hands_on (first ∷ tables) (other ∷ names) (suc at) table name is_table is_name = controller_of hands_on tables names at table name is_table is_name
+controller_of : (hands_on seals : Bool) (tables : List AccountTable) (names : List (List ℕ)) (at : ℕ) (table : AccountTable) (name : List ℕ) → slice_get tables at ≡ Some table → slice_get names at ≡ Some name →
+    slice_get (first_controllers hands_on seals tables names) at ≡ Some (fresh_controller hands_on seals table name)
+controller_of hands_on seals [] names at table name is_table is_name = absurd cc
+controller_of hands_on seals (first ∷ tables) [] at table name is_table is_name = absurd cc
+controller_of hands_on seals (first ∷ tables) (other ∷ names) zero table name is_table is_name = cc
+controller_of hands_on seals (first ∷ tables) (other ∷ names) (suc at) table name is_table is_name = controller_of hands_on seals tables names at table name is_table is_name
 
--- and such that it asks nobody
-pub got_controller : (hands_on : Bool) (tables : List AccountTable) (names : List (List ℕ)) (at : ℕ) (table : AccountTable) (name : List ℕ) → slice_get tables at ≡ Some table →
-    slice_get names at ≡ Some name → TrustsNobody hands_on table → slice_get (first_controllers hands_on tables names) at ≡ Some (first_state table name)
-got_controller hands_on tables names at table name is_table is_name none =
-    controller_of hands_on tables names at table name is_table is_name ∙ ap Some (fresh_alone hands_on table name none)
+-- and such that it asks nobody, where it can't seal
+pub got_controller : (hands_on seals : Bool) (tables : List AccountTable) (names : List (List ℕ)) (at : ℕ) (table : AccountTable) (name : List ℕ) → slice_get tables at ≡ Some table →
+    slice_get names at ≡ Some name → seals ≡ false → TrustsNobody hands_on table → slice_get (first_controllers hands_on seals tables names) at ≡ Some (first_state table name)
+got_controller hands_on seals tables names at table name is_table is_name unsealed none =
+    controller_of hands_on seals tables names at table name is_table is_name
+    ∙ ap (λ (can : Bool). Some (fresh_controller hands_on can table name)) unsealed ∙ ap Some (fresh_alone hands_on table name none)
 
 -- ---- forms
 
@@ -115,9 +117,10 @@ module _ (plan : Plan) (client member controller : ℕ) (can : CanComeIn plan cl
       (draw plan 0 ∷ draw plan 1 ∷ draw plan 2 ∷ draw plan 3 ∷ draw plan 4 ∷ draw plan 5 ∷ left_then plan) plan.now [])
   first_shows = record {
     client = got_map fresh_client plan.clients client can.task can.is_task;
-    member = got_map fresh_member plan.members member can.member_plan can.is_member_plan;
-    controller = got_controller plan.hands_on plan.tables plan.controllers controller can.table can.name can.is_table can.is_name can.alone;
+    member = got_map sealing_member plan.members member can.member_plan can.is_member_plan ∙ ap Some (plain_members_stay.made can.member_plan can.plain);
+    controller = got_controller plan.hands_on plan.seals plan.tables plan.controllers controller can.table can.name can.is_table can.is_name can.unsealed can.alone;
     alone = refl;
+    plain = refl;
     links = refl;
     opened = refl;
     units = refl;

@@ -6,12 +6,12 @@ use Rattle.outside.specs.declared.action.Action.{Action}
 use Rattle.outside.specs.declared.event.Event.{Event}
 use Rattle.outside.specs.declared.event.Event.TheVariants as event
 use Rattle.domain_controller.specs.State.{State as ControllerState}
-use Rattle.domain_controller.specs.TrustStep.{trust_step_of as controller_step_of}
+use Rattle.domain_controller.specs.SealStep.{seal_step_of as controller_step_of}
 use Rattle.logon_client.specs.declared.plan.ClientPlan.{ClientPlan}
 use Rattle.logon_client.specs.State.{State as ClientState}
 use Rattle.logon_client.specs.Machine.{begin_of, fresh_client, step_of as client_step_of}
 use Rattle.member_server.specs.State.{State as MemberState}
-use Rattle.member_server.specs.Machine.{step_of as member_step_of}
+use Rattle.member_server.specs.SealStep.{any_step_of as member_step_of}
 use Rattle.world_moves.specs.declared.bag.BagUnit.{BagUnit}
 use Rattle.world_moves.specs.declared.links.EndId.{EndId}
 use Rattle.world_moves.specs.declared.links.EndId.TheVariants.{Client}

@@ -42,6 +42,7 @@ use Rattle.domain_controller.specs.Step.{step_of as controller_step_of}
 use Rattle.domain_controller.specs.Trusting.{no_trusting}
 use Rattle.domain_controller.proofs.TurnOutLaws.{got_set}
 use Rattle.logon_client.specs.State.{State as ClientState}
+use Rattle.member_server.specs.SealStep.{SealsNothing}
 use Rattle.member_server.specs.State.{State as MemberState}
 use Rattle.member_server.specs.Machine.{actions_in, at_turn, halted_state, keep_turn, state_in, step_of as member_step_of}
 use Rattle.member_server.specs.Turns.{AtTurn, next_turn, take_by, timestamp_of}
@@ -72,7 +73,7 @@ use Rattle.logon_runs.specs.Scenes.WaitingUnits.{Comes, after_hearing, waiting, 
 use Rattle.logon_runs.proofs.Scenes.SceneLaws.{Leaves, first_comes, performed_quietly, quietly_leave, scenes_go_on, sends_leave}
 use Rattle.logon_runs.proofs.Scenes.TurnSceneLaws.{closes_turn, heard_back, heard_there, sent_back, sent_there}
 use Rattle.logon_runs.proofs.Scenes.TurningSceneLaws.{scenes_turn}
-use Rattle.logon_runs.proofs.Scenes.WaitingLaws.{alone_after, waiting_comes}
+use Rattle.logon_runs.proofs.Scenes.WaitingLaws.{alone_after, plain_after, waiting_comes}
 
 -- ---- a text is kept before the link is closed
 
@@ -88,9 +89,9 @@ keeps_and_closes : (s : State) (v : Scene) (unit : BagUnit) (later : List BagUni
     hear end (event.Bytes unit.link unit.bytes) (settle comes.number s) ≡ after_hearing ends left all (settle comes.number s) →
     hear other (event.Closed link) (shut_link link kept) ≡ after_hearing others left [] (shut_link link kept) →
     slice_get others.clients v.at_client ≡ Some client → slice_get others.members v.at_member ≡ Some member → slice_get others.controllers v.at_controller ≡ Some controller →
-    controller.trusting ≡ no_trusting →
+    controller.trusting ≡ no_trusting → SealsNothing member →
     Shows (onward s).state (with_actions end actions left (shut_in link (record v { client = client; member = member; controller = controller; units = later })))
-keeps_and_closes s v unit later end other ends others left link cause text actions client member controller shows comes closes none_close heard heard_too is_client is_member is_controller alone =
+keeps_and_closes s v unit later end other ends others left link cause text actions client member controller shows comes closes none_close heard heard_too is_client is_member is_controller alone plain =
     let s1 : State = settle comes.number s in
     let all : List Action = action.Keep text ∷ action.Close link cause ∷ actions in
     let s2 : State = (after_hearing ends left all s1).state in
@@ -110,6 +111,7 @@ keeps_and_closes s v unit later end other ends others left link cause text actio
       member = ap (λ (e : EndStates). slice_get e.members v.at_member) leaves.ends ∙ is_member;
       controller = ap (λ (e : EndStates). slice_get e.controllers v.at_controller) leaves.ends ∙ is_controller;
       alone = alone;
+      plain = plain;
       links = leaves.links ∙ shows.links;
       opened = leaves.opened ∙ ap (λ (o : OpenMap). take_out same_number link o) shows.opened;
       units = leaves.units
@@ -132,13 +134,14 @@ member_keeps s v unit later after controller left link cause text actions shows 
     let ends : EndStates = with_member_at v.at_member after s.ends in
     keeps_and_closes s v unit later (Member v.at_member) (Controller v.at_controller) ends (with_controller_at v.at_controller controller ends) left link cause text actions v.client after controller shows comes closes
     none_close
-    (waiting_comes.member s1 v.at_member v.member after (event.Bytes unit.link unit.bytes) left all shows.member
+    (waiting_comes.member s1 v.at_member v.member after (event.Bytes unit.link unit.bytes) left all shows.member shows.plain
     (ap₂ (λ (now : ℕ) (l : List (List ℕ)). member_step_of v.member (event.Bytes unit.link unit.bytes) now l) shows.moment shows.left ∙ step
     ∙ ap (λ (l : List (List ℕ)). whole_step l left all after) (sym shows.left)))
     (waiting_comes.controller (shut_link link (kept_at (Member v.at_member) ends left all text s1)) v.at_controller v.controller controller (event.Closed link) left [] shows.controller shows.alone
     (ap (λ (now : ℕ). controller_step_of v.controller (event.Closed link) now left) shows.moment ∙ closed))
     shows.client (got_set s.ends.members v.at_member v.member after shows.member) (got_set s.ends.controllers v.at_controller v.controller controller shows.controller)
     (alone_after v.controller controller (event.Closed link) v.moment left left [] shows.alone closed)
+    (plain_after v.member after (event.Bytes unit.link unit.bytes) v.moment v.left left all shows.plain step)
 
 -- ---- the reply that opens the channel
 

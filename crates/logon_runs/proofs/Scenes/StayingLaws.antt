@@ -5,11 +5,11 @@ use Rattle.std.proofs.lemmas.List.{length-set}
 use Rattle.outside.specs.declared.action.Action.{Action}
 use Rattle.outside.specs.declared.event.Event.{Event}
 use Rattle.domain_controller.specs.State.{State as ControllerState}
-use Rattle.domain_controller.specs.TrustStep.{trust_step_of as controller_step_of}
+use Rattle.domain_controller.specs.SealStep.{seal_step_of as controller_step_of}
 use Rattle.logon_client.specs.State.{State as ClientState}
 use Rattle.logon_client.specs.Machine.{begin_of, fresh_client, step_of as client_step_of}
 use Rattle.member_server.specs.State.{State as MemberState}
-use Rattle.member_server.specs.Machine.{fresh_member, step_of as member_step_of}
+use Rattle.member_server.specs.SealStep.{any_step_of as member_step_of, sealing_member}
 use Rattle.world_moves.specs.declared.links.EndId.{EndId}
 use Rattle.world_moves.specs.declared.moves.Move.TheVariants as move
 use Rattle.world_moves.specs.declared.state.State.{State}
@@ -67,8 +67,8 @@ heard_same end what s =
 renewed_same : (end : EndId) (s : State) → HasSameEnds s (renewed end s)
 renewed_same end s =
     of_ends s (renewed end s) refl refl
-    (renew_by (λ (one : EndId) (ends : EndStates). AreAsMany s.ends ends) s (λ one. as_many s.ends) (λ at c is. controller_set s.ends at (fresh_controller s.hands_on c.table c.name))
-    (λ at plan is. member_set s.ends at (fresh_member plan)) (λ at plan is. client_set s.ends at (fresh_client plan)) end)
+    (renew_by (λ (one : EndId) (ends : EndStates). AreAsMany s.ends ends) s (λ one. as_many s.ends) (λ at c is. controller_set s.ends at (fresh_controller s.hands_on s.seals c.table c.name))
+    (λ at plan is. member_set s.ends at (sealing_member plan)) (λ at plan is. client_set s.ends at (fresh_client plan)) end)
 
 changed_same : (at : ℕ) (secret : List ℕ) (s : State) → HasSameEnds s (changed at secret s).state
 changed_same at secret s =

@@ -14,9 +14,14 @@ use Rattle.outside.specs.Machine.{Stepped, whole_step}
 use Rattle.domain_controller.specs.State.{State as ControllerState}
 use Rattle.domain_controller.specs.Step.{step_of}
 use Rattle.domain_controller.specs.Trusting.{no_trusting}
+use Rattle.domain_controller.specs.declared.trusting.Trusting.{Trusting}
+use Rattle.domain_controller.proofs.PlainLaws.{plain_controllers_stay}
 use Rattle.domain_controller.proofs.TrustAloneLaws.{steps_alone}
 use Rattle.logon_client.specs.State.{State as ClientState}
+use Rattle.member_server.specs.Machine.{step_of as member_step_of}
+use Rattle.member_server.specs.SealStep.{SealsNothing, sealing_in}
 use Rattle.member_server.specs.State.{State as MemberState}
+use Rattle.member_server.proofs.SealLaws.{plain_members_stay}
 use Rattle.world_moves.specs.declared.bag.BagUnit.{BagUnit}
 use Rattle.world_moves.specs.declared.links.EndId.{EndId}
 use Rattle.world_moves.specs.declared.links.OpenLink.{OpenLink}
@@ -166,6 +171,12 @@ pub alone_after : (c after : ControllerState) (what : Event) (now : ℕ) (left r
 alone_after c after what now left rest actions alone step =
     sym (ap (λ (stepped : Stepped ControllerState). stepped.state.trusting) (steps_alone.step c what now left alone ∙ step)) ∙ steps_alone.stays c what now left alone
 
+-- a member whose channel seals nothing seals nothing after a step
+pub plain_after : (m after : MemberState) (what : Event) (now : ℕ) (left rest : List (List ℕ)) (actions : List Action) → SealsNothing m →
+    member_step_of m what now left ≡ whole_step left rest actions after → SealsNothing after
+plain_after m after what now left rest actions plain step =
+    sym (ap (λ (stepped : Stepped MemberState). sealing_in stepped.state) step) ∙ plain_members_stay.stepped m what now left plain
+
 pub waiting_comes : WaitingComes
 waiting_comes = record {
   none = none_waits;
@@ -177,10 +188,11 @@ waiting_comes = record {
   controller = λ s at controller after what left actions found alone step.
       ap (λ (c : Option ControllerState). heard_by (controller_step c at what s.moment s.ends s.chances) s) found
       ∙ ap (λ (stepped : Stepped ControllerState). heard_by (controller_done stepped at s.ends s.chances) s)
-      (steps_alone.step controller what s.moment s.chances.left alone ∙ step);
-  member = λ s at member after what left actions found step.
+      (plain_controllers_stay.step controller what s.moment s.chances.left (ap (λ (t : Trusting). t.sealing) alone) ∙ steps_alone.step controller what s.moment s.chances.left alone ∙ step);
+  member = λ s at member after what left actions found plain step.
       ap (λ (m : Option MemberState). heard_by (member_step m at what s.moment s.ends s.chances) s) found
-      ∙ ap (λ (stepped : Stepped MemberState). heard_by (member_done stepped at s.ends s.chances) s) step;
+      ∙ ap (λ (stepped : Stepped MemberState). heard_by (member_done stepped at s.ends s.chances) s)
+      (plain_members_stay.step member what s.moment s.chances.left plain ∙ step);
   client = λ s at client after what left actions found step.
       ap (λ (c : Option ClientState). heard_by (client_step c at what s.moment s.ends s.chances) s) found
       ∙ ap (λ (stepped : Stepped ClientState). heard_by (client_done stepped at s.ends s.chances) s) step;

@@ -75,6 +75,7 @@ ann_plan = record {
   members = file1_plan ∷ [];
   clients = ann_task ∷ [];
   hands_on = false;
+  seals = false;
   now = 0;
   seed = replicate 32 0;
 }

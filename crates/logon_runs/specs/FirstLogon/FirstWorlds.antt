@@ -56,7 +56,7 @@ logon_moves number silent =
 
 -- A client, the member that it reaches, and that member's controller: the computer's account is an enabled workstation
 -- with the member's one secret, the user's hash is the one stored, and he may log on at the first moment. The
--- controller asks nobody.
+-- controller asks nobody and can't seal, nor does the member's channel.
 pub record CanComeIn (plan : Plan) (client member controller : ℕ) : Type 0 where
   pub task : ClientPlan
   pub is_task : slice_get plan.clients client ≡ Some task
@@ -69,6 +69,8 @@ pub record CanComeIn (plan : Plan) (client member controller : ℕ) : Type 0 whe
   pub name : List ℕ
   pub is_name : slice_get plan.controllers controller ≡ Some name
   pub alone : TrustsNobody plan.hands_on table
+  pub unsealed : plan.seals ≡ false
+  pub plain : member_plan.sealed ≡ false
   pub machine : Account
   pub machine_found : account_in table.accounts (machine_name member_plan.computer) ≡ Some machine
   pub kind : machine.kind ≡ Workstation

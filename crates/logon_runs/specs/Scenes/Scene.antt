@@ -13,6 +13,7 @@ use Rattle.domain_controller.specs.Step.{step_of as controller_step_of}
 use Rattle.domain_controller.specs.Trusting.{no_trusting}
 use Rattle.logon_client.specs.State.{State as ClientState}
 use Rattle.logon_client.specs.Machine.{step_of as client_step_of}
+use Rattle.member_server.specs.SealStep.{SealsNothing}
 use Rattle.member_server.specs.State.{State as MemberState}
 use Rattle.member_server.specs.Machine.{step_of as member_step_of}
 use Rattle.world_moves.specs.declared.bag.BagUnit.{BagUnit}
@@ -52,6 +53,8 @@ pub record Shows (s : State) (v : Scene) : Type 0 where
   pub controller : slice_get s.ends.controllers v.at_controller ≡ Some v.controller
   -- which asks no controller of a trusted domain
   pub alone : v.controller.trusting ≡ no_trusting
+  -- the member's channel seals nothing
+  pub plain : SealsNothing v.member
   pub links : s.links ≡ v.links
   pub opened : s.open_links ≡ v.opened
   pub units : waiting s.bag ≡ v.units

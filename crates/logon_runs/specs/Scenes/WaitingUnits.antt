@@ -13,6 +13,7 @@ use Rattle.domain_controller.specs.Step.{step_of as controller_step_of}
 use Rattle.domain_controller.specs.Trusting.{no_trusting}
 use Rattle.logon_client.specs.State.{State as ClientState}
 use Rattle.logon_client.specs.Machine.{step_of as client_step_of}
+use Rattle.member_server.specs.SealStep.{SealsNothing}
 use Rattle.member_server.specs.State.{State as MemberState}
 use Rattle.member_server.specs.Machine.{step_of as member_step_of}
 use Rattle.world_moves.specs.declared.bag.BagUnit.{BagUnit}
@@ -82,13 +83,14 @@ pub record WaitingComes : Type 0 where
   pub comes : (s : State) (unit : BagUnit) (later : List BagUnit) (there : OpenLink) (end : EndId) → waiting s.bag ≡ unit ∷ later → 0 < length unit.bytes →
       length unit.bytes ≤ 65536 → lookup same_number unit.link s.open_links ≡ Some there → hearer_on unit.back there ≡ Some end → Comes s unit later end
   pub idle : (s : State) → waiting s.bag ≡ [] → onward s ≡ nothing_done s
-  -- what an end makes of what it hears, where a controller asks no other
+  -- what an end makes of what it hears, where a controller asks no other, and a member's channel seals nothing
   pub controller : (s : State) (at : ℕ) (controller after : ControllerState) (what : Event) (left : List (List ℕ)) (actions : List Action) →
       slice_get s.ends.controllers at ≡ Some controller → controller.trusting ≡ no_trusting →
       controller_step_of controller what s.moment s.chances.left ≡ whole_step s.chances.left left actions after →
       hear (Controller at) what s ≡ after_hearing (with_controller_at at after s.ends) left actions s
   pub member : (s : State) (at : ℕ) (member after : MemberState) (what : Event) (left : List (List ℕ)) (actions : List Action) →
-      slice_get s.ends.members at ≡ Some member → member_step_of member what s.moment s.chances.left ≡ whole_step s.chances.left left actions after →
+      slice_get s.ends.members at ≡ Some member → SealsNothing member →
+      member_step_of member what s.moment s.chances.left ≡ whole_step s.chances.left left actions after →
       hear (Member at) what s ≡ after_hearing (with_member_at at after s.ends) left actions s
   pub client : (s : State) (at : ℕ) (client after : ClientState) (what : Event) (left : List (List ℕ)) (actions : List Action) →
       slice_get s.ends.clients at ≡ Some client → client_step_of client what s.moment s.chances.left ≡ whole_step s.chances.left left actions after →

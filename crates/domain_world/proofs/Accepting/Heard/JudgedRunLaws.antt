@@ -28,7 +28,7 @@ use Rattle.world_moves.specs.Acting.{Given, AfterHearing}
 use Rattle.world_moves.specs.Forms.{IsSchedule}
 use Rattle.world_moves.specs.Links.{acceptor_of}
 use Rattle.world_moves.specs.Moving.{begun, with_link, changed}
-use Rattle.world_moves.specs.Alone.{HandsNothingOn, hear_alone as hear}
+use Rattle.world_moves.specs.Alone.{IsPlainAlone, hear_alone as hear}
 use Rattle.domain_world.specs.Accepting.Carried.{IsJudgedAsCarried, JudgedAsCarried}
 use Rattle.domain_world.specs.Accepting.ReadBack.{RepliesAreReadBack}
 use Rattle.domain_world.specs.Past.{Delivery, Past, at_controller, judged_of, numbers_on, past, plain_form}
@@ -139,7 +139,7 @@ judged_keeps = record {
 pub judged_first : JudgedStand [] []
 judged_first = record { kinds = λ n unit there. absurd (got_nothing n unit there); judged = tt }
 
-module _ (plan : Plan) (moves : List Move) (nobody : HandsNothingOn plan) (is : IsSchedule plan moves) where
+module _ (plan : Plan) (moves : List Move) (nobody : IsPlainAlone plan) (is : IsSchedule plan moves) where
   pub judged_stand : JudgedStand (past plan moves).world.state.bag (past plan moves).book.judged
   judged_stand =
       let ran : HoldsAfterRun (BothFacts QuietFact JudgedFact) plan moves =

@@ -47,11 +47,12 @@ use Rattle.world_moves.specs.declared.moves.Move.{Move}
 use Rattle.world_moves.specs.declared.plan.Plan.{Plan}
 use Rattle.world_moves.specs.declared.state.State.{State}
 use Rattle.world_moves.specs.Acting.{Given, AfterHearing, done, heard_by}
-use Rattle.world_moves.specs.Ends.{EndStep, client_step, member_step}
+use Rattle.world_moves.specs.Ends.{EndStep, client_step}
 use Rattle.world_moves.specs.Forms.{IsSchedule}
 use Rattle.world_moves.specs.Links.{is_own, kind_of}
-use Rattle.world_moves.specs.Alone.{HandsNothingOn, alone_controller_step as controller_step}
+use Rattle.world_moves.specs.Alone.{IsPlainAlone, alone_controller_step as controller_step}
 use Rattle.world_moves.proofs.LinkFrameLaws.{IsOnLink, actions_stay}
+use Rattle.world_moves.specs.Plain.{plain_member_step as member_step}
 use Rattle.domain_world.specs.Accepting.Carried.{IsAsMarked, IsNoAnswer, IsPlain, MarkedUnitsAreWhole, IsNotJudged, call_judged}
 use Rattle.domain_world.specs.Claims.Replies.{IsReplyOfOne}
 use Rattle.domain_world.specs.Past.{Delivery, at_controller, beside_mark, controller_asked, marks_of, note_given, note_member, note_messages, other_marks, past, sent_at, still_waits}
@@ -295,7 +296,7 @@ module _ (bag : List BagUnit) (js : List Judging) (stand : JudgedStand bag js) (
 
 -- ---- a run
 
-module _ (plan : Plan) (moves : List Move) (nobody : HandsNothingOn plan) (is : IsSchedule plan moves) where
+module _ (plan : Plan) (moves : List Move) (nobody : IsPlainAlone plan) (is : IsSchedule plan moves) where
   has : HasBytes plan moves
   has = has_bytes plan moves nobody is
 

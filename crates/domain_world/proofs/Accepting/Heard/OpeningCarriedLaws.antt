@@ -36,7 +36,7 @@ use Rattle.world_moves.specs.declared.state.State.{State}
 use Rattle.world_moves.specs.Acting.{AfterHearing}
 use Rattle.world_moves.specs.Forms.{IsSchedule}
 use Rattle.world_moves.specs.Links.{is_own, kind_of}
-use Rattle.world_moves.specs.Alone.{HandsNothingOn, hear_alone as hear}
+use Rattle.world_moves.specs.Alone.{IsPlainAlone, hear_alone as hear}
 use Rattle.world_moves.proofs.LinkFrameLaws.{actions_stay}
 use Rattle.domain_world.specs.Accepting.Carried.{IsWholeUnit, call_carried}
 use Rattle.domain_world.specs.Accepting.Runs.{IsOfMember}
@@ -288,7 +288,7 @@ opens_keep = record {
 
 -- ---- a run
 
-pub openings_carried : (plan : Plan) (moves : List Move) → HandsNothingOn plan → IsSchedule plan moves → OpensFit (past plan moves).world.state.bag (past plan moves).book
+pub openings_carried : (plan : Plan) (moves : List Move) → IsPlainAlone plan → IsSchedule plan moves → OpensFit (past plan moves).world.state.bag (past plan moves).book
 openings_carried plan moves nobody is =
     let both : StepKeeps NoFact (BothFacts QuietFact JudgedFact) (BothFine QuietAction AnyAction) = join QuietFact JudgedFact QuietAction AnyAction quiet_keeps judged_keeps in
     run_fits (BothFacts QuietFact JudgedFact) (BothFine QuietAction AnyAction) both no_part no_side nothing_written OpensFit opens_keep plan moves nobody (has_bytes plan moves nobody is)

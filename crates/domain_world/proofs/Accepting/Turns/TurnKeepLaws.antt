@@ -26,8 +26,9 @@ use Rattle.world_moves.specs.Ends.{EndStates, EndStep, client_step, no_step}
 use Rattle.world_moves.specs.Links.{acceptor_of}
 use Rattle.world_moves.specs.MemberPlans.{AreAlikeButSecrets}
 use Rattle.world_moves.specs.Moving.{answered_link, begun, settle, tick, with_link, without_first, changed as change_begun}
-use Rattle.world_moves.specs.World.{World, first_world}
-use Rattle.world_moves.specs.Alone.{HandsNothingOn, alone_controller_step as controller_step, hear_alone as hear}
+use Rattle.world_moves.specs.World.{World}
+use Rattle.world_moves.specs.Alone.{IsPlainAlone, alone_controller_step as controller_step, hear_alone as hear}
+use Rattle.world_moves.specs.Plain.{plain_world}
 use Rattle.domain_world.specs.Accepting.Carried.{IsAnswerFor, IsAnsweredInTurn, IsTakenInTurn}
 use Rattle.domain_world.specs.Accepting.ReadBack.{IsLetInInTurn, IsToldInTurn, TurnsAreHeard}
 use Rattle.domain_world.specs.Past.{Delivery, Past, any_clash, note_client, note_given, past, told_in}
@@ -201,7 +202,7 @@ fresh_kept [] Kept fresh k m there = absurd (got_nothing k m there)
 fresh_kept (own ∷ plans) Kept fresh zero m there = subst Kept (some_is (fresh_member own) m there) (fresh own)
 fresh_kept (own ∷ plans) Kept fresh (suc k) m there = fresh_kept plans Kept fresh k m there
 
-pub turns_begin : (plan : Plan) → TurnsHold plan 0 (first_world plan).state [] blank
+pub turns_begin : (plan : Plan) → TurnsHold plan 0 (plain_world plan).state [] blank
 turns_begin plan = (
   refl,
   λ unclashed apart marks. record {
@@ -214,7 +215,7 @@ turns_begin plan = (
 
 -- ---- what it comes to
 
-pub turns_of : (n : ℕ) (plan : Plan) (moves : List Move) → HandsNothingOn plan → TurnsHold plan n (past plan moves).world.state [] (past plan moves).book → TurnsAreHeard (past plan moves)
+pub turns_of : (n : ℕ) (plan : Plan) (moves : List Move) → IsPlainAlone plan → TurnsHold plan n (past plan moves).world.state [] (past plan moves).book → TurnsAreHeard (past plan moves)
 turns_of n plan moves nobody holds =
     let p : Past = past plan moves in
     let b : Book = p.book in
@@ -222,7 +223,7 @@ turns_of n plan moves nobody holds =
     let v : World = world_in s in
     let grows : GrowsTo s s b b = record { bag = kept_same s.bag; sent = λ k one there. there; ends = same_ends s.ends } in
     let facts : b.clash ≡ false → TurnFacts plan s b b.messages b.answers b.told = λ unclashed.
-    subst (λ (told : List OutcomeTold). TurnFacts plan s b b.messages b.answers told) (append-nil b.told) (holds.1 unclashed (apart_from b.messages (messages_apart plan moves)) (marks_known plan moves nobody)) in
+    subst (λ (told : List OutcomeTold). TurnFacts plan s b b.messages b.answers told) (append-nil b.told) (holds.1 unclashed (apart_from b.messages (messages_apart plan moves nobody.plain)) (marks_known plan moves nobody)) in
     let taken : b.clash ≡ false → AllByRecursion (IsTakenInTurn p) b.answers = λ unclashed.
     all_weaker (IsTakenInTurn (past_at plan s b)) (IsTakenInTurn p) b.answers (taken_stays plan v p.world b b grows) (facts unclashed).taken in
     record {

@@ -23,8 +23,8 @@ use Rattle.step_notes.specs.Served.{work_after}
 use Rattle.world_moves.specs.declared.bag.BagUnit.{BagUnit}
 use Rattle.world_moves.specs.declared.moves.Move.{Move}
 use Rattle.world_moves.specs.declared.plan.Plan.{Plan}
-use Rattle.world_moves.specs.World.{first_world}
-use Rattle.world_moves.specs.Alone.{HandsNothingOn}
+use Rattle.world_moves.specs.Alone.{IsPlainAlone}
+use Rattle.world_moves.specs.Plain.{plain_world}
 use Rattle.domain_world.specs.Accepting.Answered.{IsItsWay}
 use Rattle.domain_world.specs.Past.{at_controller, is_sent_on, marks_by, marks_of, past}
 use Rattle.step_notes.specs.MemberNotes.{turn_units}
@@ -162,10 +162,10 @@ module _ (count : ℕ) where
   known_by (Calling channel number timestamp) back named way is known made = let both : true ≡ false = sym is ∙ way in absurd (let x = both in cc)
   known_by (ReplyTo channel number request) back named way is known made = subst (λ (c : ChannelIdentity). c.controller < count) (some_is channel named made) known
 
-pub marks_known : (plan : Plan) (moves : List Move) → HandsNothingOn plan → MarksAreKnown (past plan moves).world.state (past plan moves).book
+pub marks_known : (plan : Plan) (moves : List Move) → IsPlainAlone plan → MarksAreKnown (past plan moves).world.state (past plan moves).book
 marks_known plan moves nobody n unit one named there back noted made =
-    let count : ℕ = length (first_world plan).state.ends.controllers in
+    let count : ℕ = length (plain_world plan).state.ends.controllers in
     let is : IsOfUnit (OfUnit count) tt (past plan moves).world.state.bag n one.mark =
     run_stays_marked (λ (b : Book). tt) (SoMany count) (OfUnit count) (many_stay count) (marks_stay count) plan moves nobody refl n one noted in
     subst (λ (c : ℕ). named.controller < c) (sym (run_stays (λ (b : Book). tt) (SoMany count) (many_stay count) plan moves nobody refl))
-    (known_by count one.mark unit.back named (marks_have_their_way plan moves n unit one there noted) back is.holds made)
+    (known_by count one.mark unit.back named (marks_have_their_way plan moves nobody.plain n unit one there noted) back is.holds made)

@@ -29,7 +29,7 @@ use Rattle.world_moves.specs.declared.plan.Plan.{Plan}
 use Rattle.world_moves.specs.declared.state.State.{State}
 use Rattle.world_moves.specs.Acting.{Given, AfterHearing, given_by, heard_by, perform_quietly}
 use Rattle.world_moves.specs.Counting.{is_in}
-use Rattle.world_moves.specs.Ends.{EndStates, EndStep, actions_by, client_step, member_step, no_step}
+use Rattle.world_moves.specs.Ends.{EndStates, EndStep, actions_by, client_step, no_step}
 use Rattle.world_moves.specs.Moving.{changed}
 use Rattle.world_moves.specs.Alone.{alone_controller_step as controller_step, alone_end_step as end_step, hear_alone as hear}
 use Rattle.world_moves.proofs.LinkFrameLaws.{quiet_stays}
@@ -42,6 +42,7 @@ use Rattle.domain_world.proofs.Messages.MessageOnceLaws.{each_put}
 use Rattle.domain_world.proofs.Moves.ComingLaws.{StillHas, StillIn, kept_same, kept_sent}
 use Rattle.domain_world.proofs.Frames.GivenLaws.{told_cases}
 use Rattle.world_moves.proofs.ChangeLaws.{by_change, member_begun}
+use Rattle.world_moves.specs.Plain.{plain_member_step as member_step}
 
 -- ---- what is told, also in the move that is under way
 

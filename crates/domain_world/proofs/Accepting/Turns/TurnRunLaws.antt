@@ -14,8 +14,8 @@ use Rattle.world_moves.specs.Acting.{Given}
 use Rattle.world_moves.specs.Moving.{begun, with_link, changed}
 use Rattle.world_moves.specs.Forms.{IsSchedule}
 use Rattle.world_moves.specs.Links.{acceptor_of}
-use Rattle.world_moves.specs.World.{first_world}
 use Rattle.world_moves.specs.Alone.{hear_alone as hear}
+use Rattle.world_moves.specs.Plain.{plain_world}
 use Rattle.domain_world.specs.Accepting.SeenSteps.{Differ}
 use Rattle.domain_world.specs.Accepting.ReadBack.{TurnsAreHeard}
 use Rattle.domain_world.specs.Past.{past}
@@ -116,7 +116,7 @@ side_keeps plan =
     (while_few most_steps (TurnsRestOn plan) (TurnsHold plan) (turns_keep plan)))
 
 -- at first
-pub side_first : (plan : Plan) (moves : List Move) → IsSchedule plan moves → TurnSide plan 0 (first_world plan).state [] blank
+pub side_first : (plan : Plan) (moves : List Move) → IsSchedule plan moves → TurnSide plan 0 (plain_world plan).state [] blank
 side_first plan moves schedule = (
   ((quiet_first plan schedule.start schedule.forms, first_calls plan), ap (λ (drawn : List (List ℕ)). drawn ++ given_all plan) (challenges_from-none plan.seed 0 0)),
   λ few. turns_begin plan,

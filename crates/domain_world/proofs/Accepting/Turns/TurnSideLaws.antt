@@ -43,10 +43,11 @@ use Rattle.world_moves.specs.declared.links.Route.TheVariants.{ToController}
 use Rattle.world_moves.specs.declared.plan.Plan.{Plan}
 use Rattle.world_moves.specs.declared.state.State.{State}
 use Rattle.world_moves.specs.Acting.{Given, AfterHearing, given_by, heard_by}
-use Rattle.world_moves.specs.Ends.{EndStates, actions_by, member_step}
+use Rattle.world_moves.specs.Ends.{EndStates, actions_by}
 use Rattle.world_moves.specs.Links.{kind_of}
 use Rattle.world_moves.specs.MemberPlans.{AreAlikeButSecrets}
 use Rattle.world_moves.specs.Moving.{end_of_peer}
+use Rattle.world_moves.specs.Plain.{plain_member_step as member_step}
 use Rattle.domain_world.specs.Accepting.Carried.{CallsHaveNumbers, IsWholeUnit}
 use Rattle.domain_world.specs.Accepting.ReadBack.{IsLetInInTurn}
 use Rattle.domain_world.specs.Accepting.Runs.{AskedIsOut, IsOut, IsQuiet, IsQuietTurn}

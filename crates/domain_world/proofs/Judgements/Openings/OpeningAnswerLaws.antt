@@ -16,7 +16,7 @@ use Rattle.world_moves.specs.declared.bag.BagUnit.{BagUnit}
 use Rattle.world_moves.specs.declared.moves.Move.{Move}
 use Rattle.world_moves.specs.declared.plan.Plan.{Plan}
 use Rattle.world_moves.specs.Forms.{IsSchedule}
-use Rattle.world_moves.specs.Alone.{HandsNothingOn}
+use Rattle.world_moves.specs.Alone.{IsPlainAlone}
 use Rattle.domain_world.specs.Accepting.Answered.{IsItsWay}
 use Rattle.domain_world.specs.Accepting.Carried.{call_carried}
 use Rattle.step_notes.specs.HeardWhole.{request_read}
@@ -69,7 +69,7 @@ module _ (bag : List BagUnit) (number n : ℕ) (carried : IsCarriedOpening bag n
 
 -- ---- a run
 
-module _ (plan : Plan) (moves : List Move) (nobody : HandsNothingOn plan) (schedule : IsSchedule plan moves) (calm : (past plan moves).book.clash ≡ false) where
+module _ (plan : Plan) (moves : List Move) (nobody : IsPlainAlone plan) (schedule : IsSchedule plan moves) (calm : (past plan moves).book.clash ≡ false) where
   abbrev p : Past
   p = past plan moves
 
@@ -90,7 +90,7 @@ module _ (plan : Plan) (moves : List Move) (nobody : HandsNothingOn plan) (sched
       let unit : had.unit ≡ carried.carrier = some_is had.unit carried.carrier (sym had.there ∙ carried.there) in
       let marked : IsOpeningMark made.sent.mark made.named a.number =
       marked_opening p.world.state.bag a.number request carried (bytes_in p.world.state.bag (has_bytes plan moves nobody schedule).bytes request carried.carrier carried.there) made.named made.sent.mark made.made
-      (subst (λ (u : BagUnit). FitsMark u made.sent.mark) unit had.holds) (marks_have_their_way plan moves request carried.carrier made.sent carried.there made.noted) in
+      (subst (λ (u : BagUnit). FitsMark u made.sent.mark) unit had.holds) (marks_have_their_way plan moves nobody.plain request carried.carrier made.sent carried.there made.noted) in
       let answer : IsMarkedAsOpened p a request =
       got_all (λ (x : ChannelAccepted). (k : ℕ) → x.source ≡ InUnit k → IsMarkedAsOpened p x k) p.book.accepted at.place a (openings_marked plan moves nobody schedule) at.there request at.is.came in
       let reply : answer.reply ≡ n = some_is answer.reply n (sym answer.is ∙ at.is.answer) in

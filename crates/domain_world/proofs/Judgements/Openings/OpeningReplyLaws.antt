@@ -26,8 +26,8 @@ use Rattle.world_moves.specs.declared.moves.Move.{Move}
 use Rattle.world_moves.specs.declared.plan.Plan.{Plan}
 use Rattle.world_moves.specs.declared.state.State.{State}
 use Rattle.world_moves.specs.Acting.{done, heard_by}
-use Rattle.world_moves.specs.Ends.{member_step}
-use Rattle.world_moves.specs.Alone.{HandsNothingOn}
+use Rattle.world_moves.specs.Alone.{IsPlainAlone}
+use Rattle.world_moves.specs.Plain.{plain_member_step as member_step}
 use Rattle.domain_world.specs.Claims.OpeningReplies.{IsAcceptedIn, IsReplyOfOpening, RepliesAnswerOpenings}
 use Rattle.domain_world.specs.Past.{Delivery, accepted_of, at_controller, first_of, is_sent_on, later_of, marks_by, marks_of, note_member, numbers_on, onto, past, replied_with}
 use Rattle.wire_base.proofs.ListLaws.{got_nothing, one_behind, some_is}
@@ -204,7 +204,7 @@ opened_stay = record {
 
 -- ---- a run
 
-pub replies_answer_openings : (plan : Plan) (moves : List Move) → HandsNothingOn plan → RepliesAnswerOpenings (past plan moves)
+pub replies_answer_openings : (plan : Plan) (moves : List Move) → IsPlainAlone plan → RepliesAnswerOpenings (past plan moves)
 replies_answer_openings plan moves nobody = record {
   replies = λ number sent marked.
       let of : IsOfUnit OfUnit (past plan moves).book.accepted (past plan moves).world.state.bag number sent.mark =

@@ -1,5 +1,5 @@
 -- In every run openings are accepted in order, through each step of a controller. It serves `Proved.openings`.
-use Rattle.std.proofs.Common.{◌≡◌, Bool, ◌≢◌, ◌⊎◌, ℕ, ◌-◌, zero, suc, true, List, [], ◌∷◌, ◌++◌, Option, Some, None, refl, sym, ap, subst, ◌∙◌, inl, inr, arith, slice_get, slice_set}
+use Rattle.std.proofs.Common.{false, ◌≡◌, Bool, ◌≢◌, ◌⊎◌, ℕ, ◌-◌, zero, suc, true, List, [], ◌∷◌, ◌++◌, Option, Some, None, refl, sym, ap, subst, ◌∙◌, inl, inr, arith, slice_get, slice_set}
 use Rattle.wire_base.specs.Maps.{IsMap, lookup}
 use Rattle.wire_base.specs.Names.{SameName, same_name}
 use Rattle.outside.specs.Counter.{most_draws}
@@ -28,8 +28,9 @@ use Rattle.step_notes.specs.Records.{ChannelAccepted, Judging}
 use Rattle.world_moves.specs.declared.moves.Move.{Move}
 use Rattle.world_moves.specs.declared.plan.Plan.{Plan}
 use Rattle.world_moves.specs.declared.state.State.{State}
-use Rattle.world_moves.specs.World.{first_controllers, first_world}
+use Rattle.world_moves.specs.World.{first_controllers}
 use Rattle.world_moves.specs.Ends.{fresh_controller}
+use Rattle.world_moves.specs.Plain.{NothingSeals, plain_world}
 use Rattle.domain_world.specs.Claims.Openings.{IsLastAccepted, IsUnused, OpeningsAreInOrder, last_accepted}
 use Rattle.step_notes.specs.TrustNotes.{trust_judged_answer}
 use Rattle.domain_world.specs.Past.{Delivery, accepted_of, answers_of as trusting_answers, at_controller, first_of, later_of, numbers_on, onto, past, replied_with}
@@ -446,7 +447,7 @@ follow_trusting = record {
       controller_put b.accepted _ s.chances.left _ s.ends.controllers at c (trust_step_of c (event.Bytes w.link piece) s.moment s.chances.left).state is follow
       (trusting_step at c b.accepted w piece s (numbers_on w.link true s.bag after.bag) follow.order (follow.each at c is));
   anew = λ accepted c at hands_on controllers chances is follow.
-      controller_put accepted accepted chances.left chances.left controllers at c (fresh_controller hands_on c.table c.name) is follow
+      controller_put accepted accepted chances.left chances.left controllers at c (fresh_controller hands_on false c.table c.name) is follow
       (fresh_by (λ (new : ControllerState). StepGoes accepted accepted chances.left chances.left at (λ name. waits_if c.running name) new.running) c.table c.name
       (fresh_goes accepted chances.left at (λ name. waits_if c.running name) follow.order) (fresh_goes accepted chances.left at (λ name. waits_if c.running name) follow.order) hands_on);
 }
@@ -454,16 +455,16 @@ follow_trusting = record {
 -- ---- at first
 
 pub each_fresh : (P : ControllerState → Type 0) → ((table : AccountTable) (name : List ℕ) → P (first_state table name)) → ((table : AccountTable) (name : List ℕ) → P (first_trust_state table name)) →
-    (hands_on : Bool) (tables : List AccountTable) (names : List (List ℕ)) (at : ℕ) (c : ControllerState) → slice_get (first_controllers hands_on tables names) at ≡ Some c → P c
+    (hands_on : Bool) (tables : List AccountTable) (names : List (List ℕ)) (at : ℕ) (c : ControllerState) → slice_get (first_controllers hands_on false tables names) at ≡ Some c → P c
 each_fresh P one other hands_on [] names at c there = absurd cc
 each_fresh P one other hands_on (table ∷ tables) [] at c there = absurd cc
 each_fresh P one other hands_on (table ∷ tables) (name ∷ names) zero c there =
-    let is : fresh_controller hands_on table name ≡ c = cc in subst P is (fresh_by P table name (one table name) (other table name) hands_on)
+    let is : fresh_controller hands_on false table name ≡ c = cc in subst P is (fresh_by P table name (one table name) (other table name) hands_on)
 each_fresh P one other hands_on (table ∷ tables) (name ∷ names) (suc at) c there = each_fresh P one other hands_on tables names at c there
 
-pub first_follows : (plan : Plan) → OpeningsFollow [] (first_world plan).state.chances.left (first_world plan).state.ends.controllers
+pub first_follows : (plan : Plan) → OpeningsFollow [] (plain_world plan).state.chances.left (plain_world plan).state.ends.controllers
 first_follows plan =
-    let left : List (List ℕ) = (first_world plan).state.chances.left in
+    let left : List (List ℕ) = (plain_world plan).state.chances.left in
     record {
       order = record {
         apart = apart_from left (challenges_from-distinct plan.seed 0 (most_draws - 0) (omega arith) (omega arith));
@@ -476,15 +477,15 @@ first_follows plan =
           plan.controllers at c there waits);
     }
 
-openings_follow : (plan : Plan) (moves : List Move) → OpeningsFollow (past plan moves).book.accepted (past plan moves).world.state.chances.left (past plan moves).world.state.ends.controllers
-openings_follow plan moves = controllers_after acceptings_of Follows follow_trusting plan moves (first_follows plan)
+openings_follow : (plan : Plan) (moves : List Move) → NothingSeals plan → OpeningsFollow (past plan moves).book.accepted (past plan moves).world.state.chances.left (past plan moves).world.state.ends.controllers
+openings_follow plan moves nothing = controllers_after acceptings_of Follows follow_trusting plan moves nothing (first_follows plan)
 
 -- in every run openings are accepted in order
-pub openings_in_order : (plan : Plan) (moves : List Move) → OpeningsAreInOrder (past plan moves)
-openings_in_order plan moves =
+pub openings_in_order : (plan : Plan) (moves : List Move) → NothingSeals plan → OpeningsAreInOrder (past plan moves)
+openings_in_order plan moves nothing =
     let accepted : List ChannelAccepted = (past plan moves).book.accepted in
     let left : List (List ℕ) = (past plan moves).world.state.chances.left in
-    let follow : OpeningsFollow accepted left (past plan moves).world.state.ends.controllers = openings_follow plan moves in
+    let follow : OpeningsFollow accepted left (past plan moves).world.state.ends.controllers = openings_follow plan moves nothing in
     record {
       once = follow.order.once;
       last = λ controller computer channel at.

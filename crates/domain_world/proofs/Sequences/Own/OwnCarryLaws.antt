@@ -20,10 +20,9 @@ use Rattle.world_moves.specs.declared.links.EndId.TheVariants.{Client, Member}
 use Rattle.world_moves.specs.declared.plan.Plan.{Plan}
 use Rattle.world_moves.specs.declared.state.State.{State}
 use Rattle.world_moves.specs.Acting.{Given, given_by}
-use Rattle.world_moves.specs.Ends.{EndStates, renew_client, renew_member, with_member}
+use Rattle.world_moves.specs.Ends.{EndStates, renew_client, with_member}
 use Rattle.world_moves.specs.MemberPlans.{AreAlikeButSecrets}
 use Rattle.world_moves.specs.Moving.{begun, changed as begun_change}
-use Rattle.world_moves.specs.World.{first_world}
 use Rattle.domain_world.specs.Accepting.SeenSteps.{Differ, HearsNone}
 use Rattle.domain_world.specs.Accepting.Sequences.{IsTakenFor}
 use Rattle.domain_world.specs.Past.{controller_asked, running_in}
@@ -43,6 +42,7 @@ use Rattle.domain_world.proofs.Sequences.Own.OwnTurnLaws.{AreDrawn, mine}
 use Rattle.domain_world.proofs.Sequences.SeedTurnLaws.{turned_blank}
 use Rattle.domain_world.proofs.Moves.RequesterLaws.{not_client, asker_in, asker_first}
 use Rattle.world_moves.proofs.ChangeLaws.{by_change, member_begun, text_begun}
+use Rattle.world_moves.specs.Plain.{plain_world, renew_plain_member as renew_member}
 
 -- ---- events at which no bytes come
 
@@ -187,9 +187,9 @@ module _ (plan : Plan) where
       (marks_before s (begun_change at secret s).state b b (record { bag = kept_same s.bag; sent = λ k one there. there; ends = change_same at secret s }) marks) differ)
 
   -- at first
-  pub first_own : OwnHolds plan 0 (first_world plan).state [] blank
+  pub first_own : OwnHolds plan 0 (plain_world plan).state [] blank
   first_own few unclashed apart marks differ =
-      let s : State = (first_world plan).state in
+      let s : State = (plain_world plan).state in
       record {
         before = tt;
         asks = asker_first (OwnOf plan s [] blank) plan (λ who. (tt, tt))

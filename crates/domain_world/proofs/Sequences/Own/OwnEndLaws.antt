@@ -53,7 +53,7 @@ turns_are_called plan moves nobody schedule clear =
     ((side_keeps plan).over n at now given book tt holds.0, own_ends plan n at now given book known holds.1)) plan moves nobody (has_bytes plan moves nobody schedule)
     (side_first plan moves schedule, first_own plan) in
     let facts : OwnFacts plan s [] b =
-    after.holds.1 (omega (arith, after.few, schedule.few)) clear.apart (apart_from b.messages (messages_apart plan moves)) (marks_known plan moves nobody) (draws_differ plan moves) in
+    after.holds.1 (omega (arith, after.few, schedule.few)) clear.apart (apart_from b.messages (messages_apart plan moves nobody.plain)) (marks_known plan moves nobody) (draws_differ plan moves) in
     let all : AllKnow (IsTakenFor (past_at plan s b)) s b =
     λ who. known_if (IsTakenFor (past_at plan s b)) (marks_in b.sent) s.chances.drawn b.turns (controller_asked who s) who (asker_in who s.ends) (facts.asks who) in
     turns_called p (IsTakenFor (past_at plan s b))

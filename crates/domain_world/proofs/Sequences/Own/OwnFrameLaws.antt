@@ -23,7 +23,7 @@ use Rattle.world_moves.specs.declared.links.EndId.TheVariants.{Controller, Membe
 use Rattle.world_moves.specs.declared.state.State.{State}
 use Rattle.world_moves.specs.declared.state.WaitingDial.{WaitingDial}
 use Rattle.world_moves.specs.Acting.{Given, given_by}
-use Rattle.world_moves.specs.Ends.{EndStates, EndStep, actions_by, client_step, member_step, with_client}
+use Rattle.world_moves.specs.Ends.{EndStates, EndStep, actions_by, client_step, with_client}
 use Rattle.domain_world.specs.Accepting.SeenSteps.{Differ}
 use Rattle.domain_world.proofs.Frames.AloneStepLaws.{alone_by as step_by}
 use Rattle.domain_world.proofs.Calls.CallHoldsLaws.{SameNumbers, differ_front}
@@ -38,6 +38,7 @@ use Rattle.outside.specs.declared.action.Action.TheVariants.{Keep}
 use Rattle.world_moves.proofs.ChangeLaws.{by_change, member_begun, text_begun, with_next}
 use Rattle.world_moves.specs.Moving.{changed}
 use Rattle.world_moves.specs.Alone.{alone_controller_step as controller_step, alone_end_step as end_step, hear_alone as hear}
+use Rattle.world_moves.specs.Plain.{plain_member_step as member_step}
 
 -- ---- what is known
 

@@ -10,8 +10,8 @@ use Rattle.world_moves.specs.declared.moves.Move.{Move}
 use Rattle.world_moves.specs.declared.plan.Plan.{Plan}
 use Rattle.world_moves.specs.declared.state.State.{State}
 use Rattle.world_moves.specs.Acting.{Given}
-use Rattle.world_moves.specs.World.{first_world}
-use Rattle.world_moves.specs.Alone.{HandsNothingOn}
+use Rattle.world_moves.specs.Alone.{IsPlainAlone}
+use Rattle.world_moves.specs.Plain.{plain_world}
 use Rattle.domain_world.specs.Past.{note_given, turns_in, controller_asked}
 use Rattle.domain_world.proofs.Frames.StepFrameLaws.{ActionFact, HoldsAfterRun, KeepsWith, NoFact, RunFact, run_beside}
 use Rattle.domain_world.proofs.Sequences.CalledStepLaws.{OwnCalls}
@@ -53,7 +53,7 @@ own_over Done marks s given turns who running runs dials old =
 -- where a fact is kept by each step, and at the end of a move by what is known of its dials, it holds after the run
 pub own_run : {Over : Type 0} → (Holds : RunFact) (Fine : ActionFact) → KeepsWith Over NoFact Holds Fine →
     ((n at : ℕ) (s : State) (given : Given) (b : Book) → AtState TurnsKnown None [] s given b.turns → Holds n s given b → Holds n s [] (note_given at given s b)) →
-    (plan : Plan) (moves : List Move) → HandsNothingOn plan → HasBytes plan moves → Holds 0 (first_world plan).state [] blank → HoldsAfterRun Holds plan moves
+    (plan : Plan) (moves : List Move) → IsPlainAlone plan → HasBytes plan moves → Holds 0 (plain_world plan).state [] blank → HoldsAfterRun Holds plan moves
 own_run Holds Fine keeps over plan moves nobody has first =
     run_beside Holds Fine keeps (OfDials TurnsKnown turns_keep) (dials_keep TurnsKnown turns_keep (Unit {0}))
     (λ n at on s given b known holds. over n at s given b known holds) plan moves nobody has (λ on. first_known plan) first

@@ -33,9 +33,8 @@ use Rattle.world_moves.specs.declared.plan.Plan.{Plan}
 use Rattle.world_moves.specs.declared.state.State.{State}
 use Rattle.world_moves.specs.declared.state.WaitingDial.{WaitingDial}
 use Rattle.world_moves.specs.Acting.{Given, forget, is_of_other, perform_quietly, plans_after}
-use Rattle.world_moves.specs.Ends.{EndStates, renew_client, renew_member}
-use Rattle.world_moves.specs.World.{first_world}
-use Rattle.world_moves.specs.Alone.{HandsNothingOn}
+use Rattle.world_moves.specs.Ends.{EndStates, renew_client}
+use Rattle.world_moves.specs.Alone.{IsPlainAlone}
 use Rattle.world_moves.proofs.EndKindLaws.{IfMember}
 use Rattle.domain_world.specs.Claims.SharedSequences.{SequencesAreOwn, ChannelStands, timestamps_on}
 use Rattle.domain_world.specs.Past.{past, running_in, turns_by, turns_in, controller_asked}
@@ -49,6 +48,7 @@ use Rattle.domain_world.proofs.Sequences.SeedTurnLaws.{Turned, on_channel, stamp
 use Rattle.domain_world.proofs.Moves.RequesterLaws.{asked_alike, asked_in, asked_now, asking_end, asks_at, not_controller, not_client, asker_in, RunsWith, asker_runs, stands_open, asker_first, asker_same, asked_put, same_is, same_asks}
 use Rattle.domain_world.proofs.Calls.CallHoldsLaws.{SameNumbers}
 use Rattle.world_moves.proofs.KeptLaws.{plans_alike}
+use Rattle.world_moves.specs.Plain.{plain_world, renew_plain_member as renew_member}
 
 -- ---- dials
 
@@ -306,9 +306,9 @@ turns_keep = record {
 }
 
 -- at first
-pub first_known : (plan : Plan) → AtState TurnsKnown None [] (first_world plan).state [] []
+pub first_known : (plan : Plan) → AtState TurnsKnown None [] (plain_world plan).state [] []
 first_known plan differ =
-    let s : State = (first_world plan).state in
+    let s : State = (plain_world plan).state in
     record {
       before = tt;
       asks = asker_first (λ (who : RequesterId) (r : Option Running). TurnsIf who (asked_in who s.member_plans s.ends) None [] [] s.chances.drawn [] [] r) plan (λ who. tt)
@@ -349,7 +349,7 @@ own_seed s who channel o turns holds stands =
     ∙ ap (λ (l : List ChannelTurn). channel_seed channel (stamps_on channel l)) (append-nil (mine who turns))
     ∙ ap (channel_seed channel) (own_stamps who channel turns)
 
-pub sequences_own : (plan : Plan) (moves : List Move) → HandsNothingOn plan → SequencesAreOwn (past plan moves)
+pub sequences_own : (plan : Plan) (moves : List Move) → IsPlainAlone plan → SequencesAreOwn (past plan moves)
 sequences_own plan moves nobody who channel o stands =
     let known : AtState TurnsKnown None [] (past plan moves).world.state [] (past plan moves).book.turns =
     dials_after TurnsKnown turns_keep plan moves nobody (first_known plan) in

@@ -16,8 +16,9 @@ use Rattle.world_moves.specs.declared.links.EndId.TheVariants.{Member}
 use Rattle.world_moves.specs.declared.plan.Plan.{Plan}
 use Rattle.world_moves.specs.declared.state.State.{State}
 use Rattle.world_moves.specs.Acting.{Given, AfterHearing, given_by, heard_by}
-use Rattle.world_moves.specs.Ends.{actions_by, member_step, with_member}
+use Rattle.world_moves.specs.Ends.{actions_by, with_member}
 use Rattle.world_moves.specs.MemberPlans.{AreAlikeButSecrets}
+use Rattle.world_moves.specs.Plain.{plain_member_step as member_step}
 use Rattle.domain_world.specs.Accepting.SeenSteps.{Differ, HearsNone}
 use Rattle.domain_world.specs.Accepting.Sequences.{IsTakenFor}
 use Rattle.domain_world.specs.Past.{controller_asked, running_in}

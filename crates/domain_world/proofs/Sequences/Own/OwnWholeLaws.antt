@@ -26,9 +26,10 @@ use Rattle.world_moves.specs.declared.links.EndId.TheVariants.{Member}
 use Rattle.world_moves.specs.declared.plan.Plan.{Plan}
 use Rattle.world_moves.specs.declared.state.State.{State}
 use Rattle.world_moves.specs.Acting.{Given, AfterHearing, given_by, heard_by, perform_all}
-use Rattle.world_moves.specs.Ends.{actions_by, member_step}
+use Rattle.world_moves.specs.Ends.{actions_by}
 use Rattle.world_moves.specs.Alone.{hear_alone as hear}
 use Rattle.world_moves.proofs.EndKindLaws.{of_member}
+use Rattle.world_moves.specs.Plain.{plain_member_step as member_step}
 use Rattle.domain_world.specs.Accepting.SeenSteps.{Differ, IsPlaced, NoRequests, Placed, PlacedBy, seen_running}
 use Rattle.domain_world.specs.Accepting.Carried.{IsTakenInTurn}
 use Rattle.domain_world.specs.Accepting.Sequences.{IsTakenFor}
