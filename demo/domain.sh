@@ -75,7 +75,8 @@ free_port() {
     echo "$port"
 }
 
-controller_port=$(free_port $((20000 + $$ % 20000)))
+# below the ports that Linux gives to sockets that dial (from 32768 on), so that none of these is in the way
+controller_port=$(free_port $((20000 + $$ % 12000)))
 member_port=$(free_port $((controller_port + 1)))
 
 # the number of the boot that a controller is started with; and of a member server the port at which it asks its
