@@ -69,7 +69,8 @@ abbrev pub with_marks : ℕ → ℕ → Bool → List BagUnit → List Mark → 
 with_marks at link back units marks b = record b { sent = b.sent ++ map (sent_at at) (marks_of link back units marks) }
 
 -- The plain form of the unit of that number, by what is written down: the bytes that its end made, before any sealing.
--- No link is sealed yet, so these are the bytes that travel. What reads a call or a reply out of a unit reads this.
+-- Where nothing seals these are the bytes that travel. What reads a call or a reply out of a unit reads this; of sealed
+-- units their plain form isn't written down yet.
 unfoldable pub plain_form : List Sent → ℕ → BagUnit → List ℕ
 plain_form sent number unit = unit.bytes
 
