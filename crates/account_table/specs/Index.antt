@@ -43,12 +43,12 @@ is_index entries =
 
 -- ---- what the account tells that a name finds
 
--- its place, where it opens that channel for that computer
+-- the place of the account of that name, where it opens that channel for that computer
 unfoldable pub machine_found : List Account → List ℕ → ℕ → List ℕ → Option ℕ
 machine_found accounts name channel computer =
     option_and_then (λ place. then_some (option_map_or (is_machine_for channel computer) (slice_get accounts place) false) place) (place_in accounts name)
 
--- it is a computer's
+-- the account of that name is a computer's
 unfoldable pub computer_found : List Account → List ℕ → Bool
 computer_found accounts computer =
     option_map_or (λ account. is_machine account.kind) (account_in accounts (machine_name computer)) false

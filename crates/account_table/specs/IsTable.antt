@@ -19,7 +19,7 @@ use Rattle.account_table.specs.declared.key.Word.TheVariants.{Domain, Sid, Locko
 abbrev pub Has : {T : Type 0} → (Data → Option T) → Word → Members → T → Type 0
 Has form word entry value = IsSomeAnd (get_member (word_text word) entry) (λ found. form found ≡ Some value)
 
--- the same, or nothing stands at the key and the value is the default
+-- what stands at the key is of the form, and is this value; or nothing stands there, and the value is the default
 abbrev pub HasOr : {T : Type 0} → T → (Data → Option T) → Word → Members → T → Type 0
 HasOr default form word entry value =
     ((get_member (word_text word) entry ≡ None) × (value ≡ default)) ⊎ Has form word entry value

@@ -72,7 +72,7 @@ abbrev pub knows_named : List Account → List ℕ → Bool
 knows_named accounts computer =
     list_any (λ account. has_name (machine_name computer) account && is_machine account.kind) accounts
 
--- such an account is there, or a trust's that lists the computer
+-- some account is that computer's as a workstation or a backup controller, or a trust's that lists the computer
 unfoldable pub knows_in : List Account → List ℕ → Bool
 knows_in accounts computer = knows_named accounts computer || list_any (is_trust_for computer) accounts
 

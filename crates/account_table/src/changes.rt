@@ -59,7 +59,7 @@ pub(crate) fn state_by(changes: &[TableChange], at: usize, state: AccountState) 
     last
 }
 
-/// The same after one change.
+/// The state of the account at that place after one change.
 fn state_by_change(change: TableChange, at: usize, state: AccountState) -> AccountState
     ensures { result ≡ state_by_change change at state }
 {

@@ -290,7 +290,7 @@ impl Table {
         self.machine_found(account, channel, computer)
     }
 
-    /// The same, of the account that the name finds.
+    /// The place of an account that opens that channel for that computer, if the account of that name does.
     #[tactic(auto, unfolding(crate::specs::Index::machine_found))]
     fn machine_found(&self, account: &[u16], channel: u16, computer: &[u16]) -> Option<u32>
         ensures value { result ≡ machine_found self.now.accounts account.now channel computer.now }
@@ -376,7 +376,7 @@ fn place_of_trust(domain: &[u16], trusts: &[Trust]) -> Option<u32>
     }
 }
 
-/// The same, as a place in memory.
+/// The place in memory of the first trusted domain of that name.
 fn position_of_trust(domain: &[u16], trusts: &[Trust]) -> Option<usize>
     ensures value { result ≡ position (is_domain domain.now) trusts.now }
     ensures inside { IfSome result (λ place. place < length trusts.now) }

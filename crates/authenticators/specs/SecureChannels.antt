@@ -29,7 +29,7 @@ pub record SecureChannelState : Type 0 where
 abbrev pub key_of_channel : SecureChannelState → List ℕ
 key_of_channel c = key_of c.secret c.client c.server c.flags
 
--- as it opens: the seed is the client's credential, and none is awaited. No type is kept yet
+-- a channel as it opens: the seed is the client's credential, and none is awaited. No type is kept yet
 abbrev pub fresh_channel : List ℕ → List ℕ → List ℕ → ℕ → SecureChannelState
 fresh_channel secret client server flags = record {
   secret = secret;

@@ -19,7 +19,7 @@ use Rattle.logon_stubs.specs.declared.calls.Reply.{Reply}
 use Rattle.logon_stubs.proofs.WrittenLaws.{AreBytes-written_call, written_call-content}
 use Rattle.end_links.specs.Binding.{bind_of, limit_of}
 use Rattle.end_links.specs.Sending.{joined_frames}
-use Rattle.end_links.specs.Whole.{IsWholeSend}
+use Rattle.end_links.specs.Whole.{IsWholeSend, whole_limit}
 use Rattle.logon_stubs.specs.Parts.{size_if_there, text_size}
 use Rattle.end_links.proofs.WholeLaws.{bind_whole, limit_bounds, request_whole, syntax_of_bytes}
 use Rattle.logon_stubs.specs.Interface.{netlogon_syntax}
@@ -202,7 +202,7 @@ opnum_small (call.Logoff value) = omega arith
 opnum_small (call.Challenge value) = omega arith
 opnum_small (call.Authenticate value) = omega arith
 
-pub set_few : (c : SetCall) → HasSetRoom c → length (written_set_call c) ≤ 58209
+pub set_few : (c : SetCall) → HasSetRoom c → length (written_set_call c) ≤ whole_limit
 set_few c room =
     let few : length (written_set_call c) ≤ 80 + size_if_there text_size c.primary + 2 * length c.account + 2 * length c.computer = (call_stub c room.sends.writes room.sends.range).short in
     let none : size_if_there text_size c.primary ≡ 0 = ap (λ (p : Option (List ℕ)). size_if_there text_size p) room.primary in

@@ -71,7 +71,7 @@ abbrev pub set_reply_if_read : Result SetReply SetRefused → Option SetReply
 set_reply_if_read (Err why) = None
 set_reply_if_read (Ok r) = Some r
 
--- the same of a turn that sets a secret
+-- the reply to a call that sets a secret, where it comes in the turn that waits for it, and is read
 abbrev pub set_reply_in : Step → Body → Option SetReply
 set_reply_in (step.Set set_step.Reply) (Response hint context stub) = set_reply_if_read (set_reply_of stub)
 set_reply_in _ _ = None

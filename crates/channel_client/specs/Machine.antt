@@ -451,7 +451,7 @@ pub record CanSendSet (c : SetCall) : Type 0 where
   pub range : InRangeSetCall c
 
 -- The most bytes of a call's stub: five names of 32,767 units, two responses of 65,535 bytes, and 400 bytes around
--- them. So it is short enough for the hint of a request, and for one send.
+-- them. It is short enough for the hint of a request, and for one send.
 abbrev pub stub_limit : ℕ
 stub_limit = 5 * (2 * 32767) + 2 * 65535 + 400
 

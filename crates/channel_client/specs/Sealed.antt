@@ -128,7 +128,7 @@ channel_start s timestamp challenge = start_with s.sealing s timestamp challenge
 abbrev pub room_frames_of : (request : RpcUnit) (receive : ℕ) → List (List ℕ)
 room_frames_of request receive = frames_of (with_room own_context request) (sealed_limit receive)
 
--- as `hear_ack`, but for the frames
+-- how an end that seals takes the answer to its bind: as `hear_ack` says, with room for signatures in the frames
 abbrev pub hear_room_ack : Bool → Step → ℕ → ℕ → Hearing
 hear_room_ack false s receive next = hearing.Drop drop_cause.Bind
 hear_room_ack true (step.Bind c) receive next =
@@ -224,7 +224,7 @@ judge_sealed question.Logon r s secret = judge question.Logon r s secret
 
 -- ---- a unit that is taken
 
--- as the channel opens, what seals it begins anew
+-- how a judgement changes a channel that seals: as `settle` says, and as the channel opens, what seals it begins anew
 abbrev pub settle_sealed : Judgement → Requester → Taking
 settle_sealed (judgement.Half client server) s = settle (judgement.Half client server) s
 settle_sealed (judgement.Opened o) s = record {

@@ -63,7 +63,7 @@ room_request_in (step.Set (set_step.Bind c)) (BindAck send receive group results
     Some (room_frames_of (request_of next 0 set_opnum (written_set_call c)) receive)
 room_request_in _ _ next = None
 
--- they can be sealed, where they are
+-- the frames of a request can be sealed, where they are to be
 abbrev pub can_seal : Option (List (List ℕ)) → Option Sealing → Bool
 can_seal None wire = true
 can_seal (Some frames) None = true

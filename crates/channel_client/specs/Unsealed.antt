@@ -14,12 +14,12 @@ abbrev pub IsPlain : Requester → Type 0
 IsPlain s = s.sealing ≡ None
 
 pub record PlainChannelsStay : Type 0 where
-  -- such a channel is made and goes as one of an end that can't seal
+  -- a channel that seals nothing is made and goes as one of an end that can't seal
   pub made : (caller : Caller) (domain computer : List ℕ) → fresh_channel_of (sealing_for false domain computer) caller ≡ fresh_requester caller
   pub draws : (s : Requester) → IsPlain s → draws_challenge s.sealing s.standing ≡ needs_challenge s.standing
   pub start : (s : Requester) (timestamp : ℕ) (challenge : List ℕ) → IsPlain s → channel_start s timestamp challenge ≡ start_of s timestamp challenge
   pub take : (s : Requester) (unit : RpcUnit) → IsPlain s → channel_take s unit ≡ take_of s unit
-  -- and stays one
+  -- a channel that seals nothing stays one
   pub fresh : (caller : Caller) → IsPlain (fresh_requester caller)
   pub asked : (s : Requester) (info : NetworkInfo) → (ask_of s info).state.sealing ≡ s.sealing
   pub started : (s : Requester) (timestamp : ℕ) (challenge : List ℕ) → (start_of s timestamp challenge).state.sealing ≡ s.sealing

@@ -11,7 +11,7 @@ use Rattle.logon_stubs.specs.Ranges.{InRangeCall, InRangeNetworkInfo, IsBlock, c
 use Rattle.logon_stubs.specs.Writing.{CanWriteCall, CanWriteNetworkInfo}
 use Rattle.secret_change.specs.declared.calls.SetCall.{SetCall}
 use Rattle.end_links.specs.Sending.{joined_frames}
-use Rattle.end_links.specs.Whole.{IsWholeSend}
+use Rattle.end_links.specs.Whole.{content_limit, IsWholeSend, names_limit}
 use Rattle.channel_client.specs.Machine.{CanSendSet, ask_of, fresh_requester, lose_of, set_next_of, start_of, take_of, use_secret_of}
 use Rattle.channel_client.specs.State.{Requester}
 use Rattle.channel_client.specs.declared.answers.Taken.{Taken}
@@ -38,7 +38,7 @@ pub record InRangeCaller (caller : Caller) : Type 0 where
 pub record InRangeLogon (info : NetworkInfo) : Type 0 where
   pub writes : CanWriteNetworkInfo info
   pub range : InRangeNetworkInfo info
-  pub few : logon_content info ≤ 57000
+  pub few : logon_content info ≤ content_limit
 
 abbrev pub InRangeWaiting : List Waiting → Type 0
 InRangeWaiting logons = AllByRecursion (λ (logon : Waiting). InRangeLogon logon.info) logons
@@ -47,9 +47,9 @@ InRangeWaiting logons = AllByRecursion (λ (logon : Waiting). InRangeLogon logon
 pub record HasRoom (c : Call) : Type 0 where
   pub writes : CanWriteCall c
   pub range : InRangeCall c
-  pub few : call_content c ≤ 57809
+  pub few : call_content c ≤ content_limit + names_limit
 
--- likewise a change, which names no server
+-- a change of a secret can be sent, it names no server, and the frames of its request have room in one piece of a link
 pub record HasSetRoom (c : SetCall) : Type 0 where
   pub sends : CanSendSet c
   pub primary : c.primary ≡ None

@@ -189,7 +189,7 @@ impl Channel {
         self.kept.lose(turn, cause)
     }
 
-    /// The same channel, whose steps are then those of an end that can't seal; what it keeps to seal stays. It takes no
+    /// The channel as one whose steps are those of an end that can't seal; what it keeps to seal stays. It takes no
     /// memory.
     pub fn into_plain(self) -> PlainChannel
         ensures { result ≡ self }

@@ -37,7 +37,7 @@ pub enum Hearing {
     Reply(Question, Reply),
     /// The turn ends without an answer.
     Drop(DropCause),
-    /// The same of a turn that sets a secret.
+    /// What a unit comes to for a turn that sets a secret.
     Set(SetHearing),
 }
 
@@ -80,7 +80,8 @@ pub(crate) fn hear_body(
     }
 }
 
-/// The same of a turn on the open channel of one that seals: the frames of the request have room for signatures.
+/// What the body of a unit comes to for a turn on the open channel of one that seals: the frames of the request have
+/// room for signatures.
 pub(crate) fn hear_room_body(
     alloc: Global,
     body: &Body,
@@ -146,7 +147,7 @@ fn hear_ack(
     }
 }
 
-/// The same, with room for signatures in the frames of the request.
+/// What the answer to a bind comes to, with room for signatures in the frames of the request.
 fn hear_room_ack(
     alloc: Global,
     accepting: bool,

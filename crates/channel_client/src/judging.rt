@@ -47,7 +47,7 @@ pub(crate) fn judge(
     }
 }
 
-/// The same of a channel that seals: it needs secure RPC granted.
+/// What a reply comes to on a channel that seals: as `judge` has it, but that it needs secure RPC granted.
 pub(crate) fn judge_sealed(
     question: Question,
     reply: Reply,
@@ -224,7 +224,7 @@ pub(crate) fn judge_set(reply: SetReply, standing: Standing) -> Result<SecureCha
     judge_set_return(reply.returned, standing)
 }
 
-/// The same of a status of 0, by the authenticator that is returned.
+/// What a reply to NetrServerPasswordSet of status 0 comes to, by the authenticator that is returned.
 fn judge_set_return(returned: Authenticator, standing: Standing) -> Result<SecureChannel, DropCause>
     ensures { result ≡ judge_set_return standing returned }
 {

@@ -98,7 +98,7 @@ impl Kept {
         Ok(channel)
     }
 
-    /// The same of a channel that seals nothing.
+    /// A channel that is made and seals nothing.
     pub(crate) fn plain(
         alloc: Global,
         secret: [u8; 16],
@@ -252,7 +252,7 @@ impl Kept {
         }
     }
 
-    /// The same on a channel that seals, whose sealing is handed in and put back.
+    /// Starts a turn on a channel that seals, whose sealing is handed in and put back.
     fn start_sealed(
         &mut self,
         alloc: Global,
@@ -286,7 +286,7 @@ impl Kept {
         }
     }
 
-    /// The same, but for the sealing, which isn't looked at.
+    /// Starts a turn on a channel that seals, but for the sealing, which isn't looked at.
     fn begin_sealed(
         &mut self,
         alloc: Global,
@@ -323,7 +323,7 @@ impl Kept {
         Ok(Some((Turn::new(), frames)))
     }
 
-    /// The same on a channel that seals nothing.
+    /// Starts a turn on a channel that seals nothing.
     pub(crate) fn start_plain(
         &mut self,
         alloc: Global,
@@ -380,7 +380,7 @@ impl Kept {
         }
     }
 
-    /// The same on a channel that seals, whose sealing is handed in and put back.
+    /// Takes a unit on a channel that seals, whose sealing is handed in and put back.
     fn take_sealed(
         &mut self,
         alloc: Global,
@@ -499,7 +499,7 @@ impl Kept {
         }
     }
 
-    /// The same on a channel that seals nothing.
+    /// Takes a unit on a channel that seals nothing.
     pub(crate) fn take_plain(
         &mut self,
         alloc: Global,

@@ -153,7 +153,7 @@ impl PlainChannel {
         self.kept.lose(turn, cause)
     }
 
-    /// The same channel, which then seals where it is one that seals. It takes no memory.
+    /// The channel as one that may seal: it does where it is one that seals. It takes no memory.
     pub fn into_channel(self) -> Channel
         ensures { result ≡ self }
     {

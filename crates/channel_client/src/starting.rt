@@ -93,7 +93,7 @@ pub(crate) fn begin_with(
     Ok(Step::Bind(call))
 }
 
-/// The same of a channel that seals: it offers secure RPC.
+/// The step with which a turn begins on a channel that seals: it offers secure RPC.
 pub(crate) fn begin_sealed(
     alloc: Global,
     standing: &mut Standing,
@@ -123,7 +123,7 @@ pub(crate) fn begin_sealed(
     Ok(Step::Bind(call))
 }
 
-/// The same on an open channel: while there is a next secret, it is set.
+/// The step with which a turn begins on an open channel: while there is a next secret, it is set.
 fn begin_open(
     alloc: Global,
     next: Option<[u8; 16]>,

@@ -9,11 +9,11 @@ use wire_base::Blob;
 /// How far the channel is (MS-NRPC 3.1.4.1).
 #[derive(Drop)]
 pub enum Standing {
-    /// It is none.
+    /// No channel.
     Nothing,
     /// Both challenges are known, and no credential was compared yet.
     Half { client: [u8; 8], server: [u8; 8] },
-    /// It is open.
+    /// An open channel.
     Open(SecureChannel),
 }
 
@@ -35,7 +35,7 @@ pub enum Step {
     Bind(Call),
     /// The reply to the request.
     Reply(Question),
-    /// The same of a turn that sets a secret.
+    /// What is waited for in a turn that sets a secret.
     Set(SetStep),
 }
 

@@ -24,7 +24,7 @@ same_holds u v stands opening challenge holds = record {
   ];
 }
 
--- the same is held, and the count goes on by one at most
+-- a requester that holds what it held before, and whose count goes on by one at most, goes on
 goes_on : (u v : View) → v.stands ≡ u.stands → v.opening ≡ u.opening → u.call ≤ v.call → v.call ≤ u.call + 1 → IsCalmer u v
 goes_on u v stands opening onward few = record {
   holds = same_holds u v stands opening;

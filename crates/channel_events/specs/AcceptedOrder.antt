@@ -30,7 +30,7 @@ pub record IsCalled (marks : List Mark) (c : ChannelIdentity) : Type 0 where
   pub there : slice_get marks unit ≡ Some (Calling named number timestamp)
   pub same : SameChannel named c
 
--- it is a channel that was accepted, by a call in a unit
+-- the channel was accepted, by a call in a unit
 abbrev pub IsAcceptedIn : List Accepted → ChannelIdentity → Type 0
 IsAcceptedIn accepted c = OneOf (λ (one : Accepted). (one.in_unit ≡ true) × SameChannel c one.channel) accepted
 
@@ -53,7 +53,7 @@ HasOwn controller computer challenge accepted =
 abbrev pub IsCalledBy : List Mark → ℕ → List ℕ → List ℕ → ChannelIdentity → Type 0
 IsCalledBy marks controller computer challenge c = IsOf controller computer c → IsCalled marks c → c.client ≡ challenge
 
--- so it is of each channel behind which there is such an opening
+-- calls on the computer's channels that were accepted behind such an opening were made with that challenge
 abbrev pub IsBehind : List Mark → ℕ → List ℕ → List ℕ → List Accepted → Type 0
 IsBehind marks controller computer challenge [] = Unit {0}
 IsBehind marks controller computer challenge (one ∷ older) =
@@ -74,8 +74,8 @@ pub record AreInOrder {Who : Type 0} (r : Requests Who) (who : Who) (controller 
   pub stands : (i : Who) (v : View) (c : ChannelIdentity) → r.views i ≡ Some v → v.stands ≡ Some c → IsAcceptedIn accepted c
   -- an opening that came in a unit was made in one
   pub made : AllByRecursion (λ (one : Accepted). one.in_unit ≡ true → IsMade r.marks one.channel) accepted
-  -- and the channels of that computer that were accepted after the one that it opens, or that stands, have no other
-  -- calls than its own
+  -- the channels of that computer that were accepted after the one that the requester opens, or that stands at it, have
+  -- no other calls than its own
   pub behind : (v : View) (challenge : List ℕ) → r.views who ≡ Some v → Holds v challenge → IsBehind r.marks controller computer challenge accepted
 
 -- ---- what happens

@@ -25,7 +25,7 @@ pub record IsSeen (r : Requests ℕ) (who controller : ℕ) (s : Requester) : Ty
   pub few : r.uses + 2 < 2 ^ 32
   pub apart : CallsAreApart r
 
--- so it is afterwards, but for the room
+-- the requester as `IsSeen` has it, after its step, but for the room
 pub record IsSeenAfter (r : Requests ℕ) (who controller : ℕ) (s : Requester) : Type 0 where
   pub at : r.views who ≡ Some (view_of controller s)
   pub coherent : IsCoherent s

@@ -35,7 +35,7 @@ IsRequest c number (Opening d other) = (d ≡ c) × (other ≡ number)
 IsRequest c number (Calling d other timestamp) = (d ≡ c) × (other ≡ number)
 IsRequest c number _ = ⊥
 
--- so was the unit of that place
+-- the unit of that place was made for the channel as a request of that number
 pub record IsAsked (marks : List Mark) (unit : ℕ) (c : ChannelIdentity) (number : ℕ) : Type 0 where
   pub mark : Mark
   pub asks : IsRequest c number mark
@@ -66,7 +66,7 @@ pub record CallsAreApart {Who : Type 0} (r : Requests Who) : Type 0 where
 abbrev pub AreSeenBut : {Who : Type 0} → (Who → Option View) → (Who → Option View) → Who → View → Type 0
 AreSeenBut {Who} old new who view = (j : Who) (v : View) → new j ≡ Some v → ((j ≡ who) × (v ≡ view)) ⊎ (old j ≡ Some v)
 
--- nothing of what a call rests on is new: so it is of each effect but that an opening begins and that a call goes out
+-- nothing of what a call rests on is new, whatever the effect, but that an opening begins and that a call goes out
 abbrev pub IsCalm : Effect → Type 0
 IsCalm Stays = Unit {0}
 IsCalm Counts = Unit {0}

@@ -201,7 +201,7 @@ carried_frame one other confounder u f follows eight below =
 
 -- ---- all frames
 
--- the same units, but for their trailers
+-- two lists of units are the same, but for their trailers
 abbrev AreAlike : List RpcUnit → List RpcUnit → Type 0
 AreAlike [] [] = Unit {0}
 AreAlike (u ∷ us) (v ∷ vs) = ((t : Option Trailer) × (v ≡ record u { trailer = t })) × AreAlike us vs

@@ -106,11 +106,11 @@ fragment_size unit first last stub h room =
     omega (arith, body_size unit.body stub h, length_written (fragment unit first last stub), length-append body (written_tail (length body) unit.trailer), tail_size (length body) unit.trailer, room)
 
 one_size : (unit : RpcUnit) (first : Bool) (stub : List ℕ) → HasStub unit.body → value_len unit.trailer ≡ 32 →
-    20 * length (flat_map written (fragment unit first true stub ∷ [])) ≤ 21 * length stub + 1340
+    20 * length (flat_map written (fragment unit first true stub ∷ [])) ≤ 21 * length stub + 20 * 67
 one_size unit first stub h room = omega (arith, length-append (written (fragment unit first true stub)) [], fragment_size unit first true stub h room)
 
-fragments_size : (most : ℕ) (unit : RpcUnit) (size : ℕ) (first : Bool) (stub : List ℕ) → HasStub unit.body → 1340 ≤ size → value_len unit.trailer ≡ 32 →
-    20 * length (flat_map written (fragments_of most unit size first stub)) ≤ 21 * length stub + 1340
+fragments_size : (most : ℕ) (unit : RpcUnit) (size : ℕ) (first : Bool) (stub : List ℕ) → HasStub unit.body → 20 * 67 ≤ size → value_len unit.trailer ≡ 32 →
+    20 * length (flat_map written (fragments_of most unit size first stub)) ≤ 21 * length stub + 20 * 67
 fragments_size zero unit size first stub h large room = one_size unit first stub h room
 fragments_size (suc most) unit size first stub h large room =
     elim (cases_lt size (length stub)) [
@@ -129,7 +129,7 @@ fragments_size (suc most) unit size first stub h large room =
     ]
 
 pub room_short : (call : RpcUnit) (limit : ℕ) → HasStub call.body → 1432 ≤ limit → value_len call.trailer ≡ 32 →
-    20 * length (joined_frames (frames_of call limit)) ≤ 21 * length (stub_of call.body) + 1340
+    20 * length (joined_frames (frames_of call limit)) ≤ 21 * length (stub_of call.body) + 20 * 67
 unfolding cut_of
 room_short call limit h least room =
     rw (frames_joined call limit) (fragments_size (length (stub_of call.body)) call (stub_size limit) true (stub_of call.body) h (omega arith) room)

@@ -21,7 +21,7 @@ none_behind : (frame : List ℕ) (later : Option SealedFrames) → behind frame 
 none_behind frame None is = refl
 none_behind frame (Some later) is = absurd (none-some _ (sym is))
 
--- so it is of the frames behind the first
+-- frames behind the first stand last
 abbrev StandsLast : (confounder : List ℕ) (frames : List (List ℕ)) (seal : NlState) → Type 0
 StandsLast confounder frames seal = seal_all seal confounder frames ≡ None → end_after seal confounder frames ≡ record seal { sent = last_number }
 

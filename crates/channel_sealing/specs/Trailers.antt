@@ -2,7 +2,7 @@
 -- MS-NRPC 2.2.1.3.1 and 3.3). The context number of a trailer tells apart the security contexts of one link (MS-RPCE
 -- 2.2.2.11). Which number the side that binds gives is this project's own choice; the side that answers writes that of
 -- the bind's trailer.
-use Rattle.std.specs.Prelude.{ℕ, List, [], ◌∷◌, ◌++◌, replicate, max, ◌-◌, Some}
+use Rattle.std.specs.Prelude.{ℕ, List, [], ◌∷◌, ◌++◌, replicate, max, ◌-◌, Some, ◌+◌}
 use Rattle.rpc_units.specs.Numbers.{privacy_level}
 use Rattle.rpc_units.specs.declared.unit.Trailer.{Trailer}
 use Rattle.rpc_units.specs.declared.unit.Syntax.{Syntax}
@@ -39,9 +39,14 @@ sealed_bind_of interface call value = record (bind_of interface call) { trailer 
 abbrev pub ack_value : List ℕ
 ack_value = (1 ∷ 0 ∷ 0 ∷ 0 ∷ []) ++ replicate 8 0
 
--- the limit of a sealed link, for a peer that receives so many bytes: at least 1,448
+-- the least limit of a sealed link: the 1,432 bytes that each end receives, and 16 of a signature beyond those for
+-- which the limit of a fragment leaves room
+abbrev pub least_sealed_limit : ℕ
+least_sealed_limit = 1432 + 16
+
+-- the limit of a sealed link, for a peer that receives so many bytes
 abbrev pub sealed_link_limit : ℕ → ℕ
-sealed_link_limit receive = max 1448 (limit_of receive)
+sealed_link_limit receive = max least_sealed_limit (limit_of receive)
 
 abbrev pub with_limit : (limit : ℕ) (body : Body) → Body
 with_limit limit (BindAck send receive group results) = BindAck limit receive group results

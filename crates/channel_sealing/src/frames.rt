@@ -43,7 +43,7 @@ pub fn room_frames(
     ensures value { IfOk result (λ frames. frames
         ≡ frames_of (with_room context call) (sealed_limit receive)) }
     ensures short { IfOk result (λ frames.
-        20 * length (joined_frames frames) ≤ 21 * length (stub_of call.body) + 1340) }
+        20 * length (joined_frames frames) ≤ 21 * length (stub_of call.body) + 20 * 67) }
 {
     let call = with_room(alloc, context, call)?;
     cut_short(alloc, &call, sealed_limit(receive))
@@ -57,7 +57,7 @@ fn cut_short(alloc: Global, call: &Unit, limit: u16) -> Result<Frames, NoMemory>
     requires most { limit + 16 ≤ 5840 }
     ensures value { IfOk result (λ frames. frames ≡ frames_of call.now limit) }
     ensures short { IfOk result (λ frames.
-        20 * length (joined_frames frames) ≤ 21 * length (stub_of call.now.body) + 1340) }
+        20 * length (joined_frames frames) ≤ 21 * length (stub_of call.now.body) + 20 * 67) }
 {
     cut_frames(alloc, call, limit)
 }

@@ -2,7 +2,7 @@
 
 ghost use Rattle.std.specs.Prelude.{◌≡◌, ◌≤◌, ◌<◌, ◌+◌, IfOk, Some, length};
 ghost use Rattle.rpc_units.specs.Writing.{written, IsWritable};
-ghost use Rattle.channel_sealing.specs.Trailers.{bind_value_of, sealed_ack_of, sealed_bind_of, sealed_limit, sealed_link_limit, trailer_of, with_ack};
+ghost use Rattle.channel_sealing.specs.Trailers.{bind_value_of, least_sealed_limit, sealed_ack_of, sealed_bind_of, sealed_limit, sealed_link_limit, trailer_of, with_ack};
 
 use end_links::{bind, bind_ack, fragment_limit};
 use rpc_units::{Body, Contexts, PRIVACY_LEVEL, Syntax, Trailer, Unit};
@@ -157,7 +157,7 @@ fn bind_unit(alloc: Global, interface: &Syntax, call: u32, value: &Blob) -> Resu
 /// The limit of a sealed link, for a peer that receives so many bytes: at least 1,448 (this project's own choice).
 pub fn sealed_link_limit(receive: u16) -> u16
     ensures value { result ≡ sealed_link_limit receive }
-    ensures least { 1448 ≤ result }
+    ensures least { least_sealed_limit ≤ result }
     ensures most { result ≤ 5840 }
 {
     fragment_limit(receive).max(1448)

@@ -67,7 +67,7 @@ pub next_refused : (why : StepRefused) (now : ℕ) (peer : List ℕ) (turning : 
 next_refused why now peer turning before after answer =
     AnswersBy-refused why (next_sealed_turn now turning.channel before) (dial_part peer turning) after (λ next left. IsRest-refl left) answer
 
--- and then no memory was found to dial
+-- the next turn on a channel that seals started, and no memory was found to dial
 pub next_memory : (now : ℕ) (peer : List ℕ) (turning : Turning) (next : NextTurn) (before after : List (List ℕ)) →
     next_sealed_turn now turning.channel before ≡ Ok (record { value = next; left = after }) →
     AnswersBy (Err Memory) (next_sealed_dial now peer turning before) after

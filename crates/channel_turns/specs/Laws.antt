@@ -39,7 +39,7 @@ pub record TurnsEndOnce : Type 0 where
       served_cut turn_server cut at talk left ≡ Ok (record { value = turn_served cut at talk; left = left })
   -- where it hasn't ended before, it ends at the unit that closes the link, or the link stays open
   pub once : (cut : Cut) (at : TurnWork) (talk : TurnTalk) → at.ended ≡ None → EndsOnce (turn_served cut at talk)
-  -- it is out exactly while its link stays open
+  -- a turn is out exactly while its link stays open
   pub out : (cut : Cut) (at : TurnWork) (talk : TurnTalk) → is_out at.channel ≡ true →
       is_out (turn_served cut at talk).0.channel ≡ is_some (turn_served cut at talk).1
   -- one that is lost is out no more

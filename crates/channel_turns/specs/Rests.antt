@@ -25,7 +25,7 @@ turn_few = record {
   refusal = λ why at talk left. none_fewer (length left);
 }
 
--- the same of a channel that seals
+-- a turn on a channel that seals leaves a rest of the challenges
 pub sealed_turn_leaves : ServerLeavesRest sealed_turn_server
 sealed_turn_leaves = record {
   unit = λ bytes at talk left. record { front = []; is = refl };

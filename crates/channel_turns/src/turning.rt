@@ -3,9 +3,10 @@
 ghost use Rattle.std.specs.Prelude.{◌≡◌, ◌≤◌, ◌+◌, length, IfOk};
 ghost use Rattle.outside.specs.Drawing.{DrawsSome};
 ghost use Rattle.outside.specs.Machine.{AnswersBy};
-ghost use Rattle.end_links.specs.Links.{open_limit, rest_limit};
+ghost use Rattle.end_links.specs.Links.{open_limit};
 ghost use Rattle.channel_turns.specs.declared.state.Dialling.TheVariants as dialling;
 ghost use Rattle.channel_turns.specs.Turning.{after_piece, bytes_of, dial_for, drop_turn, hear_on, is_on, is_waiting, link_answers, link_closes, link_hears, next_dial, no_dial, send_dial, want_of};
+ghost use Rattle.rpc_units.specs.Stream.{rest_limit};
 
 use crate::dials::{bind_turn, lose_turn, next_turn};
 use crate::state::{Dialling, TurnEnded, TurnTalk, TurnWork, Turning};

@@ -70,7 +70,7 @@ pub(crate) fn break_turn(
     end_by(cause, TurnEnd::Dropped(place, DropCause::BadReply), at)
 }
 
-/// The same, and the fragments of an open reply are let go.
+/// The turn ends without an answer, and the fragments of an open reply are let go.
 pub(crate) fn break_call(
     cause: CloseCause,
     talk: TurnTalk,

@@ -82,7 +82,7 @@ ann_can = record {
   may = (ann_may 0, ann_may 0);
 }
 
--- so can she where FILE1 keeps two secrets, of which it tries that of its account
+-- ann can log on where FILE1 keeps two secrets, of which it tries that of its account
 two_can : (current next : List ℕ) (tried : Bool) → machine_secret ≡ tried_by tried next current → CanSucceed (two_plan current next tried) ann_starts 0
 two_can current next tried secret = record {
   task = able_client small_hash;
@@ -141,7 +141,7 @@ the_may accounts secret hash moves s can may =
     subst (λ (task : ClientPlan). MayLogOnIn 0 (info_planned task) s) (sym (the_task accounts secret hash moves can))
     (subst (λ (controller : ℕ). MayLogOnIn controller (info_planned can.task) s) (sym (the_controller accounts secret hash moves can)) may)
 
--- so it is by any policy
+-- ann may log on by any policy
 policy_may : (lockout : ℕ) (only : Bool) (count : ℕ) (can : CanSucceed (policy_plan lockout only count) ann_starts 0) →
     MayLogOn (policy_table lockout only count) (info_planned (able_client small_hash)) 0
 policy_may lockout only count can =

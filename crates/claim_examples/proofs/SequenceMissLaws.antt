@@ -329,7 +329,7 @@ one_passed book turns claim =
     its_call [] is passed = absurd cc
     its_call (one ∷ made) is passed = one_weaker (IsPassedIn one.0) (λ (j : Judging). has_passed j.how ≡ true) book.judged (λ j so. so.0) passed.0
 
--- and there is one call, of the turn's timestamp; no other was made on the channel
+-- one call was made on the channel, of the turn's timestamp, and no other
 record TheCall (book : Book) : Type 0 where
   at : ℕ
   timestamp : ℕ

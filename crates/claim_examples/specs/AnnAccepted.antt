@@ -10,8 +10,8 @@ use Rattle.domain_world.specs.Headline.{Proved}
 use Rattle.domain_world.specs.Past.{Past, past}
 
 -- The claim on keys speaks of these: somebody is let in on the link of the message, the client made its bytes for those
--- of the CHALLENGE by the hash that is stored, and the base key doesn't travel as zeros. And it is so of them: the key
--- is the client's.
+-- of the CHALLENGE by the hash that is stored, and the base key doesn't travel as zeros. Of these it holds: the key is
+-- the client's.
 pub record IsKeyed (run : Past) (told : OutcomeTold) (message : MessageTaken) (sent : ChallengeSent) (made : MessageMade) : Type 0 where
   pub let_in : is_in told.outcome ≡ true
   pub link : message.link ≡ told.link

@@ -115,8 +115,8 @@ pub record LeavesNoneApart (moves : List Move) (begins : BeginsAlike changing_pl
 abbrev pub in_report : Report
 in_report = record { moves = 66; accepted = 1; refused = 0; no_controller = 2; passed = 2; barred = 0 }
 
--- So it is where FILE1 keeps both secrets and the controller has the old one, where the new one is set and the reply is
--- lost, where FILE1 has learned of it and keeps the new one alone, and where ann is in.
+-- A change leaves none apart where FILE1 keeps both secrets and the controller has the old one, where the new one is
+-- set and the reply is lost, where FILE1 has learned of it and keeps the new one alone, and where ann is in.
 pub record ChangeLeavesNoneApart : Type 0 where
   pub begins : BeginsAlike changing_plan 0
   pub begun : LeavesNoneApart begun_moves begins old_secret both_secrets

@@ -277,7 +277,7 @@ abbrev pub passed_in : Mark → Book
 passed_in mark =
     with_answers (passing (Some small_name) (on_channel 0) ∷ []) (Some 0) (8 ∷ []) (record blank { sent = sent_at 0 mark ∷ [] })
 
--- the same in a unit from outside
+-- the call passed on the channel in a unit from outside
 abbrev pub passed_outside : Book
 passed_outside = with_answers (passing (Some small_name) (record (on_channel 0) { source = Outside }) ∷ []) None (8 ∷ []) blank
 
@@ -333,7 +333,7 @@ pub record OfReplays : Type 0 where
   pub fails : ReplaysBySum (replay_of (on_channel 0) (on_channel 0)) → ⊥
   pub fails_over : ReplaysBySum (replay_over (judged_as judged.Barred (on_channel 0)) (on_channel second_timestamp) (on_channel 0)) → ⊥
 
--- the same message on two links, whose CHALLENGE came of one draw, accepted on both
+-- one message on two links, whose CHALLENGE came of one draw, accepted on both
 abbrev pub two_logons : Book
 two_logons = record one_logon {
   challenges = challenge_on 3 ∷ challenge_on 4 ∷ [];
@@ -475,7 +475,7 @@ pub record OfSequences : Type 0 where
 
 -- ---- logons
 
--- the same challenge was drawn twice
+-- one challenge was drawn twice
 abbrev pub drawn_twice : World
 drawn_twice = world_of small_links (small_challenge ∷ small_challenge ∷ [])
 
@@ -518,17 +518,17 @@ pub record OfAcceptingOnly : Type 0 where
   pub fails : AcceptsOnlyGranted (small_run (record one_logon { messages = [] })) → ⊥
   pub fails_barred : AcceptsOnlyGranted (answered_by (judged_as judged.Barred judging)) → ⊥
   pub fails_elsewhere : AcceptsOnlyGranted (small_run (record one_logon { told = record (told_of_link 3) { member = 1 } ∷ [] })) → ⊥
-  -- nor where another controller answered than that of the plan, or the call passed at two steps
+  -- it isn't met where another controller answered than that of the plan, or the call passed at two steps
   pub fails_controller : AcceptsOnlyGranted (answered_by (elsewhere judging)) → ⊥
   pub fails_twice : AcceptsOnlyGranted passed_twice → ⊥
-  -- nor where the account is disabled, or isn't there
+  -- it isn't met where the account is disabled, or isn't there
   pub fails_disabled : AcceptsOnlyGranted (answered_by (by_accounts (record small_account { disabled = true } ∷ []))) → ⊥
   pub fails_unknown : AcceptsOnlyGranted (answered_by (by_accounts [])) → ⊥
-  -- nor where the response is that to another challenge, or has 25 bytes
+  -- it isn't met where the response is that to another challenge, or has 25 bytes
   pub fails_response : AcceptsOnlyGranted (response_was (response_v1_of small_hash (replicate 8 8))) → ⊥
   pub fails_long : AcceptsOnlyGranted (response_was (replicate 25 0)) → ⊥
-  -- nor where the challenge was drawn twice or not at all, or was sent on another link, the link took two messages, or
-  -- another member accepted it
+  -- it isn't met where the challenge was drawn twice or not at all, or was sent on another link, the link took two
+  -- messages, or another member accepted it
   pub fails_draws : AcceptsOnlyGranted (run_in drawn_twice one_logon) → ⊥
   pub fails_undrawn : AcceptsOnlyGranted (run_in (world_of small_links []) one_logon) → ⊥
   pub fails_unsent : AcceptsOnlyGranted (small_run (record one_logon { challenges = challenge_on 4 ∷ [] })) → ⊥

@@ -59,9 +59,9 @@ pub record MeetsClearClaims (run : Past) : Type 0 where
   pub answered : RepliesAnswerCalls run
   pub never_apart : MembersAreNeverApart run
 
--- The first logon in a world, of whatever plan in which nothing seals, lets in clearly where it comes in; and so does
--- the example, which is a schedule whose one client is started where nothing is under way, and at whose end nothing is.
--- A channel stands at both ends then. What is proved of clear schedules holds of the example with no premise left.
+-- The first logon of any plan in which nothing seals runs clear where it comes in and its key arrives. So does the
+-- example: a schedule whose one client is started where nothing is under way, and at whose end nothing is. A channel
+-- stands at both ends then. What is proved of clear schedules holds of the example with no premise left.
 pub record FirstLogonsAreClear : Type 0 where
   pub first : (plan : Plan) (client member controller number : ℕ) → IsPlan plan → HasForms plan → NothingSeals plan → chosen_place number (length plan.clients) ≡ Some client →
       (can : CanComeIn plan client member controller) → FirstKeyArrives plan client member controller can → LetsInClearly (past plan (logon_moves number (can.task.echo == 0)))

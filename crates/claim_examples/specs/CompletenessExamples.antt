@@ -115,7 +115,7 @@ pub record OfSuccess : Type 0 where
   pub fails_disabled : CanSucceed (plan_by (record small_account { disabled = true }) machine_account) ann_starts 0 → ⊥
   pub fails_computer : CanSucceed (plan_by small_account (record machine_account { disabled = true })) ann_starts 0 → ⊥
   pub fails_kind : CanSucceed (plan_by small_account (record machine_account { kind = User })) ann_starts 0 → ⊥
-  -- nor where her bad passwords have locked her out, or with her response of 24 bytes where none of them is taken
+  -- she can't where her bad passwords have locked her out, or with her response of 24 bytes where none of them is taken
   pub fails_locked_out : CanSucceed (policy_plan 2 false 2) ann_starts 0 → ⊥
   pub fails_short : CanSucceed (policy_plan 0 true 0) ann_starts 0 → ⊥
   pub fails_alike : CanSucceed alike_plan ann_starts 0 → ⊥
@@ -162,7 +162,7 @@ pub record OfOwnMembers : Type 0 where
   pub fails_secret : HasOwnMember (able_plan ann_accounts (replicate 16 4) small_hash) 0 → ⊥
   pub fails_alike : HasOwnMember alike_plan 0 → ⊥
 
--- so its dial fails
+-- the moves of a client whose dial fails
 abbrev pub lost_moves : List Move
 lost_moves = move.Start 0 ∷ move.Connect ∷ []
 

@@ -68,23 +68,23 @@ at_level level = record next_call { asked = Network (record next_logon { validat
 pub record OfGrants : Type 0 where
   pub meets : GrantsWhoMayLogOn (judged_by small_table next_call)
   pub disabled : GrantsWhoMayLogOn (judged_by disabled_table (judged_as (judged.Passed account_disabled) next_call))
-  -- and by the accounts of the plan with another count of bad passwords than there
+  -- her grant by the accounts of the plan, but for a count of bad passwords
   pub counted : GrantsWhoMayLogOn (judged_from small_table (record next_call { table = counted_table 1 }))
-  -- or with another hash of FILE1's account, as a NetrServerPasswordSet may have set it
+  -- her grant with another hash of FILE1's account, as a NetrServerPasswordSet may have set it
   pub set : GrantsWhoMayLogOn (judged_from (machine_table small_hash) (record next_call { table = machine_table (replicate 16 8) }))
   pub at_two : GrantsWhoMayLogOn (judged_by small_table (at_level 2))
   -- not where it was refused, or barred, though all is so
   pub fails_refused : GrantsWhoMayLogOn (judged_by small_table (judged_as (judged.Passed wrong_password) next_call)) → ⊥
   pub fails_barred : GrantsWhoMayLogOn (judged_by small_table (judged_as judged.Barred next_call)) → ⊥
-  -- nor where it was granted with her account disabled, on a response to another challenge or of 25 bytes, at another
-  -- level, or with no channel
+  -- it isn't met where she was granted with her account disabled, on a response to another challenge or of 25 bytes, at
+  -- another level, or with no channel
   pub fails_disabled : GrantsWhoMayLogOn (judged_by disabled_table next_call) → ⊥
   pub fails_response : GrantsWhoMayLogOn (judged_by small_table (asking_for (with_response (response_v1_of small_hash (replicate 8 8))))) → ⊥
   pub fails_long : GrantsWhoMayLogOn (judged_by small_table (asking_for (with_response (replicate 25 0)))) → ⊥
   pub fails_level : GrantsWhoMayLogOn (judged_by small_table (at_level 4)) → ⊥
   pub fails_next : GrantsWhoMayLogOn (judged_by small_table judging) → ⊥
-  -- nor where it was judged by other accounts than those of the plan or with another hash of ann's, under another name,
-  -- or at a controller that the plan doesn't have
+  -- it isn't met where she was judged by other accounts than those of the plan or with another hash of hers, under
+  -- another name, or at a controller that the plan doesn't have
   pub fails_table : GrantsWhoMayLogOn (judged_from empty_table next_call) → ⊥
   pub fails_set : GrantsWhoMayLogOn (judged_from (hashed_table (replicate 16 8)) (record next_call { table = small_table })) → ⊥
   pub fails_name : GrantsWhoMayLogOn (judged_by small_table (record next_call { name = codes "BDC" })) → ⊥

@@ -195,7 +195,7 @@ sent_one back mark =
     })
     (record blank { sent = sent_at 6 mark ∷ [] })
 
--- the same with these bytes
+-- a unit of the bag with these bytes, on its way to a controller, which was made for that mark
 abbrev pub carried_in : List ℕ → Mark → Past
 carried_in bytes mark =
     run_in
@@ -288,7 +288,7 @@ abbrev pub called_as : Mark → Mark → Past
 called_as call reply =
     small_run (record one_logon { sent = replicate 7 (sent_at 0 Plain) ++ sent_at 5 call ∷ sent_at 6 reply ∷ []; judged = on_channel 0 ∷ [] })
 
--- the same with a reply that is marked so, and was sent after so many moves
+-- the call of the message is marked as none, and its reply as one, which was sent after so many moves
 abbrev pub replied_at : ℕ → Past
 replied_at moves =
     small_run (record one_logon { sent = replicate 7 (sent_at 0 Plain) ++ sent_at 5 Plain ∷ sent_at moves (ReplyTo small_name 3 7) ∷ []; judged = on_channel 0 ∷ [] })
@@ -448,7 +448,7 @@ kept_running = record { task = client_plan; standing = client_link.On kept_link 
 abbrev pub kept_client : ClientState
 kept_client = record { running = Some kept_running; outcome = None }
 
--- it is in with a key
+-- a client that is in, with a key
 abbrev pub in_client : ClientState
 in_client = record { running = Some (record { task = client_plan; standing = client_link.Idle }); outcome = Some (client_outcome.In [] (1 ∷ []) 0) }
 

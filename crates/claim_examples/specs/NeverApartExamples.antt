@@ -39,7 +39,7 @@ new_secret = replicate 16 0x61
 abbrev pub both_secrets : SecretsState
 both_secrets = record { current = old_secret; next = Some (untried_next new_secret) }
 
--- the same, of which the new one is tried
+-- both secrets, of which the new one is tried
 abbrev pub tried_secrets : SecretsState
 tried_secrets = record { current = old_secret; next = Some (record { secret = new_secret; is_tried = true }) }
 
@@ -186,7 +186,7 @@ two_with hash =
 -- start, where there is no account of it, or where another member has its name in small letters.
 pub record OfBeginnings : Type 0 where
   pub meets : BeginsAlike change_plan 0
-  -- so does the second member, of the second controller
+  -- the second member, of the second controller, begins so too
   pub meets_second : BeginsAlike two_plan 1
   pub meets_backup : BeginsAlike (plan_by backup_account) 0
   pub meets_disabled : BeginsAlike (plan_by disabled_account) 0
@@ -232,13 +232,14 @@ pub record OfNeverApart : Type 0 where
   -- not where a third secret is set, or the old one though only the new one is held
   pub fails_other : MembersAreNeverApart (holds_and_kept both_secrets both_secrets other_secret (set_passed ∷ [])) → ⊥
   pub fails_held : MembersAreNeverApart (holds_and_kept (alone new_secret) both_secrets old_secret []) → ⊥
-  -- nor where a third one is set and kept, and both others are held, of which the new one is tried or isn't
+  -- it isn't met where a third one is set and kept, and both others are held, of which the new one is tried or isn't
   pub fails_holding : MembersAreNeverApart (holds_and_kept both_secrets (alone other_secret) other_secret (set_passed ∷ [])) → ⊥
   pub fails_trying : MembersAreNeverApart (holds_and_kept tried_secrets (alone other_secret) other_secret (set_passed ∷ [])) → ⊥
-  -- nor where one secret was kept before the controller had it, or the old one is kept though the new one was set
+  -- it isn't met where one secret was kept before the controller had it, or the old one is kept though the new one was
+  -- set
   pub fails_confirmed : MembersAreNeverApart (holds_and_kept both_secrets (alone new_secret) old_secret []) → ⊥
   pub fails_kept : MembersAreNeverApart (holds_and_kept both_secrets (alone old_secret) new_secret (set_passed ∷ [])) → ⊥
-  -- nor where both were exchanged: the new one is held and kept alone, and the account has the old one
+  -- it isn't met where both were exchanged: the new one is held and kept alone, and the account has the old one
   pub fails_exchanged : MembersAreNeverApart (holds_and_kept (alone new_secret) (alone new_secret) old_secret (set_passed ∷ [])) → ⊥
   -- nor where the second member's controller has a third one, or where the account is gone
   pub fails_second : MembersAreNeverApart (two_with other_secret) → ⊥

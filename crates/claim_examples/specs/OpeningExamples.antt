@@ -63,7 +63,7 @@ pub record OfOpenings : Type 0 where
 abbrev pub answered_opening : ChannelAccepted
 answered_opening = record small_accepted { at = 4; source = InUnit 0; reply = Some 1 }
 
--- this was accepted, and unit 1 has this mark
+-- that opening was accepted, and unit 1 has that mark
 abbrev pub marked_as : Mark → ChannelAccepted → Past
 marked_as mark one =
     small_run (record blank { sent = sent_at 3 (Opening small_name 2) ∷ sent_at 4 mark ∷ []; accepted = one ∷ [] })

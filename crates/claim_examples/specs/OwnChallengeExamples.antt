@@ -5,7 +5,7 @@ use Rattle.step_notes.specs.Records.{Book, ChallengeSent}
 use Rattle.domain_world.specs.Claims.OwnChallenges.{MessagesHaveOwnChallenges}
 use Rattle.claim_examples.specs.ClaimExamples.{challenge_on, drawn_twice, one_logon, other_member_accepts, run_in, small_links, small_run, taken_twice, two_logons, world_of}
 
--- the same logon, with this one CHALLENGE
+-- a logon with this one CHALLENGE
 abbrev pub with_sent : ChallengeSent → Book
 with_sent sent = record one_logon { challenges = sent ∷ [] }
 

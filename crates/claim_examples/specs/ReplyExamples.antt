@@ -49,7 +49,7 @@ pub record OfReplies : Type 0 where
   -- not where nothing is in the unit, or the call was barred
   pub fails_empty : RepliesCarryTheirJudgement (reply_run [] reply_mark replied_call) → ⊥
   pub fails_barred : RepliesCarryTheirJudgement (reply_run small_reply reply_mark (judged_as judged.Barred replied_call)) → ⊥
-  -- nor where the mark names another number, unit or channel, or the call has its reply in another unit
+  -- it isn't met where the mark names another number, unit or channel, or the call has its reply in another unit
   pub fails_number : RepliesCarryTheirJudgement (reply_run small_reply (ReplyTo small_name 4 7) replied_call) → ⊥
   pub fails_unit : RepliesCarryTheirJudgement (reply_run small_reply (ReplyTo small_name 3 6) replied_call) → ⊥
   pub fails_channel :

@@ -45,7 +45,8 @@ pub record OfAnsweredCalls : Type 0 where
 
 -- ---- replies to openings
 
--- this was accepted, unit 0 was made for that, and unit 1 is the reply to the opening with number 2 in unit 0
+-- that opening was accepted, unit 0 was made for that mark, and unit 1 is the reply to the opening with number 2 in
+-- unit 0
 abbrev pub opened_for : Mark → ChannelAccepted → Past
 opened_for mark one =
     small_run (record blank { sent = sent_at 3 mark ∷ sent_at 4 (Opened small_name 2 0) ∷ []; accepted = one ∷ [] })

@@ -141,7 +141,7 @@ pub record OfSequenceMisses : Type 0 where
 
 -- ---- one turn at a time
 
--- these dials wait
+-- a run after which these ends' dials wait
 abbrev pub run_dials : List EndId → Past
 run_dials ends =
     let run : Past = run_by blank None (small_channel small_seed) (codes "FILE1") (small_channel small_seed) in
@@ -199,7 +199,7 @@ replied_for mark number judged =
     let run : Past = small_run (record blank { sent = sent_at 0 mark ∷ sent_at 0 (ReplyTo small_name number 0) ∷ []; judged = judged }) in
     record run { world = record run.world { state = record run.world.state { bag = empty_unit ∷ empty_unit ∷ [] } } }
 
--- as a call
+-- unit 0 was made as a call with number 3, and unit 1 as the reply to a call of that number in it
 abbrev pub reply_past : ℕ → List Judging → Past
 reply_past number judged = replied_for (Calling small_name 3 0) number judged
 

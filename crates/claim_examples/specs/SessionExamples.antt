@@ -49,7 +49,7 @@ hash_logon hash = record {
   validation = 3;
 }
 
--- and it was granted
+-- a logon that shows this hash, and was granted
 abbrev pub hash_call : List ℕ → Judging
 hash_call hash = record next_call { asked = Interactive (hash_logon hash) }
 
@@ -88,7 +88,7 @@ world_with sessions =
     let w : World = small_world in
     record w { state = record w.state { ends = record w.state.ends { controllers = controller_with sessions ∷ [] } } }
 
--- and judged these calls, the newest first
+-- the run in which these sessions stand at the end, and these calls were judged, the newest first
 abbrev pub run_with : List Session → List Judging → Past
 run_with sessions calls = run_in (world_with sessions) (record blank { judged = calls })
 

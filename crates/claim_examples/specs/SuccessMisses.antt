@@ -30,7 +30,7 @@ use Rattle.claim_examples.specs.CompletenessExamples.{able_client, able_member, 
 
 -- ---- what a client succeeds by
 
--- this was told of her link
+-- that outcome was told of her link
 abbrev pub told_as : Outcome → List OutcomeTold
 told_as what = record (told_of_link 0) { outcome = what } ∷ []
 
@@ -123,7 +123,7 @@ mixed_moves = move.Start 0 ∷ move.Start 1 ∷ move.Connect ∷ move.Connect �
 abbrev pub again_moves : List Move
 again_moves = move.Start 0 ∷ move.Connect ∷ move.Start 2 ∷ move.Connect ∷ []
 
--- so far the bind of ann has been sent
+-- the bind of ann has been sent, and no more
 abbrev pub bind_moves : List Move
 bind_moves = move.Start 0 ∷ move.Connect ∷ []
 

@@ -22,5 +22,5 @@ pub record ClaimsTellApart : Type 0 where
   pub success : OfSuccess
   pub completeness : OfCompleteness
   pub own_members : OfOwnMembers
-  -- and all is so of a world in which no move was made
+  -- each claim is met by a world in which no move was made
   pub at_first : (plan : Plan) → IsClaimed plan []

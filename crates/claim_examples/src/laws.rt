@@ -19,14 +19,14 @@ ghost use Rattle.claim_examples.specs.StrangerRuns.{StrangerPartsThem};
 ghost use Rattle.claim_examples.specs.SuccessMisses.{SuccessTellsApart};
 
 /// No claim is true, or false, of everything that could be written down of a run: each is met by some small run and not
-/// by another. So it is of a seed that comes round, of a clash and of the answer that a member took.
+/// by another. A seed that comes round, a clash and the answer that a member took are told apart so, too.
 #[tactic(auto, using(crate::proofs::ClaimLaws::claims_tell_apart))]
 pub fn claims_tell_apart()
     ensures { ClaimsTellApart }
 {}
 
-/// Nor is the claim on who is let in, or the one on names: each is met by a run in which somebody is let in, and not by
-/// others, each of which differs in one thing.
+/// The claim on who is let in and the one on names are neither true nor false of everything that could be written down
+/// of a run: each is met by a run in which somebody is let in, and not by others, each of which differs in one thing.
 #[tactic(auto, using(crate::proofs::LetInExampleLaws::of_letting_in, crate::proofs::LetInExampleLaws::of_names))]
 pub fn letting_in_tells_apart()
     ensures asked { OfLettingIn }
@@ -47,7 +47,8 @@ pub fn grants_tell_apart()
 {}
 
 /// What is claimed of openings is met by a run in which a controller keeps a channel that it accepted, and not by
-/// others with one part changed. So is what is claimed of their replies, by a run in which one is in the bag.
+/// others with one part changed. What is claimed of their replies is met by a run in which one is in the bag, and not
+/// by others.
 #[tactic(auto, using(crate::proofs::OpeningExampleLaws::of_openings, crate::proofs::OpeningExampleLaws::of_opened_replies))]
 pub fn openings_tell_apart()
     ensures order { OfOpenings }
@@ -80,8 +81,8 @@ pub fn near_misses_tell_apart()
 {}
 
 /// That a member and its controller are never apart is said of small states of a change of its secret, and not of
-/// others: each has another hash, or another secret that is held or kept. So it is of what the claim asks of the start,
-/// and of what a stranger did. What is proved of all runs says it of one in which the change begins.
+/// others: each has another hash, or another secret that is held or kept. What the claim asks of the start, and of what
+/// a stranger did, is met and missed so, too. What is proved of all runs says it of one in which the change begins.
 #[tactic(auto, using(crate::proofs::NeverApartExampleLaws::of_beginnings, crate::proofs::NeverApartExampleLaws::of_never_apart, crate::proofs::NeverApartExampleLaws::of_proved_run))]
 pub fn members_tell_apart()
     ensures premise { OfBeginnings }
@@ -90,7 +91,8 @@ pub fn members_tell_apart()
 {}
 
 /// The claim on sequences is met by a run whose seeds are written by the standard's ciphers, and not by others, each of
-/// which differs from one that meets it in one thing. So it is of its part on members alone, which holds of every run.
+/// which differs from one that meets it in one thing. Its part on members alone, which holds of every run, is met and
+/// missed so, too.
 #[tactic(auto, using(crate::proofs::SequenceMissLaws::sequences_apart))]
 pub fn sequences_tell_apart()
     ensures { SequencesTellApart }

@@ -15,7 +15,7 @@ noted changes (Some change) table = with_changes-append changes (change ∷ []) 
 
 pub ruleset noting = (noted)
 
--- and so is a hash
+-- a hash that is noted is set in the table that the earlier changes leave
 pub hash_noted : (changes : List TableChange) (change : TableChange) (place : ℕ) (hash : List ℕ) (table : AccountTable) → change ≡ record { place = place; change = Hash hash } →
     with_changes (changes ++ change ∷ []) table ≡ with_hash place hash (with_changes changes table)
 hash_noted changes change place hash table is =

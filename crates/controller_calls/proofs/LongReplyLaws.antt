@@ -216,7 +216,7 @@ frames_long (suc most) call context whole size first rest large =
           (omega (arith, length-append (written (fragment (response_of call context whole) first true rest)) [], fragment_bytes call context first true whole rest))
     ]
 
--- so a stub of that many bytes is sent at once
+-- a stub of that many bytes is sent at once
 pub bytes_long : (call context limit : ℕ) (stub : List ℕ) → 1432 ≤ limit → length stub ≤ stub_limit → length (bytes_of_call (response_of call context stub) limit) ≤ send_limit
 unfolding cut_of
 bytes_long call context limit stub least few =

@@ -58,7 +58,7 @@ module _ {T : Type 0} (read : Action → List T) (none : (text : List ℕ) → r
   none_kept (action.Told link outcome ∷ kept) are = absurd are.0
   none_kept (action.Judged how ∷ kept) are = absurd are.0
 
-  -- so behind what stood before it is read off the judgement and the reply
+  -- what is sent for a call is read off the judgement and the reply, behind what stood before it
   pub read_behind : (old kept : List Action) (how : Judged) (link : ℕ) (bytes : List ℕ) → AllByRecursion IsKeep kept →
       flat_map read (old ++ (kept ++ action.Judged how ∷ action.Send link bytes ∷ []))
       ≡ flat_map read old ++ flat_map read (action.Judged how ∷ action.Send link bytes ∷ [])

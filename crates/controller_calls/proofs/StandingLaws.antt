@@ -55,7 +55,7 @@ replaces : (link : LinkSeal) (secure : Bool) (computer key : List ℕ) (s : Chan
 replaces link false computer key s map same new = of_found link.opening _ None (taken_alike computer link.computer s.kept map same)
 replaces link true computer key s map same new = of_found link.opening _ _ (put_alike computer link.computer _ s.kept same) ∙ new
 
--- and leaves those of others
+-- a channel that opens leaves a link of another computer's channel standing as it was
 others : (link : LinkSeal) (secure : Bool) (computer key : List ℕ) (s : ChannelSeals) → same_name computer link.computer ≡ false →
     stands link (after_opening secure computer key s) ≡ stands link s
 others link false computer key s differ = of_found link.opening _ _ (taken_others same_name computer link.computer s.kept IsSameness-same_name differ)

@@ -21,6 +21,6 @@ FewContexts (Request hint context opnum stub) = Unit {0}
 FewContexts (Response hint context stub) = Unit {0}
 FewContexts (Fault hint context status) = Unit {0}
 
--- So the answer to each bind with a trailer fits into a unit.
+-- The answer to a bind with a trailer fits into a unit, since the bind has few contexts.
 pub record SealedBindsAreShort : Type 0 where
   pub short : (bytes : List ℕ) (unit : RpcUnit) (trailer : Trailer) → unit_of bytes ≡ Ok unit → unit.trailer ≡ Some trailer → FewContexts unit.body

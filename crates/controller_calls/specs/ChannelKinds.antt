@@ -18,13 +18,13 @@ use Rattle.controller_calls.specs.declared.state.Work.{Work}
 
 -- ---- what a call that opens comes to, by the work once its computer's pair was taken out, and by the work afterwards
 
--- it is refused with a status that isn't 0, and puts no channel
+-- an opening is refused with a status that isn't 0, and puts no channel
 pub record IsDenied (line : Line) (c : AuthCall) (taken later : Work) : Type 0 where
   pub status : ℕ
   pub fails : status ≢ 0
   pub denies : later ≡ deny_channel taken line c.flags status
 
--- it is accepted, and the channel that its computer has then is of the type that the call names
+-- an opening is accepted, and the channel that its computer has then is of the type that the call names
 pub record IsAccepted (line : Line) (c : AuthCall) (taken later : Work) : Type 0 where
   pub channel : SecureChannelState
   pub opens : later ≡ open_channel true channel line c taken

@@ -34,7 +34,7 @@ line_without number (Some line) = line_unless (line.link == number) line
 abbrev pub call_without : ℕ → ForwardedState → ForwardedState
 call_without number f = record f { line = line_without number f.line }
 
--- as it is handed on
+-- what is kept of a logon as it is handed on
 abbrev pub forwarded_call : Line → ℕ → List ℕ → List ℕ → ForwardedState
 forwarded_call line validation key credential =
     record { line = Some line; validation = validation; key = key; credential = credential }

@@ -95,8 +95,8 @@ pub record CallPlace : Type 0 where
 abbrev pub Handing : Type 0
 Handing = Desk × Option HandOn
 
--- the arguments: the trust that is asked, the computer, the channel's key, and the credential that is returned
-abbrev pub pass_or_hand : Option ℕ → Asked → CallPlace → List ℕ → List ℕ → List ℕ → Desk → Handing
+-- a call that passes: it is judged here, or the controller of that trust is asked, with the credential that is returned
+abbrev pub pass_or_hand : (trust : Option ℕ) → Asked → CallPlace → (computer key credential : List ℕ) → Desk → Handing
 pass_or_hand None what at computer key credential d = (pass_asked what at.name at.now at.line computer key credential d, None)
 pass_or_hand (Some trust) what at computer key credential d = (d, hand_on what trust at.line key credential)
 

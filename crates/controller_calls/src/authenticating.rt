@@ -57,8 +57,9 @@ pub fn answer_authenticate(
     Ok(work)
 }
 
-/// The same at a controller that can seal: it grants secure RPC too, and a channel with it seals. What it keeps to seal
-/// comes back: an end of the new channel, in place of one of the computer's channel of before.
+/// Answers NetrServerAuthenticate2 at a controller that can seal: it grants secure RPC too, and a channel with it
+/// seals. What it keeps to seal comes back: an end of the new channel, in place of one of the computer's channel of
+/// before.
 pub fn answer_secure(
     alloc: Global,
     table: &Table,
@@ -78,7 +79,7 @@ pub fn answer_secure(
     answer_granting(alloc, table, changes, SECURE_FLAGS, line, call, seals, work)
 }
 
-/// The same of an end that supports these flags.
+/// Answers NetrServerAuthenticate2 at an end that supports these flags.
 #[tactic(auto, using(crate::proofs::HashLaws::hashing))]
 fn answer_granting(
     alloc: Global,

@@ -21,11 +21,11 @@ pub enum ControllerCall {
 pub enum JudgedCall {
     /// NetrLogonSamLogon with a network logon, at level 2 (MS-NRPC 3.5.4.5.3).
     Network(LogonCall),
-    /// The same with an interactive logon, at level 1.
+    /// NetrLogonSamLogon with an interactive logon, at level 1 (MS-NRPC 3.5.4.5.3).
     Interactive(InteractiveCall),
     /// NetrLogonSamLogoff of an interactive logon, at level 1 (MS-NRPC 3.5.4.5.4).
     Logoff(InteractiveCall),
-    /// The same of a network logon, at level 2.
+    /// NetrLogonSamLogoff of a network logon, at level 2 (MS-NRPC 3.5.4.5.4).
     NetworkLogoff(LogoffCall),
     /// NetrServerPasswordSet (MS-NRPC 3.5.4.4.6).
     Set(SetCall),

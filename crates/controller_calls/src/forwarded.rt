@@ -38,7 +38,7 @@ impl Model for ForwardedCall {
 }
 
 impl ForwardedCall {
-    /// The same logon again. It takes no memory.
+    /// A copy of the logon. It takes no memory.
     pub fn copy(&self) -> ForwardedCall
         ensures { result ≡ self.now }
     {

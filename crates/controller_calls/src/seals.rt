@@ -163,7 +163,7 @@ pub fn belongs(link: &Option<LinkSeal>, call: &JudgedCall, seals: &ChannelSeals)
     }
 }
 
-/// The same by the computer that is named.
+/// Whether a call that came on that link came on one of the channel of the computer that it names, if it names one.
 fn belongs_named(link: &Option<LinkSeal>, named: &Option<Units>, seals: &ChannelSeals) -> bool
     ensures { result ≡ belongs link.now named.now seals.now }
 {

@@ -56,8 +56,8 @@ pub fn call_unsent(
     }
 }
 
-/// The same of a call that came on a link of its computer's channel, or didn't: one that didn't is refused, and the
-/// channel stays as it was.
+/// Judges a call that came on a link of its computer's channel, or didn't: one that didn't is refused, and the channel
+/// stays as it was.
 pub fn owned_unsent(
     alloc: Global,
     is_own: bool,

@@ -25,6 +25,7 @@ use Rattle.rpc_units.proofs.WritingLaws.{IsUnit-written, length_written, unit_of
 use Rattle.end_links.specs.Sending.{response_of}
 use Rattle.domain_controller.specs.ReadBack.{heard_reply}
 use Rattle.domain_controller.proofs.NumberedLaws.{reply_alike}
+use Rattle.logon_stubs.specs.Ranges.{short_reply_limit}
 
 -- ---- bytes are those of one whole unit alone
 
@@ -193,14 +194,14 @@ module _ (call context : ℕ) (stub : List ℕ) where
   unfolding zeros
   body_len bytes = omega arith
 
-  part_loose : (first last : Bool) (bytes : List ℕ) → call < 2 ^ 32 → context < 2 ^ 16 → length stub ≤ 28015 → length bytes ≤ 28015 → IsLoose (part first last bytes)
+  part_loose : (first last : Bool) (bytes : List ℕ) → call < 2 ^ 32 → context < 2 ^ 16 → length stub ≤ short_reply_limit → length bytes ≤ short_reply_limit → IsLoose (part first last bytes)
   part_loose first last bytes number small few short = (
     record { pieces = tt; counts = tt; value = tt },
     record { call = number; body = (omega (arith, few), small); trailer = tt },
     omega (arith, length_written (part first last bytes), length-append (written_body (Response (length stub) context bytes)) [], body_len bytes, short),
   )
 
-  parts_loose : (most size : ℕ) (first : Bool) (rest : List ℕ) → call < 2 ^ 32 → context < 2 ^ 16 → length stub ≤ 28015 → length rest ≤ 28015 → AllByRecursion IsLoose (parts most size first rest)
+  parts_loose : (most size : ℕ) (first : Bool) (rest : List ℕ) → call < 2 ^ 32 → context < 2 ^ 16 → length stub ≤ short_reply_limit → length rest ≤ short_reply_limit → AllByRecursion IsLoose (parts most size first rest)
   parts_loose zero size first rest number small few short = (part_loose first true rest number small few short, tt)
   parts_loose (suc most) size first rest number small few short =
       elim (cases_lt size (length rest)) [
@@ -213,7 +214,7 @@ module _ (call context : ℕ) (stub : List ℕ) where
       ]
 
   -- the bytes are those of the reply alone
-  below_alone : (limit : ℕ) (frames : List RpcUnit) (unit : RpcUnit) → call < 2 ^ 32 → context < 2 ^ 16 → length stub ≤ 28015 →
+  below_alone : (limit : ℕ) (frames : List RpcUnit) (unit : RpcUnit) → call < 2 ^ 32 → context < 2 ^ 16 → length stub ≤ short_reply_limit →
       IsHeard (bytes_of_call (response_of call context stub) limit) frames unit → unit ≡ response_of call context stub
   unfolding cut_of
   below_alone limit frames unit number small few heard =
@@ -226,7 +227,7 @@ module _ (call context : ℕ) (stub : List ℕ) where
         joined = AddsTo-IsJoined fs (response_of call context stub) (are_joined (length stub) (stub_size limit)) short;
       })
 
-pub reply_alone : (call context limit : ℕ) (stub : List ℕ) (frames : List RpcUnit) (unit : RpcUnit) → length stub ≤ 28015 →
+pub reply_alone : (call context limit : ℕ) (stub : List ℕ) (frames : List RpcUnit) (unit : RpcUnit) → length stub ≤ short_reply_limit →
     IsHeard (bytes_of_call (response_of call context stub) limit) frames unit → unit ≡ heard_reply call context stub
 reply_alone call context limit stub frames unit few heard =
     below_alone (call % 2 ^ 32) (context % 2 ^ 16) stub limit frames unit (omega arith) (omega arith) few

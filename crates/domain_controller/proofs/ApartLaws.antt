@@ -113,7 +113,7 @@ hears_less (dialling.On number said) link piece turning is n on = hears_if (numb
 
 -- ---- links that close and open
 
--- and no link has that number
+-- links are apart, and the link of the turn hasn't that number
 record IsShut (number : ℕ) (parts : Parts) : Type 0 where
   apart : Apart parts
   off : is_on number parts.dialling ≡ false

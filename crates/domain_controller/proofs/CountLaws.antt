@@ -102,7 +102,7 @@ elsewhere : (table : AccountTable) (name : List ℕ) (now : ℕ) (info : Network
 elsewhere table name now info validation trust serves is =
     ap (λ (served : Bool). (judge_level served table name info now).table) serves ∙ trust_judged table name now info trust is
 
--- so a logon for a trust leaves them as it would where nobody is asked
+-- a logon for a trust that is judged here leaves the accounts as they are
 for_trust : (c : JudgedCall) (name : List ℕ) (now : ℕ) (line : Line) (d : TrustDesk) → IsForTrust c d → (answer_judged c name now line (base_desk d)).table ≡ d.table
 for_trust c name now line d goes =
     (does_what_passes.passed c name now line (base_desk d) goes.next).table

@@ -12,10 +12,11 @@ use Rattle.end_links.proofs.WholeLaws.{request_whole}
 use Rattle.channel_client.specs.Machine.{logon_call}
 use Rattle.channel_client.specs.Whole.{InRangeCaller, InRangeLogon}
 use Rattle.channel_client.specs.declared.caller.Caller.{Caller}
-use Rattle.domain_controller.specs.Forwarding.{fits_on, logon_bytes}
+use Rattle.domain_controller.specs.Forwarding.{fits_on, logon_bytes, logon_limit}
 use Rattle.domain_controller.specs.TrustWhole.{WhatFitsIsWhole}
+use Rattle.end_links.specs.Whole.{whole_limit}
 
-few_bytes : (count : ℕ) → nat_le count 57000 ≡ true → count ≤ 57000
+few_bytes : (count : ℕ) → nat_le count logon_limit ≡ true → count ≤ logon_limit
 few_bytes count is = grind (arith, nat_tests)
 
 pub logon_fits : (info : NetworkInfo) → fits_on info ≡ true → InRangeNetworkInfo info → InRangeLogon info
@@ -43,7 +44,7 @@ module _ (caller : Caller) (channel : SecureChannelState) (timestamp : ℕ) (inf
     validation = omega arith;
   }
 
-  short : length (written_call (logon_call caller channel timestamp info)) ≤ 58209
+  short : length (written_call (logon_call caller channel timestamp info)) ≤ whole_limit
   short =
       let content = written_call-content (logon_call caller channel timestamp info) writes range_of in
       omega (arith, content, has.computer, is.few)

@@ -67,7 +67,7 @@ sealing_settles (Ok actions) sealing s inner new what some is settles = λ made.
     omega (arith, settles made, same, ap asked_in some)
 sealing_settles (Err why) sealing s inner new what some is settles = tt
 
--- and stops so
+-- a controller that can seal is stopped exactly where it is without what it keeps to seal
 pub sealing_stopped : (result : Result (List Action) StepRefused) (s inner : State) → inner ≡ without_sealing s →
     ((result ≡ Err Stopped) ↔ IsTrue (is_stopped inner)) → ((result ≡ Err Stopped) ↔ IsTrue (is_stopped s))
 sealing_stopped result s inner is stops = subst (λ (one : State). (result ≡ Err Stopped) ↔ IsTrue (is_stopped one)) is stops

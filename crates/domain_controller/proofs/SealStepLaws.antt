@@ -59,7 +59,7 @@ pub units_refused : (why : StepRefused) (part : ServedPart SealDesk Talk) (rest 
 units_refused why part rest left number others parts answer =
     AnswersBy-refused why part (λ done more. Ok (record { value = seal_put_open (link_with rest done.1) number done.0 others parts; left = more })) left (λ done more. IsRest-refl more) answer
 
--- and then no memory was found to put the link back
+-- a piece was served, and no memory was found to put the link back
 pub units_memory : (part : ServedPart SealDesk Talk) (d : SealDesk) (talk : Option Talk) (rest : List ℕ) (left : List (List ℕ)) (number : ℕ) (others : LinkMap) (parts : Parts) →
     part ≡ Ok (record { value = (d, talk); left = left }) → AnswersBy (Err Memory) (seal_after_units part rest number others parts) left
 units_memory part d talk rest left number others parts is =

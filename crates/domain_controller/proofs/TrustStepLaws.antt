@@ -62,7 +62,7 @@ pub units_refused : (why : StepRefused) (part : ServedPart TrustDesk Talk) (rest
 units_refused why part rest left number others parts answer =
     AnswersBy-refused why part (λ done more. trust_part done.0.table (put_open (link_with rest done.1) number (with_served done.0.work others parts)) more) left (λ done more. IsRest-refl more) answer
 
--- and then no memory was found to put the link back
+-- a piece was served, and no memory was found to put the link back
 pub units_memory : (part : ServedPart TrustDesk Talk) (d : TrustDesk) (talk : Option Talk) (rest : List ℕ) (left : List (List ℕ)) (number : ℕ) (others : LinkMap) (parts : Parts) →
     part ≡ Ok (record { value = (d, talk); left = left }) → AnswersBy (Err Memory) (after_units part rest number others parts) left
 units_memory part d talk rest left number others parts is =
@@ -167,7 +167,7 @@ start_refused why entry trust now parts turning left rest at is answer =
     (AnswersBy-refused why (next_dial now entry.address turning left) (λ later more. next_part (after_turned trust (later, None) parts) more) rest
     (λ later more. IsRest-refl more) answer)
 
--- and then no memory was found to put the channel back
+-- a turn started, and no memory was found to put the channel back
 pub start_memory : (entry : Trust) (trust now : ℕ) (parts : Parts) (turning later : Turning) (left rest : List (List ℕ)) →
     slice_get parts.work.queues.requesters trust ≡ Some turning.channel → turning ≡ turning_of turning.channel parts →
     next_dial now entry.address turning left ≡ Ok (record { value = later; left = rest }) →

@@ -32,7 +32,7 @@ use Rattle.logon_stubs.specs.declared.info.NetworkInfo.{NetworkInfo}
 use Rattle.logon_stubs.specs.declared.info.SamInfo.{SamInfo}
 use Rattle.logon_stubs.specs.declared.info.Verdict.{Verdict}
 use Rattle.logon_stubs.specs.declared.info.Verdict.TheVariants.{Granted, Status}
-use Rattle.logon_stubs.specs.Ranges.{HasShortTexts, InRangeSamInfo, IsBlock}
+use Rattle.logon_stubs.specs.Ranges.{HasShortTexts, InRangeSamInfo, IsBlock, short_reply_limit}
 use Rattle.logon_stubs.specs.Writing.{CanWriteSamInfo, put_auth_reply, put_authenticator, put_challenge_reply, put_logoff_reply, put_logon_reply, written_reply}
 use Rattle.logon_stubs.proofs.AnswerLaws.{answers_are_long}
 use Rattle.logon_stubs.proofs.WrittenLaws.{AreBytes-written_reply, written_reply-few}
@@ -89,7 +89,7 @@ reply_heard call context limit stub least most few =
     subst (λ (bytes : List ℕ). IsHeard bytes (cut_of (heard_reply call context stub) limit) (heard_reply call context stub)) (reply_alike call context limit stub)
     (call_heard (heard_reply call context stub) limit (reply_can call context limit stub least most few) few)
 
-pub reply_whole : (call context limit : ℕ) (stub : List ℕ) → 1432 ≤ limit → limit ≤ 5840 → length stub ≤ 28015 → AreBytes stub →
+pub reply_whole : (call context limit : ℕ) (stub : List ℕ) → 1432 ≤ limit → limit ≤ 5840 → length stub ≤ short_reply_limit → AreBytes stub →
     IsWholeSend (bytes_of_call (response_of call context stub) limit)
 reply_whole call context limit stub least most few are = record {
   are = call_bytes (response_of call context stub) limit (are, tt);
@@ -154,7 +154,7 @@ behind_bytes level status old are =
 
 -- a stub has room in one piece of a link, and is bytes
 pub record IsRoomy (stub : List ℕ) : Type 0 where
-  pub few : length stub ≤ 28015
+  pub few : length stub ≤ short_reply_limit
   pub are : AreBytes stub
 
 -- a credential of 8 bytes, where one is returned
@@ -168,7 +168,7 @@ bare_few None level status eight =
     let first : Written = put pointer false nothing in
     let one : length first.bytes ≤ 8 = pointer_len false nothing in
     let rest : length (put long status (put byte 1 (put pointer false (put short level first)))).bytes ≤ length first.bytes + 21 = behind_len level 1 status first in
-    let few : length (put long status (put byte 1 (put pointer false (put short level first)))).bytes ≤ 28015 = omega (arith, one, rest) in
+    let few : length (put long status (put byte 1 (put pointer false (put short level first)))).bytes ≤ short_reply_limit = omega (arith, one, rest) in
     record { few = few; are = (behind_bytes level status first (pointer_bytes false nothing none)).are }
 bare_few (Some given) level status eight =
     let first : Written = put pointer true nothing in
@@ -178,7 +178,7 @@ bare_few (Some given) level status eight =
     let two : length second.bytes ≡ length first.bytes + length given.credential = length-append first.bytes given.credential in
     let three : length third.bytes ≤ length second.bytes + 8 = long_len given.timestamp second in
     let rest : length (put long status (put byte 1 (put pointer false (put short level third)))).bytes ≤ length third.bytes + 21 = behind_len level 1 status third in
-    let few : length (put long status (put byte 1 (put pointer false (put short level third)))).bytes ≤ 28015 = omega (arith, one, two, three, rest, eight.0) in
+    let few : length (put long status (put byte 1 (put pointer false (put short level third)))).bytes ≤ short_reply_limit = omega (arith, one, two, three, rest, eight.0) in
     record {
       few = few;
       are = (behind_bytes level status third
@@ -191,7 +191,7 @@ challenge_few server status eight =
     let first : Written = put (raw 8) server nothing in
     let one : length first.bytes ≡ 8 = eight.0 in
     let rest : length (put long status first).bytes ≤ length first.bytes + 8 = long_len status first in
-    let few : length (put long status first).bytes ≤ 28015 = omega (arith, one, rest) in
+    let few : length (put long status first).bytes ≤ short_reply_limit = omega (arith, one, rest) in
     record { few = few; are = (long_bytes status first (both none (is_bytes server eight.1))).are }
 
 opened_bytes : (r : AuthReply) → AreBytes r.credential → AreBytes (written_reply (reply.Authenticate r))
@@ -361,7 +361,7 @@ level_range true table name info now range = routed_range (route_in table info.d
 pub judged_table : (table : AccountTable) (name : List ℕ) (now : ℕ) (info : NetworkInfo) (validation : ℕ) → InRangeTable table → InRangeTable (judge_info table name now info validation).table
 judged_table table name now info validation range = level_range (serves_level validation) table name info now range
 
--- so is a table whose hash was set
+-- a table is in range whose hash was set
 pub hash_table : (place : ℕ) (hash : List ℕ) (table : AccountTable) → InRangeTable table → InRangeTable (with_hash place hash table)
 unfolding with_hash
 hash_table place hash table range = record {
@@ -400,7 +400,7 @@ logoff_few None status eight =
     let first : Written = put pointer false nothing in
     let one : length first.bytes ≤ 8 = pointer_len false nothing in
     let rest : length (put long status first).bytes ≤ length first.bytes + 8 = long_len status first in
-    let few : length (put long status first).bytes ≤ 28015 = omega (arith, one, rest) in
+    let few : length (put long status first).bytes ≤ short_reply_limit = omega (arith, one, rest) in
     record { few = few; are = (long_bytes status first (pointer_bytes false nothing none)).are }
 logoff_few (Some given) status eight =
     let first : Written = put pointer true nothing in
@@ -410,7 +410,7 @@ logoff_few (Some given) status eight =
     let two : length second.bytes ≡ length first.bytes + length given.credential = length-append first.bytes given.credential in
     let three : length third.bytes ≤ length second.bytes + 8 = long_len given.timestamp second in
     let rest : length (put long status third).bytes ≤ length third.bytes + 8 = long_len status third in
-    let few : length (put long status third).bytes ≤ 28015 = omega (arith, one, two, three, rest, eight.0) in
+    let few : length (put long status third).bytes ≤ short_reply_limit = omega (arith, one, two, three, rest, eight.0) in
     record {
       few = few;
       are = (long_bytes status third

@@ -14,6 +14,7 @@ use Rattle.logon_stubs.specs.declared.info.Verdict.{Verdict}
 use Rattle.logon_stubs.specs.declared.info.Verdict.TheVariants.{Status}
 use Rattle.logon_stubs.specs.Status.{no_logon_servers}
 use Rattle.end_links.specs.Serving.{Server, ServedPart}
+use Rattle.end_links.specs.Whole.{content_limit}
 use Rattle.channel_client.specs.declared.answers.AskRefused.{AskRefused}
 use Rattle.channel_client.specs.Machine.{ask_of}
 use Rattle.channel_client.specs.State.{Requester}
@@ -73,7 +74,7 @@ logon_bytes info =
 -- has more: each of the five is a field of a message of at most 5,840 bytes, and as fields may lie over one another,
 -- they have 29,200 in all.)
 abbrev pub logon_limit : ℕ
-logon_limit = 57000
+logon_limit = content_limit
 
 abbrev pub fits_on : NetworkInfo → Bool
 fits_on info = nat_le (logon_bytes info) logon_limit

@@ -1,6 +1,7 @@
 -- The most bytes that a controller holds between its steps (this project's own choice).
 use Rattle.std.specs.Prelude.{ℕ, ◌+◌, ◌*◌}
-use Rattle.end_links.specs.Links.{open_limit, rest_limit}
+use Rattle.end_links.specs.Links.{open_limit}
+use Rattle.rpc_units.specs.Stream.{rest_limit}
 
 -- A link holds the rest of its stream, and the stub bytes of its open call or reply.
 abbrev pub link_limit : ℕ

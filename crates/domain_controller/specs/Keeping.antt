@@ -33,7 +33,7 @@ pub record KeepsSecrets : Type 0 where
   pub text : (s : State) (what : Event) (now : ℕ) (left : List (List ℕ)) →
       text_after (secrets_of s.table.accounts) (actions_of (step_of s what now left))
       ≡ secrets_of (step_of s what now left).state.table.accounts
-  -- so it is at a controller that asks others
+  -- a controller that asks others keeps its secrets so
   pub trusting : (s : State) (what : Event) (now : ℕ) (left : List (List ℕ)) →
       text_after (secrets_of s.table.accounts) (actions_of (trust_step_of s what now left))
       ≡ secrets_of (trust_step_of s what now left).state.table.accounts

@@ -77,7 +77,7 @@ IsAckTo unit bytes =
 abbrev pub IsNakTo : RpcUnit → List ℕ → Type 0
 IsNakTo unit bytes = bytes ≡ written (nak_of unit.call)
 
--- they are a fault, or the frames of a response, with the unit's call number and context
+-- the bytes are a fault, or the frames of a response, with the unit's call number and context
 abbrev pub IsFaultTo : RpcUnit → List ℕ → Type 0
 IsFaultTo unit bytes = (status : ℕ) × (bytes ≡ written (fault_of unit.call (context_of unit.body) status))
 
@@ -156,12 +156,12 @@ abbrev pub calls_on : Option (LinkState Talk) → ℕ → List ℕ → List Cont
 calls_on None number piece = []
 calls_on (Some link) number piece = calls_heard number (cut_stream (link.rest ++ piece)).units link.talk
 
--- those of an event
+-- the calls that are heard of an event, on accepted links
 abbrev pub calls_of : Event → LinkMap → List ControllerCall
 calls_of (event.Bytes number piece) links = calls_on (lookup same_number number links) number piece
 calls_of _ links = []
 
--- those of an event where a turn is at that point: none are heard on its link
+-- the calls of an event where a turn is at that point: none are heard on its link
 abbrev pub calls_if : (is_turn_link : Bool) (calls : List ControllerCall) → List ControllerCall
 calls_if false calls = calls
 calls_if true calls = []

@@ -15,6 +15,7 @@ use Rattle.logon_stubs.specs.declared.info.NetworkInfo.{NetworkInfo}
 use Rattle.logon_stubs.specs.declared.info.Verdict.{Verdict}
 use Rattle.logon_stubs.specs.Calls.{opnum_of_reply, reply_of}
 use Rattle.logon_stubs.specs.Writing.{written_reply}
+use Rattle.logon_stubs.specs.Ranges.{short_reply_limit}
 use Rattle.interactive_logon.specs.declared.calls.InteractiveInfo.{InteractiveInfo}
 use Rattle.secret_change.specs.declared.calls.SetReply.{SetReply}
 use Rattle.secret_change.specs.Calls.{set_reply_of, written_set_reply}
@@ -52,12 +53,12 @@ opened_reply credential offered = reply.Authenticate (record { credential = cred
 -- a reply is read as it was written, from at most 28,015 bytes
 pub record IsReadBack (answer : Reply) : Type 0 where
   pub read : reply_of (opnum_of_reply answer) (written_reply answer) ≡ Ok answer
-  pub few : length (written_reply answer) ≤ 28015
+  pub few : length (written_reply answer) ≤ short_reply_limit
   pub bytes : AreBytes (written_reply answer)
 
 pub record IsSetReadBack (answer : SetReply) : Type 0 where
   pub read : set_reply_of (written_set_reply answer) ≡ Ok answer
-  pub few : length (written_set_reply answer) ≤ 28015
+  pub few : length (written_set_reply answer) ≤ short_reply_limit
   pub bytes : AreBytes (written_set_reply answer)
 
 -- the unit as which a reply is heard: its bytes have its call number and its context modulo their widths
@@ -71,9 +72,9 @@ pub record RepliesAreReadBack : Type 0 where
   pub can : (call context limit : ℕ) (stub : List ℕ) → 1432 ≤ limit → limit ≤ 5840 → length stub ≤ 65536 →
       CanBeSent (heard_reply call context stub) limit
   -- bytes of its frames that are those of one whole unit, of whatever size, are those of that unit alone
-  pub alone : (call context limit : ℕ) (stub : List ℕ) (frames : List RpcUnit) (unit : RpcUnit) → length stub ≤ 28015 →
+  pub alone : (call context limit : ℕ) (stub : List ℕ) (frames : List RpcUnit) (unit : RpcUnit) → length stub ≤ short_reply_limit →
       IsHeard (bytes_of_call (response_of call context stub) limit) frames unit → unit ≡ heard_reply call context stub
-  -- so a reply that is read as it was written is read from any whole unit that its bytes are
+  -- a reply that is read as it was written is read from any whole unit that its bytes are
   pub reads : (call context limit : ℕ) (answer : Reply) (frames : List RpcUnit) (unit : RpcUnit) → IsReadBack answer →
       IsHeard (bytes_of_call (response_of call context (written_reply answer)) limit) frames unit →
       reply_of (opnum_of_reply answer) (stub_of unit.body) ≡ Ok answer

@@ -115,7 +115,8 @@ forward_sealed true handed reply line w s talk =
 
 -- ---- a call on a secure channel that came on a sealed link
 
--- its reply, sealed; or the logon handed on. (One of both is there: the last line says nothing.)
+-- the part of a call that was judged: its reply is sealed, or the logon is handed on. (One of both is there: the last
+-- line says nothing.)
 abbrev pub after_unsent : Option (List ℕ) → Option HandOn → ReplySeal → Line → TrustWork → Sealing → Talk → SealedPart
 after_unsent (Some stub) handed reply line w s talk = reply_sealed reply line stub w s talk
 after_unsent None (Some handed) reply line w s talk = forward_sealed (fits_on handed.info) handed reply line w s talk

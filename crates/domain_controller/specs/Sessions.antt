@@ -50,7 +50,7 @@ sessions_by c how sessions = sessions_if (is_done how) c sessions
 
 -- ---- behind the calls of a step
 
--- those on a secure channel, each of which is told how it was judged
+-- a call on a secure channel, of which it is told how it was judged; no other call is judged
 abbrev pub judged_in : ControllerCall → List JudgedCall
 judged_in (call.Challenge c) = []
 judged_in (call.Authenticate c) = []
@@ -70,7 +70,8 @@ told_in (action.Told link outcome) = []
 abbrev pub told_among : List Action → List Judged
 told_among actions = flat_map told_in actions
 
--- those that are of calls which were heard: that a logon was answered which another controller was asked for is of none
+-- a judgement, where it is of a call that was heard: that a logon was answered which another controller was asked for
+-- is of none
 abbrev pub judgement_if : (of_call : Bool) → Judged → List Judged
 judgement_if false how = []
 judgement_if true how = how ∷ []
@@ -112,7 +113,7 @@ pub record SessionsFollowCalls : Type 0 where
       (step_of s what now left).state.running
   pub once : (s : State) (running : Running) (what : Event) (now : ℕ) (left : List (List ℕ)) → s.running ≡ Some running →
       AreJudgedOnce (judged_among (calls_of what running.links)) (told_among (actions_of (step_of s what now left))) (step_of s what now left).state.running
-  -- so it is at a controller that asks others, by how calls were judged that were heard in the step
+  -- the sessions of a controller that asks others follow how calls were judged that were heard in the step
   pub trusting_step : (s : State) (running : Running) (what : Event) (now : ℕ) (left : List (List ℕ)) → s.running ≡ Some running →
       HasSessions
       (sessions_from (judged_among (trust_calls_of what running.links s.trusting.dialling)) (calls_told (actions_of (trust_step_of s what now left)))
@@ -135,7 +136,7 @@ pub record HashesStayUnset : Type 0 where
   pub unset : (s : State) (running : Running) (what : Event) (now : ℕ) (left : List (List ℕ)) → s.running ≡ Some running →
       AllByRecursion (λ (c : ControllerCall). asks_set c ≡ false) (calls_of what running.links) →
       DifferInCounts s.table (step_of s what now left).state.table
-  -- so it is at a controller that asks others, where no call is heard on the link of the turn
+  -- a controller that asks others changes counts alone, where no call is heard on the link of the turn
   pub trusting : (s : State) (running : Running) (what : Event) (now : ℕ) (left : List (List ℕ)) → s.running ≡ Some running →
       AllByRecursion (λ (c : ControllerCall). asks_set c ≡ false) (trust_calls_of what running.links s.trusting.dialling) →
       DifferInCounts s.table (trust_step_of s what now left).state.table

@@ -58,7 +58,7 @@ reply_on None answer = []
 reply_on (Some line) answer =
     action.Send line.link (bytes_of_call (response_of line.call line.context (written_reply answer)) line.limit) ∷ []
 
--- it is told how it was answered, and its reply stands right behind that
+-- how a logon was answered is told, and its reply stands right behind that
 abbrev pub answer_of : Option (Verdict × ForwardedState) → List Action
 answer_of None = []
 answer_of (Some of) =

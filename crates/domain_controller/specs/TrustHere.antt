@@ -19,8 +19,8 @@ use Rattle.domain_controller.specs.declared.trusting.Trusting.{Trusting}
 
 -- ---- what is told of a call that comes for a trusted domain
 
--- It is handed on; or nobody can be asked for it, and it passes with NO_LOGON_SERVERS, which no call comes to that is
--- judged here.
+-- whether a call was for a trusted domain, by how it was judged: it is handed on; or nobody can be asked for it, and it
+-- passes with NO_LOGON_SERVERS, which no call comes to that is judged here
 abbrev pub is_for_trust : Judged → Bool
 is_for_trust (judged.Passed status) = status == no_logon_servers
 is_for_trust judged.Forwarded = true
@@ -58,8 +58,9 @@ StepsHere s what now left =
     ⊎ ((1 ≤ told_trusts (actions_of (trust_step_of s what now left)))
     ⊎ (trust_step_of s what now left ≡ spent_step left (trust_halted s)))
 
--- So it is at first of each controller that trusts other domains. A step that is that of a controller which trusts no
--- domain leaves what is kept of those that are asked.
+-- What `StepsHere` says holds of each step of a controller that asks nobody at that moment, as each that trusts other
+-- domains is at first. A step that is that of a controller which trusts no domain leaves what is kept of those that are
+-- asked.
 pub record AnswersHere : Type 0 where
   pub first : (table : AccountTable) (name : List ℕ) → NoneIsAsked (first_trust_state table name).trusting
   pub step : (s : State) (what : Event) (now : ℕ) (left : List (List ℕ)) → NoneIsAsked s.trusting → StepsHere s what now left

@@ -51,8 +51,8 @@ use Rattle.domain_controller.specs.declared.state.Running.{Running}
 
 -- ---- a controller that can ask nobody
 
--- It steps as one that trusts no domain, and hands nothing on, and each step leaves it so. So it is of one that is made
--- without requesters, and of each over a table without trusted domains.
+-- A controller that can ask nobody steps as one that trusts no domain, and hands nothing on, and each step leaves it
+-- so. One that is made without requesters can ask nobody, and so can each over a table without trusted domains.
 pub record StepsAlone : Type 0 where
   pub step : (s : State) (what : Event) (now : ℕ) (left : List (List ℕ)) → s.trusting ≡ no_trusting →
       trust_step_of s what now left ≡ step_of s what now left
@@ -64,7 +64,7 @@ pub record StepsAlone : Type 0 where
 
 -- ---- what follows a link that was closed, or a dial's answer
 
--- such a step may tell, send and dial, and closes nothing
+-- an action that closes no link
 abbrev pub IsQuiet : Action → Type 0
 IsQuiet (action.Close link cause) = ⊥
 IsQuiet (action.Keep bytes) = Unit {0}
@@ -124,8 +124,8 @@ abbrev pub moved_computers : {named : Option (List ℕ)} {given : Option Authent
     IsNext d.work.work.computers named given → Computers
 moved_computers d next = (move_on next.computer next.channel next.given (base_desk d)).work.computers
 
--- It is told so, and nothing is sent; the accounts stay, and the channel has moved on. The logon waits at that
--- requester alone, at its next place, and is answered by what is kept with that place.
+-- A logon that is handed on: it is told so, and nothing is sent; the accounts stay, and the channel has moved on. The
+-- logon waits at that requester alone, at its next place, and is answered by what is kept with that place.
 pub record IsForwarded (c : JudgedCall) (line : Line) (before after : TrustDesk) (is : IsToBeForwarded c before) : Type 0 where
   pub table : after.table ≡ before.table
   pub computers : after.work.work.computers ≡ moved_computers before is.goes.next
@@ -163,9 +163,9 @@ is_forwarded (judged.Answered status) = false
 is_forwarded judged.Barred = false
 is_forwarded judged.NoChannel = false
 
--- It is told otherwise how it was judged, and its reply is sent; nobody is asked. Its authenticator passes exactly
--- where it is the next one of the channel of the computer that it names; where it doesn't, it is told whether that
--- computer has a channel.
+-- A call that is answered here: it is told otherwise how it was judged, and its reply is sent; nobody is asked. Its
+-- authenticator passes exactly where it is the next one of the channel of the computer that it names; where it doesn't,
+-- it is told whether that computer has a channel.
 pub record IsAnsweredHere (c : JudgedCall) (line : Line) (before after : TrustDesk) : Type 0 where
   pub kept : List Action
   pub texts : AllByRecursion IsKeep kept
@@ -199,7 +199,7 @@ pub record ForwardsByTrust : Type 0 where
       ++ action.Judged (how_refused (computer_named c) (given_in c) d.work.work.computers)
       ∷ action.Send line.link (bytes_of_call (response_of line.call line.context (refused_stub (asked_of c))) line.limit)
       ∷ []
-  -- it is heard as one unit of an accepted link, which stays open
+  -- a call is heard as one unit of an accepted link, which stays open
   pub heard : (c : JudgedCall) (line : Line) (talk : Talk) (link : ℕ) (name : List ℕ) (now : ℕ) (d : TrustDesk) (left : List (List ℕ)) →
       by_trust_heard (heard.Asked line (call.Judged c) talk) link name now d left
       ≡ Ok (record { value = (answer_trust_call c name now line d, Some talk); left = left })
@@ -250,7 +250,7 @@ pub record OneIsOut (t : Trusting) : Type 0 where
   pub outs : outs t.queues.requesters ≡ one_out (is_idle t.dialling) t.turn_of t.queues.requesters
   pub inside : is_idle t.dialling ≡ false → t.turn_of < length t.queues.requesters
 
--- So it is at first, and each step leaves it so.
+-- One turn is out at most at first, and each step leaves it so.
 pub record OneTurnIsOut : Type 0 where
   pub first : (table : AccountTable) (name : List ℕ) → OneIsOut (first_trust_state table name).trusting
   pub keeps : (s : State) (what : Event) (now : ℕ) (left : List (List ℕ)) → OneIsOut s.trusting →
@@ -267,7 +267,7 @@ abbrev pub ApartUnlessStopped : Option Running → Trusting → Type 0
 ApartUnlessStopped None t = Unit {0}
 ApartUnlessStopped (Some running) t = AreApart running.links t.dialling
 
--- So it is at first, and each step leaves it so, as one turn is out at a time.
+-- Accepted links and that of the turn are apart at first, and each step leaves them so, as one turn is out at a time.
 pub record LinksAreApart : Type 0 where
   pub first : (table : AccountTable) (name : List ℕ) →
       ApartUnlessStopped (first_trust_state table name).running (first_trust_state table name).trusting
@@ -297,9 +297,9 @@ IsNotOn number (Some line) = (line.link == number) ≡ false
 abbrev pub AreNotOn : ℕ → ForwardedCalls → Type 0
 AreNotOn number calls = AllByRecursion (λ (entry : (ℕ × ℕ) × ForwardedState). IsNotOn number entry.1.line) calls
 
--- So it is at first, and each step leaves it so: a logon whose link closes has no line any more. Behind a step for a
--- link that opens no logon waits for an answer there, also where another link had its number: its reply goes to no
--- later link of that number.
+-- Logons that are asked of others wait for answers on open links alone, at first and behind each step: a logon whose
+-- link closes has no line any more. Behind a step for a link that opens no logon waits for an answer there, also where
+-- another link had its number: its reply goes to no later link of that number.
 pub record AnswersOpenLinks : Type 0 where
   pub first : (table : AccountTable) (name : List ℕ) →
       OpenUnlessStopped (first_trust_state table name).running (first_trust_state table name).trusting

@@ -26,12 +26,12 @@ abbrev pub place_if : (is_that_trust : Bool) (place : ℕ) (places : List ℕ) �
 place_if false place places = places
 place_if true place places = place ∷ places
 
--- those of the logons for which that trust's controller is asked, in order
+-- the places of the logons for which that trust's controller is asked, in order
 abbrev pub places_at : (trust : ℕ) → ForwardedCalls → List ℕ
 places_at trust [] = []
 places_at trust (entry ∷ calls) = place_if (trust == entry.0.0) entry.0.1 (places_at trust calls)
 
--- those of the logons that wait at an end that asks, in order; a turn that is out there is for the first of them
+-- the places of the logons that wait at an end that asks, in order; a turn that is out there is for the first of them
 abbrev pub places_waiting : Requester → List ℕ
 places_waiting s = map (λ (logon : Waiting). logon.place) s.waiting
 
@@ -42,7 +42,7 @@ pub record AskInOrder (q : Queues) : Type 0 where
   pub coherent : AllByRecursion IsCoherent q.requesters
   -- the logons that a trust's controller is asked for are those that wait there
   pub asked : (trust : ℕ) (s : Requester) → slice_get q.requesters trust ≡ Some s → places_at trust q.forwarded ≡ places_waiting s
-  -- and of no other trust
+  -- logons are asked of no trust that has no requester
   pub inside : AllByRecursion (λ (entry : (ℕ × ℕ) × ForwardedState). entry.0.0 < length q.requesters) q.forwarded
 
 -- nobody waits at an end
@@ -55,8 +55,8 @@ pub record IsInOrder (s : State) : Type 0 where
   pub trusts : length s.trusting.queues.requesters ≤ length s.table.trusts
   pub busy : is_idle s.trusting.dialling ≡ true → NobodyWaits s.trusting.queues.requesters
 
--- So it is at first, and each step leaves it so, as one turn is out at a time. So no two logons that were asked have
--- one place.
+-- Requesters ask in order at first, and each step leaves it so, as one turn is out at a time. No two logons that were
+-- asked have one place.
 pub record StaysInOrder : Type 0 where
   pub first : (table : AccountTable) (name : List ℕ) → IsInOrder (first_trust_state table name)
   pub keeps : (s : State) (what : Event) (now : ℕ) (left : List (List ℕ)) → OneIsOut s.trusting → IsInOrder s →

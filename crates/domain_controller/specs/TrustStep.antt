@@ -286,8 +286,8 @@ abbrev pub idle_weight : Option Requester → ℕ
 idle_weight None = 2
 idle_weight (Some channel) = idle_by channel.waiting
 
--- the arguments: who could start, and whose turn is out
-abbrev pub turn_weight : Dialling → Option ℕ → Option Requester → ℕ
+-- by who could start, and by whose turn is out
+abbrev pub turn_weight : Dialling → (first : Option ℕ) (whose : Option Requester) → ℕ
 turn_weight dialling.Nothing None whose = 0
 turn_weight dialling.Nothing (Some trust) whose = 2
 turn_weight (dialling.Waits turn frames) first whose = idle_weight whose

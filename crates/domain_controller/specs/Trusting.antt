@@ -21,19 +21,22 @@ same_place one other = (one.0 == other.0) && (one.1 == other.1)
 
 -- ---- of a controller that can ask nobody
 
+-- no end that asks, and no logon that was asked
 abbrev pub no_queues : Queues
 no_queues = record { requesters = []; forwarded = [] }
 
+-- what is kept of logons that are asked of others where nobody can be asked: nothing
 abbrev pub no_trusting : Trusting
 no_trusting = record { queues = no_queues; turn_of = 0; dialling = dialling.Nothing; sealing = None }
 
 -- ---- at first
 
--- The channel to a trusted domain's controller: this controller's name as computer; this domain's name and a dollar
--- sign as account, of type TrustedDomainSecureChannel (MS-NRPC 2.2.1.3.13); and the trust's secret.
+-- the account of this domain in a domain that it trusts: its name and a dollar sign
 abbrev pub account_there : List ℕ → List ℕ
 account_there domain = domain ++ codes "$"
 
+-- Who asks on the channel to a trusted domain's controller: this controller's name as computer; this domain's name and
+-- a dollar sign as account, of type TrustedDomainSecureChannel (MS-NRPC 2.2.1.3.13); and the trust's secret.
 abbrev pub trust_caller : AccountTable → List ℕ → Trust → Caller
 trust_caller table name trust = record {
   secret = trust.hash;
@@ -42,6 +45,7 @@ trust_caller table name trust = record {
   kind = trusted_domain_channel;
 }
 
+-- the ends that ask at first: one for each trust of the table, in its order, with no channel yet
 abbrev pub fresh_requesters : AccountTable → List ℕ → List Requester
 fresh_requesters table name = map (λ (trust : Trust). fresh_requester (trust_caller table name trust)) table.trusts
 

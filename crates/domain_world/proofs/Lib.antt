@@ -12,7 +12,6 @@ pub mod DrivingLaws
 pub mod Frames
 pub mod HeadlineLaws
 pub mod Judgements
-pub mod Lists
 pub mod Messages
 pub mod Moves
 pub mod Quiet

@@ -4,8 +4,8 @@
 --
 -- A member server accepts an AUTHENTICATE exactly where it took its controller's answer, the account may log on, and
 -- the response is the written function of the account's stored hash and of that link's unused challenge; client and
--- member then hold one session key; and the controller passes an authenticator exactly where it is the channel's next
--- one.
+-- member then hold one session key; and the controller passes a call, or hands it on, exactly where its authenticator
+-- is the channel's next one.
 pub mod AcceptedOpenings
 pub mod AskedFor
 pub mod Completeness
@@ -251,13 +251,13 @@ judgements_of_calls told = filter (λ (one : JudgementTold). judges_call one.how
 abbrev pub AreRightlyTold : List JudgementTold → List Judging → Type 0
 AreRightlyTold told judgings = AreTheirJudgements (judgements_of_calls told) judgings
 
--- So every judgement of a call that a controller told in the run is that of one call on a secure channel which it heard
--- at that move, each such call has one, in their order, and it is right.
+-- Every judgement of a call that a controller told in the run is that of one call on a secure channel which it heard at
+-- that move. Each such call has one judgement, in their order, and it is right: the call passes, or is handed on,
+-- exactly where its authenticator is the next one.
 abbrev pub PassesTheNextCredential : Past → Type 0
 PassesTheNextCredential past = AreRightlyTold past.book.judgements past.book.judged
 
--- And it told of nothing else: what it told judges a call, and none was handed on. No controller asks another one yet,
--- which could then tell of what came of a call that was judged before.
+-- Controllers told of nothing but judgements of calls that they heard, and handed no call on.
 abbrev pub TellsOfCallsAlone : Past → Type 0
 TellsOfCallsAlone past =
     AllByRecursion (λ (one : JudgementTold). (judges_call one.how ≡ true) × (one.how ≢ judged.Forwarded)) past.book.judgements
@@ -292,8 +292,8 @@ ShortResponsesServeOnce past =
     one.logon.message.nt ≡ other.logon.message.nt → IsPlainlyAccepted past one hash → IsPlainlyAccepted past other hash → ⊥)
     past.book.messages) past.book.messages
 
--- Such a response lets somebody in on the link of the message: he is told to be, the message has it, it answers the
--- link's own challenge, and the member took the answer of a call that was judged by this hash.
+-- A response of 24 bytes lets somebody in on the link of the message: he is told to be, the message has it, it answers
+-- the link's own challenge, and the member took the answer of a call that was judged by this hash.
 pub record IsLetInShortly (past : Past) (told : OutcomeTold) (nt hash : List ℕ) (message : MessageTaken) : Type 0 where
   pub let_in : is_in told.outcome ≡ true
   pub link : message.link ≡ told.link
@@ -305,7 +305,7 @@ pub record IsLetInShortly (past : Past) (told : OutcomeTold) (nt hash : List ℕ
   pub answer : taken_answer message past.book.judged ≡ Some judging
   pub stored : stored_hash judging (info_asked message) ≡ hash
 
--- So nobody is let in on two links by one response of 24 bytes over one stored hash.
+-- Nobody is let in on two links by one response of 24 bytes over one stored hash.
 abbrev pub ShortResponsesLetInOnce : Past → Type 0
 ShortResponsesLetInOnce past =
     (nt hash : List ℕ) →

@@ -46,9 +46,9 @@ use Rattle.domain_world.specs.Past.{past}
 --
 -- A field with the premise `IsJudgedAlone` is of runs in which each call is judged by the controller that hears it: the
 -- plan's controllers aren't to hand logons on, or its tables trust no domain, or no call of the run comes for a trusted
--- domain. Of other runs it isn't claimed yet. What is written down of a controller is read off its own step, whether it
--- hands logons on or not (`TrustNotes`), so that what it passes, grants and keeps is claimed of every run in which
--- nothing seals.
+-- domain and challenges are left at its end. Of other runs it isn't claimed yet. What is written down of a controller
+-- is read off its own step, whether it hands logons on or not (`TrustNotes`), so that what it passes, grants and keeps
+-- is claimed of every run in which nothing seals.
 pub record Proved (plan : Plan) (moves : List Move) : Type 0 where
   -- challenges, and the messages that are made for them
   pub challenges : NothingSeals plan → ChallengesServeOnce (past plan moves)

@@ -1,4 +1,5 @@
--- What is claimed of runs in which no call comes for a trusted domain, whatever the plan (this project's own choice).
+-- What is claimed of runs in which no call comes for a trusted domain and challenges are left at the end, whatever the
+-- plan (this project's own choice).
 use Rattle.std.specs.Prelude.{◌≡◌, false, List}
 use Rattle.world_moves.specs.declared.moves.Move.{Move}
 use Rattle.world_moves.specs.declared.plan.Plan.{Plan}
@@ -58,7 +59,7 @@ pub record IsProvedAlone (plan : Plan) (moves : List Move) : Type 0 where
   pub one_by_one : NoneClashes (past plan moves) moves
   pub never_apart : IsSchedule plan moves → IsClear (past plan moves).book → MembersAreNeverApart (past plan moves)
 
--- It holds of a run in which nothing seals and no call comes for a trusted domain, where it holds of the run of the
--- plan whose controllers ask nobody.
+-- What `IsProvedAlone` says holds of a run in which nothing seals, no call comes for a trusted domain and challenges
+-- are left at the end, where it holds of the run of the plan whose controllers ask nobody.
 abbrev pub CarriesOver : Type 0
 CarriesOver = (plan : Plan) (moves : List Move) → NothingSeals plan → IsUnforwarded plan moves → IsProvedAlone (alone_plan plan) moves → IsProvedAlone plan moves

@@ -89,23 +89,23 @@ pub fn members_open_in_order()
     ensures { OfSchedules (λ plan moves. MembersOpenInOrder (past plan moves)) }
 {}
 
-/// A step of a member keeps the order in which channels are accepted, and the calls on them: so it is where no whole
-/// unit comes on the link of its turn, and where one does, with the mark that is written down of it. A channel that
-/// opens is to be one that was accepted, and a call of another member one of another computer.
+/// A step of a member keeps the order in which channels are accepted, and the calls on them: where no whole unit comes
+/// on the link of its turn, and where one does, with the mark that is written down of it. A channel that opens is to be
+/// one that was accepted, and a call of another member one of another computer.
 #[tactic(auto, using(crate::proofs::Apart::StepOrderLaws::step_in_order))]
 pub fn members_step_in_order()
     ensures { MembersStepInOrder }
 {}
 
-/// A run in which nothing seals, and no call comes for a trusted domain, is that of the plan whose controllers aren't
-/// to hand logons on, but for what controllers keep of those that they could ask.
+/// A run in which nothing seals, no call comes for a trusted domain and challenges are left at the end is that of the
+/// plan whose controllers aren't to hand logons on, but for what controllers keep of those that they could ask.
 #[tactic(auto, using(crate::proofs::Unforwarded::ErasedLaws::runs_alone))]
 pub fn what_is_not_handed_on_runs_alone()
     ensures { RunsAlone }
 {}
 
-/// What is written down of a run in which nothing seals, and no call comes for a trusted domain, is what is written
-/// down of that other run.
+/// What is written down of a run in which nothing seals, no call comes for a trusted domain and challenges are left at
+/// the end is what is written down of the run of the plan whose controllers aren't to hand logons on.
 #[tactic(auto, using(crate::proofs::Unforwarded::ErasedBookLaws::books_alone))]
 pub fn what_is_not_handed_on_is_written_alike()
     ensures { BooksAlone }
@@ -118,14 +118,15 @@ pub fn what_asks_nobody_is_judged_alone()
 {}
 
 /// What is proved of runs in which each call is judged by the controller that hears it holds of a run in which nothing
-/// seals, and no call comes for a trusted domain, where it holds of that other run.
+/// seals, no call comes for a trusted domain and challenges are left at the end, where it holds of the run of the plan
+/// whose controllers aren't to hand logons on.
 pub fn what_is_proved_alone_is_carried_over()
     ensures { CarriesOver }
 {}
 
 /// All that is proved of runs holds of the run of every list of moves from any plan. Each field but `marked` is of
 /// plans in which nothing seals. What most say is of runs in which each call is judged by the controller that hears it:
-/// the plan hands nothing on, or no call comes for a trusted domain.
+/// the plan hands nothing on, or no call comes for a trusted domain and challenges are left at the end.
 pub fn claims_hold_of_runs()
     ensures { (plan : Plan) (moves : List Move) → Proved plan moves }
 {}

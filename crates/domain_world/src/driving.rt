@@ -58,8 +58,8 @@ pub fn drive(alloc: Global, world: &mut World, moves: &Moves) -> Result<Report, 
     ensures goes_on { OnOk result (world.new.stopped ≡ false) }
     // Of moves that are cut short those that were made are counted, and clients have their outcomes of then.
     ensures kept { OnErr result (IsCutShort moves.now world.old world.new) }
-    // So from a plan on the world is that of all moves, the earlier ones and these, and what was counted are the
-    // actions that its ends gave.
+    // Where the world is that of earlier moves from a plan, it is afterwards that of all moves, the earlier ones and
+    // these, and what was counted are the actions that its ends gave.
     ensures from_plan { OnOk result ((plan : Plan) (earlier : List Move) →
         world.old ≡ run earlier (first_world plan) →
         world.new ≡ run (earlier ++ moves.now) (first_world plan)) }

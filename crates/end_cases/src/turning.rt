@@ -77,7 +77,7 @@ fn how_text(alloc: Global, how: TurnEnd) -> anyhow::Result<String> {
     }
 }
 
-/// The same, behind the link that is to be closed.
+/// How a turn ended, behind the link that is to be closed.
 fn ended_text(alloc: Global, ended: TurnEnded) -> anyhow::Result<String> {
     let TurnEnded { closes, how } = ended;
     let how = how_text(alloc, how)?;

@@ -206,7 +206,7 @@ fn text_of_world(alloc: Global, world: &World, report: &Report) -> anyhow::Resul
     Ok(answers)
 }
 
-/// The same, and the secrets that the members at the first two places keep.
+/// The report, the outcomes of the first four clients, and the secrets that the members at the first two places keep.
 fn text_with_kept(alloc: Global, world: &World, report: &Report) -> anyhow::Result<String> {
     let mut answers = text_of_world(alloc, world, report)?;
     for member in 0..2u32 {

@@ -12,7 +12,7 @@ use Rattle.rpc_units.specs.declared.unit.Trailer.{Trailer}
 use Rattle.rpc_units.specs.declared.unit.Unit.{Unit as RpcUnit}
 use Rattle.rpc_units.specs.Calls.{bytes_of_call}
 use Rattle.rpc_units.specs.Joining.{stub_of, stub_size, cut_of, IsWholeCall}
-use Rattle.rpc_units.specs.Stream.{cut_stream}
+use Rattle.rpc_units.specs.Stream.{cut_stream, rest_limit}
 use Rattle.rpc_units.specs.Writing.{value_len, written, HasValue, IsWritable}
 use Rattle.rpc_units.proofs.CutStreamLaws.{units_counted}
 use Rattle.rpc_units.proofs.CuttingLaws.{call_short, cut_short, cut_whole, cut_writable}
@@ -127,9 +127,9 @@ streams_few (Err why) part rest left answer = answers_few (Err why) part left an
 
 -- how many a call draws that serves a stream
 pub piece_few : {W T : Type 0} (server : Server W T) (extra : T → ℕ) → ServerDrawsFew server extra → (result : Result (W × Option (LinkState T)) StepRefused)
-    (held piece : List ℕ) (work : W) (talk : T) (before after : List (List ℕ)) → length held ≤ 5839 →
+    (held piece : List ℕ) (work : W) (talk : T) (before after : List (List ℕ)) → length held ≤ rest_limit →
     StreamsBy result (served_cut server (cut_stream (held ++ piece)) work talk before) (cut_stream (held ++ piece)).rest after →
-    length before ≤ length after + (5839 + length piece) / 16 + extra talk
+    length before ≤ length after + (rest_limit + length piece) / 16 + extra talk
 piece_few server extra few result held piece work talk before after short answer =
     let stream = held ++ piece in
     omega (

@@ -17,7 +17,7 @@ unit_served server bytes work talk left =
 abbrev pub ServingFact : Type 0 → Type 0 → Type 1
 ServingFact W T = List (ServedUnit W T) → List (List ℕ) → W → T → List (List ℕ) → Type 0
 
--- the same where the link is closed: nothing is to come
+-- what holds where the link is closed: nothing is to come
 abbrev pub ShutFact : Type 0 → Type 0 → Type 1
 ShutFact W T = List (ServedUnit W T) → W → List (List ℕ) → Type 0
 

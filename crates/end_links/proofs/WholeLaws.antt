@@ -20,7 +20,7 @@ use Rattle.rpc_units.proofs.WritingLaws.{unit_of-written}
 use Rattle.rpc_units.specs.Numbers.{ndr_syntax}
 use Rattle.end_links.specs.Binding.{ack_of, answer_by, answer_to, bind_of, limit_of, nak_of, no_syntax}
 use Rattle.end_links.specs.Sending.{fault_of, frames_of, joined_frames, request_of, response_of}
-use Rattle.end_links.specs.Whole.{IsWholeSend, UnitsAreWhole}
+use Rattle.end_links.specs.Whole.{IsWholeSend, UnitsAreWhole, whole_limit}
 use Rattle.end_links.proofs.BindingLaws.{ack_short, bind_short, bind_writable}
 use Rattle.end_links.proofs.ByteLaws.{IsAnswer, IsOfBytes, IsSyntax, call_bytes, written_bytes}
 use Rattle.end_links.proofs.BoundLaws.{frames_joined, plain_short}
@@ -121,7 +121,7 @@ ack_whole served call receive contexts number few =
 
 -- ---- calls and replies
 
-call_whole : (unit : RpcUnit) (limit : ℕ) → CanBeSent unit limit → unit.trailer ≡ None → length (stub_of unit.body) ≤ 58209 → IsOfBytes unit → IsWholeSend (bytes_of_call unit limit)
+call_whole : (unit : RpcUnit) (limit : ℕ) → CanBeSent unit limit → unit.trailer ≡ None → length (stub_of unit.body) ≤ whole_limit → IsOfBytes unit → IsWholeSend (bytes_of_call unit limit)
 call_whole unit limit can none few of = record {
   are = call_bytes unit limit of;
   frames = cut_of unit limit;
@@ -130,7 +130,7 @@ call_whole unit limit can none few of = record {
   few = omega (arith, plain_short unit limit can.whole none can.least, few);
 }
 
-pub reply_whole : (call context limit : ℕ) (stub : List ℕ) → call < 2 ^ 32 → context < 2 ^ 16 → 1432 ≤ limit → limit ≤ 5840 → length stub ≤ 58209 →
+pub reply_whole : (call context limit : ℕ) (stub : List ℕ) → call < 2 ^ 32 → context < 2 ^ 16 → 1432 ≤ limit → limit ≤ 5840 → length stub ≤ whole_limit →
     AreBytes stub → IsWholeSend (bytes_of_call (response_of call context stub) limit)
 reply_whole call context limit stub number small least most few are =
     call_whole (response_of call context stub) limit (record {
@@ -141,7 +141,7 @@ reply_whole call context limit stub number small least most few are =
       room = omega (arith, most);
     }) refl few (are, tt)
 
-pub request_whole : (call context opnum limit : ℕ) (stub : List ℕ) → call < 2 ^ 32 → context < 2 ^ 16 → opnum < 2 ^ 16 → 1432 ≤ limit → limit ≤ 5840 → length stub ≤ 58209 →
+pub request_whole : (call context opnum limit : ℕ) (stub : List ℕ) → call < 2 ^ 32 → context < 2 ^ 16 → opnum < 2 ^ 16 → 1432 ≤ limit → limit ≤ 5840 → length stub ≤ whole_limit →
     AreBytes stub → IsWholeSend (joined_frames (frames_of (request_of call context opnum stub) limit))
 request_whole call context opnum limit stub number small known least most few are =
     subst IsWholeSend (sym (frames_joined (request_of call context opnum stub) limit))

@@ -8,8 +8,8 @@ use Rattle.outside.specs.declared.event.Event.{Event}
 use Rattle.outside.specs.declared.event.Event.TheVariants.{Bytes}
 use Rattle.outside.specs.Machine.{Part, AnswersBy, left_by}
 use Rattle.rpc_units.specs.declared.refused.UnitRefused.{UnitRefused}
-use Rattle.rpc_units.specs.Stream.{cut_stream}
-use Rattle.end_links.specs.Links.{LinkState, rest_limit}
+use Rattle.rpc_units.specs.Stream.{cut_stream, rest_limit}
+use Rattle.end_links.specs.Links.{LinkState}
 use Rattle.end_links.specs.Serving.{Server, ServedPart, StreamsBy, served_cut}
 
 -- ---- sends
@@ -37,7 +37,7 @@ abbrev pub extra_on : {T : Type 0} → (T → ℕ) → Option T → ℕ
 extra_on extra None = 0
 extra_on extra (Some talk) = extra talk
 
--- and nothing, where the challenges weren't enough
+-- what is still allowed after a part of a step; nothing, where the challenges weren't enough
 abbrev pub extra_after : {W T : Type 0} → (T → ℕ) → ServedPart W T → ℕ
 extra_after extra (Err why) = 0
 extra_after extra (Ok part) = extra_on extra part.value.1
@@ -70,6 +70,6 @@ pub record StepsBounded (W T : Type 0) : Type 0 where
   -- a call that makes a part of a step leaves no fewer than that part
   pub left : (result : Result W StepRefused) (part : Result (Part W) StepRefused) (left : List (List ℕ)) →
       AnswersBy result part left → length (left_by part) ≤ length left
-  -- and so does a call that serves a stream
+  -- a call that serves a stream leaves no fewer than the part that it makes
   pub streams : (result : Result (W × Option (LinkState T)) StepRefused) (part : ServedPart W T) (rest : List ℕ) (left : List (List ℕ)) →
       StreamsBy result part rest left → length (left_by part) ≤ length left

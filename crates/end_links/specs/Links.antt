@@ -2,6 +2,7 @@
 use Rattle.std.specs.Prelude.{ℕ, ◌≤◌, ◌+◌, ◌*◌, List, length}
 use Rattle.std.specs.List.{sum_by}
 use Rattle.wire_base.specs.Maps.{IsMap, same_number}
+use Rattle.rpc_units.specs.Stream.{rest_limit}
 
 -- the bytes that came and are no whole unit yet, and what is said on the link so far
 pub record LinkState (T : Type 0) : Type 0 where
@@ -21,10 +22,6 @@ abbrev pub held_by : {T : Type 0} → (T → ℕ) → List (ℕ × LinkState T) 
 held_by said links = sum_by (held_on said) links
 
 -- ---- the most of it
-
--- the rest of a link's stream has fewer bytes than the largest unit (5,840)
-abbrev pub rest_limit : ℕ
-rest_limit = 5839
 
 -- the stub bytes of an open call or reply
 abbrev pub open_limit : ℕ

@@ -22,9 +22,9 @@ pub fn steps_are_bounded<W, T>()
 {}
 
 /// A unit that an end sends is the bytes of one whole unit, in one fragment or more, and has room in one piece of a
-/// link: a bind and the answers to it, a fault, and a call or reply whose stub has at most 58,209 bytes. It is
-/// so where numbers have their widths, limits are from 1,432 to 5,840, stubs and identifiers are bytes, and no more
-/// contexts are answered than one unit holds.
+/// link: a bind and the answers to it, a fault, and a call or reply whose stub has at most 58,209 bytes
+/// (`whole_limit`). Its numbers are to have their widths, its limit to be from 1,432 to 5,840, stubs and identifiers
+/// are to be bytes, and no more contexts are to be answered than one unit holds.
 #[tactic(auto, using(crate::proofs::WholeLaws::units_are_whole))]
 pub fn sends_are_whole()
     ensures { UnitsAreWhole }

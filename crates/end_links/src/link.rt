@@ -1,6 +1,7 @@
 //! A link, by its stream and what is said on it.
 
 ghost use Rattle.std.specs.Prelude.{◌≡◌, ◌≤◌, [], false, length, IfOk};
+ghost use Rattle.rpc_units.specs.Stream.{rest_limit};
 
 use rpc_units::Inflow;
 use std::alloc::Global;
@@ -18,13 +19,14 @@ pub struct Link<T> {
 
 impl<T> Model for Link<T> {
     ghost use Rattle.std.specs.Prelude.{◌≡◌, ◌≤◌, false, length};
+    ghost use Rattle.rpc_units.specs.Stream.{rest_limit};
     ghost use Rattle.end_links.specs.Links.{LinkState};
 
     ghost Value = { LinkState T };
 
     ghost view = { λ l. record { rest = l.flow.held; talk = l.talk } };
 
-    ghost invariant = { λ l. (l.flow.broken ≡ false) × (length l.flow.held ≤ 5839) };
+    ghost invariant = { λ l. (l.flow.broken ≡ false) × (length l.flow.held ≤ rest_limit) };
 }
 
 impl<T> Link<T> {
@@ -53,7 +55,7 @@ impl<T> Link<T> {
     /// The link again, once its stream holds no whole unit.
     pub fn again(flow: Inflow, talk: T) -> Link<T>
         requires runs { flow.broken ≡ false }
-        requires waits { length flow.held ≤ 5839 }
+        requires waits { length flow.held ≤ rest_limit }
         ensures { result ≡ record { rest = flow.held; talk = talk } }
     {
         Link { flow, talk }
@@ -69,7 +71,7 @@ impl<T> Link<T> {
     /// The number of bytes that came and are no whole unit yet.
     pub fn rest_len(&self) -> usize
         ensures count { result ≡ length self.now.rest }
-        ensures most { result ≤ 5839 }
+        ensures most { result ≤ rest_limit }
     {
         self.flow.len()
     }

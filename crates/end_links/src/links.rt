@@ -2,7 +2,8 @@
 
 ghost use Rattle.std.specs.Prelude.{◌≡◌, ◌≤◌, ◌<◌, ◌+◌, ◌*◌, ℕ, [], length, nat_le, IfOk, IsSome, option_copied};
 ghost use Rattle.wire_base.specs.Maps.{same_number, lookup, put, take_out};
-ghost use Rattle.end_links.specs.Links.{held_by, link_limit, links_limit, rest_limit, talk_limit};
+ghost use Rattle.end_links.specs.Links.{held_by, link_limit, links_limit, talk_limit};
+ghost use Rattle.rpc_units.specs.Stream.{rest_limit};
 
 use crate::link::Link;
 use std::alloc::Global;

@@ -25,7 +25,8 @@ pub fn call_bytes(alloc: Global, unit: &Unit, limit: u16) -> Result<Blob, NoMemo
     cut_bytes(alloc, unit, limit)
 }
 
-/// The same as frames, each for itself.
+/// The bytes of a call or reply without a trailer as frames, one for each fragment of at most `limit` bytes (C706
+/// 12.6.2).
 pub fn call_frames(alloc: Global, unit: &Unit, limit: u16) -> Result<Frames, NoMemory>
     requires whole { IsWholeCall unit.now }
     requires plain { unit.now.trailer ≡ None }
@@ -70,7 +71,7 @@ fn one_bytes(alloc: Global, unit: &Unit, limit: u16) -> Result<Blob, NoMemory>
     unit_bytes(alloc, unit)
 }
 
-/// The frames of a call, likewise.
+/// The frames of a call without a trailer, cut into fragments of at most `limit` bytes, each for itself.
 #[tactic(auto, unfolding(crate::specs::Sending::frames_of))]
 fn cut_frames(alloc: Global, unit: &Unit, limit: u16) -> Result<Frames, NoMemory>
     requires whole { IsWholeCall unit.now }

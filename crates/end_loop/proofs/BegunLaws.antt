@@ -37,7 +37,7 @@ pub begun_made : {S : Type 0} (machine : Machine S) (file : Option (List ℕ)) (
 begun_made machine file first failed queue later story story2 faults faults2 taken taken2 files files2 none done =
     subst (λ (l : List Event). are_made l ≡ true) (sym done.queue) (all_made queue done.happened (subst (λ (q : List Event). are_made q ≡ true) (sym none) refl))
 
--- the same where the run halted, and where the first actions were cut short
+-- what is begun where the run halted, and where the first actions were cut short
 pub begun_err : {T S : Type 0} (machine : Machine S) (file : Option (List ℕ)) (first given : List Action) (old : S) (most : ℕ) (failed : List ℕ) (queue later : List Event) (story story2 : Option (List Happening)) (faults faults2 : ℕ) (moments : Option (List ℕ)) (drawing : Drawing) (taken taken2 : Option (List ℕ)) (files files2 : FilesTold) (after : Sight) (r : Result T Halt) →
     given ≡ first → queue ≡ [] → Performed (puts machine) file given (record { failed = []; queue = queue; story = story; link_faults = faults; taken = taken; files = files }) (record { failed = failed; queue = later; story = story2; link_faults = faults2; taken = taken2; files = files2 }) →
     IfErr r (λ halt. Halts machine file (run_state_at old later (record { story = story2; link_faults = faults2; moments = moments; drawing = drawing; taken = taken2; files = files2 })) most (record { story = story2; link_faults = faults2; moments = moments; drawing = drawing; taken = taken2; files = files2 }) after halt) →

@@ -34,7 +34,7 @@ pub record RunState (S : Type 0) : Type 0 where
 abbrev pub run_state_at : {S : Type 0} → S → List Event → Sight → RunState S
 run_state_at state queue sight = record { state = state; queue = queue; left = sight.drawing.left }
 
--- the same where no event waits
+-- where a run of the end stands at a moment, while no event waits
 abbrev pub idle_at : {S : Type 0} → S → Sight → RunState S
 idle_at state sight = run_state_at state [] sight
 

@@ -12,7 +12,7 @@ abbrev pub asked_one : ℕ → Action → List (List ℕ)
 asked_one link (Send other bytes) = if other == link then bytes ∷ [] else []
 asked_one link _ = []
 
--- the same of several actions
+-- the byte strings that actions send on the link, in order
 abbrev pub asked_on : ℕ → List Action → List (List ℕ)
 asked_on link actions = flat_map (asked_one link) actions
 

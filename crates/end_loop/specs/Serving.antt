@@ -29,7 +29,8 @@ pub record Served {S : Type 0} (machine : Machine S) (file : Option (List ℕ)) 
   pub opens : Opens seed boot before opened (happening.Listened address ∷ [])
   pub run : Begun machine file first old new most opened after
 
--- The same, but the first actions were cut short, or the run halted.
+-- The challenges were started and the port listened at the address; but the first actions were cut short, or the run
+-- halted.
 pub record ServedHalf {S : Type 0} (machine : Machine S) (file : Option (List ℕ)) (first : List Action) (old : S) (address seed : List ℕ) (boot most : ℕ) (before after : Sight)
     (halt : Halt) : Type 0 where
   pub opened : Sight

@@ -4,6 +4,7 @@ ghost use Rattle.std.specs.Prelude.{◌≡◌, ◌==◌, ◌≤◌, IfOk, length
 ghost use Rattle.rpc_units.specs.Reading.{unit_of};
 ghost use Rattle.logon_stubs.specs.Calls.{reply_of};
 ghost use Rattle.end_links.specs.Binding.{limit_of};
+ghost use Rattle.end_links.specs.Bounds.{send_limit};
 ghost use Rattle.channel_client.specs.Machine.{is_accepting};
 ghost use Rattle.interactive_station.specs.Calls.{awaited, opnum_of};
 ghost use Rattle.interactive_station.specs.Machine.{breaks, fails, hear_ack, hear_body, hear_reply, hear_stub, hear_unit, hear_whole, request_bytes, sends, shut};
@@ -87,7 +88,7 @@ fn request_bytes(
 ) -> Result<Blob, NoMemory>
     ensures exact { IfOk result (λ bytes. bytes
         ≡ request_bytes asked.now task.now (limit_of receive)) }
-    ensures short { IfOk result (λ bytes. length bytes ≤ 589824) }
+    ensures short { IfOk result (λ bytes. length bytes ≤ send_limit) }
 {
     let stub = asked.stub(alloc, task)?;
     let unit = request(asked.bind_number() + 1, 0, asked.opnum(), stub);

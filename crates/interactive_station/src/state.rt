@@ -16,8 +16,8 @@ pub enum StationCall {
     Authenticate([u8; 8], [u8; 8]),
     /// NetrLogonSamLogon on the channel, with this authenticator of it (MS-NRPC 3.5.4.5.3).
     Logon(SecureChannel, Authenticator),
-    /// NetrLogonSamLogoff, likewise, of the user who was logged on with these names of domain and user (MS-NRPC
-    /// 3.5.4.5.4).
+    /// NetrLogonSamLogoff on the channel, with this authenticator of it, of the user who was logged on with these names
+    /// of domain and user (MS-NRPC 3.5.4.5.4).
     Logoff(SecureChannel, Authenticator, Units, Units),
 }
 

@@ -33,7 +33,7 @@ pub drawn_answered : (offer : ServerOffer) (link : ℕ) (work : Work) (drawn : D
     serve_heard (Challenged work link offer) before ≡ Ok (record { value = answers offer drawn link work; left = after })
 drawn_answered offer link work drawn before after is = ap (λ part. then_part part (answers_part offer link work)) is
 
--- and then no memory was found
+-- the challenges were drawn, and no memory was found
 pub drawn_memory : (offer : ServerOffer) (link : ℕ) (work : Work) (drawn : Drawn) (before after : List (List ℕ)) →
     drawn_for (has_flag offer.flags negotiate_key_exch) before ≡ Ok (record { value = drawn; left = after }) →
     IsRest (left_by (serve_heard (Challenged work link offer) before)) after

@@ -58,7 +58,7 @@ key_in plan offer message =
     (exchange_key_of (base_key_of plan.hash plan.user plan.domain message.nt) offer.flags offer.challenge message.lm message.nt)
     offer.flags message.key
 
--- It is the client's key.
+-- The key that is found in the message of the answer is the one that the client keeps.
 abbrev pub KeyFound : ClientPlan → ServerOffer → Answer → Type 0
 KeyFound plan offer answer = key_in plan offer answer.message ≡ Some answer.key
 

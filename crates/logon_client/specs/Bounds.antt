@@ -10,6 +10,6 @@ abbrev pub more_at : Phase → ℕ
 more_at Bound = 2
 more_at (Asked terms question) = 0
 
--- the same by what is said on the link
+-- what may still be drawn besides one for a unit, by what is said on the link
 abbrev pub more_on : Talk → ℕ
 more_on talk = more_at talk.phase

@@ -347,7 +347,7 @@ fn is_response(body: &BodyView) -> bool
     matches!(body, BodyView::Response { .. })
 }
 
-/// The same of a unit that was read.
+/// The outcome of a unit that was read and isn't what is waited for.
 fn outcome_by(body: &Body) -> ClientOutcome
     ensures { result ≡ outcome_of body.now }
 {

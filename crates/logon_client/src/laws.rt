@@ -38,7 +38,7 @@ pub fn clients_send_on_their_link()
 {}
 
 /// What a client sends is bytes, and no more than an end sends at once, where what comes and what is drawn are bytes.
-/// So is what it has at first, and a step leaves that so.
+/// What it has at first is bytes, and a step leaves that so.
 #[tactic(auto, using(crate::proofs::ByteLaws::clients_send_bytes))]
 pub fn what_clients_send_is_bytes()
     ensures { ClientsSendBytes }

@@ -404,7 +404,7 @@ pub record IsUnderWay (p : Arrival) (s : State) : Type 0 where
   pub fits : Fits p phase
   pub shows : Shows s (scene_of p phase left moment)
 
--- it is over: the client is in, with its key, the name and its whole echo; no link is open, and nothing waits
+-- a logon is over: the client is in, with its key, the name and its whole echo; no link is open, and nothing waits
 pub record IsOver (p : Arrival) (s : State) : Type 0 where
   pub asked : ClientAnswer
   pub ending : Ending
@@ -467,7 +467,7 @@ abbrev pub ArrivesAt : (p : Arrival) → LogonPhase p → Move → Type 0
 ArrivesAt p (Calls a who v (Third o c timestamp)) what = IfSo (is_onward what) (KeyArrives (own p) a o)
 ArrivesAt p phase what = Unit {0}
 
--- it is then that the user's hash is asked for, and that he may log on
+-- at the move with which the Logon call comes the user's hash is there, and he may log on; at no other is it asked for
 abbrev pub HasUserAt : (p : Arrival) → State → LogonPhase p → Move → Type 0
 HasUserAt p s (Calls a who v (Third o c timestamp)) what = IfSo (is_onward what) (HasUserIn p v.table × MayLogOnAt p s)
 HasUserAt p s phase what = Unit {0}
@@ -553,13 +553,13 @@ pub record PhasesGoOn : Type 0 where
   -- each move leads to a phase, or to the end, where the client is in
   pub goes_on : (p : Arrival) (s : State) (what : Move) → IsKnown p → IsReady p s → IsStepOn what → (at : IsUnderWay p s) → HasUserAt p s at.phase what →
       ArrivesAt p at.phase what → ComesTo p (act s what).state
-  -- and so far
+  -- each move leads to a phase that is so far, or to the end
   pub goes_so_far : (p : Arrival) (s : State) (what : Move) → IsKnown p → IsReady p s → IsStepOn what → (at : IsUnderWay p s) → HasUserAt p s at.phase what →
       ArrivesAt p at.phase what → ComesSoFar p (progress_after what at.phase) (act s what).state
-  -- and draws few challenges
+  -- each move draws few challenges
   pub draws : (p : Arrival) (s : State) (what : Move) → IsKnown p → IsReady p s → IsStepOn what → (at : IsUnderWay p s) → HasUserAt p s at.phase what →
       ArrivesAt p at.phase what → DrawsFew s.chances.left (act s what).state.chances.left
-  -- so it is where the user's hash was there as the logon began, since he is no machine
+  -- the user's hash is there where it was as the logon began, since he is no machine
   pub has_user : (p : Arrival) (s : State) (at : IsUnderWay p s) (what : Move) → HasUser p → MayLogOnAt p s → HasUserAt p s at.phase what
   -- something waits in each phase
   pub waits : (p : Arrival) (s : State) → IsUnderWay p s → s.dials ≡ [] → waiting s.bag ≡ [] → ⊥

@@ -73,8 +73,8 @@ channel_account table computer = option_and_then (slice_get table.accounts) (mac
 abbrev pub HasItsSecret : AccountTable → MemberPlan → Type 0
 HasItsSecret table member = (account : Account) → channel_account table member.computer ≡ Some account → account.hash ≡ tried_of member.secrets
 
--- So it is of the member of that number at its controller, and no other member of the controller has its name. The
--- controller may have no account of it.
+-- The hash of the member of that number, where its controller has its account, is the member's secret, and no other
+-- member of the controller has its name.
 pub record HasOwnName (plan : Plan) (at : ℕ) (member : MemberPlan) (controller : ℕ) : Type 0 where
   pub reaches : end_of_peer member.controller (first_ends plan) ≡ Some (Controller controller)
   pub secret : (table : AccountTable) → slice_get plan.tables controller ≡ Some table → HasItsSecret table member
@@ -178,7 +178,7 @@ pub record CanCome (plan : Plan) (client member controller : ℕ) : Type 0 where
   pub is_member_plan : slice_get plan.members member ≡ Some member_plan
   pub computer : HasOwnComputer plan member member_plan controller
 
--- and the user's account, with his hash
+-- the client can come, and the user has an account, with his hash
 pub record CanBeGranted (plan : Plan) (client member controller : ℕ) : Type 0 where
   pub come : CanCome plan client member controller
   pub account : Account

@@ -17,10 +17,10 @@ pub record SetsLeaveOthers : Type 0 where
   -- the account of another computer's channel is as it was
   pub others : (table : AccountTable) (mine other : List ℕ) (at : ℕ) (hash : List ℕ) → same_name mine other ≡ false →
       machine_in table.accounts (machine_name other) workstation_channel other ≡ Some at → channel_account (with_hash at hash table) mine ≡ channel_account table mine
-  -- so is a user's account, which is no machine's
+  -- a user's account is as it was, which is no machine's
   pub users : (table : AccountTable) (at : ℕ) (hash name : List ℕ) (channel : ℕ) (computer user : List ℕ) (account : Account) → machine_in table.accounts name channel computer ≡ Some at →
       account_in table.accounts user ≡ Some account → IsSomeAnd (account_in (with_hash at hash table).accounts user) (λ (found : Account). found.kind ≡ User) →
       account_in (with_hash at hash table).accounts user ≡ Some account
-  -- its own has that hash
+  -- the computer's own account has that hash
   pub own : (table : AccountTable) (mine : List ℕ) (at : ℕ) (hash : List ℕ) (account : Account) → machine_in table.accounts (machine_name mine) workstation_channel mine ≡ Some at →
       channel_account (with_hash at hash table) mine ≡ Some account → account.hash ≡ hash

@@ -56,7 +56,8 @@ pub fn scenes_go_on()
     ensures { ScenesGoOn }
 {}
 
-/// The same where a link is closed, where a dial is answered, and where time passes.
+/// What comes where a link is closed, where a dial is answered, and where time passes, is seen of the ends, the links
+/// and what waits alone.
 #[tactic(auto, using(crate::proofs::Scenes::TurningSceneLaws::scenes_turn))]
 pub fn scenes_turn()
     ensures { ScenesTurn }

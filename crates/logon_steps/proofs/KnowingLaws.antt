@@ -124,7 +124,7 @@ any_passes test other so (one ∷ items) item is =
       | inr fails ↦ or_either (other one) (list_any other items) (any_passes test other so items item (sym (later test one items fails) ∙ is))
     ]
 
--- so the computer is known, where an account is found for its channel
+-- the computer is known, where an account is found for its channel
 pub known_found : (table : AccountTable) (plan : MemberPlan) (client server : List ℕ) (account : Account) → account_for table (auth_value (caller_of plan) client server) ≡ Some account →
     knows_in table.accounts plan.computer ≡ true
 unfolding knows_in machine_in

@@ -54,7 +54,7 @@ turn_piece logons links link now piece left =
     ap (λ (own : Bool). step_by actions_in state_in halted_state left
     (then_part (bytes_by own (record { rest = []; talk = turn_talk None }) link piece (on_turn link) (record { logons = logons; links = links; actions = [] }) left) (next_turn now))) (same link)
 
--- the same where the units come to that, and no rest is left
+-- a turn's units are served where they come to that, and no rest is left
 pub turn_served : (logons : Logons) (links : List (ℕ × LinkState Talk)) (link now : ℕ) (piece : List ℕ) (left : List (List ℕ)) (value : AtTurn × Option TurnTalk) →
     served_cut turn_server (cut_stream piece) (at_turn link (record { logons = logons; links = links; actions = [] })) (turn_talk None) left
     ≡ Ok (record { value = value; left = left }) → (cut_stream piece).rest ≡ [] →

@@ -37,22 +37,22 @@ use Rattle.member_server.specs.declared.state.AtLink.{AtLink}
 use Rattle.member_server.specs.declared.state.LoggedOn.{LoggedOn}
 use Rattle.member_server.specs.Requests.{answer_call, cause_by, is_due, join_by, join_opened, join_unit, open_request, secure_reply, send_reply, send_secured, signed_cause, signed_unit, talk_in, unit_in}
 use Rattle.member_server.specs.Work.{send, stay}
-use Rattle.logon_steps.specs.MemoCalls.{AreSessions, MemoCallsGo, ReplyGoes, RequestGoes, logged_on, with_session}
+use Rattle.logon_steps.specs.MemoCalls.{AreSessions, MemoCallsGo, ReplyGoes, RequestGoes, logged_on, with_session, one_unit_limit}
 use Rattle.logon_steps.proofs.StreamLaws.{read_again}
 
 -- ---- a call that fits into one unit
 
-pub one_fragment : (call : RpcUnit) → IsWholeCall call → length (stub_of call.body) ≤ 5792 → cut_of call 5840 ≡ call ∷ []
+pub one_fragment : (call : RpcUnit) → IsWholeCall call → length (stub_of call.body) ≤ one_unit_limit → cut_of call 5840 ≡ call ∷ []
 unfolding cut_of
 one_fragment call whole short =
     fragments_end (length (stub_of call.body)) call (stub_size 5840) true (stub_of call.body) short
     ∙ ap (λ (body : Body). record { first = true; last = true; call = call.call; body = body; trailer = call.trailer } ∷ []) (with_stub-own call.body)
     ∙ ap₂ (λ (first last : Bool). record { first = first; last = last; call = call.call; body = call.body; trailer = call.trailer } ∷ []) (sym whole.first) (sym whole.last)
 
-pub one_sends : (call : RpcUnit) → CanBeSent call 5840 → length (stub_of call.body) ≤ 5792 → IsSendable call
+pub one_sends : (call : RpcUnit) → CanBeSent call 5840 → length (stub_of call.body) ≤ one_unit_limit → IsSendable call
 one_sends call can short = (subst (λ (units : List RpcUnit). AllByRecursion IsSendable units) (one_fragment call can.whole short) (cut_sendable call 5840 can)).0
 
-pub one_bytes : (call : RpcUnit) → CanBeSent call 5840 → length (stub_of call.body) ≤ 5792 → bytes_of_call call 5840 ≡ written call
+pub one_bytes : (call : RpcUnit) → CanBeSent call 5840 → length (stub_of call.body) ≤ one_unit_limit → bytes_of_call call 5840 ≡ written call
 one_bytes call can short = ap (λ (units : List RpcUnit). flat_map written units) (one_fragment call can.whole short) ∙ append-nil (written call)
 
 abbrev pub request_at : ℕ → ℕ → List ℕ → Option Trailer → RpcUnit
@@ -66,7 +66,7 @@ abbrev pub HasBlank : Option Trailer → Type 0
 HasBlank None = Unit {0}
 HasBlank (Some trailer) = (length trailer.value ≡ 16) × (trailer.context < 2 ^ 32)
 
-pub request_can : (number opnum : ℕ) (stub : List ℕ) (trailer : Option Trailer) → number < 2 ^ 32 → opnum < 2 ^ 16 → length stub ≤ 5792 → HasBlank trailer → CanBeSent (request_at number opnum stub trailer) 5840
+pub request_can : (number opnum : ℕ) (stub : List ℕ) (trailer : Option Trailer) → number < 2 ^ 32 → opnum < 2 ^ 16 → length stub ≤ one_unit_limit → HasBlank trailer → CanBeSent (request_at number opnum stub trailer) 5840
 request_can number opnum stub None below op short blank = record {
   whole = record { stub = tt; first = refl; last = refl };
   range = record { call = below; body = (omega arith, omega arith, op); trailer = tt };
@@ -82,7 +82,7 @@ request_can number opnum stub (Some trailer) below op short blank = record {
   room = omega (arith, blank.0);
 }
 
-pub response_can : (number : ℕ) (stub : List ℕ) (trailer : Option Trailer) → number < 2 ^ 32 → length stub ≤ 5792 → HasBlank trailer → CanBeSent (response_at number stub trailer) 5840
+pub response_can : (number : ℕ) (stub : List ℕ) (trailer : Option Trailer) → number < 2 ^ 32 → length stub ≤ one_unit_limit → HasBlank trailer → CanBeSent (response_at number stub trailer) 5840
 response_can number stub None below short blank = record {
   whole = record { stub = tt; first = refl; last = refl };
   range = record { call = below; body = (omega arith, omega arith); trailer = tt };
@@ -100,12 +100,12 @@ response_can number stub (Some trailer) below short blank = record {
 
 -- ---- it is whole
 
-request_whole : (number opnum : ℕ) (stub : List ℕ) (trailer : Option Trailer) → length stub ≤ 5792 → answer_of None (request_at number opnum stub trailer) ≡ Ok (Some (request_at number opnum stub trailer))
+request_whole : (number opnum : ℕ) (stub : List ℕ) (trailer : Option Trailer) → length stub ≤ one_unit_limit → answer_of None (request_at number opnum stub trailer) ≡ Ok (Some (request_at number opnum stub trailer))
 unfolding joined_of
 request_whole number opnum stub trailer short =
     ap (λ (fits : Bool). answer_by (joined_by true fits (request_at number opnum stub trailer)) true) (le-leb (length stub) 65536 (omega (arith, short)))
 
-response_whole : (number : ℕ) (stub : List ℕ) (trailer : Option Trailer) → length stub ≤ 5792 → answer_of None (response_at number stub trailer) ≡ Ok (Some (response_at number stub trailer))
+response_whole : (number : ℕ) (stub : List ℕ) (trailer : Option Trailer) → length stub ≤ one_unit_limit → answer_of None (response_at number stub trailer) ≡ Ok (Some (response_at number stub trailer))
 unfolding joined_of
 response_whole number stub trailer short =
     ap (λ (fits : Bool). answer_by (joined_by true fits (response_at number stub trailer)) true) (le-leb (length stub) 65536 (omega (arith, short)))
@@ -119,14 +119,14 @@ signed_read unit value room sixteen =
 
 -- ---- a request
 
-joined_request : (number opnum : ℕ) (stub : List ℕ) (trailer : Option Trailer) (bytes : List ℕ) (on : LoggedOn) (at : AtLink) → length stub ≤ 5792 →
+joined_request : (number opnum : ℕ) (stub : List ℕ) (trailer : Option Trailer) (bytes : List ℕ) (on : LoggedOn) (at : AtLink) → length stub ≤ one_unit_limit →
     unit_of bytes ≡ Ok (request_at number opnum stub trailer) →
     join_unit (unit_of bytes) on None at ≡ answer_call (request_of number 0 opnum stub).body number on None at
 joined_request number opnum stub trailer bytes on at short read =
     ap (λ (unit : Result RpcUnit UnitRefused). join_unit unit on None at) read
     ∙ ap (λ (a : Result (Option RpcUnit) JoinRefused). join_by a None on at) (request_whole number opnum stub trailer short)
 
-plain_request : (most level number opnum : ℕ) (stub : List ℕ) (other : Option SessionState) → number < 2 ^ 32 → opnum < 2 ^ 16 → length stub ≤ 5792 → is_plain level ≡ true →
+plain_request : (most level number opnum : ℕ) (stub : List ℕ) (other : Option SessionState) → number < 2 ^ 32 → opnum < 2 ^ 16 → length stub ≤ one_unit_limit → is_plain level ≡ true →
     RequestGoes most level number opnum stub None other
 plain_request most level number opnum stub other below op short plain =
     let call : RpcUnit = request_at number opnum stub None in
@@ -165,7 +165,7 @@ secured_one seals one unit sent later is =
 abbrev pub signed_request_at : ℕ → ℕ → ℕ → List ℕ → RpcUnit
 signed_request_at level number opnum stub = request_at number opnum stub (Some (blank_trailer level 1))
 
-pub request_room : (level number opnum : ℕ) (stub : List ℕ) → number < 2 ^ 32 → opnum < 2 ^ 16 → length stub ≤ 5792 → HasRoom (signed_request_at level number opnum stub)
+pub request_room : (level number opnum : ℕ) (stub : List ℕ) → number < 2 ^ 32 → opnum < 2 ^ 16 → length stub ≤ one_unit_limit → HasRoom (signed_request_at level number opnum stub)
 request_room level number opnum stub below op short = record {
   sends = one_sends (signed_request_at level number opnum stub) (request_can number opnum stub (Some (blank_trailer level 1)) below op short (refl, omega arith)) short;
   stub = tt;
@@ -180,7 +180,7 @@ due level other context value is sixteen =
     ap (λ (l : ℕ). (level == l) && (length value == 16)) is
     ∙ ap₂ (λ (a b : Bool). a && b) (eq-eqb level level refl) (eq-eqb (length value) 16 sixteen)
 
-signed_request_heard : (level number opnum : ℕ) (stub : List ℕ) (one other : SessionState) → length stub ≤ 5792 → is_plain level ≡ false →
+signed_request_heard : (level number opnum : ℕ) (stub : List ℕ) (one other : SessionState) → length stub ≤ one_unit_limit → is_plain level ≡ false →
     HasRoom (signed_request_at level number opnum stub) → (t : Travels (is_sealed level) (signed_request_at level number opnum stub) one other) →
     (on : LoggedOn) (at : AtLink) → on.bound.level ≡ level → on.session ≡ Some other →
     unit_in (is_plain level) t.sent on None at ≡ answer_call (request_of number 0 opnum stub).body number (logged_on on (Some t.next)) None at
@@ -195,13 +195,13 @@ signed_request_heard level number opnum stub one other short plain room t on at 
     ∙ joined_request number opnum stub (Some (record { kind = 10; level = level; context = 1; value = t.signature })) (written (unit_with_value call t.signature)) (logged_on on (Some t.next)) at
     short (signed_read call t.signature room t.sixteen)
 
-signed_request : (most level number opnum : ℕ) (stub : List ℕ) (one other : SessionState) → most < 2 ^ 32 - 1 → number < 2 ^ 32 → opnum < 2 ^ 16 → length stub ≤ 5792 →
+signed_request : (most level number opnum : ℕ) (stub : List ℕ) (one other : SessionState) → most < 2 ^ 32 - 1 → number < 2 ^ 32 → opnum < 2 ^ 16 → length stub ≤ one_unit_limit →
     AreSessions most level (Some one) (Some other) → RequestGoes most level number opnum stub (Some one) (Some other)
 signed_request most level number opnum stub one other few below op short are =
     let call : RpcUnit = signed_request_at level number opnum stub in
     let room : HasRoom call = request_room level number opnum stub below op short in
     signed_goes most level number opnum stub one other short are room (secured_is_opened (is_sealed level) call one other room are.1 (omega (arith, few, are.2))) where
-      signed_goes : (most level number opnum : ℕ) (stub : List ℕ) (one other : SessionState) → length stub ≤ 5792 → AreSessions most level (Some one) (Some other) →
+      signed_goes : (most level number opnum : ℕ) (stub : List ℕ) (one other : SessionState) → length stub ≤ one_unit_limit → AreSessions most level (Some one) (Some other) →
           HasRoom (signed_request_at level number opnum stub) → Travels (is_sealed level) (signed_request_at level number opnum stub) one other →
           RequestGoes most level number opnum stub (Some one) (Some other)
       signed_goes most level number opnum stub one other short are room t =
@@ -225,7 +225,7 @@ signed_request most level number opnum stub one other few below op short are =
 
 -- ---- a reply
 
-joined_response : (number : ℕ) (stub : List ℕ) (trailer : Option Trailer) (terms : Terms) (question : Question) (link : ℕ) (work : ClientWork) → length stub ≤ 5792 →
+joined_response : (number : ℕ) (stub : List ℕ) (trailer : Option Trailer) (terms : Terms) (question : Question) (link : ℕ) (work : ClientWork) → length stub ≤ one_unit_limit →
     client.hear_fragment (response_at number stub trailer) None terms question link work ≡ client.hear_reply question stub terms link work
 joined_response number stub trailer terms question link work short =
     ap (λ (a : Result (Option RpcUnit) JoinRefused). client.hear_joined a None terms question link work) (response_whole number stub trailer short)
@@ -240,7 +240,7 @@ awaited_heard unit bytes number terms question link work read call waits =
     ∙ ap (λ (due : Bool). client.hear_call due unit bytes (client.talk_on link None (client_phase.Asked terms question)) work)
     (eq-eqb unit.call (client.awaited (client_phase.Asked terms question)) (call ∙ sym waits))
 
-plain_reply : (most level number : ℕ) (stub : List ℕ) (other : Option SessionState) → number < 2 ^ 32 → length stub ≤ 5792 → is_plain level ≡ true →
+plain_reply : (most level number : ℕ) (stub : List ℕ) (other : Option SessionState) → number < 2 ^ 32 → length stub ≤ one_unit_limit → is_plain level ≡ true →
     ReplyGoes most level number stub other None
 plain_reply most level number stub other below short plain =
     let call : RpcUnit = response_at number stub None in
@@ -271,7 +271,7 @@ plain_reply most level number stub other below short plain =
 abbrev pub signed_reply_at : ℕ → ℕ → List ℕ → RpcUnit
 signed_reply_at level number stub = response_at number stub (Some (blank_trailer level 1))
 
-pub reply_room : (level number : ℕ) (stub : List ℕ) → number < 2 ^ 32 → length stub ≤ 5792 → HasRoom (signed_reply_at level number stub)
+pub reply_room : (level number : ℕ) (stub : List ℕ) → number < 2 ^ 32 → length stub ≤ one_unit_limit → HasRoom (signed_reply_at level number stub)
 reply_room level number stub below short = record {
   sends = one_sends (signed_reply_at level number stub) (response_can number stub (Some (blank_trailer level 1)) below short (refl, omega arith)) short;
   stub = tt;
@@ -280,7 +280,7 @@ reply_room level number stub below short = record {
   room = refl;
 }
 
-pub signed_reply_sent : (level number : ℕ) (stub : List ℕ) (one other : SessionState) → length stub ≤ 5792 → is_plain level ≡ false →
+pub signed_reply_sent : (level number : ℕ) (stub : List ℕ) (one other : SessionState) → length stub ≤ one_unit_limit → is_plain level ≡ false →
     (t : Travels (is_sealed level) (signed_reply_at level number stub) other one) →
     (on : LoggedOn) (at : AtLink) → on.bound.level ≡ level → on.bound.context ≡ 1 → on.bound.binding.limit ≡ 5840 → on.session ≡ Some other →
     send_reply (is_plain level) number 0 stub on None at ≡ stay (send at t.sent) (talk_in None (logged_on on (Some t.later)))
@@ -293,7 +293,7 @@ signed_reply_sent level number stub one other short plain t on at level_is conte
     (one_fragment (signed_reply_at level number stub) (record { stub = tt; first = refl; last = refl }) short)
     ∙ ap (λ (secured : Option Secured). send_secured secured on None at) (secured_one (is_sealed level) other (signed_reply_at level number stub) t.sent t.later t.secured)
 
-signed_reply_heard : (level number : ℕ) (stub : List ℕ) (one other : SessionState) → length stub ≤ 5792 → HasRoom (signed_reply_at level number stub) →
+signed_reply_heard : (level number : ℕ) (stub : List ℕ) (one other : SessionState) → length stub ≤ one_unit_limit → HasRoom (signed_reply_at level number stub) →
     (t : Travels (is_sealed level) (signed_reply_at level number stub) other one) →
     (terms : Terms) (question : Question) (link : ℕ) (work : ClientWork) → work.task.level ≡ level → terms.session ≡ Some one →
     client.awaited (client_phase.Asked terms question) ≡ number →
@@ -317,12 +317,12 @@ memo_calls_go = record {
   reply = λ most level number stub one other few below short are. reply_by most level number stub one other few below short are;
 } where
   request_by : (most level number opnum : ℕ) (stub : List ℕ) (one other : Option SessionState) → most < 2 ^ 32 - 1 → number < 2 ^ 32 → opnum < 2 ^ 16 →
-      length stub ≤ 5792 → AreSessions most level one other → RequestGoes most level number opnum stub one other
+      length stub ≤ one_unit_limit → AreSessions most level one other → RequestGoes most level number opnum stub one other
   request_by most level number opnum stub None other few below op short are = plain_request most level number opnum stub other below op short are
   request_by most level number opnum stub (Some one) None few below op short are = absurd are
   request_by most level number opnum stub (Some one) (Some other) few below op short are = signed_request most level number opnum stub one other few below op short are
 
-  reply_goes : (most level number : ℕ) (stub : List ℕ) (one other : SessionState) → length stub ≤ 5792 → AreSessions most level (Some one) (Some other) →
+  reply_goes : (most level number : ℕ) (stub : List ℕ) (one other : SessionState) → length stub ≤ one_unit_limit → AreSessions most level (Some one) (Some other) →
       HasRoom (signed_reply_at level number stub) → Travels (is_sealed level) (signed_reply_at level number stub) other one →
       ReplyGoes most level number stub (Some other) (Some one)
   reply_goes most level number stub one other short are room t =
@@ -339,7 +339,7 @@ memo_calls_go = record {
         heard = signed_reply_heard level number stub one other short room t;
       }
 
-  reply_by : (most level number : ℕ) (stub : List ℕ) (one other : Option SessionState) → most < 2 ^ 32 - 1 → number < 2 ^ 32 → length stub ≤ 5792 →
+  reply_by : (most level number : ℕ) (stub : List ℕ) (one other : Option SessionState) → most < 2 ^ 32 - 1 → number < 2 ^ 32 → length stub ≤ one_unit_limit →
       AreSessions most level one other → ReplyGoes most level number stub other one
   reply_by most level number stub None other few below short are = plain_reply most level number stub other below short are
   reply_by most level number stub (Some one) None few below short are = absurd are

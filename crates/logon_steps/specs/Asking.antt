@@ -47,7 +47,7 @@ asking caller how info place number turn = record {
   sealing = None;
 }
 
--- the same of a channel that has that next secret, or none: while it has one, it is set first
+-- who asks on a channel that has that next secret, or none: while it has one, it is set first
 abbrev pub asking_keeping : Caller → Standing → NetworkInfo → ℕ → ℕ → Option Pending → Option (List ℕ) → Requester
 asking_keeping caller how info place number turn next = record (asking caller how info place number turn) { next = next }
 

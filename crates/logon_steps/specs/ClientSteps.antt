@@ -80,7 +80,7 @@ pub record ClientsStep : Type 0 where
       client.step_of (client_at task (on_link link (client_phase.Asked terms client_question.Who))) (event.Bytes link back.sent) now left
       ≡ whole_step left left (action.Send link sending.bytes ∷ [])
       (client_at task (on_link link (client_phase.Asked (with_session terms sending.session) (client_question.Echo name))))
-  -- the same bytes come back
+  -- the bytes of Echo come back
   pub echoed : (task : ClientPlan) (terms : Terms) (name : List ℕ) (link now most : ℕ) (other : Option SessionState) (left : List (List ℕ)) →
       (back : ReplyGoes most task.level 3 (written_echo_reply (client.echo_bytes task.echo)) other terms.session) → CanLogOn task →
       client.step_of (client_at task (on_link link (client_phase.Asked terms (client_question.Echo name)))) (event.Bytes link back.sent) now left

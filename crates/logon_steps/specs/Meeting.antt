@@ -90,7 +90,7 @@ pub record Meets : Type 0 where
   pub challenge : (plan : MemberPlan) (work : ClientWork) (challenge : List ℕ) (link : ℕ) → CanLogOn work.task → HasShortNames plan → length challenge ≡ 8 →
       client.hear (written (ack_for plan work.task challenge)) (client.talk_on link None client_phase.Bound) work
       ≡ heard.Challenged work link (offer_for plan work.task challenge work.now)
-  -- and answers it, with what it draws
+  -- the client answers the CHALLENGE, with what it draws
   pub answer : (plan : MemberPlan) (work : ClientWork) (challenge one two three : List ℕ) (left : List (List ℕ)) (link : ℕ) → CanLogOn work.task → HasShortNames plan →
       length challenge ≡ 8 →
       served_cut client.client_server (cut_stream (written (ack_for plan work.task challenge))) work (client.talk_on link None client_phase.Bound) (one ∷ two ∷ three ∷ left)

@@ -42,11 +42,11 @@ use Rattle.logon_steps.specs.MemoCalls.{RequestGoes}
 abbrev pub logons_resting : MemberPlan → Caller → Option (List ℕ) → Standing → ℕ → ℕ → Logons
 logons_resting plan caller next how place number = record { plan = plan; channel = at_rest_keeping caller how place number next; asked = [] }
 
--- the same of a member with one secret
+-- nobody waits at a member with one secret
 abbrev pub logons_at_rest : MemberPlan → Caller → Standing → ℕ → ℕ → Logons
 logons_at_rest plan caller how place number = logons_resting (plan_of plan caller) caller None how place number
 
--- who asks, with the secret that is tried: so it is before a turn on a channel that isn't there yet
+-- who asks, with the secret that is tried, before a turn on a channel that isn't there yet
 abbrev pub trying : MemberPlan → Caller → Caller
 trying plan caller = record caller { secret = tried_of plan.secrets }
 

@@ -63,7 +63,7 @@ logons_keeping plan caller how info place next number what asked = record {
   asked = asked;
 }
 
--- the same of a member with one secret
+-- the logons of a member with one secret, while a turn is out
 abbrev pub logons_in_turn : MemberPlan → Caller → Standing → NetworkInfo → ℕ → ℕ → ℕ → Step → List (ℕ × Logon) → Logons
 logons_in_turn plan caller how info place next number what asked = logons_keeping (plan_of plan caller) caller how info place next number what asked
 

@@ -69,9 +69,14 @@ pub record ReplyGoes (most level number : ℕ) (stub : List ℕ) (other one : Op
       client.hear sent (client.talk_on link None (client_phase.Asked terms question)) work
       ≡ client.hear_reply question stub (with_session terms next) link work
 
--- Each does, whatever the operation, where its stub fits into one unit.
+-- The most stub bytes of a call that goes in one unit, also where it is signed: the 5,840 of a unit, less 24 of its
+-- header, 8 before the signature, and 16 of the signature.
+abbrev pub one_unit_limit : ℕ
+one_unit_limit = 5792
+
+-- Requests and replies of the memo interface go so, whatever the operation, where their stubs fit into one unit.
 pub record MemoCallsGo : Type 0 where
   pub request : (most level number opnum : ℕ) (stub : List ℕ) (one other : Option SessionState) → most < 2 ^ 32 - 1 → number < 2 ^ 32 → opnum < 2 ^ 16 →
-      length stub ≤ 5792 → AreSessions most level one other → RequestGoes most level number opnum stub one other
+      length stub ≤ one_unit_limit → AreSessions most level one other → RequestGoes most level number opnum stub one other
   pub reply : (most level number : ℕ) (stub : List ℕ) (one other : Option SessionState) → most < 2 ^ 32 - 1 → number < 2 ^ 32 →
-      length stub ≤ 5792 → AreSessions most level one other → ReplyGoes most level number stub other one
+      length stub ≤ one_unit_limit → AreSessions most level one other → ReplyGoes most level number stub other one

@@ -20,6 +20,7 @@ use Rattle.end_links.specs.Binding.{bind_of}
 use Rattle.end_links.specs.Links.{LinkState}
 use Rattle.end_links.specs.Sending.{frames_of, joined_frames, request_of, response_of}
 use Rattle.end_links.specs.Serving.{served_cut}
+use Rattle.end_links.specs.Whole.{content_limit}
 use Rattle.logon_stubs.specs.Interface.{netlogon_syntax}
 use Rattle.logon_stubs.specs.declared.calls.Reply.{Reply}
 use Rattle.logon_stubs.specs.declared.calls.Reply.TheVariants as reply
@@ -76,7 +77,7 @@ set_reply_bytes number r = bytes_of_call (set_response number r) 5840
 -- a call that can be written and read, and that is short
 pub record IsSetTurn (c : SetCall) : Type 0 where
   pub sends : CanSendSet c
-  pub short : length (written_set_call c) ≤ 57000
+  pub short : length (written_set_call c) ≤ content_limit
 
 pub record SetUnitsGo : Type 0 where
   -- the call of a channel whose names fit

@@ -17,6 +17,7 @@ use Rattle.end_links.specs.Agreed.{Agreed}
 use Rattle.end_links.specs.Binding.{bind_of}
 use Rattle.end_links.specs.Sending.{frames_of, joined_frames, request_of, response_of}
 use Rattle.end_links.specs.Serving.{served_cut}
+use Rattle.end_links.specs.Whole.{content_limit}
 use Rattle.logon_stubs.specs.Interface.{netlogon_syntax}
 use Rattle.channel_client.specs.declared.answers.Taken.TheVariants as taken
 use Rattle.channel_client.specs.declared.state.Question.{Question}
@@ -56,14 +57,14 @@ pub record IsTurnCall (c : Call) : Type 0 where
   pub served : is_served (opnum_of_call c) ≡ true
   pub writes : CanWriteCall c
   pub range : InRangeCall c
-  pub short : call_content c ≤ 57000
+  pub short : call_content c ≤ content_limit
 
 -- a reply to a question, which can be written, joined and read
 pub record IsTurnReply (q : Question) (r : Reply) : Type 0 where
   pub opnum : opnum_of_reply r ≡ opnum_asked q
   pub writes : CanWriteReply r
   pub range : InRangeReply r
-  pub short : length (written_reply r) ≤ 57000
+  pub short : length (written_reply r) ≤ content_limit
 
 -- ---- a controller
 

@@ -31,7 +31,7 @@ use Rattle.ndr_codec.proofs.PartLaws.{it, of_part, then, end, where_true, from_p
 use Rattle.logon_stubs.specs.Structures.{authenticator, network_info, sam_times, sam_heads, sam_texts, sam_numbers, entries_head, entries_pointer, array_count, group, groups, group_array, groups_target, has_extra, extra_head, extra_entry, extra_entries, extra_sid, extra_sids, extra_array, extra_target, sam_info}
 use Rattle.logon_stubs.specs.Calls.{challenge_call, challenge_reply, auth_call, auth_reply, leveled_info, request_arm, logoff_call, logoff_reply, logon_call, is_reply_arm, validation_arm, logon_reply, IsCall, IsReply, call_of, reply_of, opnum_of_call, opnum_of_reply}
 use Rattle.logon_stubs.specs.Writing.{CanWriteNetworkInfo, CanWriteSamInfo, CanWriteLogoffCall, CanWriteLogonCall, CanWriteArm, CanWriteCall, CanWriteReply, put_authenticator, put_network_info, times_of, texts_of, put_times, put_text_heads, put_sam_numbers, put_entries_head, put_texts, put_group, put_groups, put_group_array, HasLevel, put_extra_head, put_extra_entry, put_extra_entries, put_extra_sid, put_extra_sids, put_extra_array, put_sam_info, put_challenge_call, put_challenge_reply, put_auth_call, put_auth_reply, put_leveled_info, put_logoff_call, put_logoff_reply, front_of, put_logon_call, put_logon_reply, put_call, put_reply, written_call, written_reply}
-use Rattle.logon_stubs.specs.Ranges.{IsBlock, IsAuthenticator, InRangeNetworkInfo, InRangeChallengeCall, InRangeAuthCall, InRangeLogoffCall, InRangeLogonCall, InRangeCall, InRangeGroup, InRangeExtra, InRangeNumbers, InRangeSamInfo, InRangeLogonReply, InRangeLogoffReply, InRangeChallengeReply, InRangeAuthReply, InRangeReply, bytes_of_text, call_content, HasShortTexts, IsShortReply}
+use Rattle.logon_stubs.specs.Ranges.{IsBlock, IsAuthenticator, InRangeNetworkInfo, InRangeChallengeCall, InRangeAuthCall, InRangeLogoffCall, InRangeLogonCall, InRangeCall, InRangeGroup, InRangeExtra, InRangeNumbers, InRangeSamInfo, InRangeLogonReply, InRangeLogoffReply, InRangeChallengeReply, InRangeAuthReply, InRangeReply, bytes_of_text, call_content, HasShortTexts, IsShortReply, short_reply_limit, short_info_limit}
 use Rattle.logon_stubs.proofs.CallLaws.{IsCall-call_of, IsReply-reply_of}
 
 -- ---- at most so many bytes
@@ -435,17 +435,17 @@ written_call-lt value can is = omega (arith, written_call-short value can is, ca
 pub written_reply-lt : (value : Reply) → CanWriteReply value → InRangeReply value → length (written_reply value) < 2 ^ 20
 written_reply-lt value can is = omega (arith, written_reply-short value can is, reply_size-lt value can)
 
-arm_joins : (level : ℕ) (info : Option SamInfo) → CanWriteArm level info → IfThere HasShortTexts info → size_if_there sam_size info ≤ 27973
+arm_joins : (level : ℕ) (info : Option SamInfo) → CanWriteArm level info → IfThere HasShortTexts info → size_if_there sam_size info ≤ short_info_limit
 arm_joins level None can few = omega arith
 arm_joins level (Some info) can few = omega (arith, can.1.groups, few.effective_name, few.full_name, few.script, few.profile, few.home, few.home_drive, few.server, few.domain, can.1.extra)
 
-reply_joins : (value : Reply) → CanWriteReply value → IsShortReply value → reply_size value ≤ 28015
+reply_joins : (value : Reply) → CanWriteReply value → IsShortReply value → reply_size value ≤ short_reply_limit
 reply_joins (reply.Logon value) can few = omega (arith, arm_joins value.level value.info can few)
 reply_joins (reply.Logoff value) can few = omega arith
 reply_joins (reply.Challenge value) can few = omega arith
 reply_joins (reply.Authenticate value) can few = omega arith
 
-pub written_reply-few : (value : Reply) → CanWriteReply value → InRangeReply value → IsShortReply value → length (written_reply value) ≤ 28015
+pub written_reply-few : (value : Reply) → CanWriteReply value → InRangeReply value → IsShortReply value → length (written_reply value) ≤ short_reply_limit
 written_reply-few value can is few = omega (arith, written_reply-short value can is, reply_joins value can few)
 
 pub written_reply-joins : (value : Reply) → CanWriteReply value → InRangeReply value → IsShortReply value → length (written_reply value) ≤ 65536

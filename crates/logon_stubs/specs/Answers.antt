@@ -14,6 +14,6 @@ pub record AnswersAreLong : Type 0 where
   pub answer : (stub : List ℕ) (r : LogonReply) (given : Authenticator) → AreBytes stub → reply_of 2 stub ≡ Ok (reply.Logon r) → r.returned ≡ Some given → 17 ≤ length stub
   -- the reply of an opening
   pub opened : (r : AuthReply) → length r.credential ≡ 8 → length (written_reply (reply.Authenticate r)) ≡ 16
-  -- so an opening's isn't read as a logon's
+  -- the reply of an opening isn't read as a logon's
   pub apart : (r : AuthReply) (other : LogonReply) (given : Authenticator) → length r.credential ≡ 8 → AreBytes (written_reply (reply.Authenticate r)) →
       reply_of 2 (written_reply (reply.Authenticate r)) ≡ Ok (reply.Logon other) → other.returned ≡ Some given → ⊥

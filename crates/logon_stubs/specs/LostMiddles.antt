@@ -92,6 +92,6 @@ pub record LostMiddles : Type 0 where
   -- where nothing stands behind a Logon, fewer bytes behind the same heads, whichever they are, are refused for a part
   pub shorter : (value : LogonCall) (front rest fewer : List ℕ) → AreBytes (front ++ rest) → AreBytes (front ++ fewer) → HoldsHeads front → HasLayout logon_call 0 value (front ++ rest) →
       length fewer < length rest → (place : ℕ) × (call_of 2 (front ++ fewer) ≡ Err (BadStub place))
-  -- so a Logon that was written and lost bytes behind its heads is refused
+  -- a Logon that was written and lost bytes behind its heads is refused
   pub lost : (value : LogonCall) (front middle back : List ℕ) → CanWriteLogonCall value → InRangeLogonCall value → written_call (call.Logon value) ≡ front ++ (middle ++ back) → HoldsHeads front →
       1 ≤ length middle → (place : ℕ) × (call_of 2 (front ++ back) ≡ Err (BadStub place))

@@ -135,7 +135,7 @@ bytes_of_text text = 2 * length text
 abbrev pub logon_content : NetworkInfo → ℕ
 logon_content info = bytes_of_text info.domain + bytes_of_text info.user + bytes_of_text info.workstation + length info.nt + length info.lm
 
--- the same of a call
+-- the bytes of the texts of a call, and of the responses of its logon
 abbrev pub call_content : Call → ℕ
 call_content (call.Logon value) = size_if_there bytes_of_text value.server + size_if_there bytes_of_text value.computer + logon_content value.info
 call_content (call.Logoff value) = size_if_there bytes_of_text value.server + size_if_there bytes_of_text value.computer + logon_content value.info
@@ -158,3 +158,14 @@ IsShortReply (reply.Logon value) = IfThere HasShortTexts value.info
 IsShortReply (reply.Logoff value) = Unit {0}
 IsShortReply (reply.Challenge value) = Unit {0}
 IsShortReply (reply.Authenticate value) = Unit {0}
+
+-- The most bytes of what is told of a user in short texts: 581 of its fields of fixed width and of what stands before
+-- each text and list, with the gaps between them; eight texts of 64 units of 2 bytes; 256 groups of 14 bytes, and 256
+-- extra identifiers of 89.
+abbrev pub short_info_limit : ℕ
+short_info_limit = 581 + 8 * (2 * 64) + 256 * 14 + 256 * 89
+
+-- The most bytes of a short reply: what is told, and 42 of the authenticator that is returned, the level, the status,
+-- and gaps.
+abbrev pub short_reply_limit : ℕ
+short_reply_limit = 42 + short_info_limit

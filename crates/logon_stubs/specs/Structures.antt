@@ -143,7 +143,7 @@ extra_sid attributes = do
   identifier ← item sid
   done (identifier, attributes)
 
--- those of all entries, in order
+-- the extra identifiers of all entries, in order
 abbrev pub extra_sids : List ℕ → Layout (List (SidParts × ℕ))
 extra_sids attributes = each extra_sid attributes
 

@@ -8,7 +8,7 @@ ghost use Rattle.logon_stubs.specs.declared.calls.Reply.{Reply as Answered};
 ghost use Rattle.logon_stubs.specs.Calls.{call_of, reply_of, opnum_of_call, opnum_of_reply, IsCall, IsReply};
 ghost use Rattle.logon_stubs.specs.Structures.{has_extra};
 ghost use Rattle.logon_stubs.specs.Writing.{CanWriteNetworkInfo, CanWriteLogonCall, CanWriteLogoffCall, CanWriteArm, CanWriteInfo, CanWriteCall, CanWriteReply, put_challenge_call, put_challenge_reply, put_auth_call, put_auth_reply, put_leveled_info, logoff_of, put_logoff_call, put_logoff_reply, put_logon_call, put_logon_reply, put_sam_info, put_call, put_reply, written_call, written_reply};
-ghost use Rattle.logon_stubs.specs.Ranges.{InRangeNetworkInfo, InRangeSamInfo, InRangeChallengeCall, InRangeAuthCall, InRangeLogoffCall, InRangeLogonCall, InRangeCall, InRangeChallengeReply, InRangeAuthReply, InRangeLogoffReply, InRangeLogonReply, InRangeReply, call_content, IsShortReply};
+ghost use Rattle.logon_stubs.specs.Ranges.{InRangeNetworkInfo, InRangeSamInfo, InRangeChallengeCall, InRangeAuthCall, InRangeLogoffCall, InRangeLogonCall, InRangeCall, InRangeChallengeReply, InRangeAuthReply, InRangeLogoffReply, InRangeLogonReply, InRangeReply, call_content, short_reply_limit, IsShortReply};
 
 use crate::calls::{
     AuthCall, AuthReply, Call, ChallengeCall, ChallengeReply, LogoffCall, LogoffReply, LogonCall,
@@ -267,7 +267,7 @@ pub fn what_is_written_is_read()
     ensures call_short { (value : Asked) → CanWriteCall value → InRangeCall value →
         length (written_call value) ≤ 400 + call_content value }
     ensures reply_joins { (value : Answered) → CanWriteReply value → InRangeReply value →
-        IsShortReply value → length (written_reply value) ≤ 28015 }
+        IsShortReply value → length (written_reply value) ≤ short_reply_limit }
     ensures call_ranges { (opnum : ℕ) (stub : List ℕ) (value : Asked) →
         AreBytes stub → call_of opnum stub ≡ Ok value → InRangeCall value }
     ensures reply_ranges { (opnum : ℕ) (stub : List ℕ) (value : Answered) →

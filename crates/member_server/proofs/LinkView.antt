@@ -433,7 +433,7 @@ any_bytes : (units : List (List ℕ)) → AllByRecursion (λ (bytes : List ℕ).
 any_bytes [] = tt
 any_bytes (bytes ∷ units) = (tt, any_bytes units)
 
--- the same through any unit
+-- what holds is held through any unit
 pub held_keeps : (Holds : Served → Type 0) →
     ((bytes : List ℕ) (at : AtLink) (talk : Talk) → Holds (stay at talk) → Holds (bound_unit talk.phase bytes talk.joiner at)) →
     (units : List (List ℕ)) (at : AtLink) (talk : Talk) → Holds (stay at talk) → Holds (serve_held units at talk)

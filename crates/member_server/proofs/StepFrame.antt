@@ -99,7 +99,7 @@ abbrev pub TurnHolds : (List RpcUnit → AtTurn → Type 0) → (Work → Type 0
 TurnHolds Out Over units (at, None) = Over at.work
 TurnHolds Out Over units (at, Some talk) = Out (whole_units units talk.joiner) at
 
--- the same said at once of all that comes of a unit that was taken
+-- all that comes of a unit that was taken, said at once
 pub record TakesTurn (Out : List RpcUnit → AtTurn → Type 0) (Over : Work → Type 0) : Type 0 where
   pub takes : (unit : RpcUnit) (after : Option RpcUnit) (units : List (List ℕ)) (at : AtTurn) → Out (unit ∷ whole_units units after) at →
       TurnHolds Out Over units (do_taken (take_of at.work.logons.channel unit).taken after (taken_at at unit))

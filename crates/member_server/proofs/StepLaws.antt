@@ -50,7 +50,7 @@ units_refused Spent part rest left number how work answer = (ap (λ p. after_uni
 units_refused Memory part rest left number how work answer = units_rest part rest left number how work answer
 units_refused Stopped part rest left number how work answer = answer
 
--- and then no memory was found to put the link back
+-- a piece was served, and no memory was found to put the link back
 pub units_memory : (part : ServedPart AtLink Talk) (at : AtLink) (talk : Option Talk) (rest : List ℕ) (left : List (List ℕ)) (number : ℕ) (how : Dialling) (work : Work) →
     part ≡ Ok (record { value = (at, talk); left = left }) → IsRest (left_by (after_units part rest number how work)) left
 units_memory part at talk rest left number how work is =

@@ -37,9 +37,9 @@ is_enough level flags =
     has_flag flags negotiate_unicode && has_flag flags negotiate_ntlm
     && (is_plain level || has_flag flags negotiate_extended_sessionsecurity)
 
--- the level and the security context of the trailer, and the flags of the CHALLENGE that answers the NEGOTIATE; the
--- argument: whether the flags offered are enough
-abbrev pub offer_if : Bool → Trailer → ℕ → Option Offer
+-- the level and the security context of the trailer, and the flags of the CHALLENGE that answers the NEGOTIATE; none
+-- where the flags offered aren't enough
+abbrev pub offer_if : (enough : Bool) → Trailer → (flags : ℕ) → Option Offer
 offer_if false trailer flags = None
 offer_if true trailer flags = Some (record { level = trailer.level; context = trailer.context; flags = challenge_flags flags })
 
@@ -83,7 +83,7 @@ challenge_ack offer plan call receive contexts challenge =
     let ack : RpcUnit = ack_of memo_syntax call receive contexts in
     record ack { trailer = Some (challenge_trailer offer plan challenge) }
 
--- it has at most 5,840 bytes, whichever challenge of 8 bytes it carries
+-- the answer to a bind has at most 5,840 bytes, whichever challenge of 8 bytes it carries
 abbrev pub ack_fits : Offer → MemberPlan → ℕ → ℕ → List (ℕ × Syntax × List Syntax) → Bool
 ack_fits offer plan call receive contexts =
     nat_le (length (written (challenge_ack offer plan call receive contexts (replicate 8 0)))) 5840
@@ -98,11 +98,11 @@ bound_by offer receive contexts =
 
 -- ---- a bind
 
--- it is refused, and the link stays as it is
+-- a bind is refused, and the link stays as it is
 abbrev pub refusal_of_bind : ℕ → Option RpcUnit → AtLink → Served
 refusal_of_bind call joiner at = stay (send_unit at (nak_of call)) (record { joiner = joiner; phase = phase.Fresh })
 
--- it is answered with this challenge
+-- a bind is answered with this challenge
 abbrev pub answer_of_bind : Offer → ℕ → ℕ → List (ℕ × Syntax × List Syntax) → List ℕ → Option RpcUnit → AtLink → Served
 answer_of_bind offer call receive contexts challenge joiner at =
     stay (send_unit at (challenge_ack offer at.logons.plan call receive contexts challenge))

@@ -2,7 +2,8 @@
 -- the stub bytes of open calls, and the requests that wait.
 use Rattle.std.specs.Prelude.{ℕ, ◌+◌, ◌*◌, Option, Some, None}
 use Rattle.rpc_units.specs.Joining.{open_len}
-use Rattle.end_links.specs.Links.{held_by, open_limit, rest_limit}
+use Rattle.rpc_units.specs.Stream.{rest_limit}
+use Rattle.end_links.specs.Links.{held_by, open_limit}
 use Rattle.channel_turns.specs.Turning.{bytes_of}
 use Rattle.member_server.specs.declared.state.Phase.{Phase}
 use Rattle.member_server.specs.declared.state.Phase.TheVariants as phase

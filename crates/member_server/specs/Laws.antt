@@ -108,7 +108,7 @@ HoldsRequests (phase.Asked bound place held) = AreRequests held
 HoldsRequests (phase.In on) = Unit {0}
 HoldsRequests (phase.Out bound status) = Unit {0}
 
--- the same of each link
+-- what is held on each link is requests
 abbrev pub HoldRequests : List (ℕ × LinkState Talk) → Type 0
 HoldRequests links = AllByRecursion (λ (entry : ℕ × LinkState Talk). HoldsRequests entry.1.talk.phase) links
 

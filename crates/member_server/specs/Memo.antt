@@ -29,8 +29,8 @@ abbrev pub call_answer : (is_accepted : Bool) (opnum : ℕ) (name stub : List �
 call_answer false opnum name stub = answer.Fault nca_proto_error
 call_answer true opnum name stub = memo_answer (opnum == 0) (opnum == 1) name stub
 
--- The most bytes of a reply's stub: a name of 32,767 units, and 24 bytes around them. So it is short enough for the
--- hint of a reply, and for one send.
+-- The most bytes of a reply's stub: a name of 32,767 units, and 24 bytes around them. It is short enough for the hint
+-- of a reply, and for one send.
 abbrev pub stub_limit : ℕ
 stub_limit = 2 * 32767 + 24
 

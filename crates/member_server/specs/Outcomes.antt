@@ -119,7 +119,7 @@ reach_waiting waits link how logon work =
     after_served (serve_held waits.1 (at_link logon.link work) (record { joiner = link.talk.joiner; phase = phase_after how logon waits.0 }))
     link.rest logon.link work
 
--- the same where it waits, of a link that is out of the map
+-- a link that is out of the map, where it waits, is in or out, and what is held is served; else nothing is done
 abbrev pub reach_alone : Option (Bound × List (List ℕ)) → LinkState Talk → Ending → Logon → Work → Work
 reach_alone None link how logon work = work
 reach_alone (Some waits) link how logon work = reach_waiting waits link how logon work

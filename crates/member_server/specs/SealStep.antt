@@ -147,10 +147,10 @@ abbrev pub SealsNothing : State → Type 0
 SealsNothing s = sealing_in s ≡ None
 
 pub record PlainMembersStay : Type 0 where
-  -- such a member is made and goes as one that can't seal
+  -- a member that seals nothing is made and goes as one that can't seal
   pub made : (plan : MemberPlan) → plan.sealed ≡ false → sealing_member plan ≡ fresh_member plan
   pub step : (s : State) (what : Event) (now : ℕ) (left : List (List ℕ)) → SealsNothing s → any_step_of s what now left ≡ step_of s what now left
-  -- and stays one
+  -- a member that seals nothing stays one
   pub fresh : (plan : MemberPlan) → SealsNothing (fresh_member plan)
   pub stepped : (s : State) (what : Event) (now : ℕ) (left : List (List ℕ)) → SealsNothing s → SealsNothing (step_of s what now left).state
   pub changed : (s : State) (new : List ℕ) → sealing_in (change_of s new).state ≡ sealing_in s

@@ -40,7 +40,7 @@ changes_text (turn_end.Answer place verdict) s = false
 changes_text (turn_end.Dropped place cause) s = false
 changes_text turn_end.Set s = is_some s.next
 
--- It is so of the text that is written.
+-- The text of the secrets that is written is another exactly where `changes_text` says so.
 pub record TellsTextsApart : Type 0 where
   pub same : (how : TurnEnd) (s : SecretsState) → changes_text how s ≡ false → written_secrets (secrets_after how s) ≡ written_secrets s
   pub another : (how : TurnEnd) (s : SecretsState) → AreSecrets s → changes_text how s ≡ true →

@@ -42,7 +42,8 @@ pub record SetsNext (o : SecureChannelState) (caller : Caller) (next : Option (L
   pub channel : c.channel ≡ caller.kind
   pub computer : c.computer ≡ caller.computer
 
--- so is the call that waits for its bind; while its reply is awaited there is a next secret too
+-- the call of a turn that sets the next secret, while it waits for its bind, sets that; while its reply is awaited
+-- there is a next secret too
 abbrev pub IsSetBy : SetStep → Standing → Caller → Option (List ℕ) → Type 0
 IsSetBy (set_step.Bind c) standing.Nothing caller next = HasNext next
 IsSetBy (set_step.Bind c) (standing.Half client server) caller next = HasNext next
@@ -66,7 +67,7 @@ abbrev pub TriesUnlessStopped : Option Running → Type 0
 TriesUnlessStopped None = Unit {0}
 TriesUnlessStopped (Some running) = TriesSecrets running.logons.channel running.logons.plan.secrets
 
--- So it is at first, after each step, and after each change that begins.
+-- A member tries its secrets at first, after each step, and after each change that begins.
 pub record TriesItsSecrets : Type 0 where
   pub fresh : (plan : MemberPlan) → TriesUnlessStopped (fresh_member plan).running
   pub step : (s : State) (what : Event) (now : ℕ) (left : List (List ℕ)) → TriesUnlessStopped s.running →

@@ -37,7 +37,7 @@ stay at talk = (at, Some talk)
 abbrev pub shut : CloseCause → AtLink → Served
 shut cause at = (tell at (action.Close at.link cause), None)
 
--- the same of what draws no challenge
+-- what is served where no challenge is drawn
 abbrev pub ServedPart : Type 0
 ServedPart = Result (Part Served) StepRefused
 

@@ -64,7 +64,7 @@ pub(crate) fn offer_in(trailer: &Option<Trailer>) -> Option<Offer>
     }
 }
 
-/// The same of a trailer that is there.
+/// What a trailer offers. None where a bind with it is refused.
 fn offer_at(trailer: &Trailer) -> Option<Offer>
     ensures { result ≡
         offer_at ((trailer.now.kind == ntlm_provider) && is_level trailer.now.level) trailer.now }
@@ -393,7 +393,7 @@ fn take_bind<Q: Chances>(
     }
 }
 
-/// The same with what its trailer offers.
+/// Takes a bind with what its trailer offers.
 #[tactic(auto, using(crate::proofs::BindLaws::drawing))]
 fn take_offer<Q: Chances>(
     alloc: Global,

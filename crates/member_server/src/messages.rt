@@ -212,7 +212,7 @@ fn take_message(
     ask_by(alloc, fit, message, agreed, challenge, bound, joiner, at)
 }
 
-/// The same, by whether it is fit.
+/// Asks for the logon of a message, by whether it is fit.
 fn ask_by(
     alloc: Global,
     fit: bool,

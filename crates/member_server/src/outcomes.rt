@@ -5,6 +5,7 @@ ghost use Rattle.end_links.specs.Bounds.{IsShortSend};
 ghost use Rattle.wire_base.specs.Maps.{lookup, same_number};
 ghost use Rattle.member_server.specs.Units.{serve_held};
 ghost use Rattle.member_server.specs.Outcomes.{at_link, tell_at, without_link, keep_link, after_served, name_in, key_in, session_in, outcome_of, phase_after, waiting_at, waiting_on, reach_alone, reach_in_map, reach_link, without_logon, end_logon};
+ghost use Rattle.rpc_units.specs.Stream.{rest_limit};
 
 use crate::held::Held;
 use crate::state::{AtLink, Bound, LoggedOn, Logon, Phase, Talk, Work};
@@ -151,7 +152,7 @@ pub(crate) fn keep_link(
     work: Work,
 ) -> Result<Work, NoMemory>
     requires runs { flow.broken ≡ false }
-    requires waits { length flow.held ≤ 5839 }
+    requires waits { length flow.held ≤ rest_limit }
     requires room { length work.links < 256 }
     ensures { IfOk result (λ kept. kept ≡ keep_link said flow.held number work) }
 {
@@ -189,7 +190,7 @@ fn reach_alone(
     reach_talk(alloc, place, how, logon, flow, talk, work)
 }
 
-/// The same, by its stream and what is said on it.
+/// Tells a link that is out of the map of its logon's end, by its stream and what is said on it.
 fn reach_talk(
     alloc: Global,
     place: u32,
@@ -200,7 +201,7 @@ fn reach_talk(
     work: Work,
 ) -> Result<Work, NoMemory>
     requires runs { flow.broken ≡ false }
-    requires waits { length flow.held ≤ 5839 }
+    requires waits { length flow.held ≤ rest_limit }
     requires room { length work.links < 256 }
     ensures { IfOk result (λ turned. turned
         ≡ reach_alone (waiting_at place talk.phase)
@@ -222,7 +223,7 @@ fn reach_talk(
     }
 }
 
-/// The same, by what is bound and held on it.
+/// Tells a link that waits of its logon's end, by what is bound and held on it.
 fn reach_waiting(
     alloc: Global,
     how: &Ending,
@@ -234,7 +235,7 @@ fn reach_waiting(
     work: Work,
 ) -> Result<Work, NoMemory>
     requires runs { flow.broken ≡ false }
-    requires waits { length flow.held ≤ 5839 }
+    requires waits { length flow.held ≤ rest_limit }
     requires room { length work.links < 256 }
     ensures { IfOk result (λ turned. turned ≡ after_served
         (serve_held held (at_link logon.now.link work)
@@ -257,7 +258,7 @@ fn serve_waiting(
     work: Work,
 ) -> Result<Work, NoMemory>
     requires runs { flow.broken ≡ false }
-    requires waits { length flow.held ≤ 5839 }
+    requires waits { length flow.held ≤ rest_limit }
     requires room { length work.links < 256 }
     ensures { IfOk result (λ served. served
         ≡ after_served (serve_held held (at_link number work) talk) flow.held number work) }

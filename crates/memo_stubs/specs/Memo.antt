@@ -37,7 +37,7 @@ echo_request = placed (λ place. do
   count ← item long
   only (nat_le count 4096) (BadStub (start_of 4 place)) (item (raw count)))
 
--- the same, and then the status, which is aligned to 4
+-- at most 4,096 bytes behind their count, and then the status, which is aligned to 4
 unfoldable pub echo_reply : Layout (List ℕ)
 echo_reply = do
   bytes ← echo_request

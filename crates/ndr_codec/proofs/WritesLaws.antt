@@ -78,7 +78,7 @@ sid_piece parts is =
     let p = piece_append 4 (2 + (6 + 4 * count)) (to_le_bytes w32 count) ((1 ∷ count ∷ []) ++ (high ++ longs)) (number_piece w32 count) more in
     (p.0, omega (arith, p.1, is.at_most))
 
--- the same within a larger bound
+-- what writes within a bound writes within a larger one
 pub writes_within : {T : Type 0} {grammar : Grammar T} {value : T} {a : ℕ} {old new : Written} (b : ℕ) → a ≤ b → Writes grammar value a old new → Writes grammar value b old new
 writes_within b le w = record { bytes = w.bytes; item = w.item; appended = w.appended; are_bytes = w.are_bytes; short = omega (arith, w.short, le) }
 

@@ -72,7 +72,7 @@ abbrev pub ReadsPart : {T : Type 0} → LayoutOf NdrRefused T → Result T NdrRe
 ReadsPart layout (Ok value) old new = reading_by (λ refused. refused) layout old ≡ Ok (value, new)
 ReadsPart layout (Err refused) old new = reading_by (λ refused. refused) layout old ≡ Err refused
 
--- the same, or want of memory
+-- what `ReadsPart` says, or want of memory
 abbrev pub ReadsPartUpToMemory : {T : Type 0} → LayoutOf NdrRefused T → Result T NdrRefused → Cursor → Cursor → Type 0
 ReadsPartUpToMemory = ReadsBy Memory (λ refused. refused)
 

@@ -45,7 +45,7 @@ ok_is e = cc
 pub read_is : (text : List ℕ) (table : AccountTable) → text ≡ drill_document → table_of text ≡ Ok table → table ≡ drill_table
 read_is text table is read = ok_is (sym accounts_are ∙ ap table_of (sym is) ∙ read)
 
--- and it is refused for want of memory alone
+-- the drill's text is refused for want of memory alone
 pub refused_is : (text : List ℕ) (refused : TableRefused) → text ≡ drill_document → (refused ≡ Memory) ⊎ (table_of text ≡ Err refused) → refused ≡ Memory
 refused_is text refused is (inl memory) = memory
 refused_is text refused is (inr other) = absurd (let wrong = sym accounts_are ∙ ap table_of (sym is) ∙ other in cc)

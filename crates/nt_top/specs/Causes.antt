@@ -48,11 +48,11 @@ IsBadWords role words number = job_of role words ≡ Err (refusals.BadWords numb
 abbrev pub IsHexOf : ℕ → List ℕ → Type 0
 IsHexOf bytes text = (length text ≡ 2 * bytes) × AllPass is_hex_digit text
 
--- it isn't an AUTHENTICATE message in hex
+-- the text isn't an AUTHENTICATE message in hex
 abbrev pub HoldsNoMessage : List ℕ → Type 0
 HoldsNoMessage text = (bytes : List ℕ) (message : Authenticate) → decode_of text ≡ Ok bytes → ¬ IsAuthenticate bytes message
 
--- it isn't a message in hex that has lines to show
+-- the text isn't a message in hex that has lines to show
 abbrev pub ShowsNothing : List ℕ → Type 0
 ShowsNothing text = (bytes lines : List ℕ) → decode_of text ≡ Ok bytes → ¬ ShowsAs bytes lines
 

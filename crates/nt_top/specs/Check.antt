@@ -18,7 +18,7 @@ use Rattle.nt_top.specs.Needs.{needs}
 abbrev pub accepts_of : List ℕ → List ℕ → Authenticate → Bool
 accepts_of hash challenge message = message_verifies hash message.flags challenge message
 
--- the same in the field's own words
+-- the NT response is the one of the hash, in the field's own words (MS-NLMP 3.3.1, 3.3.2)
 abbrev pub Accepts : List ℕ → List ℕ → Authenticate → Type 0
 Accepts hash challenge message = MessageVerifies hash message.flags challenge message
 
@@ -68,7 +68,7 @@ pub record AskedAccepted (role : Role) (words : List (List ℕ)) : Type 0 where
   pub asks : AsksCheck role words hash challenge message
   pub accepts : Accepts hash challenge message
 
--- The same, and the response doesn't verify.
+-- Some hash, challenge and message were asked to be checked, and the response doesn't verify.
 pub record AskedRefused (role : Role) (words : List (List ℕ)) : Type 0 where
   pub hash : List ℕ
   pub challenge : List ℕ

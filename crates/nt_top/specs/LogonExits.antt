@@ -166,7 +166,7 @@ pub data LosesLink (before after : Sight) : Type 0 where
 
 -- ---- where words and files are of their forms
 
--- it is the exit of an outcome, or that there is none, or the challenges were spent, or memory ran out
+-- the exit of an outcome, or that there is none, or the challenges were spent, or memory ran out
 abbrev pub IsAnswered : Exit → Type 0
 IsAnswered Done = Unit {0}
 IsAnswered (Refused cause) = Unit {0}

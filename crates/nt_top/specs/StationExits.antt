@@ -115,7 +115,8 @@ pub record StationFailsToAsk (plan : StationPlan) (seed : List ℕ) (boot : ℕ)
   pub grants : GrantsIn run.run.ran.steps granted
   pub put : Appends before.taken after.taken (granted_lines granted)
 
--- The same, to a step that draws more challenges than were left.
+-- The challenges were started, and the station's run came to a step that draws more challenges than were left. The line
+-- of the user who is in was put where the Logon was granted.
 pub record StationSpends (plan : StationPlan) (seed : List ℕ) (boot : ℕ) (before after : Sight) : Type 0 where
   pub opened : Sight
   pub opens : Opens seed boot before opened []

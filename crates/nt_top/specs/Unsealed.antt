@@ -50,7 +50,7 @@ pub record SealsNone (s : Sealing) : Type 0 where
   pub links : s.links ≡ []
   pub asked : s.asked ≡ []
 
--- so it is of one that can't seal
+-- an end that can seal seals nothing; one that can't does so anyway
 abbrev pub SealsNothing : Option Sealing → Type 0
 SealsNothing None = Unit {0}
 SealsNothing (Some s) = SealsNone s

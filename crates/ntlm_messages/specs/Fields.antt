@@ -103,7 +103,7 @@ gap_of (place ∷ places) bytes = if length_at bytes place == 0 then gap_of plac
 unfoldable pub narrow_gap : ℕ → List ℕ → ℕ → ℕ
 narrow_gap place bytes gap = if length_at bytes place == 0 then gap else min gap (offset_at bytes place)
 
--- the same for fields read in the header's order
+-- the least offset so far, once the fields at these places are read too, in the header's order
 abbrev pub narrow_gaps : List ℕ → List ℕ → ℕ → ℕ
 narrow_gaps [] bytes gap = gap
 narrow_gaps (place ∷ places) bytes gap = narrow_gaps places bytes (narrow_gap place bytes gap)

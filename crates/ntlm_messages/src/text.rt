@@ -32,7 +32,7 @@ pub fn text_units(alloc: Global, flags: u32, text: &[u8]) -> Result<Units, Units
     Ok(Units::from_vec(units_of_bytes(alloc, text)?))
 }
 
-/// The same of a text field of a message that was read, which is never odd under the flag UNICODE.
+/// The units of a text field of a message that was read, which is never odd under the flag UNICODE.
 pub fn units_of_text(alloc: Global, flags: u32, text: &[u8]) -> Result<Units, NoMemory>
     requires { IsText flags text.now }
     ensures { IfOk result (λ units. units ≡ units_of_text flags text.now) }

@@ -38,7 +38,7 @@ pub fn verify(
     }
 }
 
-/// The same for a response of 24 bytes.
+/// The session base key of a response of 24 bytes that verifies; else None.
 fn verify_v1(hash: &[u8; 16], challenge: [u8; 8], nt: &[u8]) -> Option<[u8; 16]>
     ensures { result
         ≡ verified_by (bytes_eq nt.now (response_v1_of hash.now challenge)) (md4_of hash.now) }
@@ -49,7 +49,7 @@ fn verify_v1(hash: &[u8; 16], challenge: [u8; 8], nt: &[u8]) -> Option<[u8; 16]>
     Some(md4(hash))
 }
 
-/// The same for a response of 44 bytes or more, under the NTLMv2 key.
+/// The session base key of a response of 44 bytes or more that verifies under the NTLMv2 key; else None.
 fn verify_v2(key: &[u8; 16], challenge: [u8; 8], nt: &[u8]) -> Option<[u8; 16]>
     requires { 16 ≤ length nt.now }
     ensures { result ≡ verified_by

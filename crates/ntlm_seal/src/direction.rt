@@ -24,7 +24,7 @@ pub struct OneWay {
 }
 
 impl Model for OneWay {
-    ghost use Rattle.std.specs.Prelude.{◌*◌, ◌≤◌};
+    ghost use Rattle.std.specs.Prelude.{◌+◌, ◌*◌, ◌≤◌};
     ghost use Rattle.ntlm_seal.specs.Directions.{Direction};
 
     ghost Value = { Direction };
@@ -32,7 +32,7 @@ impl Model for OneWay {
     ghost view = { λ a. record { signing_key = a.signing_key; sealing_key = a.stream.key; key_exchange = a.key_exchange; number = a.number; used = a.stream.used } };
 
     // A unit takes at most 65,536 bytes of the key stream, and its checksum 8: so the bytes used stay below 2^63.
-    ghost invariant = { λ a. a.stream.used ≤ 65544 * a.number };
+    ghost invariant = { λ a. a.stream.used ≤ (65536 + 8) * a.number };
 }
 
 impl OneWay {
@@ -103,7 +103,7 @@ impl OneWay {
         Ok(())
     }
 
-    /// The same, of a unit whose range is sealed: opens the range, or leaves zeros there where the checksum is wrong.
+    /// Checks a unit whose range is sealed: opens the range, or leaves zeros there where the checksum is wrong.
     pub fn open(
         &mut self,
         unit: &mut [u8],

@@ -32,9 +32,9 @@ pub fn sealing_key(exported: &[u8; 16], flags: u32, side: Side) -> [u8; 16]
 
 /// How many bytes of the exported session key make a sealing key of 128 bits.
 const OF_128_BITS: usize = 16;
-/// The same of 56 bits.
+/// How many bytes of the exported session key make a sealing key of 56 bits.
 const OF_56_BITS: usize = 7;
-/// The same of 40 bits.
+/// How many bytes of the exported session key make a sealing key of 40 bits.
 const OF_40_BITS: usize = 5;
 
 /// How many bytes of the exported session key make the sealing key of a session.

@@ -17,7 +17,7 @@ abbrev pub AppendsFront : {X : Type 0} → Option (List X) → Option (List X) �
 AppendsFront old new items =
     Tells old new (λ before now. (length before ≤ length now) × (now ≡ take (length now) (before ++ items)))
 
--- The same by value: a list that is told gained that part of the items, and more of them is left.
+-- A list that is told gained that part of the items at its end, and more of them is left.
 pub record AppendsPart {X : Type 0} (old new : Option (List X)) (items : List X) : Type 0 where
   pub part : List X
   pub more : List X

@@ -47,8 +47,8 @@ impl<'a, N: Net + Clock> SocketPort<'a, N> {
         SocketPort::of_limits(alloc, net, usual_limits())
     }
 
-    /// The same, but that a dial fails after `dial` seconds, and a link that was dialled is closed after `silence`
-    /// seconds in which the caller waits for it.
+    /// Nothing is open yet, and nothing has failed. A dial fails after `dial` seconds, and a link that was dialled is
+    /// closed after `silence` seconds in which the caller waits for it.
     pub fn with_limits(alloc: Global, net: &'a N, dial: u64, silence: u64) -> Self
         ensures { result ≡ record { faults = 0; link_faults = 0 } }
     {

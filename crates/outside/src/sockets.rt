@@ -28,7 +28,8 @@ const DIAL_LIMIT: u64 = 3;
 /// How many seconds a peer that was dialled may be silent while it is waited for.
 const DIALLED_SILENCE: u64 = 30;
 
-/// The same where the port listens too: those that wait for it meanwhile are to hear of it in their own time.
+/// How many seconds a peer that was dialled may be silent while it is waited for, where the port listens too: those
+/// that wait for it meanwhile are to hear of it in their own time.
 const DIALLED_SILENCE_OF_SERVER: u64 = 15;
 
 /// How many seconds a peer whose link was accepted may be silent.
@@ -64,11 +65,11 @@ pub(crate) struct Limits {
     pub(crate) dial: u64,
     /// For a peer that is waited for, until something comes of it.
     pub(crate) silence: u64,
-    /// The same where the port listens too.
+    /// For a peer that is waited for where the port listens too.
     pub(crate) silence_of_server: u64,
 }
 
-/// Those of a port that isn't told others.
+/// The limits of a port that isn't told others, in seconds.
 pub(crate) fn usual_limits() -> Limits {
     Limits {
         dial: DIAL_LIMIT,

@@ -267,7 +267,7 @@ cut_range unit limit h least = cut_each IsInRange unit limit least (λ first las
 fragment_sendable : (call : RpcUnit) (limit : ℕ) (first last : Bool) (stub : List ℕ) → CanBeSent call limit → length stub ≤ stub_size limit → IsSendable (fragment call first last stub)
 fragment_sendable call limit first last stub h short =
     let least : 1432 ≤ limit = h.least in
-    let room : limit + value_len call.trailer ≤ 5856 = h.room in
+    let room : limit + value_len call.trailer ≤ 5840 + 16 = h.room in
     let size = fragment_short call limit first last stub h.whole.stub (omega arith) short in
     record {
       writable = fragment_writable call first last stub h.whole.stub h.value;

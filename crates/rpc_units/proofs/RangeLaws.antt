@@ -133,7 +133,7 @@ unit_fits bytes unit are is =
 pub read_fits : (bytes : List ℕ) (unit : RpcUnit) → AreBytes bytes → unit_of bytes ≡ Ok unit → IsWritable unit × IsInRange unit
 read_fits bytes unit are e = unit_fits bytes unit are (IsUnit-unit_of bytes unit e)
 
--- the same of what was read by code
+-- what was read by code is in range
 pub result_fits : (bytes : List ℕ) (result : Result RpcUnit UnitRefused) → AreBytes bytes → UpToMemory Memory result (unit_of bytes) → IfOk result (λ unit. IsWritable unit × IsInRange unit)
 result_fits bytes (Ok unit) are is = read_fits bytes unit are is
 result_fits bytes (Err e) are is = tt

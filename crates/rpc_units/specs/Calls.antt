@@ -18,7 +18,7 @@ pub record CanBeSent (call : RpcUnit) (limit : ℕ) : Type 0 where
   pub range : IsInRange call
   pub value : HasValue call.trailer
   pub least : 1432 ≤ limit
-  pub room : limit + value_len call.trailer ≤ 5856
+  pub room : limit + value_len call.trailer ≤ 5840 + 16
 
 -- a stream of just these units and no rest, each of which is read, and which joined are the call
 pub record IsHeard (bytes : List ℕ) (units : List RpcUnit) (call : RpcUnit) : Type 0 where

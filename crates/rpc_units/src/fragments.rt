@@ -44,7 +44,7 @@ fn read_numbers(unit: &Unit)
     read_trailer_number(&unit.trailer);
 }
 
-/// The same of a body with a stub.
+/// The numbers of a body with a stub are in the range of their types. It reads each of them, so that this is known.
 fn read_body_numbers(body: &Body)
     requires { HasStub body.now }
     ensures { HasNumbers body.now }
@@ -69,7 +69,7 @@ fn read_body_numbers(body: &Body)
     }
 }
 
-/// The same of a trailer.
+/// The number of a trailer's context is in the range of its type. It reads it, so that this is known.
 fn read_trailer_number(trailer: &Option<Trailer>)
     ensures { HasContextNumber trailer.now }
 {
@@ -79,7 +79,7 @@ fn read_trailer_number(trailer: &Option<Trailer>)
     }
 }
 
-/// The same of the security context.
+/// The number of a security context is in the range of its type. It reads it, so that this is known.
 fn read_context(trailer: &Trailer)
     ensures { trailer.now.context < 2 ^ 32 }
 {

@@ -43,7 +43,7 @@ pub record MayLogOnAt (table : AccountTable) (named user computer : List ℕ) (n
   pub domain : (named ≡ []) ⊎ SameName table.domain named
   pub account : IsSomeAnd (account_in table.accounts user) (λ account. AccountMayLogOnAt table.policy account computer now)
 
--- the same of what a network logon asks, and NT responses of its length are taken
+-- the account that a network logon names may log on, and NT responses of its length are taken
 pub record MayLogOn (table : AccountTable) (info : NetworkInfo) (now : ℕ) : Type 0 where
   pub there : MayLogOnAt table info.domain info.user info.workstation now
   pub taken_response : IsTakenResponse table.policy info.nt

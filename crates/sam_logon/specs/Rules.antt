@@ -60,9 +60,9 @@ allows workstations computer = (length workstations == 0) || lists workstations 
 -- ---- what a logon shows of an account's password, by the account's NT hash
 
 pub record Shown : Type 0 where
-  -- it is an NT response of 24 bytes, as NTLMv1's (MS-NLMP 3.3.1)
+  -- what is shown is an NT response of 24 bytes, as NTLMv1's (MS-NLMP 3.3.1)
   pub short : Bool
-  -- it is that of the hash
+  -- what is shown is that of the hash
   pub right : List ℕ → Bool
   -- the session base key that it gives under the hash, where it is right
   pub key : List ℕ → List ℕ
@@ -118,7 +118,7 @@ rules_for policy account shown workstation now =
     ∷ (has_come account.password_expires now, plain_refusal password_expired)
     ∷ []
 
--- those of a network logon
+-- the rules of a network logon
 abbrev pub rules_of : Policy → Account → NetworkInfo → ℕ → List Rule
 rules_of policy account info now = rules_for policy account (shown_by_response info) info.workstation now
 

@@ -49,7 +49,7 @@ pub(crate) fn sam_info(
     fill_in(alloc, table, controller, account, count, key, now)
 }
 
-/// The same, field by field.
+/// What is told of a user, field by field.
 #[tactic(auto, unfolding(crate::specs::Granting::sam_info_of))]
 fn fill_in(
     alloc: Global,

@@ -82,8 +82,8 @@ pub fn judge_logon(
     Ok(weighed.verdict)
 }
 
-/// The same verdict, in the table as the changes leave it, and the change that this one makes of it. It changes
-/// nothing.
+/// The verdict of `judge_logon`, in the table as the changes leave it, and the change that this one makes of it. It
+/// changes nothing.
 #[tactic(auto, using(crate::proofs::VerdictLaws::granted), unfolding(crate::specs::Verdict::judgement_of))]
 pub fn weigh_logon(
     alloc: Global,
@@ -169,8 +169,8 @@ pub fn judge_interactive(
     Ok(weighed.verdict)
 }
 
-/// The same verdict, in the table as the changes leave it, and the change that this one makes of it. It changes
-/// nothing.
+/// The verdict of `judge_interactive`, in the table as the changes leave it, and the change that this one makes of it.
+/// It changes nothing.
 #[tactic(auto, using(crate::proofs::VerdictLaws::granted), unfolding(crate::specs::Verdict::interactive_judgement_of))]
 pub fn weigh_interactive(
     alloc: Global,
@@ -258,7 +258,7 @@ fn weigh_response(
     )
 }
 
-/// The same on an interactive logon.
+/// The verdict on an interactive logon by its hash, and the change that it makes of the table.
 #[tactic(auto, unfolding(crate::specs::Verdict::interactive_verdict_of, crate::specs::Verdict::interactive_table_after))]
 fn weigh_hash(
     alloc: Global,

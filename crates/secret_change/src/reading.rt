@@ -60,7 +60,7 @@ fn read_set_call(alloc: Global, reader: &mut Reader<'_>) -> Result<SetCall, SetR
     })
 }
 
-/// The same of the whole stub.
+/// The call that a whole stub is.
 #[tactic(auto, unfolding(crate::specs::Calls::set_call_of))]
 fn set_call_in(alloc: Global, stub: &[u8]) -> Result<SetCall, SetRefused>
     ensures { UpToMemory SetRefused.Memory result (set_call_of stub.now) }
@@ -94,7 +94,7 @@ fn read_reply(reader: &mut Reader<'_>) -> Result<SetReply, SetRefused>
     })
 }
 
-/// The same of the whole stub.
+/// The reply that a whole stub is.
 #[tactic(auto, unfolding(crate::specs::Calls::set_reply_of))]
 fn set_reply_in(stub: &[u8]) -> Result<SetReply, SetRefused>
     ensures { result ≡ set_reply_of stub.now }

@@ -21,7 +21,7 @@ StaysByUnit {W} {T} server Holds =
     (done : List (ServedUnit W T)) (bytes : List ℕ) (work : W) (talk : T) (left : List (List ℕ)) → Holds done (comes_to work (Some talk) left) →
     Holds (done ++ unit_served server bytes work talk left ∷ []) (server.unit bytes work talk left)
 
--- and at the end of the units
+-- what holds stays so at the end of the units
 abbrev pub StaysAtEnd : {W T : Type 0} → Server W T → Option UnitRefused → BesideFact W T → Type 0
 StaysAtEnd {W} {T} server why Holds =
     (done : List (ServedUnit W T)) (work : W) (talk : T) (left : List (List ℕ)) → Holds done (comes_to work (Some talk) left) →
@@ -93,7 +93,7 @@ served_noted server note Holds stays cut work talk left holds =
       refusal = λ done why work talk left holds. stays.refusal (flat_map note done) why work talk left holds;
     }) cut work talk left holds
 
--- the same where one thing is written down of each
+-- what holds through the units served, where one thing is written down of each
 pub served_mapped : {W T N : Type 0} (server : Server W T) (note : ServedUnit W T → N) (Holds : List N → ServedPart W T → Type 0) →
     StaysNoted server (λ unit. note unit ∷ []) Holds → (cut : Cut) (work : W) (talk : T) (left : List (List ℕ)) →
     Holds [] (comes_to work (Some talk) left) → Holds (map note (served_units server cut.units work talk left)) (served_cut server cut work talk left)

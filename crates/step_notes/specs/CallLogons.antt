@@ -56,7 +56,7 @@ use Rattle.secret_change.specs.Secrets.{begin_by}
 abbrev pub info_at : ℕ → Logon → NetworkInfo
 info_at place logon = record (info_of logon.message logon.agreed logon.challenge) { logon_id = place }
 
--- as it waits for its turn
+-- a logon that is kept under a place, as it waits for its turn
 abbrev pub waiting_for : ℕ × Logon → Waiting
 waiting_for entry = record { place = entry.0; info = info_at entry.0 entry.1 }
 
@@ -73,12 +73,12 @@ pub record IsStamped (caller : Caller) (how : Standing) (c : LogonCall) : Type 0
   pub stands : how ≡ standing.Open (after_call earlier timestamp)
   pub is : call.Logon c ≡ logon_call caller earlier timestamp c.info
 
--- so has a Logon call that waits for its bind
+-- a Logon call that waits for its bind has the authenticator by which the channel that stands came to its seed
 abbrev pub IsStampedStep : Caller → Standing → Option Step → Type 0
 IsStampedStep caller how (Some (step.Bind (call.Logon c))) = IsStamped caller how c
 IsStampedStep caller how _ = Unit {0}
 
--- the same of a call that sets the next secret
+-- a call that sets the next secret has the authenticator by which the channel that stands came to its seed
 pub record IsStampedSet (caller : Caller) (how : Standing) (next : Option (List ℕ)) (c : SetCall) : Type 0 where
   pub earlier : SecureChannelState
   pub timestamp : ℕ
@@ -248,7 +248,7 @@ pub record CallsCarryTheirLogon : Type 0 where
       AsksByOneUnlessStopped (step_of m what now left).state.running
   pub keeps : (m : MemberState) (what : Event) (now : ℕ) (left : List (List ℕ)) → AsksUnlessStopped m.running →
       AsksUnlessStopped (step_of m what now left).state.running
-  -- and as it begins to change its secret
+  -- a member that begins to change its secret keeps that too
   pub changes : (secret : List ℕ) (running : Running) → running.logons.plan.secrets.next ≡ None →
       AsksUnlessStopped (Some running) →
       AsksUnlessStopped (Some (running_with (begin_by None running.logons.plan.secrets secret).secrets running))

@@ -135,7 +135,7 @@ place_answered taken.Set = None
 abbrev pub AreFramesOf : ℕ → Call → List (List ℕ) → Type 0
 AreFramesOf number c frames = (limit : ℕ) × (frames ≡ frames_of (request_of number 0 (opnum_of_call c) (written_call c)) limit)
 
--- the same of a call that sets a secret
+-- the frames are those of that call to set a secret, with that number, in fragments of some size
 abbrev pub AreFramesOfSet : ℕ → SetCall → List (List ℕ) → Type 0
 AreFramesOfSet number c frames = (limit : ℕ) × (frames ≡ frames_of (request_of number 0 set_opnum (written_set_call c)) limit)
 
@@ -181,7 +181,7 @@ opened_unit controller (heard.Close cause) d = None
 opened_unit controller (heard.Answer bytes talk) d = None
 opened_unit controller (heard.Waits talk) d = None
 
--- it is none of that computer
+-- the channel is none of that computer
 abbrev pub IsOfOther : List ℕ → Option ChannelIdentity → Type 0
 IsOfOther computer None = Unit {0}
 IsOfOther computer (Some opened) = same_name opened.computer computer ≡ false
@@ -286,7 +286,7 @@ abbrev pub channel_marked : Option ℕ → List Sent → Option ChannelIdentity
 channel_marked None sent = None
 channel_marked (Some unit) sent = sent_channel (slice_get sent unit)
 
--- So there is no clash where the units of an exchange come to whom they were made for: at a controller that expects an
+-- There is no clash where the units of an exchange come to whom they were made for: at a controller that expects an
 -- opening, at the member whose channel its reply opens, at a controller that has the channel of a call that passes, and
 -- at the member that takes the answer on it, or learns that the secret is set.
 pub record ExchangesHaveNoClash : Type 0 where
@@ -342,10 +342,10 @@ IsMarkedBy true talk before after = links_sent after.work.actions ≡ links_sent
 IsMarkedBy false None before after = Unit {0}
 IsMarkedBy false (Some talk) before after = links_sent after.work.actions ≡ links_sent before.work.actions
 
--- Whatever bytes come at a controller, it sends on their link alone, one unit for each mark; a unit on the link of a
--- member's turn lets one unit out on that link where it has a mark. In which order they are given is said by
--- `answered_marks` and `turn_marks`; that what goes out comes in it, by `RepliesAreSentAsJudged` (`Replies`) and
--- `RequestsComeFirst` (`CallLogons`).
+-- Whatever bytes come at a controller that asks nobody, it sends on their link alone, one unit for each mark; a unit on
+-- the link of a member's turn lets one unit out on that link where it has a mark. In which order marks are given is
+-- said by `answered_marks` and `turn_marks`; that what goes out comes in that order, by `RepliesAreSentAsJudged`
+-- (`Replies`) and `RequestsComeFirst` (`CallLogons`).
 pub record UnitsHaveTheirMarks : Type 0 where
   pub controller : (c : ControllerState) (number : ℕ) (piece : List ℕ) (now : ℕ) (left : List (List ℕ)) (w : Where) (actions : List Action) →
       (controller_step c (event.Bytes number piece) now left).answer ≡ Ok actions →
@@ -433,7 +433,7 @@ pub record IsOn (s : ClientState) (running : ClientRunning) (link : LinkState Cl
   pub runs : s.running ≡ Some running
   pub stands : running.standing ≡ On link
 
--- So a client's message is written down wherever it sends one: its link waits for the answer to its bind until it does,
+-- A client's message is written down wherever it sends one: its link waits for the answer to its bind until it does,
 -- and afterwards it sends requests alone, makes no other message, and keeps its key.
 pub record ClientsWriteDownWhatTheySend : Type 0 where
   pub answers : (s : ClientState) (running : ClientRunning) (link : LinkState ClientTalk) (number : ℕ) (piece : List ℕ) (now : ℕ) (left : List (List ℕ))

@@ -1,6 +1,6 @@
--- What is written down of the units that a controller serves (this project's own choice). What it heard, what it told
--- and what it sent is read off its own machine; only which channel a call is checked on is found by the same cases
--- again.
+-- What is written down of the units that a controller serves that asks nobody (this project's own choice). What it
+-- heard, what it told and what it sent is read off its own machine; only which channel a call is checked on is found by
+-- the same cases again. `TrustNotes` has what is written down of one that may hand logons on.
 use Rattle.std.specs.Prelude.{ℕ, Bool, true, false, List, [], ◌∷◌, ◌++◌, drop, length, bytes_eq, Option, Some, None}
 use Rattle.wire_base.specs.Maps.{lookup, same_number}
 use Rattle.wire_base.specs.Names.{same_name}

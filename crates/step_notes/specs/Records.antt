@@ -42,7 +42,7 @@ abbrev pub timestamp_in : Option Authenticator → ℕ
 timestamp_in None = 0
 timestamp_in (Some given) = given.timestamp
 
--- A call that a controller heard and judged, with all that its answer rests on.
+-- A call that a controller heard and judged, also one that it handed on, with all that its answer rests on.
 pub record Judging : Type 0 where
   -- the moves made before it
   pub at : ℕ
@@ -126,7 +126,8 @@ pub record OutcomeTold : Type 0 where
   pub link : ℕ
   pub outcome : Outcome
 
--- Who asks on secure channels: a member, by its number. It is the only kind of end yet that does.
+-- Who asks on secure channels, as far as it is written down: a member, by its number. What a controller asks of another
+-- one isn't.
 pub data RequesterId : Type 0 where
   OfMember : (member : ℕ) → RequesterId
 

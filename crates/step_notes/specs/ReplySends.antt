@@ -102,9 +102,10 @@ AreSentFor (one ∷ answers) sent = IsSentIf one.sends one sent (λ (rest : List
 abbrev pub standing_at : ℕ → ℕ → Source → ControllerState → ℕ → Where
 standing_at at controller source c now = record { at = at; controller = controller; source = source; name = c.name; moment = now }
 
--- Whatever bytes come at a controller, and whoever sent them: it sends one unit of bytes for each unit that is written
--- down as answered, in their order. Each that is marked as a reply carries what its call came to, and each that is
--- marked as the reply to an opening is a reply that opens a channel, under its number. None is marked as a request.
+-- Whatever bytes come at a controller that asks nobody, and whoever sent them: it sends one unit of bytes for each unit
+-- that is written down as answered, in their order. Each that is marked as a reply carries what its call came to, and
+-- each that is marked as the reply to an opening is a reply that opens a channel, under its number. None is marked as a
+-- request.
 abbrev pub RepliesAreSentAsJudged : Type 0
 RepliesAreSentAsJudged =
     (c : ControllerState) (at controller : ℕ) (source : Source) (link : ℕ) (piece : List ℕ) (now : ℕ) (left : List (List ℕ)) (actions : List Action) →

@@ -22,7 +22,8 @@ pub record TakesWhole (at : AtTurn) (unit : RpcUnit) (left : List (List ℕ)) (u
   pub takes : taking_at last ≡ Some (take_of at.work.logons.channel unit)
   pub comes : last.part ≡ Ok (record { value = take_by (take_of at.work.logons.channel unit) None at; left = left })
 
--- At a member: so it is of the units that it serves, and what they come to is what taking the whole unit comes to.
+-- Bytes that are those of one whole unit on the link of a turn: of the units that a member serves none but the last is
+-- taken by its channel, and what they come to is what taking the whole unit comes to.
 pub record MembersTakeWhole : Type 0 where
   pub units : (bytes : List ℕ) (frames : List RpcUnit) (unit : RpcUnit) (at : AtTurn) (talk : TurnTalk) (left : List (List ℕ)) →
       IsHeard bytes frames unit → talk.joiner ≡ None → TakesWhole at unit left (served_units turn_server (cut_stream bytes).units at talk left)

@@ -19,12 +19,12 @@ pub fn grants_carry_their_key()
     ensures { GrantsCarryTheirKey }
 {}
 
-/// Where bytes come, whoever sent them, a controller sends one unit of bytes for each unit that is written down as
-/// answered, in their order. Each that is marked as a reply is all frames of the reply to the call that is written down
-/// with it: that call, whatever it asks, passed on the channel of the mark, and the reply carries what it came to, with
-/// the credential that is returned and, where a logon was granted, the key under the session key of the channel
-/// (MS-NRPC 3.5.4.4.6, 3.5.4.5.3, 3.5.4.5.4). Each that is marked as the reply to an opening is all frames of a reply
-/// that opens a channel (3.5.4.4.2). None is marked as a request.
+/// Where bytes come, whoever sent them, a controller that asks nobody sends one unit of bytes for each unit that is
+/// written down as answered, in their order. Each that is marked as a reply is all frames of the reply to the call that
+/// is written down with it: that call, whatever it asks, passed on the channel of the mark, and the reply carries what
+/// it came to, with the credential that is returned and, where a logon was granted, the key under the session key of
+/// the channel (MS-NRPC 3.5.4.4.6, 3.5.4.5.3, 3.5.4.5.4). Each that is marked as the reply to an opening is all frames
+/// of a reply that opens a channel (3.5.4.4.2). None is marked as a request.
 #[tactic(auto, using(crate::proofs::Controllers::ReplyStepLaws::replies_sent))]
 pub fn replies_are_sent_as_judged()
     ensures { RepliesAreSentAsJudged }
@@ -46,8 +46,9 @@ pub fn channels_are_named_alike()
     ensures { ChannelsAreNamedAlike }
 {}
 
-/// Where bytes come, a controller sends on their link alone, one unit for each mark. A unit on the link of a member's
-/// turn lets one unit out on that link where it has a mark; where it has none, nothing is sent, or the link is closed.
+/// Where bytes come, a controller that asks nobody sends on their link alone, one unit for each mark. A unit on the
+/// link of a member's turn lets one unit out on that link where it has a mark; where it has none, nothing is sent, or
+/// the link is closed.
 #[tactic(auto, using(crate::proofs::Channels::MarkLaws::units_have_marks))]
 pub fn units_have_their_marks()
     ensures { UnitsHaveTheirMarks }
@@ -101,8 +102,8 @@ pub fn controllers_hear_whole()
     ensures { ControllersHearWhole }
 {}
 
-/// So it is at a member, on the link of its turn: with the last fragment its channel takes the whole unit, and nothing
-/// happens before it.
+/// Of bytes that are those of one whole unit on the link of a member's turn, its channel takes the whole unit with the
+/// last fragment, and nothing happens before it.
 #[tactic(auto, using(crate::proofs::Members::TurnHeardLaws::members_take))]
 pub fn members_take_whole()
     ensures { MembersTakeWhole }

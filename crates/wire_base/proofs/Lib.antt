@@ -1,5 +1,7 @@
+pub mod AllLaws
 pub mod DecimalLaws
 pub mod ListLaws
+pub mod ListPlaceLaws
 pub mod MapLaws
 pub mod MemoryLaws
 pub mod NameLaws

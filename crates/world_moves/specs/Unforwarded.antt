@@ -1,4 +1,5 @@
--- Runs in which no call comes for a trusted domain, whatever the plan (this project's own choice).
+-- Runs in which no call comes for a trusted domain and challenges are left at the end, whatever the plan (this
+-- project's own choice).
 use Rattle.std.specs.Prelude.{ℕ, ◌≡◌, ◌≤◌, ◌⊎◌, false, List, length, map}
 use Rattle.domain_controller.specs.State.{State as ControllerState}
 use Rattle.domain_controller.specs.TrustHere.{told_trusts}
@@ -12,14 +13,14 @@ use Rattle.world_moves.specs.Plain.{NothingSeals}
 use Rattle.world_moves.specs.World.{World, actions_of_run, first_world, run, run_of}
 
 -- In the run of these moves from the plan no controller tells of a call for a trusted domain: none tells that a logon
--- is handed on, nor that one passed with NO_LOGON_SERVERS. And challenges are left, so that no end stopped for want of
--- them.
+-- is handed on, nor that one passed with NO_LOGON_SERVERS. Challenges are left at its end, so that no end stopped for
+-- want of them.
 pub record IsUnforwarded (plan : Plan) (moves : List Move) : Type 0 where
   pub told : told_trusts (actions_of_run (run_of moves (first_world plan))) ≡ 0
   pub left : 1 ≤ length (run moves (first_world plan)).state.chances.left
 
 -- Each call is judged by the controller that hears it: the plan hands nothing on, or no call of the run comes for a
--- trusted domain.
+-- trusted domain and challenges are left at its end.
 abbrev pub IsJudgedAlone : Plan → List Move → Type 0
 IsJudgedAlone plan moves = HandsNothingOn plan ⊎ IsUnforwarded plan moves
 

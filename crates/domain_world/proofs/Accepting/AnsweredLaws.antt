@@ -53,7 +53,7 @@ use Rattle.channel_events.proofs.SameLaws.{itself, one_channel, same_back, same_
 use Rattle.step_notes.proofs.Controllers.GrantVerdictLaws.{IsServedGrant, served_grant}
 use Rattle.step_notes.proofs.Controllers.JudgedCallLaws.{of_network, status_done}
 use Rattle.step_notes.proofs.Controllers.JudgedStepLaws.{same_status}
-use Rattle.domain_world.proofs.Lists.ListPlaceLaws.{Cut, Placed, all_by_place, apart_same, cut_twice, first_found, found_is, one_at, ordered, placed}
+use Rattle.wire_base.proofs.ListPlaceLaws.{Cut, Placed, all_by_place, apart_same, cut_twice, first_found, found_is, one_at, ordered, placed}
 use Rattle.domain_world.proofs.Moves.MarkPlaceLaws.{got_beside}
 use Rattle.domain_world.proofs.Judgements.MovedLaws.{IsFound, passed_in}
 

@@ -1,5 +1,4 @@
--- The same of runs.
--- It serves `runs_are_proved`, `Proved.responses`.
+-- `IsProved` and `ShortResponsesServeOnce` hold of runs. It serves `runs_are_proved`, `Proved.responses`.
 use Rattle.std.proofs.Common.{List}
 use Rattle.world_moves.specs.declared.moves.Move.{Move}
 use Rattle.world_moves.specs.declared.plan.Plan.{Plan}

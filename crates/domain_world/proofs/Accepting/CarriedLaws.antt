@@ -32,7 +32,7 @@ use Rattle.domain_world.specs.Claims.Replies.{IsReplyOfOne, RepliesCarryTheirJud
 use Rattle.domain_world.specs.Past.{Past, plain_form}
 use Rattle.wire_base.proofs.ListLaws.{some_is}
 use Rattle.channel_events.proofs.SameLaws.{one_channel}
-use Rattle.domain_world.proofs.Lists.ListPlaceLaws.{all_by_place, placed}
+use Rattle.wire_base.proofs.ListPlaceLaws.{all_by_place, placed}
 use Rattle.domain_controller.proofs.TrustPlaceLaws.{got_all}
 
 -- ---- bytes are those of one whole unit alone

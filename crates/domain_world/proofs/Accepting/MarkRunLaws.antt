@@ -50,7 +50,7 @@ use Rattle.domain_world.proofs.Accepting.AnsweredLaws.{StandsFor, channel_there}
 use Rattle.domain_world.proofs.Accepting.Heard.JudgedRunLaws.{judged_first, judged_keeps}
 use Rattle.domain_world.proofs.Accepting.Heard.JudgedUnitLaws.{AreOwn, JudgedFact}
 use Rattle.domain_world.proofs.Accepting.LetInStepLaws.{IsAcceptedBy, IsDialledBy}
-use Rattle.domain_world.proofs.Lists.ListPlaceLaws.{Placed, all_by_place, apart_same, placed}
+use Rattle.wire_base.proofs.ListPlaceLaws.{Placed, all_by_place, apart_same, placed}
 use Rattle.domain_world.proofs.Quiet.QuietRunLaws.{has_bytes, quiet_first}
 use Rattle.domain_world.proofs.Quiet.QuietStepLaws.{QuietFact, QuietState}
 use Rattle.domain_world.proofs.Accepting.Turns.TurnFactLaws.{SameEnds}
@@ -58,7 +58,7 @@ use Rattle.domain_world.proofs.Accepting.Turns.TurnQuietLaws.{change_same, renew
 use Rattle.domain_world.proofs.Accepting.Turns.TurnRunLaws.{Known, KnownAction, drawn_differ, known_keep}
 use Rattle.domain_world.proofs.Messages.MessageApartLaws.{messages_apart}
 use Rattle.domain_world.proofs.Challenges.OwnChallengeLaws.{messages_own}
-use Rattle.domain_world.proofs.Lists.AllLaws.{all_join, all_zip}
+use Rattle.wire_base.proofs.AllLaws.{all_join, all_zip}
 use Rattle.domain_world.proofs.Frames.BagFrameLaws.{IsServer}
 use Rattle.domain_world.proofs.Moves.ComingLaws.{CameFrom, IsPieceOf}
 use Rattle.domain_world.proofs.Moves.DrawnRunLaws.{draws_differ, given_all}
@@ -385,7 +385,7 @@ calls_marked plan moves nobody schedule =
       controller = it.call.named ∙ ap (λ (k : ℕ). controller_asked (OfMember k) (plain_world plan).state) member ∙ sym (asked_stays (OfMember message.member) (plain_world plan).state p.world.state holds.0 holds.1);
     }) holds.2.calls (messages_own plan moves nobody.plain (draws_differ plan moves)).each
 
--- and a message whose answer was taken has a call: no other message came on its link
+-- a message whose answer was taken has a call: no other message came on its link
 pub answers_have_calls : OfSchedules (λ plan moves. AnswersHaveCalls (past plan moves))
 answers_have_calls plan moves nobody schedule =
     let messages : List MessageTaken = (past plan moves).book.messages in
@@ -396,7 +396,7 @@ answers_have_calls plan moves nobody schedule =
     apart_same (λ (one : MessageTaken). one.link) messages (messages_apart plan moves nobody.plain) found.place k found.item message found.there there found.is.0 in
     (found.is.1, ap (λ (one : MessageTaken). one.call) (sym same) ∙ found.is.2))
 
--- and so is the reply to each call that passed, and came in a unit of the bag
+-- the reply to each call that passed, and came in a unit of the bag, is marked as that
 pub replies_marked : OfSchedules (λ plan moves. RepliesAreMarked (past plan moves))
 replies_marked plan moves nobody schedule =
     let p : Past = past plan moves in
@@ -408,7 +408,7 @@ replies_marked plan moves nobody schedule =
     record { reply = it.0; is = it.1; sent = marked.one; there = marked.there; channel = stands.channel; passed = stands.passed; mark = marked.is; step = marked.step })
     (marks_hold plan moves nobody schedule).2.replies (judged_rightly plan moves)
 
--- and so is the reply to each opening that was accepted, and came in a unit of the bag
+-- the reply to each opening that was accepted, and came in a unit of the bag, is marked as that
 pub openings_marked : OfSchedules (λ plan moves. OpeningsAreMarked (past plan moves))
 openings_marked plan moves nobody schedule =
     let p : Past = past plan moves in

@@ -29,7 +29,7 @@ use Rattle.domain_world.specs.Past.{Past, plain_form}
 use Rattle.step_notes.proofs.Controllers.GrantVerdictLaws.{IsServedGrant, served_grant}
 use Rattle.step_notes.proofs.Controllers.JudgedCallLaws.{of_network, status_done}
 use Rattle.domain_world.proofs.Accepting.AnsweredLaws.{are_answers, passed_of, status_zero}
-use Rattle.domain_world.proofs.Lists.ListPlaceLaws.{Placed, all_by_place, one_at, placed}
+use Rattle.wire_base.proofs.ListPlaceLaws.{Placed, all_by_place, one_at, placed}
 use Rattle.domain_world.proofs.Moves.MarkPlaceLaws.{got_beside}
 
 -- the names of what was granted are told, whatever its key

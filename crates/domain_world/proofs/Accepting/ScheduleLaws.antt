@@ -51,7 +51,7 @@ units_heard plan moves nobody schedule =
       taken = messages_taken plan moves nobody.plain;
     }
 
--- and no two requests on a channel have one number
+-- no two requests on a channel have one number
 pub schedules_number : OfSchedules (λ plan moves. RequestsHaveNumbers (past plan moves))
 schedules_number plan moves nobody schedule =
     let stands : RunsStandSo plan moves = schedules_stand plan moves nobody schedule (draws_differ plan moves) in

@@ -20,7 +20,7 @@ use Rattle.domain_world.specs.Claims.{AcceptsOnlyGranted, IsAccepted, IsLetInSho
 use Rattle.domain_world.specs.Claims.OwnChallenges.{MessagesHaveOwnChallenges}
 use Rattle.domain_world.specs.Past.{Past}
 use Rattle.wire_base.proofs.ListLaws.{some_is}
-use Rattle.domain_world.proofs.Lists.ListPlaceLaws.{Placed, all_by_place, apart_same, one_at, placed}
+use Rattle.wire_base.proofs.ListPlaceLaws.{Placed, all_by_place, apart_same, one_at, placed}
 use Rattle.domain_controller.proofs.TrustPlaceLaws.{got_all}
 
 -- such a response that verifies is the one to the challenge

@@ -100,7 +100,7 @@ module _ (table later : AccountTable) (distinct : has_distinct_names table.accou
   its_machine named kind at same is =
       some_is at place (sym (planned_place (account_of named) kind named at is) ∙ place_alike (account_of named) (account_of computer) (signed named computer same) table.accounts ∙ found)
 
-  -- and no other computer's has
+  -- no other computer's account has that place
   pub its_computer : (account : Account) → slice_get table.accounts place ≡ Some account → (named : List ℕ) (kind : ℕ) → machine_in later.accounts (account_of named) kind named ≡ Some place → SameName named computer
   its_computer account there named kind is =
       let one : has_name (account_of named) account ≡ true = hit_at (has_name (account_of named)) table.accounts place account (planned_place (account_of named) kind named place is) there in

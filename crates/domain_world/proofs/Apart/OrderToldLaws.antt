@@ -42,7 +42,7 @@ use Rattle.domain_world.proofs.Calls.CallComesLaws.{no_requests_sent, reply_no_r
 use Rattle.domain_world.proofs.Calls.CallHoldsLaws.{mark_there, marks_append, marks_in, requests_at}
 use Rattle.domain_world.proofs.Calls.MarkWayLaws.{answers_way}
 use Rattle.domain_world.proofs.Calls.WholeNotedLaws.{no_requests_marked}
-use Rattle.domain_world.proofs.Lists.AllLaws.{all_zip}
+use Rattle.wire_base.proofs.AllLaws.{all_zip}
 use Rattle.world_moves.specs.Alone.{alone_controller_step as controller_step}
 
 -- ---- what was accepted

@@ -101,7 +101,7 @@ use Rattle.domain_world.proofs.Accepting.Heard.JudgedUnitLaws.{IsCarriedCall, Is
 use Rattle.domain_world.proofs.Accepting.Heard.MarkSentLaws.{AreItsNames, HasItsNames}
 use Rattle.domain_world.proofs.Accepting.Heard.MarkWholeLaws.{MarksFit, marks_fit}
 use Rattle.domain_world.proofs.Accepting.LetInStepLaws.{IsDialledBy}
-use Rattle.domain_world.proofs.Lists.ListPlaceLaws.{Placed, one_at, placed}
+use Rattle.wire_base.proofs.ListPlaceLaws.{Placed, one_at, placed}
 use Rattle.domain_world.proofs.Quiet.QuietRunLaws.{is_quiet, one_piece}
 use Rattle.domain_world.proofs.Accepting.Turns.TurnFactLaws.{marks_before, taken_stays, world_in}
 use Rattle.domain_world.proofs.Accepting.Turns.TurnMarkLaws.{marks_known}

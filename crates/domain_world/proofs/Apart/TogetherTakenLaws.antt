@@ -67,7 +67,7 @@ use Rattle.domain_world.proofs.Accepting.Heard.JudgedRunLaws.{judged_stand}
 use Rattle.domain_world.proofs.Accepting.Heard.JudgedUnitLaws.{AllHeardSo, IsCarriedCall, IsJudgedWell, IsWholeCarried, answer_holds, any_heard, whole_carried}
 use Rattle.domain_world.proofs.Accepting.Heard.MarkSentLaws.{AreItsNames, HasItsNames}
 use Rattle.domain_world.proofs.Accepting.Heard.MarkWholeLaws.{MarksFit}
-use Rattle.domain_world.proofs.Lists.ListPlaceLaws.{all_by_place}
+use Rattle.wire_base.proofs.ListPlaceLaws.{all_by_place}
 use Rattle.domain_world.proofs.Quiet.QuietStepLaws.{QuietState}
 use Rattle.domain_world.proofs.Accepting.ScheduleLaws.{units_heard}
 use Rattle.domain_world.proofs.Apart.AcceptedHashLaws.{IsOfUnit, JudgesBy, OpensBy, not_both, unit_answers}

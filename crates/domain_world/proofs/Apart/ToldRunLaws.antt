@@ -83,7 +83,7 @@ module _ (p : Past) (even : length p.book.sent ≡ length p.world.state.bag) (an
       one_weaker (λ (j : Judging). IsPassedIn request j × (j.reply ≡ Some n)) (IsAnsweredIn request n) p.book.judged (λ j is. (is.0.1, is.1))
       (answers n unit.0 found.0 c number request unit.1 found.1 found.2).passed
 
--- so it is of each schedule without a clash
+-- each schedule without a clash tells so
 pub schedules_tell : (plan : Plan) (moves : List Move) → IsPlainAlone plan → IsSchedule plan moves → (past plan moves).book.clash ≡ false → Told (past plan moves).book
 schedules_tell plan moves nobody schedule clear = record {
   clash = clear;

@@ -29,7 +29,7 @@ use Rattle.domain_world.specs.Past.{change_if, change_message, with_answer, with
 use Rattle.domain_world.proofs.Accepting.Heard.AnswerReadLaws.{IsAnswerOf, answer_is}
 use Rattle.domain_world.proofs.Messages.MessageNoteLaws.{changed}
 use Rattle.domain_world.proofs.Accepting.Turns.TurnNotedLaws.{answered_is}
-use Rattle.domain_world.proofs.Lists.AllLaws.{all_join}
+use Rattle.wire_base.proofs.AllLaws.{all_join}
 use Rattle.domain_world.proofs.Calls.OutStepLaws.{IsOutIn, OutFor}
 use Rattle.domain_world.proofs.Calls.WholeOutLaws.{changed_all, noted}
 

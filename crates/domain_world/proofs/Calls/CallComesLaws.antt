@@ -57,7 +57,7 @@ use Rattle.domain_world.proofs.Calls.StepApartLaws.{other_apart, seen_member, wh
 use Rattle.domain_world.proofs.Calls.WholeNotedLaws.{IsFirstNew, SendsFirst, no_requests_marked, none_marked, note_for, placed_first, placed_part, sent_as, sent_first, sent_marks, whole_first, whole_messages, whole_units}
 use Rattle.domain_world.proofs.Calls.WholeOutLaws.{AreAccepted, IsSentAs, noted, noted_accepted, others_known, out_more, whole_holds}
 use Rattle.domain_world.proofs.Frames.TurnFrameLaws.{turns_sent, asked_book, asked_marks}
-use Rattle.domain_world.proofs.Lists.AllLaws.{all_join}
+use Rattle.wire_base.proofs.AllLaws.{all_join}
 
 -- what is kept, of a state and the book
 abbrev pub KeptIn : ℕ → State → Book → Type 0

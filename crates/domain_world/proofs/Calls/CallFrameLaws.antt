@@ -325,7 +325,7 @@ calls_stand plan moves steps kept few schedule differ =
 
 -- ---- with what keeps the ends quiet
 
--- so a schedule whose draws differ stands as it is to, where any fact is kept by which its ends are quiet
+-- a schedule whose draws differ stands as it is to, where any fact is kept by which its ends are quiet
 pub stand_so : (Quiet : RunFact) (Fine : ActionFact) → ((n : ℕ) (s : State) (given : Given) (b : Book) → Quiet n s given b → IsQuiet s) → StepKeeps NoFact Quiet Fine →
     (plan : Plan) (moves : List Move) → IsPlainAlone plan → Quiet 0 (plain_world plan).state [] blank → HasBytes plan moves → IsSchedule plan moves →
     DrawsDiffer (past plan moves).world → RunsStandSo plan moves
@@ -343,13 +343,13 @@ stand_so Quiet Fine so keeps plan moves nobody first bytes schedule differ =
       out = stand.out;
     }
 
--- so it is of each schedule
+-- each schedule whose draws differ stands as it is to
 pub schedules_stand : OfSchedules (λ plan moves. DrawsDiffer (past plan moves).world → RunsStandSo plan moves)
 schedules_stand plan moves nobody schedule differ =
     stand_so QuietFact QuietAction (λ n s given b quiet. is_quiet s quiet) quiet_keeps plan moves nobody (quiet_first plan schedule.start schedule.forms) (has_bytes plan moves nobody schedule)
     schedule differ
 
--- and where the answer of a message was taken, there is a call on its link
+-- where the answer of a message was taken, there is a call on its link
 pub schedules_called : OfSchedules (λ plan moves. AreCalled (past plan moves).book.messages)
 schedules_called plan moves nobody schedule =
     let both : StepKeeps NoFact (BothFacts QuietFact CallsKept) (BothFine QuietAction AnyAction) =

@@ -85,7 +85,7 @@ front_all : {T : Type 0} (P : T → Type 0) (items more : List T) → AllByRecur
 front_all P [] more all = tt
 front_all P (item ∷ items) more all = (all.0, front_all P items more all.1)
 
--- so do those in front
+-- of draws that differ those in front differ
 pub differ_front : (draws more : List (List ℕ)) → Differ (draws ++ more) → Differ draws
 differ_front [] more differ = λ i j d before within. absurd (omega (arith, within))
 differ_front (first ∷ draws) more differ =

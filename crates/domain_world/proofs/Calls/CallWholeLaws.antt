@@ -20,6 +20,7 @@ use Rattle.logon_stubs.proofs.WrittenLaws.{call_of-written_call, written_call-co
 use Rattle.end_links.specs.Links.{LinkState}
 use Rattle.end_links.specs.Sending.{frames_of, joined_frames, request_of}
 use Rattle.end_links.specs.Serving.{ServedPart, ServedUnit, served_units}
+use Rattle.end_links.specs.Whole.{whole_limit}
 use Rattle.end_links.proofs.BoundLaws.{frames_joined}
 use Rattle.channel_client.specs.declared.hearing.SetHearing.TheVariants as set_hearing
 use Rattle.channel_client.specs.declared.state.SetStep.TheVariants as set_step
@@ -91,7 +92,7 @@ CallsOut note before later = OutBy note.called note.sends before later
 
 -- ---- a request that goes out is whole
 
-pub request_heard : (number opnum limit : ℕ) (stub : List ℕ) → number < 2 ^ 32 → opnum < 2 ^ 16 → 1432 ≤ limit → limit ≤ 5840 → length stub ≤ 58209 →
+pub request_heard : (number opnum limit : ℕ) (stub : List ℕ) → number < 2 ^ 32 → opnum < 2 ^ 16 → 1432 ≤ limit → limit ≤ 5840 → length stub ≤ whole_limit →
     IsHeard (joined_frames (frames_of (request_of number 0 opnum stub) limit)) (cut_of (request_of number 0 opnum stub) limit) (request_of number 0 opnum stub)
 request_heard number opnum limit stub small known least most few =
     subst (λ (bytes : List ℕ). IsHeard bytes (cut_of (request_of number 0 opnum stub) limit) (request_of number 0 opnum stub)) (sym (frames_joined (request_of number 0 opnum stub) limit))

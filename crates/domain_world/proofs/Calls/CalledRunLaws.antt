@@ -37,7 +37,7 @@ use Rattle.domain_world.proofs.Messages.OwnMessageLaws.{EachKept, all_fresh, kep
 use Rattle.domain_world.proofs.Moves.PlacedLaws.{HasBytes}
 use Rattle.domain_world.proofs.Frames.EndNoteLaws.{messages_in}
 use Rattle.domain_world.proofs.Moves.PlainFormLaws.{heard_plain}
-use Rattle.domain_world.proofs.Lists.AllLaws.{all_zip}
+use Rattle.wire_base.proofs.AllLaws.{all_zip}
 
 -- ---- the message of a link is one
 
@@ -112,7 +112,7 @@ quiet_side s quiet = record {
   dialled = λ k m running there runs. if_dialled (λ (number : ℕ). IsDialledBy s.links k number) running.dialling (quiet_running s k m running quiet there runs).turn;
 }
 
--- so it is in each schedule
+-- each schedule's messages are called
 pub schedules_call : OfSchedules (λ plan moves. MessagesAreCalled (past plan moves))
 schedules_call plan moves nobody schedule =
     messages_called QuietFact QuietAction quiet_keeps (λ n s given b quiet. quiet_side s quiet) plan moves nobody (has_bytes plan moves nobody schedule) (quiet_first plan schedule.start schedule.forms)

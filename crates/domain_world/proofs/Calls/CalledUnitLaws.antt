@@ -71,7 +71,7 @@ use Rattle.domain_world.proofs.Frames.StepFrameLaws.{RunFact}
 use Rattle.domain_world.proofs.Messages.CallMessageLaws.{bytes_are, last_is}
 use Rattle.domain_world.proofs.Calls.CallWholeLaws.{IsCallOut, IsLogonSent, IsReadyUnit, OutBy, ReadyIn, ReadyOn, turns_ready}
 use Rattle.domain_world.proofs.Messages.OwnMessageLaws.{EachKept, HasMessage, IsOfLogon, KeptOf, has_still, member_messages, member_stays, one_kept}
-use Rattle.domain_world.proofs.Lists.AllLaws.{all_join, all_flat}
+use Rattle.wire_base.proofs.AllLaws.{all_join, all_flat}
 use Rattle.domain_world.proofs.Frames.EndNoteLaws.{messages_in, noted_by}
 
 -- ---- what it rests on, at each moment between steps of ends

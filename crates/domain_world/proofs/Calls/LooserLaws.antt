@@ -56,7 +56,7 @@ requests_before [] more none unit number c mark asks there = absurd (none unit n
 requests_before (first ∷ marks) more none zero number c mark asks there = there
 requests_before (first ∷ marks) more none (suc unit) number c mark asks there = requests_before marks more none unit number c mark asks there
 
--- so is a call
+-- a call among marks and others, of which none is a request, is among the marks
 pub calls_before : (marks more : List Mark) → NoRequests more → (unit number timestamp : ℕ) (c : ChannelIdentity) → slice_get (marks ++ more) unit ≡ Some (Calling c number timestamp) →
     slice_get marks unit ≡ Some (Calling c number timestamp)
 calls_before marks more none unit number timestamp c there = requests_before marks more none unit number c (Calling c number timestamp) (refl, refl) there

@@ -136,7 +136,7 @@ heard_way (heard.Answer bytes talk) w before after = tt
 heard_way (heard.Waits talk) w before after = tt
 heard_way (heard.Asked line c talk) w before after = call_way c line w before after
 
--- the same of a controller that may hand logons on
+-- what is written down of a controller that may hand logons on has the mark of a reply, or none
 by_way_of : (how : Option Judged) (j : Judging) → IsReply (trust_judging_by how j).mark
 by_way_of None j = judging_way false j
 by_way_of (Some (judged.Passed status)) j = judging_way true j

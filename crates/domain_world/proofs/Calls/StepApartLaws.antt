@@ -44,7 +44,7 @@ use Rattle.domain_world.specs.Past.{requester_in, running_in}
 
 -- ---- draws that differ
 
--- so do those behind the first
+-- of draws that differ those behind the first differ
 pub differ_later : (first : List ℕ) (draws : List (List ℕ)) → Differ (first ∷ draws) → Differ draws
 differ_later first draws differ i j d before within = differ (suc i) (suc j) d (omega (arith, before)) (omega (arith, within))
 

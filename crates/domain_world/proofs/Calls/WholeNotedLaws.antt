@@ -174,7 +174,7 @@ module _ (controller : ℕ) (at : AtTurn) (unit : RpcUnit) where
       ∙ ap (λ (note : TurnNote). answers_by who n carried sent note ++ []) (last_noted whole.last whole.work whole.takes)
       ∙ append-nil (answers_by who n carried sent note_for)
 
-  -- so the mark of the request is written down in one place at most
+  -- the mark of the request is written down in one place at most
   pub placed_part : (part : Result (Part DialWork) StepRefused) (link : ℕ) (new : List BagUnit) (left : List (List ℕ)) (units : List (ServedUnit AtTurn TurnTalk)) → TakesWhole at unit left units →
       PlacedBy part note_for
       (marks_of link false new (turn_marks (map (turn_note controller) (units_if_taken (step_by actions_in state_in halted_state left part).answer units))))
@@ -220,7 +220,7 @@ module _ (controller : ℕ) (at : AtTurn) (unit : RpcUnit) where
       first_before before last actions none.1 sends
       (subst (λ (note : TurnNote). IsFirstBy note.sends served.work (work_after served.part) actions (λ more. AreFirst controller (before ++ last ∷ []) more)) (none_noted served none.0.0) first)
 
-  -- so the request stands first among the actions
+  -- the request stands first among the actions
   pub whole_first : (left : List (List ℕ)) (units : List (ServedUnit AtTurn TurnTalk)) (actions : List Action) → TakesWhole at unit left units → note_for.sends ≡ true →
       AreFirst controller units actions → SendsFirst at.link actions
   whole_first left units actions whole sends first =
@@ -274,7 +274,7 @@ sent_as note link at own before after units on even new =
       mark = refl;
     }
 
--- and its mark stands in one place
+-- the mark of the request stands in one place
 pub placed_first : (mark : Mark) (link : ℕ) (own : BagUnit) (before after : List BagUnit) → is_sent_on link false own ≡ true → IsFirstNew own before after →
     IsPlaced (marks_of link false (drop (length before) after) (mark ∷ [])) mark
 placed_first mark link own before after on new =

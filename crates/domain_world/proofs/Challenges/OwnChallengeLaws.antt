@@ -39,7 +39,7 @@ use Rattle.wire_base.proofs.ListLaws.{all_weaker, got_append, got_behind, one_be
 use Rattle.step_notes.proofs.Members.UnservedLaws.{LinksIn, Opens, in_so, step_known}
 use Rattle.domain_world.proofs.Messages.MessageOnceLaws.{each_put, fresh_links, messages_once, quiet_opens}
 use Rattle.domain_world.proofs.Challenges.OwnLinkLaws.{AtMostOne, IsDrawn, IsLinkIn, IsOwn, IsSentAt, IsSentOn, IsTakenIn, all_sent, all_taken, bytes_drawn, bytes_one, bytes_own, link_more, own_more, own_opened, sent_among}
-use Rattle.domain_world.proofs.Lists.AllLaws.{all_join, all_zip}
+use Rattle.wire_base.proofs.AllLaws.{all_join, all_zip}
 use Rattle.domain_world.proofs.Frames.MemberFrameLaws.{KeepsMembers, MembersFact, members_after}
 use Rattle.domain_world.proofs.Frames.TurnFrameLaws.{asked_leave}
 use Rattle.world_moves.proofs.ChangeLaws.{member_begun}
@@ -129,7 +129,7 @@ pub record AreOwn (notes : Notes) (members : List MemberState) (drawn : List (Li
   pub each : (k : ℕ) (m : MemberState) → slice_get members k ≡ Some m → LinksIn (IsOwn notes.challenges links k) m.running
   pub messages : AllByRecursion (IsItsOwn notes links) notes.messages
 
--- so it is by the parts of a world
+-- challenges and messages are the members' own, by the parts of a world
 abbrev pub Owns : Notes → MembersFact
 Owns notes members chances links = AreOwn notes members chances.drawn links
 

@@ -43,7 +43,7 @@ use Rattle.step_notes.proofs.Members.LinkBytesLaws.{bytes_hear, drawn_rest, part
 use Rattle.step_notes.proofs.Members.UnservedLaws.{HasServed, IfUnserved, IfUnservedPart, LinksIn, Unserved, WorkLinks, bound_serves, dialled_known, fewer_known, found_known, kept_known, none_so}
 use Rattle.domain_world.specs.Claims.LeftOut.{Takes, TakesOn}
 use Rattle.domain_world.proofs.Challenges.LinkUnitLaws.{unit_at, view_takes}
-use Rattle.domain_world.proofs.Lists.AllLaws.{all_join, all_flat}
+use Rattle.wire_base.proofs.AllLaws.{all_join, all_flat}
 
 -- ---- lists
 

@@ -510,7 +510,7 @@ module _ (plan : Plan) (p : Arrival) (s : State) (k : ℕ) (b : Book) (able : Is
             (reply_leads s t (after v.next) v.next q r v.computers left moment count (between_still (t_on aim) accounts (between_on aim is)) is.next_below goes_so (names_of t refl refl refl there) shows k b fine
             own)
 
-        -- so it is where it was made for the channel
+        -- a reply is no clash, where it was made for the channel
         replied_clean : (aim : Aim) (accounts : AccountTable) (q : Question) (r : Reply) → IsTurnReply q r →
             ((unit : ℕ) → first_waiting s.bag ≡ Some unit →
             IsMadeFor p.meeting.at_controller (channel_in_turn (t_on aim) (after v.next) v.next (step.Reply q)) (standing_for aim) (Some unit) b.sent) →
@@ -521,7 +521,7 @@ module _ (plan : Plan) (p : Arrival) (s : State) (k : ℕ) (b : Book) (able : Is
             (λ unit first.
             takes_own p.meeting.at_controller (channel_in_turn (t_on aim) (after v.next) v.next (step.Reply q)) (turn_response v.next r) (Some unit) b.sent (made unit first)) shows
 
-        -- so it is of the reply to the call that sets a secret
+        -- the reply to the call that sets a secret is no clash
         set_clean : (o c : SecureChannelState) (timestamp : ℕ) (new : List ℕ) (accounts : AccountTable) (r : SetReply) → InRangeSetReply r → Waits s (Some (open_of p o)) b →
             Shows s (any_scene p (Setting a who v o c timestamp new accounts r) left moment) → IsClean (goes s) now
         set_clean o c timestamp new accounts r goes_so waits shows =

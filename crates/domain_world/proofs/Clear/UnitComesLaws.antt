@@ -398,7 +398,7 @@ call_comes s t next number what c computers left rest moment count total actions
     calls_come s t next number what (turn_request number c) (served_call c) computers left rest moment between shows count total actions after (request_comes number c is) (turn_hears t.link number c below is) steps
     k b fine own judged
 
--- and the reply waits then, with its mark
+-- the reply waits, with its mark
 pub reply_waits_by : (s : State) (t : TurnScene) (number : ℕ) (request : RpcUnit) (c : ControllerCall) (computers : Computers) (k count total : ℕ) (left : List (List ℕ)) (moment : ℕ) (b : Book) (bytes : List ℕ)
     (channel : Option ChannelIdentity) → Fine s count b → (called : CalledBy s t number request c computers k total left moment b) → (mark : Mark) →
     answered_marks (answer_to s t number request c computers k called.came.number left moment ∷ []) ≡ mark ∷ [] → mark_channel mark ≡ channel →

@@ -146,17 +146,17 @@ module _ (plan : Plan) (every : List Move) (is : IsPlan plan) (forms : HasForms 
 
 -- ---- the moves
 
--- the world rests, or a client goes on
-abbrev Stands : Plan → ℕ → State → Type 0
-Stands plan left now = Resting plan left now ⊎ ((s : State) × (client : ℕ) × Started plan left s client now)
+-- the world rests, or the logon of one client goes on
+abbrev RestsOrGoesOn : Plan → ℕ → State → Type 0
+RestsOrGoesOn plan left now = Resting plan left now ⊎ ((s : State) × (client : ℕ) × Started plan left s client now)
 
-quiet_rests : (plan : Plan) (left : ℕ) (w : World) → IsQuiet w → Stands plan left w.state → Resting plan left w.state
+quiet_rests : (plan : Plan) (left : ℕ) (w : World) → IsQuiet w → RestsOrGoesOn plan left w.state → Resting plan left w.state
 quiet_rests plan left w quiet (inl resting) = resting
 quiet_rests plan left w quiet (inr going) = rests_then plan left going.0 going.1 w going.2 quiet
 
-step_stands : (plan : Plan) (left : ℕ) (now : State) (what : Move) → IsStepOn what → now.moment < 2 ^ 64 → Stands plan (suc left) now → Stands plan left (act now what).state
-step_stands plan left now what steps below (inl resting) = inl (rests_on plan left now what steps resting)
-step_stands plan left now what steps below (inr going) = inr (going.0, going.1, goes_further plan left going.0 going.1 now what steps below going.2)
+step_rests_or_goes_on : (plan : Plan) (left : ℕ) (now : State) (what : Move) → IsStepOn what → now.moment < 2 ^ 64 → RestsOrGoesOn plan (suc left) now → RestsOrGoesOn plan left (act now what).state
+step_rests_or_goes_on plan left now what steps below (inl resting) = inl (rests_on plan left now what steps resting)
+step_rests_or_goes_on plan left now what steps below (inr going) = inr (going.0, going.1, goes_further plan left going.0 going.1 now what steps below going.2)
 
 -- numbers that differ from each other differ from the first
 behind_differ : (first : ℕ) (numbers : List ℕ) → AllPairs (λ (one other : ℕ). one ≢ other) (first ∷ numbers) → AllByRecursion (λ (other : ℕ). first ≢ other) numbers
@@ -189,7 +189,7 @@ module _ (plan : Plan) (every : List Move) (is : IsPlan plan) (forms : HasForms 
   abbrev EachFrom : List Move → World → Book → Type 1
   EachFrom moves w b =
       Along plan moves w → AllPairs (λ (one other : ℕ). one ≢ other) (started_in moves (length plan.clients)) → Follows moves w → world ≡ run moves w → bk ≡ book moves w b →
-      Stands plan (length moves) w.state → AllByRecursion GoalOf (started_in moves (length plan.clients))
+      RestsOrGoesOn plan (length moves) w.state → AllByRecursion GoalOf (started_in moves (length plan.clients))
 
   each_starts : (number : ℕ) (moves : List Move) (w : World) (b : Book) → EachFrom moves (happens w (move.Start number)) (note w (move.Start number) b) →
       Along plan (move.Start number ∷ moves) w → AllPairs (λ (one other : ℕ). one ≢ other) (number % length plan.clients ∷ started_in moves (length plan.clients)) →
@@ -213,9 +213,9 @@ module _ (plan : Plan) (every : List Move) (is : IsPlan plan) (forms : HasForms 
 
   each_steps : (what : Move) (moves : List Move) (w : World) (b : Book) → IsStepOn what → EachFrom moves (happens w what) (note w what b) → Along plan (what ∷ moves) w →
       AllPairs (λ (one other : ℕ). one ≢ other) (started_in moves (length plan.clients)) → Follows (what ∷ moves) w → world ≡ run moves (happens w what) →
-      bk ≡ book moves (happens w what) (note w what b) → Stands plan (suc (length moves)) w.state → AllByRecursion GoalOf (started_in moves (length plan.clients))
+      bk ≡ book moves (happens w what) (note w what b) → RestsOrGoesOn plan (suc (length moves)) w.state → AllByRecursion GoalOf (started_in moves (length plan.clients))
   each_steps what moves w b steps then_on along once follows is_world is_book stands =
-      then_on (along_next plan what moves w along) once (λ Fact each. (follows Fact each).1) is_world is_book (step_stands plan (length moves) w.state what steps along.below stands)
+      then_on (along_next plan what moves w along) once (λ Fact each. (follows Fact each).1) is_world is_book (step_rests_or_goes_on plan (length moves) w.state what steps along.below stands)
 
   pub each_from : (moves : List Move) (w : World) (b : Book) → EachFrom moves w b
   each_from [] w b along once follows is_world is_book stands = tt

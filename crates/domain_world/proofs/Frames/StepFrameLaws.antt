@@ -35,7 +35,7 @@ use Rattle.domain_world.proofs.Frames.MoveFrameLaws.{HoldsAfterMoves}
 use Rattle.domain_world.proofs.Frames.MoveKeepLaws.{Both, IsHeard, KeepsMoves, MoveFact, NoSide, Progress, beside, coming, join_moves, started, waiting}
 use Rattle.domain_world.proofs.Moves.PlacedLaws.{HasBytes, HandsBytes, IsBytesBag}
 use Rattle.domain_world.proofs.Frames.FrameLaws.{OfSide, side_keeps}
-use Rattle.domain_world.proofs.Lists.AllLaws.{all_both}
+use Rattle.wire_base.proofs.AllLaws.{all_both}
 
 -- ---- what is to hold
 

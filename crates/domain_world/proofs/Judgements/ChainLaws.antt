@@ -48,7 +48,7 @@ pub record FollowsCalls {X : Type 0} (ledger : Ledger X) : Type 0 where
   pub by : (w : Where) (line : Line) (c : JudgedCall) (d : Desk) → ledger.before (its_judging w line c d) ≡ ledger.of d
   pub leaves : (w : Where) (line : Line) (c : JudgedCall) (d : Desk) → ledger.of (answer_judged c w.name w.moment line d) ≡ ledger.behind (its_judging w line c d)
 
--- the same of a logon for a trust
+-- a logon for a trust changes it as it is judged, and is judged by it
 pub record FollowsTrusts {X : Type 0} (ledger : Ledger X) : Type 0 where
   pub by : (w : Where) (line : Line) (c : JudgedCall) (d after : TrustDesk) → ledger.before (trusted_judging w line c d after) ≡ ledger.of (base_desk d)
   pub leaves : (w : Where) (line : Line) (c : JudgedCall) (d after : TrustDesk) → IsTrusted c d after → ledger.of (base_desk after) ≡ ledger.behind (trusted_judging w line c d after)

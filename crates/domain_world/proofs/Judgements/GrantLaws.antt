@@ -145,7 +145,7 @@ answers_by_plan plan controller c w piece s planned =
 
 -- ---- through the moves
 
--- so it is of what was judged, and of each controller as it stands
+-- what was judged, and each controller as it stands, have their accounts by the plan
 pub record StandsByPlan (plan : Plan) (judgings : List Judging) (controllers : List ControllerState) : Type 0 where
   pub judged : AllByRecursion (IsByPlan plan) judgings
   pub each : (at : ℕ) (c : ControllerState) → slice_get controllers at ≡ Some c → IsPlanned plan at c.table c.name

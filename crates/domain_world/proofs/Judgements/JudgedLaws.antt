@@ -22,7 +22,7 @@ use Rattle.step_notes.specs.TrustNotes.{trust_judged_answer, trust_judging_by}
 use Rattle.step_notes.proofs.Controllers.NotedLaws.{NotedFact}
 use Rattle.step_notes.proofs.Controllers.TrustNotedLaws.{trust_step_says}
 use Rattle.step_notes.proofs.Controllers.TrustedStepLaws.{IsTrusted, OfBase, StaysWithTrusts, trusted_right, trusting_stays}
-use Rattle.domain_world.proofs.Lists.AllLaws.{all_join}
+use Rattle.wire_base.proofs.AllLaws.{all_join}
 use Rattle.step_notes.specs.Judged.{IsJudgedRight}
 use Rattle.step_notes.specs.Records.{Book, Judging, computer_named, given_in}
 use Rattle.controller_calls.specs.declared.calls.JudgedCall.{JudgedCall}

@@ -165,7 +165,7 @@ module _ (w : Where) (judgings : List Judging) (left : List (List ℕ)) (numbers
         }));
   }
 
-  -- so it is of a controller that may hand logons on
+  -- a controller that may hand logons on goes on so
   goes_trusting : (link : ℕ) → StaysWithTrusts w link GoesOn
   goes_trusting link = record {
     base = goes_stay link;

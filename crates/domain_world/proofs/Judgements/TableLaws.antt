@@ -101,7 +101,7 @@ step_chains controller c w piece s =
       taken = λ running answers d rest last links dial t runs chains fewer. chains;
     })
 
--- so it is where nobody is asked
+-- calls chain at a controller that asks nobody
 chains_alone : (controller : ℕ) (c : ControllerState) (w : Delivery) (piece : List ℕ) (s : State) →
     Chains accounts (at_controller controller c w s) c.table (alone_answers controller c w piece s) (step_of c (event.Bytes w.link piece) s.moment s.chances.left).state.table
 chains_alone controller c w piece s =

@@ -128,7 +128,7 @@ step_keeps c what now left = (counts_by_verdict.trusting_states c what now left,
 
 -- ---- through the moves
 
--- so it is of what was judged, and of each controller as it stands
+-- what was judged, and each controller as it stands, have their tables by the plan
 record StandsByTable (plan : Plan) (judgings : List Judging) (controllers : List ControllerState) : Type 0 where
   judged : AllByRecursion (IsByTable plan) judgings
   each : (at : ℕ) (c : ControllerState) → slice_get controllers at ≡ Some c → IsPlanned plan at c.table c.name

@@ -31,7 +31,7 @@ use Rattle.domain_world.proofs.Messages.ChallengeReadLaws.{AreTakenWith, IsReadA
 use Rattle.domain_world.proofs.Challenges.LinkUnitLaws.{unit_at}
 use Rattle.domain_world.proofs.Challenges.OwnLinkLaws.{served_bound}
 use Rattle.domain_world.proofs.Moves.LeftLaws.{AreEights}
-use Rattle.domain_world.proofs.Lists.AllLaws.{all_join}
+use Rattle.wire_base.proofs.AllLaws.{all_join}
 
 -- ---- how far a link is
 

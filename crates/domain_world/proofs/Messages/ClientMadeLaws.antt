@@ -49,7 +49,7 @@ use Rattle.domain_world.proofs.Messages.ClientOfferLaws.{HeardOf, heard_of}
 use Rattle.domain_world.proofs.Messages.ClientPlanLaws.{GoesBy, TaskIn, served_goes, task_stays}
 use Rattle.domain_world.proofs.Quiet.QuietRunLaws.{client_more, clients_route}
 use Rattle.domain_world.proofs.Quiet.QuietStepLaws.{IsClients}
-use Rattle.domain_world.proofs.Lists.AllLaws.{all_join, all_lists}
+use Rattle.wire_base.proofs.AllLaws.{all_join, all_lists}
 use Rattle.domain_world.proofs.Frames.ClientFrameLaws.{ClientFact, KeepsClients, MadeFact, MeetsClient, clients_after, made_at}
 
 -- ---- what is written down of a unit

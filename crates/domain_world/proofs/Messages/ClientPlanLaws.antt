@@ -38,7 +38,7 @@ use Rattle.step_notes.proofs.ServedLaws.{served_such}
 use Rattle.domain_world.specs.Accepting.KeysMade.{IsMadeFrom}
 use Rattle.domain_world.proofs.Messages.ClientOfferLaws.{AreMadeFrom, HasNames, HeardOf, asks_of, heard_of, made_from}
 use Rattle.domain_world.proofs.Moves.LeftLaws.{AreEights, eights_rest}
-use Rattle.domain_world.proofs.Lists.AllLaws.{all_lists}
+use Rattle.wire_base.proofs.AllLaws.{all_lists}
 
 -- ---- the plan is kept
 

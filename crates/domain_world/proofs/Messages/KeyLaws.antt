@@ -23,7 +23,7 @@ use Rattle.member_server.specs.Outcomes.{key_in, key_or}
 use Rattle.step_notes.specs.Records.{ChallengeSent, MessageMade, MessageTaken}
 use Rattle.domain_world.specs.Accepting.KeysMade.{IsMadeFrom, IsTakenAsSent, KeysAreFoundAsMade}
 use Rattle.domain_world.specs.Claims.{info_asked}
-use Rattle.domain_world.proofs.Lists.ListPlaceLaws.{all_by_place}
+use Rattle.wire_base.proofs.ListPlaceLaws.{all_by_place}
 use Rattle.domain_controller.proofs.TrustPlaceLaws.{got_all}
 
 challenge_is : (found : Result Challenge MessageRefused) (one other : Challenge) → found ≡ Ok one → found ≡ Ok other → one ≡ other

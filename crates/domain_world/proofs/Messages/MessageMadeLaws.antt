@@ -35,7 +35,7 @@ use Rattle.domain_world.proofs.Frames.EndFrameLaws.{EndFact, KeepsEndsBy, every_
 use Rattle.domain_world.proofs.Frames.EveryStepLaws.{act_plain as hear_and_act, every_draws, every_noted as noted_by}
 use Rattle.domain_world.proofs.Moves.LeftLaws.{AreEights, eights_after, first_eights}
 use Rattle.domain_world.proofs.Frames.MoveKeepLaws.{every}
-use Rattle.domain_world.proofs.Lists.AllLaws.{all_join}
+use Rattle.wire_base.proofs.AllLaws.{all_join}
 use Rattle.domain_world.proofs.Frames.EndNoteLaws.{made_so}
 use Rattle.domain_controller.proofs.TrustPlaceLaws.{got_all}
 
@@ -47,7 +47,7 @@ pub record AreAnswers (made : List MessageMade) (plans : List ClientPlan) (clien
   pub eights : AreEights left
   pub from : AreMadeFrom made
 
--- so it is by the parts of a world
+-- messages are made from plans as answers, by the parts of a world
 abbrev Answers : List MessageMade → List ClientPlan → EndStates → Drawing → Type 0
 Answers made plans ends chances = AreAnswers made plans ends.clients chances.left
 

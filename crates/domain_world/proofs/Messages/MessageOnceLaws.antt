@@ -69,7 +69,7 @@ pub record IsTakenOnce (taken : List ℕ) (members : List MemberState) (links : 
   pub below : All (λ (one : ℕ). one < length links) taken
   pub each : (k : ℕ) (m : MemberState) → slice_get members k ≡ Some m → LinksIn (λ link p. MayTake taken links k link) m.running
 
--- so it is by the parts of a world
+-- a link takes one message at most, by the parts of a world
 abbrev pub MessagesAreKept : List ℕ → MembersFact
 MessagesAreKept taken members chances links = IsTakenOnce taken members links
 

@@ -36,11 +36,11 @@ use Rattle.domain_world.specs.Past.{Delivery, Past, at_member, change_if, change
 use Rattle.wire_base.proofs.ListLaws.{all_weaker, got_behind, one_before, one_behind}
 use Rattle.domain_world.proofs.Messages.ChallengeLinkLaws.{BytesCome, KnownAfter, KnownAt, ReadOf, bytes_come, so_far}
 use Rattle.domain_world.proofs.Messages.ChallengeReadLaws.{AreTakenWith, IsTakenWith}
-use Rattle.domain_world.proofs.Lists.ListPlaceLaws.{all_by_place, apart_same, placed}
+use Rattle.wire_base.proofs.ListPlaceLaws.{all_by_place, apart_same, placed}
 use Rattle.domain_world.proofs.Messages.MessageOnceLaws.{each_put, fresh_links, member_is, quiet_opens, route_is}
 use Rattle.domain_world.proofs.Challenges.OwnLinkLaws.{IsLinkIn, IsTakenIn, all_taken, link_more}
 use Rattle.domain_world.proofs.Moves.LeftLaws.{AreEights, eights_after, eights_rest, first_eights}
-use Rattle.domain_world.proofs.Lists.AllLaws.{all_join}
+use Rattle.wire_base.proofs.AllLaws.{all_join}
 use Rattle.domain_world.proofs.Frames.MemberFrameLaws.{KeepsMembers, MembersFact, members_after}
 use Rattle.domain_world.proofs.Frames.TurnFrameLaws.{asked_keep}
 use Rattle.world_moves.proofs.ChangeLaws.{member_begun}
@@ -77,7 +77,7 @@ pub record AreAsSent (written : Written) (members : List MemberState) (links : L
   pub messages : AllByRecursion (IsForSent written.challenges) written.messages
   pub eights : AreEights left
 
--- so it is by the parts of a world
+-- messages are taken as sent, by the parts of a world
 abbrev pub Sends : Written → MembersFact
 Sends written members chances links = AreAsSent written members links chances.left
 

@@ -19,7 +19,7 @@ use Rattle.step_notes.proofs.Members.UnservedLaws.{LinksIn, Took, bytes_took}
 use Rattle.world_moves.specs.declared.links.Route.{Route}
 use Rattle.domain_world.proofs.Accepting.LetInStepLaws.{IsAcceptedBy}
 use Rattle.domain_world.proofs.Calls.WholeOutLaws.{AreAccepted}
-use Rattle.domain_world.proofs.Lists.AllLaws.{all_flat}
+use Rattle.wire_base.proofs.AllLaws.{all_flat}
 
 -- what holds of both parts holds of all
 module _ (P : MessageTaken → Type 0) (w : LinkAt) (here : (bytes : List ℕ) (place : ℕ) (logon : Logon) → AllByRecursion P (message_kept (Some logon) place w bytes)) where

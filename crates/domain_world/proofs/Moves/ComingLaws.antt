@@ -50,7 +50,7 @@ pub record CameInUnit (source : Source) (s : State) (w : Delivery) (piece : List
   pub is : source ≡ InUnit number
   pub piece_of : IsPieceOf s number w piece
 
--- so is whatever comes on a link of a member and a controller
+-- whatever comes on a link of a member and a controller came in a unit
 pub came_in_unit : (source : Source) (s : State) (w : Delivery) (piece : List ℕ) (member controller : ℕ) → CameFrom source s w piece →
     slice_get s.links w.link ≡ Some (ToController member controller) → CameInUnit source s w piece
 came_in_unit (InUnit number) s w piece member controller came made = record { number = number; is = refl; piece_of = came }

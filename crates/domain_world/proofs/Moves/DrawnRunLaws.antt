@@ -98,7 +98,7 @@ end_all end what now ends chances =
     (λ at c is rest. same_all chances (client.step_of c what now chances.left).drawn (client.step_of c what now chances.left).left (client_draws c.running c what now chances.left rest)) end
     (end_rests end what now ends chances)
 
--- of a controller that may ask others
+-- what a controller's step leaves of the challenges is a rest of them, whether it asks others or not
 trusting_draws : (r : Option ControllerRunning) (c : ControllerState) (what : Event) (now : ℕ) (left : List (List ℕ)) → IsRest (trusting.trust_step_on r c what now left).left left →
     DrawsRest (trusting.trust_step_on r c what now left) left
 trusting_draws None c what now left rest = refl
@@ -177,7 +177,7 @@ draws_differ plan moves =
     (subst (λ (all : List (List ℕ)). AllPairs (λ (one other : List ℕ). one ≢ other) all) (sym (run_all plan moves))
     (challenges_from-distinct plan.seed 0 (most_draws - 0) (omega arith) (omega arith)))
 
--- and each has 8 bytes
+-- each challenge that is drawn has 8 bytes
 pub draws_are_blocks : (plan : Plan) (moves : List Move) → DrawsAreBlocks (past plan moves).world
 draws_are_blocks plan moves =
     front_all IsBlock (past plan moves).world.state.chances.drawn (past plan moves).world.state.chances.left

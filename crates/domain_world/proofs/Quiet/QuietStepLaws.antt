@@ -107,7 +107,7 @@ QuietState s = StandsQuiet s.member_plans s.client_plans s.links s.bag s.ends s.
 abbrev pub QuietFact : RunFact
 QuietFact n s given b = QuietState s
 
--- the same with another bag
+-- a state is quiet with another bag that is whole
 pub with_bag : (s : State) (bag : List BagUnit) → QuietState s → WholeBag bag → StandsQuiet s.member_plans s.client_plans s.links bag s.ends s.moment s.chances.left
 with_bag s bag quiet whole = record {
   bag = whole;

@@ -149,7 +149,7 @@ module _ (Done : ℕ → Type 0) (marks : List Mark) (own : List ChannelTurn) (c
     );
   }
 
-  -- likewise of a call that sets a secret
+  -- as a turn starts that sets a secret, the calls made are those of the turns so far
   set_started_far : (c : ChannelIdentity) (turn : ChannelTurn) → turn.channel ≡ c → CallsMade Done marks own c None → (number place : ℕ) (what : SetCall) → what.authenticator.timestamp ≡ turn.timestamp →
       CallsMade Done marks (own ++ turn ∷ []) c (Some (record { number = number; place = place; step = step.Set (set_step.Bind what) }))
   set_started_far c turn on calls number place what is = record {
@@ -256,7 +256,7 @@ module _ (Done : ℕ → Type 0) (marks more : List Mark) (own : List ChannelTur
       out_knows turn (Some (record { number = number; place = bound; step = step.Reply q })) stamp calls
       (subst (λ (t : Option Pending). AreFar Done marks c t (timestamp_bound (step_in turn)) calls.made (stamps_on c own)) is calls.far) (λ some later made stamps out. out)
 
-  -- likewise of a call that sets a secret
+  -- the call of a turn that sets a secret, as it goes out, is that of the turn
   pub set_called_knows : (turn : Option Pending) (place bound_number : ℕ) (what : SetCall) (bound : ℕ) → turn ≡ Some (record { number = bound_number; place = place; step = step.Set (set_step.Bind what) }) →
       timestamp ≡ timestamp_bound (step_in turn) → CallsMade Done marks own c turn →
       CallsMade Done (marks ++ more) own c (Some (record { number = number; place = bound; step = step.Set set_step.Reply }))

@@ -13,7 +13,7 @@ use Rattle.domain_world.specs.Past.{Past, past, plain_form}
 use Rattle.domain_world.specs.Schedules.{OfSchedules}
 use Rattle.domain_world.proofs.Accepting.AnsweredLaws.{passed_of}
 use Rattle.domain_world.proofs.Accepting.CarriedLaws.{requested}
-use Rattle.domain_world.proofs.Lists.ListPlaceLaws.{placed}
+use Rattle.wire_base.proofs.ListPlaceLaws.{placed}
 use Rattle.domain_world.proofs.Accepting.ScheduleLaws.{units_heard}
 use Rattle.domain_world.proofs.Judgements.ReplyLaws.{replies_carry}
 use Rattle.domain_world.proofs.Judgements.UnclashedLaws.{passes_unclashed}

@@ -42,7 +42,7 @@ use Rattle.domain_world.proofs.Accepting.AnsweredRunLaws.{is_proved}
 use Rattle.domain_world.proofs.Accepting.CarriedLaws.{one_unit, replies_to}
 use Rattle.domain_world.proofs.Accepting.UnitLaws.{heard_in}
 use Rattle.domain_world.proofs.Sequences.Own.OwnRunLaws.{sequences_own}
-use Rattle.domain_world.proofs.Lists.ListPlaceLaws.{Placed, placed}
+use Rattle.wire_base.proofs.ListPlaceLaws.{Placed, placed}
 use Rattle.domain_world.proofs.Judgements.MovedLaws.{moved_same}
 use Rattle.domain_world.proofs.Moves.DrawnRunLaws.{draws_differ}
 use Rattle.domain_world.proofs.Judgements.ReplayLaws.{on_if, seeds_kept}

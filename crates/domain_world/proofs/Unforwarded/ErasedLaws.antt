@@ -363,7 +363,7 @@ done_same end heard other fine hears =
 pub hears_same : (end : EndId) (what : Event) (s : State) → IsStill s → IsFine (hear_and_act end what s) → IsSame (hear_and_act end what s) (hear_and_act end what (erased s))
 hears_same end what s still fine = done_same end (hear end what s) (hear end what (erased s)) fine (λ told some. hear_still end what s still told some)
 
--- so a controller steps there as one that asks nobody
+-- a controller steps there as one that asks nobody
 pub controller_same : (at : ℕ) (what : Event) (s : State) (c : ControllerState) → slice_get s.ends.controllers at ≡ Some c → IsStill s → IsFine (hear_and_act (Controller at) what s) →
     trust_step_of c what s.moment s.chances.left ≡ step_of c what s.moment s.chances.left
 controller_same at what s c is still fine =

@@ -66,7 +66,7 @@ pub record AsksForIt (message : MessageTaken) (j : Judging) : Type 0 where
   pub info : call.info ≡ record (info_asked message) { logon_id = message.place }
   pub level : call.validation ≡ 3
 
--- so it is of each call that came in the unit which carries the Logon call of a message
+-- what was judged in the unit of a message's Logon call is a network logon that asks what the message asks
 abbrev pub CallsAskForMessages : Past → Type 0
 CallsAskForMessages past =
     AllByRecursion (λ (message : MessageTaken). AllByRecursion (λ (j : Judging). (unit : ℕ) → message.call ≡ Some unit → j.source ≡ InUnit unit →
@@ -117,8 +117,8 @@ AnswersAreTold past =
     slice_get past.book.judged place ≡ Some j → sent.mark ≡ ReplyTo channel number request → IsReplyOfCall channel number request j (plain_form past.book.sent unit carrier) →
     OneOf (IsToldAsRead channel message j) past.book.told) past.book.messages
 
--- so is what is told where somebody is let in: the message came on that link, its answer was taken in a unit, and what
--- is told is what is read there
+-- where somebody is let in, the message came on that link, its answer was taken in a unit, and what is told is what is
+-- read there
 pub record IsLetInAsRead (past : Past) (told : OutcomeTold) (message : MessageTaken) : Type 0 where
   pub link : message.link ≡ told.link
   pub member : message.member ≡ told.member

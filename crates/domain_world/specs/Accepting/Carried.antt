@@ -45,7 +45,7 @@ pub record IsWholeUnit (bytes : List ℕ) : Type 0 where
   pub unit : RpcUnit
   pub heard : IsHeard bytes frames unit
 
--- it isn't a call that is judged
+-- the unit isn't a call that is judged
 abbrev pub IsNotJudged : RpcUnit → Type 0
 IsNotJudged unit = (asked : JudgedCall) → call_carried unit.body ≡ Some (call_judged asked) → ⊥
 
@@ -56,7 +56,7 @@ pub record IsReadAsLogon (unit : RpcUnit) : Type 0 where
   pub reads : reply_of 2 (stub_of unit.body) ≡ Ok (reply.Logon read)
   pub returned : read.returned ≡ Some given
 
--- or as the reply to a call that sets a secret
+-- the unit can be read as the reply to a call that sets a secret
 pub record IsReadAsSet (unit : RpcUnit) : Type 0 where
   pub read : SetReply
   pub reads : set_reply_of (stub_of unit.body) ≡ Ok read
@@ -149,7 +149,7 @@ pub record IsTakenInTurn (past : Past) (taken : CallTaken) : Type 0 where
   pub made : sent_channel (Some sent) ≡ Some named
   pub same : SameChannel named channel
 
--- so was each answer that was taken
+-- where no credential clashed, each answer that was taken was taken in the turn of its call
 abbrev pub AnswersAreTaken : Past → Type 0
 AnswersAreTaken past = past.book.clash ≡ false → AllByRecursion (λ (taken : CallTaken). IsTakenInTurn past taken) past.book.answers
 
@@ -159,13 +159,13 @@ pub record IsAnswerFor (message : MessageTaken) (unit : ℕ) (taken : CallTaken)
   pub call : message.call ≡ Some taken.call
   pub reply : taken.reply ≡ unit
 
--- it is written down so of each message whose answer was taken
+-- where no credential clashed, each message whose answer was taken has that answer among those that are written down
 abbrev pub MessagesAreAnswered : Past → Type 0
 MessagesAreAnswered past =
     past.book.clash ≡ false → AllByRecursion (λ (message : MessageTaken). (unit : ℕ) → message.reply ≡ Some unit →
     OneOf (IsAnswerFor message unit) past.book.answers) past.book.messages
 
--- so the answer of the message was taken in the turn of its call
+-- the answer of the message was taken in the turn of its call
 pub record IsAnsweredInTurn (past : Past) (message : MessageTaken) (unit : ℕ) : Type 0 where
   pub taken : CallTaken
   pub is : IsAnswerFor message unit taken

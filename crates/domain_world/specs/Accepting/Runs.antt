@@ -53,7 +53,7 @@ ControllersAreQuiet s =
     (i : ℕ) (c : ControllerState) (running : ControllerRunning) → slice_get s.ends.controllers i ≡ Some c → c.running ≡ Some running →
     AllByRecursion (IsQuietLink s.links) running.links
 
--- nor on the link of a turn
+-- nothing of a unit is held on the link of a turn
 abbrev pub IsQuietTurn : Dialling → Type 0
 IsQuietTurn dialling.Nothing = Unit {0}
 IsQuietTurn (dialling.Waits turn frames) = Unit {0}

@@ -30,7 +30,7 @@ abbrev pub seen_or : Bool → Option View → Option View → Option View
 seen_or false new old = old
 seen_or true new old = new
 
--- so it is after a step: the requester is seen as the state says
+-- the requesters after a step: that one is seen as the state says
 abbrev pub requests_after : (ℕ → Option View) → ℕ → ℕ → Option Running → List Mark → List (List ℕ) → ℕ → Requests ℕ
 requests_after views who controller r marks drawn uses =
     record { views = λ j. seen_or (j == who) (seen_running controller r) (views j); marks = marks; drawn = drawn; uses = uses }

@@ -96,7 +96,7 @@ pub record CallsOfTurns (past : Past) (channel : ChannelIdentity) (turn : Option
       other.client ≡ channel.client → OneOf (λ (one : ℕ × ℕ). one.0 ≡ n) made
   pub far : AreSoFar past turn made timestamps
 
--- so it is of each channel that stands at a requester
+-- where a channel stands at a requester, its calls are those of the turns on it
 abbrev pub TurnsAreCalled : Past → Type 0
 TurnsAreCalled past =
     (who : RequesterId) (channel : ChannelIdentity) (o : SecureChannelState) → (stands : ChannelStands past.world.state who channel o) →
@@ -115,7 +115,7 @@ pub record AnswersCall (past : Past) (channel : ChannelIdentity) (number request
   pub same : SameChannel named channel
   pub passed : OneOf (λ (j : Judging). IsPassedIn request j × (j.reply ≡ Some n)) past.book.judged
 
--- so it is of each unit that was made as the reply to a call
+-- each unit that was made as the reply to a call answers that call
 abbrev pub RepliesAnswerCalls : Past → Type 0
 RepliesAnswerCalls past =
     (n : ℕ) (unit : BagUnit) (one : Sent) (channel : ChannelIdentity) (number request : ℕ) → slice_get past.world.state.bag n ≡ Some unit →

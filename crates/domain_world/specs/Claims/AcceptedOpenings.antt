@@ -26,7 +26,7 @@ pub record IsLastOf (controller : ℕ) (computer : List ℕ) (channel : ChannelI
   pub of : IsOf controller computer channel
   pub last : IsLast controller computer channel accepted
 
--- So is what a controller keeps for a computer.
+-- The channel that a controller keeps for a computer is the one that was accepted last for it.
 abbrev pub KeptAreLast : Past → Type 0
 KeptAreLast past =
     (controller : ℕ) (computer : List ℕ) (channel : ChannelIdentity) → KeepsAt past.world.state.ends.controllers controller computer channel →

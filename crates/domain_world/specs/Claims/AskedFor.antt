@@ -40,7 +40,7 @@ pub record IsOfMessage (member place : ℕ) (logon : Logon) (message : MessageTa
   pub same_place : message.place ≡ place
   pub asks : info_at place logon ≡ record (info_asked message) { logon_id = message.place }
 
--- such a request goes out, and what is asked is what a message asks
+-- a request for a logon goes out, and what is asked is what a message asks
 pub record IsForItsMessage
     (member : ℕ) (messages : List MessageTaken) (controller : ℕ) (before : AtTurn) (later : Option AtTurn) (called : Option ℕ) (channel : ChannelIdentity)
     (number timestamp : ℕ) : Type 0 where
@@ -77,7 +77,7 @@ pub record AreSentForMessage
   pub message : OneOf (IsOfMessage member asks.place asks.logon) messages
   pub is : bytes ≡ joined_frames frames
 
--- or that sets the next secret
+-- the bytes are those of a request that sets the next secret
 pub record AreSentForChange (m : MemberState) (controller : ℕ) (bytes : List ℕ) (channel : ChannelIdentity) (number timestamp : ℕ) : Type 0 where
   pub running : Running
   pub runs : m.running ≡ Some running
@@ -90,7 +90,8 @@ AreSentFor member m messages controller bytes channel number timestamp =
     AreSentForMessage member m messages controller bytes channel number timestamp
     ⊎ AreSentForChange m controller bytes channel number timestamp
 
--- So of the marks that are written down of that step and of what it sends, those in one place go together.
+-- What a member sends in the place of a mark for a call is a request that asks what a message asks, or that sets the
+-- next secret.
 abbrev pub SendsAskForMessages : Past → Type 0
 SendsAskForMessages past =
     (member : ℕ) (m : MemberState) → slice_get past.world.state.ends.members member ≡ Some m →

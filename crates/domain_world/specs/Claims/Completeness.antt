@@ -64,7 +64,7 @@ abbrev pub IsQuietAt : Move → World → Type 0
 IsQuietAt (move.Start number) w = IsQuiet w
 IsQuietAt _ w = Unit {0}
 
--- it is so where a client starts, and at the end
+-- nothing is under way where a client starts, and at the end
 abbrev pub OneAtATime : List Move → World → Type 0
 OneAtATime [] w = IsQuiet w
 OneAtATime (what ∷ moves) w = IsQuietAt what w × OneAtATime moves (happens w what)
@@ -103,7 +103,7 @@ info_planned plan = record {
   lm = [];
 }
 
--- he may log on by the accounts of a controller as they stand in a state, and at its moment
+-- the user may log on by the accounts of a controller as they stand in a state, and at its moment
 abbrev pub MayLogOnIn : ℕ → NetworkInfo → State → Type 0
 MayLogOnIn controller info s = IsSomeAnd (slice_get s.ends.controllers controller) (λ (c : ControllerState). MayLogOn c.table info s.moment)
 
@@ -172,7 +172,7 @@ KeyArrives task computer controller j =
     j.how ≡ Some (judged.Passed 0) →
     IfNetwork (λ (c : LogonCall). IsMadeForClient task computer controller j c → TravelsAsZeros j c.info → ⊥) j.asked
 
--- so it is of all of the client's own calls
+-- the session base key of none of the client's own granted calls travels as zeros
 abbrev pub OwnKeysArrive : (run : Past) (moves : List Move) (client : ℕ) → CanSucceed run.plan moves client → Type 0
 OwnKeysArrive run moves client can = AllByRecursion (KeyArrives can.task can.member_plan.computer can.controller) run.book.judged
 

@@ -57,16 +57,16 @@ pub record IsGrantedRightly (plan : Plan) (j : Judging) : Type 0 where
   pub table : IsPlannedTable plan j.controller j.table
   pub name : slice_get plan.controllers j.controller ≡ Some j.name
 
--- Grants: so it is of each call that is written down as judged, whoever sent it; that those are the ones which
+-- Each call that is written down as judged is granted rightly, whoever sent it; that those are the ones which
 -- controllers tell of is said by `PassesTheNextCredential`.
 abbrev pub GrantsWhoMayLogOn : Past → Type 0
 GrantsWhoMayLogOn past = AllByRecursion (λ (j : Judging). IsGrantedRightly past.plan j) past.book.judged
 
 -- ---- which interactive logons are granted
 
--- The same of an interactive logon: its authenticator is the next one of the channel, it asks for validation level 2 or
--- 3, the account may log on, the hash that it carries under the channel's key is the stored one, and its controller
--- keeps fewer than 10,000 sessions.
+-- An interactive logon that is to be granted: its authenticator is the next one of the channel, it asks for validation
+-- level 2 or 3, the account may log on, the hash that it carries under the channel's key is the stored one, and its
+-- controller keeps fewer than 10,000 sessions.
 pub record IsToBeLetOn (j : Judging) (c : InteractiveCall) : Type 0 where
   pub next : IsNextOn j.checks (given_in j.asked)
   pub level : IsServedLevel c.validation
@@ -78,7 +78,8 @@ pub record IsToBeLetOn (j : Judging) (c : InteractiveCall) : Type 0 where
 abbrev pub IsLetOnRightly : Judging → Type 0
 IsLetOnRightly j = IfInteractive (λ (c : InteractiveCall). (j.how ≡ Some (judged.Passed 0)) ↔ IsToBeLetOn j c) j.asked
 
--- Grants by hash: so it is of each interactive logon that is written down as judged, whoever sent it. The accounts by
--- which it was judged are those of `GrantsWhoMayLogOn`, and the sessions those of `SessionsFollow`.
+-- Grants by hash: each interactive logon that is written down as judged, whoever sent it, is granted exactly where it
+-- was to be. The accounts by which it was judged are those of `GrantsWhoMayLogOn`, and the sessions those of
+-- `SessionsFollow`.
 abbrev pub GrantsWhoseHashIsStored : Past → Type 0
 GrantsWhoseHashIsStored past = AllByRecursion (λ (j : Judging). IsLetOnRightly j) past.book.judged

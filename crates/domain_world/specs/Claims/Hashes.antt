@@ -61,7 +61,7 @@ hash_after planned controller place [] = planned
 hash_after planned controller place (j ∷ earlier) =
     hash_own (j.controller == controller) j place (hash_after planned controller place earlier)
 
--- So it is of each account of each controller after the run.
+-- The hash of each account of each controller after the run is the one of the plan, or the last that a call set.
 abbrev pub HashesFollowSets : Past → Type 0
 HashesFollowSets past =
     (controller : ℕ) (c : ControllerState) (planned : AccountTable) → slice_get past.plan.tables controller ≡ Some planned →

@@ -54,7 +54,7 @@ pub record AreDrawnFor (sent : List ChallengeSent) (actions : List Action) (draw
 
 -- ---- what is done of a unit
 
--- this is the one action that the unit adds
+-- that action is the one that the unit adds
 abbrev pub Does : AtLink → AtLink → Action → Type 0
 Does before after what = after.actions ≡ before.actions ++ what ∷ []
 
@@ -90,7 +90,8 @@ Answers w left (one ∷ other ∷ more) before after = ⊥
 
 -- ---- a message that is taken
 
--- it is that of the unit, and of the logon that the member keeps for that place, with the link's challenge
+-- the message that is written down is that of the unit, and of the logon that the member keeps for that place, with the
+-- link's challenge
 pub record IsTakenAs (w : LinkAt) (bytes challenge : List ℕ) (place : ℕ) (after : AtLink) (one : MessageTaken) : Type 0 where
   pub at : one.at ≡ w.at
   pub member : one.member ≡ w.member

@@ -27,7 +27,7 @@ pub record IsMarkedAsCall (past : Past) (member n : ℕ) : Type 0 where
   pub mark : sent.mark ≡ Calling channel number timestamp
   pub controller : channel.controller ≡ controller_of member past.world.state
 
--- so is the unit of each message's call
+-- the unit of each message's call is marked as a call at the member's controller
 abbrev pub CallsAreMarked : Past → Type 0
 CallsAreMarked past =
     AllByRecursion (λ (message : MessageTaken). (n : ℕ) → message.call ≡ Some n → IsMarkedAsCall past message.member n) past.book.messages
@@ -48,7 +48,7 @@ pub record IsMarkedAsReply (past : Past) (j : Judging) (n : ℕ) : Type 0 where
   pub mark : sent.mark ≡ ReplyTo channel j.number n
   pub step : sent.at ≡ j.at
 
--- so it is of each call that passed and came in a unit of the bag
+-- each call that passed and came in a unit of the bag has its reply in a unit that is marked as that
 abbrev pub RepliesAreMarked : Past → Type 0
 RepliesAreMarked past =
     AllByRecursion (λ (j : Judging). (n : ℕ) → j.source ≡ InUnit n → has_passed j.how ≡ true → IsMarkedAsReply past j n) past.book.judged

@@ -28,8 +28,8 @@ use Rattle.world_moves.specs.Alone.{IsPlainAlone}
 
 -- ---- a stranger's call that sets a secret
 
--- Bytes from outside come at a controller on a stranger's link alone: members dial the others that lead to one, on
--- which units of the bag come.
+-- Bytes from outside come at a controller on a stranger's link alone. The other links that lead to it were dialled by
+-- members, or by controllers that ask it, and units of the bag come on those.
 abbrev pub is_from_outside : Source → Bool
 is_from_outside (InUnit number) = false
 is_from_outside Outside = true
@@ -83,8 +83,8 @@ pub record IsNeverApart (past : Past) (member : ℕ) (begins : BeginsAlike past.
       IsAmong account.hash running.logons.plan.secrets
   pub kept : (secrets : SecretsState) → kept_of past.world member ≡ Some secrets → IsAmong account.hash secrets
 
--- Where no call from outside set a secret, so it is of each member that begins alike: no loss and no restart leaves it
--- and its controller apart. A run is any list of moves, so it is so at every state between two moves.
+-- Where no call from outside set a secret, no loss and no restart leaves a member that begins alike and its controller
+-- apart. A run is any list of moves, so this holds at every state between two moves.
 abbrev pub MembersAreNeverApart : Past → Type 0
 MembersAreNeverApart past =
     has_foreign_set past.book.judged ≡ false → (member : ℕ) (begins : BeginsAlike past.plan member) → IsNeverApart past member begins
@@ -98,7 +98,7 @@ pub record KeepsWhatItHolds (past : Past) (member : ℕ) : Type 0 where
       slice_get past.world.state.ends.members member ≡ Some m → m.running ≡ Some running →
       AreSecrets running.logons.plan.secrets × (reread secrets ≡ reread running.logons.plan.secrets)
 
--- So it is of each member that begins with such secrets: no loss and no restart parts the two.
+-- Each member that begins with secrets of 16 bytes keeps what it holds: no loss and no restart parts the two.
 abbrev pub MembersKeepWhatTheyHold : Past → Type 0
 MembersKeepWhatTheyHold past =
     (member : ℕ) (own : MemberPlan) → slice_get past.plan.members member ≡ Some own → AreSecrets own.secrets → KeepsWhatItHolds past member
@@ -128,7 +128,8 @@ pub record ComesTo (past : Past) (member : ℕ) (begins : BeginsAlike past.plan 
       (after_all (first_pair begins.secret) happenings).held ≡ running.logons.plan.secrets
   pub kept : (secrets : SecretsState) → kept_of past.world member ≡ Some secrets → reread (after_all (first_pair begins.secret) happenings).kept ≡ secrets
 
--- Its controller has the account at every state, and where a run came to such happenings the two are not apart.
+-- A member's controller has the member's account at every state, and where a run came to such happenings the two are
+-- not apart.
 pub record NeverApartByHappenings : Type 0 where
   pub there : (plan : Plan) (moves : List Move) → IsPlainAlone plan → (member : ℕ) (begins : BeginsAlike plan member) → HasItsAccount (past plan moves) member begins
   pub follows : (past : Past) (member : ℕ) (begins : BeginsAlike past.plan member) (has : HasItsAccount past member begins) → ComesTo past member begins has.account →

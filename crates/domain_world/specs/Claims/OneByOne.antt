@@ -28,7 +28,7 @@ HasOwnMember plan client =
     end_of_peer work.controller (first_ends plan) ≡ Some (Controller controller) → slice_get plan.tables controller ≡ Some table →
     HasItsSecret table work × AreApart plan controller
 
--- so it is of each client that is started
+-- each client that is started has its own member
 abbrev pub HaveOwnMembers : Past → List Move → Type 0
 HaveOwnMembers run moves = AllByRecursion (HasOwnMember run.plan) (started_in moves (length run.plan.clients))
 

@@ -48,7 +48,7 @@ pub record IsMarkedAsOpened (past : Past) (one : ChannelAccepted) (n : ℕ) : Ty
   pub mark : sent.mark ≡ Opened one.channel one.number n
   pub step : sent.at ≡ one.at
 
--- so it is of each opening that was accepted and came in a unit of the bag
+-- each opening that was accepted and came in a unit of the bag has its reply in a unit that is marked as that
 abbrev pub OpeningsAreMarked : Past → Type 0
 OpeningsAreMarked past = AllByRecursion (λ (one : ChannelAccepted). (n : ℕ) → one.source ≡ InUnit n → IsMarkedAsOpened past one n) past.book.accepted
 
@@ -62,7 +62,7 @@ pub record AnswersOpening (past : Past) (channel : ChannelIdentity) (number requ
   pub same : SameChannel named channel
   pub accepted : OneOf (λ (one : ChannelAccepted). IsAcceptedIn channel number request reply one × (one.at ≡ moves)) past.book.accepted
 
--- So it is of each unit that was made as the reply to an opening, which was accepted at the step that sent it.
+-- Each unit that was made as the reply to an opening answers one that was accepted at the step that sent it.
 abbrev pub RepliesAreToOpenings : Past → Type 0
 RepliesAreToOpenings past =
     (n : ℕ) (one : Sent) (channel : ChannelIdentity) (number request : ℕ) → slice_get past.book.sent n ≡ Some one → one.mark ≡ Opened channel number request →

@@ -14,8 +14,9 @@ pub record HasOwnChallenge (past : Past) (message : MessageTaken) : Type 0 where
   pub own : IsLinkOf past message.link message.member
   pub unused : OneOf (IsUnusedChallenge past message) past.book.challenges
 
--- So it is of each AUTHENTICATE that a member took, for which a logon waits or waited; and no other CHALLENGE has that
--- challenge, since no two that are written down as sent, on whatever links and by whichever members, have one.
+-- Each AUTHENTICATE that a member took, for which a logon waits or waited, is kept with its link's own unused
+-- challenge; and no other CHALLENGE has that challenge, since no two that are written down as sent, on whatever links
+-- and by whichever members, have one.
 pub record MessagesHaveOwnChallenges (past : Past) : Type 0 where
   pub each : AllByRecursion (λ (message : MessageTaken). HasOwnChallenge past message) past.book.messages
   pub apart : AllPairs (λ (one other : ChallengeSent). one.challenge ≢ other.challenge) past.book.challenges

@@ -56,7 +56,7 @@ abbrev pub last_start : ℕ → List ControllerRenewed → ℕ
 last_start controller [] = 0
 last_start controller (one ∷ earlier) = start_if (one.controller == controller) one.moves (last_start controller earlier)
 
--- the same as it was after so many moves
+-- after how many moves that controller was started last, of its starts before a move
 abbrev pub start_before : (controller at : ℕ) → List ControllerRenewed → ℕ
 start_before controller at [] = 0
 start_before controller at (one ∷ earlier) =
@@ -107,8 +107,9 @@ pub record HasSessions (past : Past) (controller : ℕ) (sessions : List Session
   pub runs : state.running ≡ Some running
   pub are : running.computers.sessions ≡ sessions
 
--- Sessions: so it is of each call that is written down as judged, and of each controller after the run, by the
--- controllers that were made anew. No controller has more than 10,000.
+-- Sessions: each call that is written down as judged was judged by those that the earlier calls left, and each
+-- controller keeps after the run those that all calls left, by the controllers that were made anew. No controller has
+-- more than 10,000.
 pub record SessionsFollow (past : Past) (renewed : List ControllerRenewed) : Type 0 where
   pub judged : AreBySince renewed past.book.judged
   pub stands : (controller : ℕ) (sessions : List Session) → HasSessions past controller sessions →

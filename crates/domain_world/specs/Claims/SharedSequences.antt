@@ -103,8 +103,8 @@ SequenceIsOwn past who =
 abbrev pub SequencesAreOwn : Past → Type 0
 SequencesAreOwn past = (who : RequesterId) → SequenceIsOwn past who
 
--- Its sequence is its own so. Where the controller that it asks has the same channel, and no authenticator from outside
--- passed on it, the controller's seed is the requester's, or with a turn out the one before that turn.
+-- A requester's sequence is its own. Where the controller that it asks has the same channel, and no authenticator from
+-- outside passed on it, the controller's seed is the requester's, or with a turn out the one before that turn.
 pub record SequenceIsShared (past : Past) (who : RequesterId) : Type 0 where
   pub own : SequenceIsOwn past who
   pub other : (channel : ChannelIdentity) (o c : SecureChannelState) → (stands : ChannelStands past.world.state who channel o) →

@@ -14,6 +14,6 @@ use Rattle.domain_world.specs.Past.{Past}
 abbrev pub TellsItsStatus : Judging → Type 0
 TellsItsStatus j = (channel : SecureChannelState) → j.checks ≡ Some channel → has_passed j.how ≡ true → j.how ≡ Some (judged.Passed (done_on j channel).status)
 
--- so it is of each call that is written down as judged
+-- each call that is written down as judged was told with its status, where it passed
 abbrev pub StatusesAreTold : Past → Type 0
 StatusesAreTold past = AllByRecursion TellsItsStatus past.book.judged

@@ -60,7 +60,7 @@ MessagesAreOfTheirClients run = AllByRecursion (IsOfItsClient run) run.book.made
 abbrev pub IsMadeWith : ℕ → List ℕ → MessageMade → Type 0
 IsMadeWith client key made = (made.client ≡ client) × (made.key ≡ key)
 
--- so it did on that link
+-- the client made it on that link, and that is its exported session key
 abbrev pub IsMadeOn : ℕ → ℕ → List ℕ → MessageMade → Type 0
 IsMadeOn client link key made = (made.client ≡ client) × (made.key ≡ key) × (made.link ≡ link)
 

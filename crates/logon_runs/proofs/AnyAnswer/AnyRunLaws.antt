@@ -104,7 +104,7 @@ module _ (plan : Plan) (p : Arrival) (s : State) where
   any_dials (Judged a who v o c timestamp accounts answer) left moment heard = tt
   any_dials (Away phase) left moment heard = dials_so _ (away_dials p phase left moment)
 
-  -- so a move leaves the others
+  -- a move leaves the other ends as they were
   moves_alone : (what : Move) → IsStepOn what → IsHeard plan p s → IsAnywhere plan p s ⊎ IsDone plan p s → OthersStay (three_in p) s (act s what).state
   moves_alone what steps heard (inl at) =
       others_are_left.steps (three_in p) s what steps (subst (AreAmong (three_in p)) (sym at.shows.opened) (any_among at.phase at.left at.moment))

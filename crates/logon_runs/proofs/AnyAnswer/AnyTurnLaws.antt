@@ -89,7 +89,7 @@ abbrev computers_by : Option Running → Computers
 computers_by None = record { pending = []; channels = []; sessions = [] }
 computers_by (Some running) = running.computers
 
--- the same step leaves the same
+-- two steps that are the same leave the same of computers
 same_computers : (one : Stepped ControllerState) (first second : Stepped ControllerState) → one ≡ first → one ≡ second → computers_by first.state.running ≡ computers_by second.state.running
 same_computers one first second is that = ap (λ (stepped : Stepped ControllerState). computers_by stepped.state.running) (sym is ∙ that)
 

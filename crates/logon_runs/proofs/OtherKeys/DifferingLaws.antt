@@ -47,7 +47,7 @@ use Rattle.member_server.specs.declared.state.LoggedOn.{LoggedOn}
 use Rattle.member_server.specs.Memo.{call_answer, echo_answer, memo_answer, who_answer}
 use Rattle.member_server.specs.Requests.{cause_by, is_due, join_by, join_opened, join_unit, open_request, reply, secure_reply, send_reply, signed_cause, signed_unit, talk_in, unit_in, with_session}
 use Rattle.member_server.specs.Work.{Served, send, shut, stay}
-use Rattle.logon_steps.specs.MemoCalls.{logged_on}
+use Rattle.logon_steps.specs.MemoCalls.{logged_on, one_unit_limit}
 use Rattle.logon_steps.proofs.ClientStepLaws.{echo_length, echo_are, link_hears, stepped}
 use Rattle.logon_steps.proofs.MemoCallLaws.{one_bytes, one_fragment, one_sends, reply_room, request_at, request_can, request_room, response_at, response_can, secured_one, signed_reply_at, signed_reply_sent, signed_request_at}
 use Rattle.unit_security.proofs.OpeningLaws.{secured_is_opened}
@@ -96,7 +96,7 @@ closes task sent cause = inl (record { cause = cause; shuts = λ at. refl })
 -- what fits into one unit
 AnswerFits : Answer → Type 0
 AnswerFits (answer.Fault status) = status < 2 ^ 32
-AnswerFits (answer.Stub stub) = length stub ≤ 5792
+AnswerFits (answer.Stub stub) = length stub ≤ one_unit_limit
 
 -- what is written of a unit that can be sent
 written_single : (call : ℕ) (body : Body) (trailer : Option Trailer) → IsSendable (single_unit call body trailer) → IsSingle (written (single_unit call body trailer))
@@ -116,7 +116,7 @@ let_in_still task sent next on session has is = record { bound = is.bound; name 
 abbrev limit_of : Bound → ℕ
 limit_of bound = bound.binding.limit
 
-signed_by : (task : ClientPlan) (sent call : ℕ) (stub : List ℕ) (on : LoggedOn) (s : SessionState) → sent < 2 ^ 32 - 1 → call < 2 ^ 32 → length stub ≤ 5792 → is_plain task.level ≡ false →
+signed_by : (task : ClientPlan) (sent call : ℕ) (stub : List ℕ) (on : LoggedOn) (s : SessionState) → sent < 2 ^ 32 - 1 → call < 2 ^ 32 → length stub ≤ one_unit_limit → is_plain task.level ≡ false →
     on.session ≡ Some s → HasSent sent (Some s) → IsLetIn task sent on →
     Travels (is_sealed task.level) (signed_reply_at task.level call stub) s (mirror s) → Serves task sent (λ at. send_reply (is_plain task.level) call 0 stub on None at)
 unfolding Serves
@@ -140,7 +140,7 @@ signed_by task sent call stub on s few below short plain is_session has is t =
 
 -- a reply is sent plain at the level without signatures, else under the session that is kept
 stub_reply : (plain : Bool) (session : Option SessionState) (task : ClientPlan) (sent call : ℕ) (stub : List ℕ) (on : LoggedOn) → is_plain task.level ≡ plain → on.session ≡ session →
-    sent < 2 ^ 32 - 1 → call < 2 ^ 32 → length stub ≤ 5792 → IsLetIn task sent on → Serves task sent (λ at. send_reply (is_plain task.level) call 0 stub on None at)
+    sent < 2 ^ 32 - 1 → call < 2 ^ 32 → length stub ≤ one_unit_limit → IsLetIn task sent on → Serves task sent (λ at. send_reply (is_plain task.level) call 0 stub on None at)
 unfolding Serves
 stub_reply true session task sent call stub on plain is_session few below short is =
     let can : CanBeSent (response_at call stub None) 5840 = response_can call stub None below short tt in
@@ -285,7 +285,7 @@ pub record Asks (level call opnum : ℕ) (stub : List ℕ) (session : Option Ses
   pub request : IsRequest call opnum sending.bytes
   pub has : HasSent (suc sent) sending.session
 
-signed_asks : (level call opnum : ℕ) (stub : List ℕ) (s : SessionState) (sent : ℕ) → call < 2 ^ 32 → opnum < 2 ^ 16 → length stub ≤ 5792 → HasSent sent (Some s) →
+signed_asks : (level call opnum : ℕ) (stub : List ℕ) (s : SessionState) (sent : ℕ) → call < 2 ^ 32 → opnum < 2 ^ 16 → length stub ≤ one_unit_limit → HasSent sent (Some s) →
     Travels (is_sealed level) (signed_request_at level call opnum stub) s (mirror s) → Asks level call opnum stub (Some s) sent
 signed_asks level call opnum stub s sent below op short has t =
     let unit : RpcUnit = signed_request_at level call opnum stub in
@@ -306,7 +306,7 @@ signed_asks level call opnum stub s sent below op short has t =
       has = (t.paired.there.sends, omega (arith, t.count, has.1));
     }
 
-pub asks_by : (level call opnum : ℕ) (stub : List ℕ) (session : Option SessionState) (sent : ℕ) → sent < 2 ^ 32 - 1 → call < 2 ^ 32 → opnum < 2 ^ 16 → length stub ≤ 5792 → HasSent sent session →
+pub asks_by : (level call opnum : ℕ) (stub : List ℕ) (session : Option SessionState) (sent : ℕ) → sent < 2 ^ 32 - 1 → call < 2 ^ 32 → opnum < 2 ^ 16 → length stub ≤ one_unit_limit → HasSent sent session →
     Asks level call opnum stub session sent
 asks_by level call opnum stub None sent few below op short has =
     let unit : RpcUnit = request_at call opnum stub None in

@@ -102,7 +102,7 @@ goes_so p s what known ready goes at =
 
 -- ---- once it is over
 
--- so it is later, at another moment
+-- a logon that is over is over later, at another moment
 over_at : (p : Arrival) (s after : State) (over : IsOver p s) (moment : ℕ) →
     Shows after (rest_scene (meeting_at p over.ending) (client_ended p.meeting.task (In (told_of p) (key_at p over.asked) p.meeting.task.echo)) over.ending.links over.left moment []) →
     (later : IsOver p after) × (later.asked ≡ over.asked)

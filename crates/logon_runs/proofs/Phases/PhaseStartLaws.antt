@@ -33,7 +33,7 @@ use Rattle.wire_base.proofs.ListLaws.{got_last}
 
 -- ---- the phase that follows
 
--- so far, and few challenges were drawn
+-- a logon comes so far, and few challenges were drawn
 abbrev pub ComesBy : Arrival → Progress → State → State → Type 0
 ComesBy p far s after = ComesSoFar p far after × DrawsFew s.chances.left after.chances.left
 
@@ -72,7 +72,7 @@ pub under : (p : Arrival) (s after : State) (phase : LogonPhase p) (left : List 
     ComesBy p (progress_of phase) s after
 under p s after phase left moment same fits shows = under_less p s after phase [] left moment (omega arith) same fits shows
 
--- the same with what is known of the challenges that are left
+-- a scene with what is known of the challenges that are left
 pub left_so : (s : State) (f : List (List ℕ) → Scene) (left other : List (List ℕ)) → s.chances.left ≡ left → s.chances.left ≡ other → Shows s (f left) → Shows s (f other)
 left_so s f left other is are shows = subst (λ (l : List (List ℕ)). Shows s (f l)) (sym is ∙ are) shows
 

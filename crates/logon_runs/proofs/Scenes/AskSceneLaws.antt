@@ -61,7 +61,7 @@ use Rattle.logon_runs.proofs.Scenes.SceneLaws.{scenes_go_on}
 use Rattle.logon_runs.proofs.Scenes.TurningSceneLaws.{scenes_turn}
 use Rattle.logon_runs.proofs.Scenes.TurnSceneLaws.{closes_turn, heard_back, with_next}
 
--- the same where the turn is written out
+-- a logon is granted where the turn is written out
 granted_at : (s : State) (g : Meeting) (info : NetworkInfo) (table : AccountTable) (name : List ℕ) (links : List Route) (opened : OpenMap) (link : ℕ) (o : SecureChannelState) (waits : ClientPhase)
     (challenge : List ℕ) (message : Authenticate) (sam : SamInfo)
     (next number timestamp stamp authoritative most : ℕ) (computers : Computers) (one : Option SessionState) (left : List (List ℕ)) (moment : ℕ) →

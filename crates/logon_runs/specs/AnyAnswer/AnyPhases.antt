@@ -297,7 +297,7 @@ pub record IsAnywhere (plan : Plan) (p : Arrival) (s : State) : Type 0 where
   pub fits : MayFit plan p phase
   pub shows : Shows s (any_scene p phase left moment)
 
--- it is over: the client has its outcome, no link is open, and nothing waits
+-- a logon is over: the client has its outcome, no link is open, and nothing waits
 pub record IsDone (plan : Plan) (p : Arrival) (s : State) : Type 0 where
   pub outcome : ClientOutcome
   pub settled : Settled
@@ -329,7 +329,7 @@ pub record IsOnward (plan : Plan) (p : Arrival) (s after : State) : Type 0 where
   pub few : DrawsFew s.chances.left after.chances.left
   pub at : IsAnywhere plan p after ⊎ IsDone plan p after
 
--- or to a phase in which it is so far
+-- a step leads to the end, or to a phase in which the logon is so far
 pub record IsSoFar (plan : Plan) (p : Arrival) (far : Progress) (after : State) : Type 0 where
   pub at : IsAnywhere plan p after
   pub is : progress_in at.phase ≡ far

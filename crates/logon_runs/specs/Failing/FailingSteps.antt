@@ -69,7 +69,7 @@ pub record FailingsStep : Type 0 where
       (action.Close turn close.CallDone ∷ action.Told logon.link (outcome.NoController cause) ∷ action.Send logon.link (who_fault rpc_s_server_unavailable) ∷ [])
       (member_at (logons_resting (plan_with (secrets_dropped (is_denied cause) plan.secrets) plan) caller (next_of plan.secrets) standing.Nothing (after place) next)
       (one_link logon.link (out_talk task rpc_s_server_unavailable)) dialling.Nothing)
-  -- so is the turn that sets the next secret
+  -- the turn that sets the next secret is dropped so
   pub set_drops : (plan : MemberPlan) (caller : Caller) (how : Standing) (info : NetworkInfo) (place next number turn now most : ℕ) (r : SetReply) (cause : DropCause) (logon : Logon)
       (task : ClientPlan) (one other : Option SessionState) (left : List (List ℕ)) → number < 2 ^ 32 → InRangeSetReply r → judge_set r how ≡ Err cause →
       (who : RequestGoes most task.level 2 0 [] one other) →

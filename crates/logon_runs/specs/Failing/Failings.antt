@@ -102,7 +102,7 @@ pub record FailingsAreSeen : Type 0 where
       Shows s (turn_scene t next number (step.Reply q) computers (turn_link link) (unit_back t (reply_bytes number r) ∷ []) left moment) →
       Shows (onward s).state
       (meeting_scene (settled_with (secrets_dropped (is_denied cause) g.plan.secrets) (settled_at g table name computers standing.Nothing next links)) waits (out_talk g.task rpc_s_server_unavailable) (unit_down g (who_fault rpc_s_server_unavailable) ∷ []) left moment)
-  -- so it is with the turn that sets the next secret
+  -- a turn that sets the next secret is dropped so
   pub set_dropped : (s : State) (g : Meeting) (waits : ClientPhase) (info : NetworkInfo) (challenge : List ℕ) (message : Authenticate) (table : AccountTable) (name : List ℕ)
       (how : Standing) (links : List Route) (opened : OpenMap) (link next number most : ℕ) (r : SetReply) (cause : DropCause) (computers : Computers) (one other : Option SessionState)
       (left : List (List ℕ)) (moment : ℕ) → (who : RequestGoes most g.task.level 2 0 [] one other) →

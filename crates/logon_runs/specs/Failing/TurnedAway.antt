@@ -108,7 +108,7 @@ pub record IsAway (p : Arrival) (s : State) : Type 0 where
   pub fits : FitsAway p phase
   pub shows : Shows s (away_scene p phase left moment)
 
--- it is over: the client has its outcome, no link is open, and nothing waits
+-- a logon is over: the client has its outcome, no link is open, and nothing waits
 pub record HasEnded (p : Arrival) (s : State) : Type 0 where
   pub outcome : ClientOutcome
   pub settled : Settled

@@ -88,7 +88,7 @@ pub record CanComeIn (plan : Plan) (client member controller : ℕ) : Type 0 whe
 abbrev pub draw : Plan → ℕ → List ℕ
 draw plan count = challenge_of plan.seed 0 count
 
--- those that are left after six
+-- the challenges that are left after six
 abbrev pub left_then : Plan → List (List ℕ)
 left_then plan = challenges_from plan.seed 0 6 (most_draws - 6)
 

@@ -71,7 +71,7 @@ turn_of g waits info logon talk table name = record {
   link = g.link;
 }
 
--- and with that standing of the channel, on a link that is open already
+-- the turn of a meeting, with that standing of the channel, on a link that is open already
 abbrev pub turn_within : Meeting → ClientPhase → NetworkInfo → Logon → Talk → AccountTable → List ℕ → Standing → List Route → OpenMap → ℕ → TurnScene
 turn_within g waits info logon talk table name how links opened link = record {
   at_client = g.at_client;
@@ -92,7 +92,7 @@ turn_within g waits info logon talk table name how links opened link = record {
   link = link;
 }
 
--- the same with another talk on the member's link
+-- the scene of a turn with another talk on the member's link
 abbrev pub with_talk : ℕ → Talk → TurnScene → TurnScene
 with_talk link talk t = record t { accepted = one_link link talk }
 

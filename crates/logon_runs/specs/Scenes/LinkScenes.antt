@@ -108,7 +108,7 @@ pub record FitsGiven (g : Meeting) : Type 0 where
   pub kept : (o : SecureChannelState) → g.how ≡ standing.Open o → g.given.secret ≡ g.caller.secret
   pub one : (o : SecureChannelState) → g.how ≡ standing.Open o → g.plan.secrets.next ≡ None
 
--- both are so far on it
+-- a client and its member so far on a link
 abbrev pub meeting_scene : Meeting → ClientPhase → Talk → List BagUnit → List (List ℕ) → ℕ → Scene
 meeting_scene g how talk units left moment = record {
   at_client = g.at_client;
@@ -176,7 +176,7 @@ pub record MeetingsAreSeen : Type 0 where
       Shows s (meeting_scene g (client_phase.Asked terms client_question.Who) (talk_in None on) (unit_down g back.sent ∷ []) left moment) →
       Shows (onward s).state
       (meeting_scene g (client_phase.Asked (with_session terms sending.session) (client_question.Echo name)) (talk_in None on) (unit_up g sending.bytes ∷ []) left moment)
-  -- the same bytes go back
+  -- the bytes of Echo go back
   pub echoes : (s : State) (g : Meeting) (how : ClientPhase) (most : ℕ) (on : LoggedOn) (bytes : List ℕ) (one : Option SessionState) (left : List (List ℕ)) (moment : ℕ) → IsJoined g →
       on.bound ≡ bound_for g.task → length bytes ≤ 4096 → AreBytes bytes → (asks : RequestGoes most g.task.level 3 1 (written_echo_request bytes) one on.session)
       (back : ReplyGoes (most + 1) g.task.level 3 (written_echo_reply bytes) asks.next asks.later) →

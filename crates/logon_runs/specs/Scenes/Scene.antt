@@ -107,7 +107,7 @@ pub record HasFirst (v : Scene) (unit : BagUnit) (later : List BagUnit) (end : E
   pub found : lookup same_number unit.link v.opened ≡ Some there
   pub hearer : hearer_on unit.back there ≡ Some end
 
--- these units wait
+-- a scene in which these units wait
 abbrev pub without_unit : List BagUnit → Scene → Scene
 without_unit later v = record v { units = later }
 

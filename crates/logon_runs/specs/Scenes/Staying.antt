@@ -13,7 +13,7 @@ pub record AreAsMany (ends after : EndStates) : Type 0 where
   pub members : length after.members ≡ length ends.members
   pub clients : length after.clients ≡ length ends.clients
 
--- and the same plans, those of members but for their secrets
+-- both states have as many ends of each kind, and the same plans, those of members but for their secrets
 pub record HasSameEnds (s after : State) : Type 0 where
   pub ends : AreAsMany s.ends after.ends
   pub members : AreAlikeButSecrets s.member_plans after.member_plans

@@ -118,7 +118,7 @@ waiting_scene t opened how next number what computers units left moment = record
   moment = moment;
 }
 
--- the same where it is for a call of a logon
+-- the scene in which a dial waits for a call of a logon
 abbrev pub dial_scene : TurnScene → OpenMap → Standing → ℕ → ℕ → Call → Computers → List BagUnit → List (List ℕ) → ℕ → Scene
 dial_scene t opened how next number c computers units left moment = waiting_scene t opened how next number (step.Bind c) computers units left moment
 

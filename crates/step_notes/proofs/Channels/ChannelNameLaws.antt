@@ -403,7 +403,7 @@ fits question.Logon (reply.Authenticate r) how secret = tt
 fits question.Logon (reply.Logon r) how secret = logon_fits (r.status == access_denied) how r.returned r.status r.level r.info secret
 fits question.Logon (reply.Logoff r) how secret = tt
 
--- the same of the reply to a call that sets a secret
+-- what the reply to a call that sets a secret comes to fits the channel that stands
 abbrev pub SetFits : SetOutcome → Standing → Type 0
 SetFits (Ok o) how = (p : SecureChannelState) × (how ≡ standing.Open p) × (o ≡ after_return true p)
 SetFits (Err cause) how = Unit {0}

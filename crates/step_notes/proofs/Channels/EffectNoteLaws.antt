@@ -143,7 +143,7 @@ settles_noted controller s (judgement.Opened o) q first = refl
 settles_noted controller s (judgement.Answer o v) q first = (Some (place_of s.turn), refl, λ challenge under. absurd (no_some challenge under))
 settles_noted controller s (judgement.Drop cause) q first = refl
 
--- likewise of the reply to a call that sets a secret
+-- the reply to a call that sets a secret is noted by its effect
 abbrev pub IsSetSettled : ℕ → Requester → SetOutcome → Type 0
 IsSetSettled controller s judged =
     IsNotedBy (effect_judged_set controller judged s.caller.computer (number_in s.turn)) (taking_note (Some (settle_set judged s)) controller s)
@@ -185,7 +185,7 @@ next_noted controller s turn q c is asks m =
     (subst (λ (x : Question). GoesNoted controller s s.standing (Some (step.Bind c)) x) (sym asks)
     (goes_noted controller s s.standing c (subst (λ (x : Option Step). MatchesStep s.standing x) is m)))
 
--- likewise of a call that sets a secret
+-- a call that sets a secret is noted by its effect, as it goes out
 abbrev pub SetGoesNoted : ℕ → Requester → Standing → Option Step → Type 0
 SetGoesNoted controller s how turn =
     IsNotedBy (effect_next controller how s.caller.computer s.next_call)

@@ -22,7 +22,7 @@ use Rattle.end_links.specs.Sending.{response_of}
 use Rattle.end_links.specs.Serving.{ServedUnit, served_units}
 use Rattle.authenticators.specs.Sequences.{next_seed, return_of}
 use Rattle.authenticators.proofs.BlockLaws.{cred_block}
-use Rattle.logon_stubs.specs.Ranges.{IsBlock}
+use Rattle.logon_stubs.specs.Ranges.{IsBlock, short_reply_limit}
 use Rattle.logon_stubs.specs.Status.{no_trust_sam_account}
 use Rattle.interactive_logon.specs.Sessions.{session_limit}
 use Rattle.interactive_logon.specs.declared.sessions.Session.{Session}
@@ -138,7 +138,7 @@ stub_is j c channel given is =
 
 -- the stub of a reply has room in one piece of a link, whatever is asked
 few_set : (place : Option ℕ) (hash credential : List ℕ) (table : AccountTable) (sessions : List Session) → IsBlock 8 credential →
-    length (written_set_reply (record { returned = returned_with credential; status = (set_so place hash table sessions).status })) ≤ 28015
+    length (written_set_reply (record { returned = returned_with credential; status = (set_so place hash table sessions).status })) ≤ short_reply_limit
 few_set None hash credential table sessions block =
     omega (arith, (set_stub (record { returned = returned_with credential; status = no_trust_sam_account }) (record { returned = record { credential = block; timestamp = omega arith }; status = omega arith })).short)
 few_set (Some place) hash credential table sessions block =
@@ -152,7 +152,7 @@ module _ (channel : SecureChannelState) (given : Authenticator) (name : List ℕ
   abbrev credential : List ℕ
   credential = return_of key channel.seed given.timestamp
 
-  few_of : (asked : JudgedCall) → HasLevel asked → length (reply_stub asked key credential (done_by asked channel name table now sessions)) ≤ 28015
+  few_of : (asked : JudgedCall) → HasLevel asked → length (reply_stub asked key credential (done_by asked channel name table now sessions)) ≤ short_reply_limit
   few_of (Network c) small = (replies_are_read_back.passed table name now c.info c.validation key channel.seed given.timestamp range is_name moment small).few
   few_of (Interactive c) small =
       let full : Bool = length sessions == session_limit in

@@ -150,7 +150,7 @@ abbrev turn_then : List Trust → ℕ → TrustPart → TrustPart
 turn_then trusts now part =
     then_part part (λ after rest. then_part (next_turn trusts now after.parts rest) (λ later last. trust_part after.table later last))
 
--- so it is of a part of a step
+-- a part of a step tells nothing
 abbrev PartUntold : TrustPart → Type 0
 PartUntold (Err why) = ⊥
 PartUntold (Ok part) = told_trusts part.value.parts.work.work.actions ≡ 0

@@ -1,6 +1,6 @@
 -- What holds of a step of a controller that may hand logons on, as bytes come, beside what is written down of it:
 -- whatever holds through each thing that a unit comes to. It is an instance of `served_mapped`, as `NotedLaws` is for
--- one that asks nobody. It is to serve what is claimed of controllers that hand logons on.
+-- one that asks nobody. It serves the claims on credentials, replays, grants and tables, which are of every run.
 use Rattle.std.proofs.Common.{◌≡◌, ◌++◌, ℕ, Bool, true, false, List, [], ◌∷◌, map, Option, Some, None, Result, Ok, Err, slice_get, refl, sym, ap, subst, ◌∙◌}
 use Rattle.std.specs.List.{AllByRecursion}
 use Rattle.std.proofs.lemmas.List.{append-nil}

@@ -1,5 +1,6 @@
 -- What holds through the units of a controller that asks nobody holds through those of one that may hand logons on,
--- where it holds through a logon for a trust. It is to serve what is claimed of controllers that hand logons on.
+-- where it holds through a logon for a trust. It serves the claims on credentials, replays, grants and tables, which
+-- are of every run.
 use Rattle.std.proofs.Common.{◌≡◌, ℕ, true, false, List, [], ◌∷◌, ◌++◌, drop, length, Option, Some, refl, sym, ap, subst, ◌∙◌}
 use Rattle.std.specs.List.{AllByRecursion}
 use Rattle.authenticators.specs.SecureChannels.{SecureChannelState}

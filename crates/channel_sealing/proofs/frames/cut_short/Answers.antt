@@ -7,5 +7,5 @@ use Rattle.channel_sealing.proofs.frames.cut_short.Goals as goal
 
 pub returns-clause-short : goal.returns-clause-short
 returns-clause-short c =
-    IfOk-weaker c.cut_frames.result _ (λ frames. 20 * length (joined_frames frames) ≤ 21 * length (stub_of c.args.call.now.body) + 1340)
+    IfOk-weaker c.cut_frames.result _ (λ frames. 20 * length (joined_frames frames) ≤ 21 * length (stub_of c.args.call.now.body) + 20 * 67)
     (λ frames is. rw is (room_short c.args.call.now c.args.limit c.requires.whole.stub c.requires.least c.requires.value)) c.cut_frames.ensures

@@ -148,7 +148,7 @@ pub opens_no_logon : (unit : RpcUnit) (asked : JudgedCall) → AreBytes (stub_of
 opens_no_logon unit asked are body carries =
     opening_unjudged body.stub asked (subst AreBytes (ap stub_of body.is) are) (sym (ap call_carried body.is) ∙ carries)
 
--- nor does a reply carry any call
+-- a reply doesn't carry any call
 pub reply_no_call : (unit : RpcUnit) (number context : ℕ) (stub : List ℕ) (c : ControllerCall) → unit ≡ response_of number context stub → call_carried unit.body ≡ Some c → ⊥
 reply_no_call unit number context stub c is carries =
     let never : None ≡ Some c = sym (ap (λ (u : RpcUnit). call_carried u.body) is) ∙ carries in cc

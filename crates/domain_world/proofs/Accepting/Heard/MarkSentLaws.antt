@@ -33,6 +33,7 @@ use Rattle.logon_stubs.specs.declared.calls.Call.TheVariants as call
 use Rattle.end_links.specs.Links.{LinkState}
 use Rattle.end_links.specs.Sending.{frames_of, joined_frames, request_of}
 use Rattle.end_links.specs.Serving.{ServedUnit, served_units}
+use Rattle.end_links.specs.Whole.{whole_limit}
 use Rattle.channel_client.specs.declared.hearing.SetHearing.TheVariants as set_hearing
 use Rattle.channel_client.specs.declared.state.SetStep.TheVariants as set_step
 use Rattle.channel_client.specs.Machine.{Taking, act, offered_flags, hear, judge, question_of, settle, take_of, SetOutcome, judge_set, settle_set}
@@ -284,7 +285,7 @@ stamped_set turn number place c is room = record {
   stamp = sym (ap (λ (t : Option Pending). timestamp_bound (step_in t)) is);
 }
 
-set_few : (c : SetCall) → HasSetRoom c → length (written_set_call c) ≤ 58209
+set_few : (c : SetCall) → HasSetRoom c → length (written_set_call c) ≤ whole_limit
 set_few c room =
     omega (arith, (call_stub c room.sends.writes room.sends.range).short, ap (λ (primary : Option (List ℕ)). size_if_there text_size primary) room.primary, room.few)
 

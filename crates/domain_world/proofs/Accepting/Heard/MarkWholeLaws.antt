@@ -64,7 +64,7 @@ use Rattle.domain_world.proofs.Accepting.Heard.JudgedUnitLaws.{IsCarriedCall, Is
 use Rattle.domain_world.proofs.Accepting.LetInStepLaws.{IsDialledBy}
 use Rattle.domain_world.proofs.Accepting.Heard.BoundOpeningLaws.{AllAskSo, AsksSo, AsksWell, BoundIf, all_fresh_so, asks_written, no_part, one_asks_so}
 use Rattle.domain_world.proofs.Accepting.Heard.MarkSentLaws.{CarriesMark, FitsWell, IsRequestSent, NamesWell, SendsIf, controller_sends, makes_marks, member_sends}
-use Rattle.domain_world.proofs.Lists.ListPlaceLaws.{Placed, placed}
+use Rattle.wire_base.proofs.ListPlaceLaws.{Placed, placed}
 use Rattle.domain_world.proofs.Quiet.QuietRunLaws.{comes_whole, has_bytes, quiet_first, quiet_keeps}
 use Rattle.domain_world.proofs.Quiet.QuietStepLaws.{MemberIsQuiet, QuietAction, QuietFact, QuietState}
 use Rattle.domain_world.proofs.Quiet.QuietTurnLaws.{IfOn}

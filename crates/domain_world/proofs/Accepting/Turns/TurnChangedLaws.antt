@@ -16,7 +16,7 @@ use Rattle.domain_world.specs.Accepting.ReadBack.{IsLetInInTurn, IsToldInTurn}
 use Rattle.domain_world.specs.Past.{change_message, with_answer, with_call}
 use Rattle.domain_world.proofs.Accepting.Turns.TurnFactLaws.{Any, HasFree, IsAnswered, IsFree, IsKnown, TurnFacts, past_at}
 use Rattle.domain_world.proofs.Accepting.Turns.TurnNotedLaws.{each_changed, one_changed}
-use Rattle.domain_world.proofs.Lists.AllLaws.{all_both, all_join}
+use Rattle.wire_base.proofs.AllLaws.{all_both, all_join}
 
 no_reply : (reply : Option ℕ) (u : ℕ) → reply ≡ None → reply ≡ Some u → ⊥
 no_reply reply u none is = let both : None ≡ Some u = sym none ∙ is in absurd (let x = both in cc)

@@ -28,7 +28,7 @@ use Rattle.domain_world.specs.Claims.{HasController}
 use Rattle.domain_world.specs.Past.{Past}
 use Rattle.domain_world.proofs.Messages.MessageApartLaws.{links_in}
 use Rattle.domain_world.proofs.Moves.ComingLaws.{IsStill, StillHas}
-use Rattle.domain_world.proofs.Lists.AllLaws.{all_join}
+use Rattle.wire_base.proofs.AllLaws.{all_join}
 use Rattle.domain_world.proofs.Moves.PlainFormLaws.{plain_stays}
 
 -- ---- messages on different links

@@ -46,7 +46,7 @@ use Rattle.domain_world.proofs.Accepting.Heard.AnswerReadLaws.{HearsWhole}
 use Rattle.domain_world.proofs.Accepting.Turns.TurnFactLaws.{Any, HasFree, IsFree}
 use Rattle.domain_world.proofs.Calls.WholeNotedLaws.{last_noted, note_for, whole_answers, whole_messages, whole_units}
 use Rattle.domain_world.proofs.Calls.WholeOutLaws.{noted}
-use Rattle.domain_world.proofs.Lists.AllLaws.{all_flat}
+use Rattle.wire_base.proofs.AllLaws.{all_flat}
 
 -- ---- a message that is taken then has no answer
 

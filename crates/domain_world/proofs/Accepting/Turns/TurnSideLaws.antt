@@ -68,7 +68,7 @@ use Rattle.domain_world.proofs.Moves.OpenMadeLaws.{IsAtSide, side_of}
 use Rattle.domain_world.proofs.Frames.TurnFrameLaws.{asked_leave, turns_sent, turns_told, asked_book, asked_notes, asked_keep}
 use Rattle.domain_world.proofs.Calls.WholeOutLaws.{noted as noted_by}
 use Rattle.domain_world.proofs.Accepting.LetInLaws.{none_if_taken}
-use Rattle.domain_world.proofs.Lists.AllLaws.{all_join}
+use Rattle.wire_base.proofs.AllLaws.{all_join}
 
 -- ---- what the facts rest on, at each time of a run
 
@@ -305,7 +305,7 @@ module _ (plan : Plan) (k : ℕ) (w : Delivery) (piece : List ℕ) (s after : St
       same_bytes : piece_of.unit.bytes ≡ piece
       same_bytes = one_piece piece_of.unit.bytes piece whole.1 piece_of.part
 
-      -- so it is heard
+      -- the bytes that come on the link of the turn are heard whole
       pub hears : HearsWhole running w.link piece whole.0.unit
       hears = record {
         said = said;

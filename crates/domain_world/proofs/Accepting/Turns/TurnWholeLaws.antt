@@ -69,7 +69,7 @@ use Rattle.domain_world.proofs.Messages.MessageApartLaws.{links_in}
 use Rattle.domain_world.proofs.Moves.ComingLaws.{kept_same}
 use Rattle.domain_world.proofs.Calls.WholeOutLaws.{noted as noted_by}
 use Rattle.domain_world.proofs.Moves.PlainFormLaws.{heard_plain}
-use Rattle.domain_world.proofs.Lists.AllLaws.{all_both}
+use Rattle.wire_base.proofs.AllLaws.{all_both}
 use Rattle.domain_controller.proofs.SendLaws.{none_some}
 
 -- ---- a grant is that of the unit

@@ -27,7 +27,7 @@ use Rattle.domain_world.proofs.Accepting.Heard.HeardFrontLaws.{IsOfRequest, of_r
 use Rattle.domain_world.proofs.Accepting.Heard.MarkSentLaws.{IsCallSent, IsRequestSent, IsStampedCall}
 use Rattle.domain_world.proofs.Accepting.Heard.MarkWholeLaws.{FitsMark, OfMark, marks_fit}
 use Rattle.domain_world.proofs.Accepting.Heard.OpeningCarriedLaws.{IsCarriedOpening, IsOpenedWell, openings_carried}
-use Rattle.domain_world.proofs.Lists.ListPlaceLaws.{Placed, one_at, placed}
+use Rattle.wire_base.proofs.ListPlaceLaws.{Placed, one_at, placed}
 use Rattle.domain_world.proofs.Accepting.MarkRunLaws.{openings_marked}
 use Rattle.domain_world.proofs.Quiet.QuietRunLaws.{has_bytes}
 use Rattle.domain_world.proofs.Accepting.Turns.TurnNotedLaws.{IsMadeFor, unclashed as made_unless}

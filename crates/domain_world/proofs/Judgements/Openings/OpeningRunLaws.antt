@@ -131,7 +131,7 @@ module _ (w : Where) (accepted : List ChannelAccepted) (left : List (List ℕ)) 
         (subst (λ entries. IsMap same_name entries) (sym pending) goes.kept.map) goes.order goes.kept));
   }
 
-  -- so it is of a controller that may hand logons on
+  -- a controller that may hand logons on goes on so
   goes_trusting : (link : ℕ) → StaysWithTrusts w link GoesOn
   goes_trusting link = record {
     base = goes_stay link;

@@ -1,5 +1,4 @@
--- What holds of each item of two lists, or of the lists of each item, holds of each item of the lists joined. It serves
--- `messages_are_made`, `schedules_are_heard`, `Proved.sequences` and others.
+-- Lists: what holds of each item of two lists, or of the lists of each item, holds of each item of the lists joined.
 use Rattle.std.proofs.Common.{List, [], ◌∷◌, ◌++◌}
 use Rattle.std.specs.Prelude.{flat_map}
 use Rattle.std.specs.List.{AllByRecursion}

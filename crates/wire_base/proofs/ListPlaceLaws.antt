@@ -1,6 +1,5 @@
--- Lists: what holds at each place, one of them with its place, lists cut at two places, the first that passes, and
--- things that differ pairwise. It serves `carried_calls_are_heard`, `keys_are_found_as_made`, `runs_are_heard` and 5
--- more.
+-- Lists: what holds at each place, one of the items with its place, lists cut at two places, the first that passes, and
+-- things that differ pairwise.
 use Rattle.std.proofs.Common.{◌≡◌, ◌≢◌, ◌⊎◌, ℕ, zero, suc, ◌<◌, Bool, true, false, cond, List, [], ◌∷◌, ◌++◌, find, inl, inr, Option, Some, slice_get, get_or, refl, sym, ap, ap₂, ◌∙◌, subst, arith}
 use Rattle.std.specs.Prelude.{AllPairs}
 use Rattle.std.specs.List.{AllByRecursion}
